@@ -1,0 +1,14 @@
+//! The words that all of Booth speaks of: names, values, addresses, texts and times.
+#![tactic(auto)]
+
+mod address;
+mod name;
+mod text;
+mod times;
+mod value;
+
+pub use address::{Address, MemberId, NO_ONE, Peer};
+pub use name::{Name, NameFault};
+pub use text::{ByteText, PathFault, PathText};
+pub use times::{Times, guard_ms, promise_ms};
+pub use value::{AttrValue, ValueFault};
