@@ -2,12 +2,14 @@
 #![tactic(auto)]
 
 mod address;
+mod buffer;
 mod name;
 mod text;
 mod times;
 mod value;
 
 pub use address::{Address, MemberId, NO_ONE, Peer};
+pub use buffer::{TEXT_BYTES, TextBuf};
 pub use name::{Name, NameFault};
 pub use text::{ByteText, PathFault, PathText};
 pub use times::{Times, guard_ms, promise_ms};

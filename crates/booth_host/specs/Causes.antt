@@ -1,0 +1,18 @@
+-- When a call may answer that a device failed.
+use Rattle.std.specs.Prelude.{ℕ, ◌+◌, ◌-◌, ◌^◌, ◌≤◌, min, Result, OnErr, IsErrOf}
+use Rattle.booth_host.specs.declared.host.ReadFault.{ReadFault}
+use Rattle.booth_host.specs.declared.host.ReadFault.TheVariants.{Failed as ReadFailed}
+
+-- the count is greater, or stands at its end
+abbrev pub Rose : ℕ → ℕ → Type 0
+Rose before now = min (before + 1) (2 ^ 64 - 1) ≤ now
+
+-- the count has not fallen, and rose where the answer is Failed
+pub record HasCause {T E : Type 0} (before now : ℕ) (result : Result T E) : Type 0 where
+  pub later : before ≤ now
+  pub failed : OnErr result (Rose before now)
+
+-- the same of a read, whose other fault is want of memory
+pub record HasReadCause {T : Type 0} (before now : ℕ) (result : Result T ReadFault) : Type 0 where
+  pub later : before ≤ now
+  pub failed : IsErrOf result ReadFailed → Rose before now

@@ -1,0 +1,52 @@
+-- What a host in memory tells, and what its script makes it answer.
+use Rattle.std.specs.Prelude.{◌≡◌, ◌-◌, ◌==◌, ℕ, List, [], Option, None, Some, Result, Ok, Bool, if◌then◌else◌, slice_get, length, take, min}
+use Rattle.booth_host.specs.declared.entry.Entry.{Entry}
+use Rattle.booth_host.specs.declared.host.Arrival.{Arrival}
+use Rattle.booth_host.specs.declared.host.Arrival.TheVariants.{Stop}
+use Rattle.booth_host.specs.declared.host.Failed.{Failed}
+use Rattle.booth_host.specs.declared.memory.Step.{Step}
+use Rattle.booth_host.specs.declared.memory.MemoryHost.{MemoryHost}
+use Rattle.booth_host.specs.declared.quiet.QuietHost.{QuietHost}
+
+abbrev pub memory_past : MemoryHost → Option (List Entry)
+memory_past host = if host.tells then Some host.entries.items else None
+
+abbrev pub quiet_past : QuietHost → Option (List Entry)
+quiet_past host = memory_past host.host
+
+-- the step that runs, once one has begun
+abbrev pub running : MemoryHost → Option Step
+running host = if host.begun == 0 then None else slice_get host.script.steps.items (host.begun - 1)
+
+abbrev pub reading_in : ℕ → Option Step → ℕ
+reading_in first None = first
+reading_in first (Some step) = step.reading
+
+-- what the clock reads now
+abbrev pub reading_of : MemoryHost → ℕ
+reading_of host = reading_in host.script.first (running host)
+
+abbrev pub send_flag : Bool → Option Step → Bool
+send_flag first None = first
+send_flag first (Some step) = step.fail_send
+
+abbrev pub out_flag : Bool → Option Step → Bool
+out_flag first None = first
+out_flag first (Some step) = step.fail_out
+
+-- whether a send fails now
+abbrev pub sends_fail : MemoryHost → Bool
+sends_fail host = send_flag host.script.fail_send (running host)
+
+-- whether an out fails now
+abbrev pub outs_fail : MemoryHost → Bool
+outs_fail host = out_flag host.script.fail_out (running host)
+
+-- what the next step brings: its arrival with its bytes, or Stop after the last
+abbrev pub IsBrought : Option Step → Result Arrival Failed → List ℕ → Type 0
+IsBrought None answer bytes = (answer ≡ Ok Stop) × (bytes ≡ [])
+IsBrought (Some step) answer bytes = (answer ≡ step.arrival) × (bytes ≡ take (min (length step.bytes) 16461) step.bytes)
+
+-- the step that a next begins
+abbrev pub coming : MemoryHost → Option Step
+coming host = slice_get host.script.steps.items host.begun

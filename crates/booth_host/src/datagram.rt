@@ -1,0 +1,52 @@
+//! The bytes of an arrived datagram, whose memory is taken once.
+ghost use Rattle.std.specs.Prelude.{◌≡◌, ◌≤◌, [], IfOk, length, min, take};
+
+use std::alloc::{AllocError, Global};
+use std::marker::Model;
+
+/// The most bytes that are kept of a datagram: one more than a frame has.
+pub const DATAGRAM_BYTES: usize = 16_461;
+
+/// Up to 16,461 bytes. Contracts see them as a list.
+#[derive(Drop)]
+pub struct Datagram {
+    bytes: Vec<u8>,
+}
+
+impl Model for Datagram {
+    ghost use Rattle.std.specs.Prelude.{List, ℕ, ◌≤◌, vec_len, vec_capacity};
+
+    ghost Value = { List ℕ };
+
+    ghost view = { λ d. d.bytes.items };
+
+    ghost invariant = { λ d. (16461 ≤ vec_capacity d.bytes) × (vec_len d.bytes ≤ 16461) };
+}
+
+impl Datagram {
+    /// An empty datagram, with the memory of all that it will hold.
+    pub fn new(alloc: Global) -> Result<Datagram, AllocError>
+        ensures { IfOk result (λ datagram. datagram ≡ []) }
+    {
+        Ok(Datagram {
+            bytes: Vec::with_capacity(alloc, DATAGRAM_BYTES)?,
+        })
+    }
+
+    /// Keeps the first 16,461 of these bytes.
+    pub fn set(&mut self, bytes: &[u8])
+        ensures { self.new ≡ take (min (length bytes.now) 16461) bytes.now }
+    {
+        let len = bytes.len().min(DATAGRAM_BYTES);
+        self.bytes.clear();
+        self.bytes.extend_from_slice(&bytes[..len]).unwrap();
+    }
+
+    /// The bytes of the datagram.
+    pub fn bytes(&self) -> &[u8]
+        ensures value { result.now ≡ self.now }
+        ensures short { length result.now ≤ 16461 }
+    {
+        &self.bytes
+    }
+}

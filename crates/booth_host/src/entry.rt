@@ -1,0 +1,133 @@
+//! One call of a host, with its arguments and its answer; and how such entries are made.
+ghost use Rattle.std.specs.Prelude.{◌≡◌, IfOk};
+ghost use Rattle.booth_host.specs.declared.entry.Entry.{Entry};
+
+use crate::{Arrival, Failed, Place, ReadFault};
+use booth_base::{Address, ByteText, Peer};
+use std::alloc::{AllocError, Global};
+
+/// One call of a host: its arguments and its answer. Texts and bytes are copies.
+#[derive(Drop)]
+pub enum Entry {
+    Open {
+        local: Option<Address>,
+        port: u16,
+        records: ByteText,
+        conf_path: ByteText,
+        answer: Result<(), Failed>,
+    },
+    /// `bytes` are those of the datagram after the call.
+    Next {
+        wait_ms: u64,
+        answer: Result<Arrival, Failed>,
+        bytes: ByteText,
+    },
+    Now {
+        reading: u64,
+    },
+    Send {
+        to: Peer,
+        bytes: ByteText,
+        answer: Result<(), Failed>,
+    },
+    ReadFile {
+        path: ByteText,
+        answer: Result<ByteText, ReadFault>,
+    },
+    Out {
+        bytes: ByteText,
+        answer: Result<(), Failed>,
+    },
+    Err {
+        bytes: ByteText,
+        answer: Result<(), Failed>,
+    },
+}
+
+pub(crate) fn opened(
+    alloc: Global,
+    place: &Place,
+    answer: Result<(), Failed>,
+) -> Result<Entry, AllocError>
+    ensures { IfOk result (λ entry.
+        entry ≡ Entry.Open place.now.local place.now.port place.now.records place.now.conf_path answer) }
+{
+    let records = ByteText::new(alloc, place.records.as_str().as_bytes())?;
+    let conf_path = ByteText::new(alloc, place.conf_path.as_str().as_bytes())?;
+    Ok(Entry::Open {
+        local: place.local,
+        port: place.port,
+        records,
+        conf_path,
+        answer,
+    })
+}
+
+pub(crate) fn came(
+    alloc: Global,
+    wait_ms: u64,
+    answer: Result<Arrival, Failed>,
+    bytes: &[u8],
+) -> Result<Entry, AllocError>
+    ensures { IfOk result (λ entry. entry ≡ Entry.Next wait_ms answer bytes.now) }
+{
+    let bytes = ByteText::new(alloc, bytes)?;
+    Ok(Entry::Next {
+        wait_ms,
+        answer,
+        bytes,
+    })
+}
+
+pub(crate) fn sent(
+    alloc: Global,
+    to: &Peer,
+    bytes: &[u8],
+    answer: Result<(), Failed>,
+) -> Result<Entry, AllocError>
+    ensures { IfOk result (λ entry. entry ≡ Entry.Send to.now bytes.now answer) }
+{
+    let bytes = ByteText::new(alloc, bytes)?;
+    Ok(Entry::Send {
+        to: *to,
+        bytes,
+        answer,
+    })
+}
+
+pub(crate) fn read(
+    alloc: Global,
+    path: &str,
+    answer: &Result<ByteText, ReadFault>,
+) -> Result<Entry, AllocError>
+    ensures { IfOk result (λ entry. entry ≡ Entry.ReadFile path.now answer.now) }
+{
+    let path = ByteText::new(alloc, path.as_bytes())?;
+    let answer = match answer {
+        Ok(text) => Ok(ByteText::new(alloc, text.bytes())?),
+        Err(fault) => Err(*fault),
+    };
+    Ok(Entry::ReadFile { path, answer })
+}
+
+pub(crate) fn printed(
+    alloc: Global,
+    bytes: &[u8],
+    answer: Result<(), Failed>,
+) -> Result<Entry, AllocError>
+    ensures { IfOk result (λ entry. entry ≡ Entry.Out bytes.now answer) }
+{
+    let bytes = ByteText::new(alloc, bytes)?;
+    Ok(Entry::Out { bytes, answer })
+}
+
+pub(crate) fn complained(
+    alloc: Global,
+    bytes: &[u8],
+    answer: Result<(), Failed>,
+) -> Result<Entry, AllocError>
+    ensures { IfOk result (λ entry. entry ≡ Entry.Err bytes.now answer) }
+{
+    let bytes = ByteText::new(alloc, bytes)?;
+    Ok(Entry::Err { bytes, answer })
+}

@@ -1,0 +1,96 @@
+//! The trait of all devices. Each call adds its entry to the past, and a failure has its cause.
+ghost use Rattle.std.specs.Prelude.{◌≡◌, ◌≤◌, List, [], ◌∷◌, ℕ, Result, Option};
+ghost use Rattle.booth_host.specs.declared.entry.Entry.{Entry};
+ghost use Rattle.booth_host.specs.Past.{GrewBy};
+ghost use Rattle.booth_host.specs.Causes.{HasCause, HasReadCause};
+
+use crate::{Datagram, Entry};
+use booth_base::{Address, ByteText, PathText, Peer};
+use std::alloc::Global;
+use thiserror::Error;
+
+/// A device failed.
+#[derive(Clone, Copy, Debug, PartialEq, Eq, Drop, Error)]
+#[error("a device failed")]
+pub struct Failed;
+
+/// Why a file was not read.
+#[derive(Clone, Copy, Debug, PartialEq, Eq, Drop, Error)]
+pub enum ReadFault {
+    #[error("the file could not be read")]
+    Failed,
+    #[error("there is no memory for the file")]
+    NoMemory,
+}
+
+/// What came while the host was waited for.
+#[derive(Clone, Copy, Debug, PartialEq, Eq)]
+pub enum Arrival {
+    /// A datagram from this peer.
+    Datagram(Peer),
+    /// Nothing, in the time that was given.
+    Quiet,
+    /// The end was asked for.
+    Stop,
+}
+
+/// Where a host listens, and the paths that it keeps its files by.
+#[derive(Drop)]
+pub struct Place {
+    /// The address to listen at, or none for any.
+    pub local: Option<Address>,
+    /// The UDP port to listen at, or 0 for any.
+    pub port: u16,
+    /// The directory of the kept records.
+    pub records: PathText,
+    /// The file of the configuration.
+    pub conf_path: PathText,
+}
+
+/// All devices of a program.
+///
+/// A host that tells its calls after a call told them before it, and that call added its one entry.
+/// A call answers `Failed` only where the count of faults rose.
+pub trait Host {
+    /// All calls so far, the oldest first, where the host tells them.
+    ghost past: { Self → Option (List Entry) };
+
+    /// How often a device has failed. It never falls, and stays at the greatest u64.
+    ghost faults: { Self → ℕ };
+
+    /// Begins to listen at this place.
+    fn open(&mut self, place: &Place) -> Result<(), Failed>
+        ensures past { GrewBy (past self.old) (past self.new)
+            (Entry.Open place.now.local place.now.port place.now.records place.now.conf_path result ∷ []) }
+        ensures cause { HasCause (faults self.old) (faults self.new) result };
+
+    /// Waits for at most so many milliseconds, and puts the bytes of a datagram into `into`.
+    fn next(&mut self, wait_ms: u64, into: &mut Datagram) -> Result<Arrival, Failed>
+        ensures past { GrewBy (past self.old) (past self.new) (Entry.Next wait_ms result into.new ∷ []) }
+        ensures cause { HasCause (faults self.old) (faults self.new) result };
+
+    /// Reads the clock: milliseconds since 1970.
+    fn now(&mut self) -> u64
+        ensures past { GrewBy (past self.old) (past self.new) (Entry.Now result ∷ []) }
+        ensures later { faults self.old ≤ faults self.new };
+
+    /// Gives a datagram to the network. It may never arrive.
+    fn send(&mut self, to: &Peer, bytes: &[u8]) -> Result<(), Failed>
+        ensures past { GrewBy (past self.old) (past self.new) (Entry.Send to.now bytes.now result ∷ []) }
+        ensures cause { HasCause (faults self.old) (faults self.new) result };
+
+    /// The bytes of a file.
+    fn read_file(&mut self, alloc: Global, path: &str) -> Result<ByteText, ReadFault>
+        ensures past { GrewBy (past self.old) (past self.new) (Entry.ReadFile path.now result ∷ []) }
+        ensures cause { HasReadCause (faults self.old) (faults self.new) result };
+
+    /// Writes to standard output.
+    fn out(&mut self, bytes: &[u8]) -> Result<(), Failed>
+        ensures past { GrewBy (past self.old) (past self.new) (Entry.Out bytes.now result ∷ []) }
+        ensures cause { HasCause (faults self.old) (faults self.new) result };
+
+    /// Writes to standard error.
+    fn err(&mut self, bytes: &[u8]) -> Result<(), Failed>
+        ensures past { GrewBy (past self.old) (past self.new) (Entry.Err bytes.now result ∷ []) }
+        ensures cause { HasCause (faults self.old) (faults self.new) result };
+}

@@ -1,0 +1,16 @@
+//! The outside of Booth: one trait for all devices, hosts in memory, and the real one.
+#![tactic(auto)]
+
+mod datagram;
+mod entry;
+mod host;
+mod memory;
+mod quiet;
+mod real;
+
+pub use datagram::{DATAGRAM_BYTES, Datagram};
+pub use entry::Entry;
+pub use host::{Arrival, Failed, Host, Place, ReadFault};
+pub use memory::{Files, MemoryHost, Script, Step};
+pub use quiet::QuietHost;
+pub use real::RealHost;

@@ -1,0 +1,99 @@
+//! A host in memory that never fails.
+ghost use Rattle.std.specs.Prelude.{◌≡◌, [], Some, IfOk, option_map};
+
+use crate::entry::{came, complained, opened, printed, read, sent};
+use crate::{Arrival, Datagram, Entry, Failed, Files, Host, MemoryHost, Place, ReadFault, Script};
+use booth_base::{ByteText, Peer};
+use std::alloc::{AllocError, Global};
+
+/// A host in memory without failures: its count of faults stays 0, a failing step is Quiet, and a
+/// missing file is empty.
+#[derive(Drop)]
+pub struct QuietHost {
+    host: MemoryHost,
+}
+
+impl QuietHost {
+    ghost use Rattle.booth_host.specs.Memory.{quiet_past};
+
+    /// A host that runs this script without its failures.
+    pub fn new(
+        alloc: Global,
+        script: Script,
+        files: Files,
+        room: u32,
+    ) -> Result<QuietHost, AllocError>
+        ensures { IfOk result (λ host. quiet_past host ≡ Some []) }
+    {
+        Ok(QuietHost {
+            host: MemoryHost::new(alloc, script, files, room)?,
+        })
+    }
+
+    /// The calls so far, where they are told.
+    pub fn past(&self) -> Option<&[Entry]>
+        ensures { option_map (λ entries. entries.now) result ≡ quiet_past self.now }
+    {
+        self.host.past()
+    }
+}
+
+impl Host for QuietHost {
+    ghost use Rattle.booth_host.specs.Memory.{quiet_past};
+
+    ghost past = { quiet_past };
+
+    ghost faults = { λ _. 0 };
+
+    fn open(&mut self, place: &Place) -> Result<(), Failed> {
+        let entry = opened(self.host.alloc, place, Ok(()));
+        self.host.note(entry);
+        Ok(())
+    }
+
+    fn next(&mut self, wait_ms: u64, into: &mut Datagram) -> Result<Arrival, Failed> {
+        let answer = match self.host.begin(into) {
+            Ok(arrival) => Ok(arrival),
+            Err(Failed) => Ok(Arrival::Quiet),
+        };
+        let entry = came(self.host.alloc, wait_ms, answer, into.bytes());
+        self.host.note(entry);
+        answer
+    }
+
+    fn now(&mut self) -> u64 {
+        self.host.now()
+    }
+
+    fn send(&mut self, to: &Peer, bytes: &[u8]) -> Result<(), Failed> {
+        let entry = sent(self.host.alloc, to, bytes, Ok(()));
+        self.host.note(entry);
+        Ok(())
+    }
+
+    fn read_file(&mut self, alloc: Global, path: &str) -> Result<ByteText, ReadFault> {
+        let copy = match self.host.file(path) {
+            Some(text) => ByteText::new(alloc, text.bytes()),
+            None => ByteText::new(alloc, &[]),
+        };
+        let answer = match copy {
+            Ok(text) => Ok(text),
+            Err(_) => Err(ReadFault::NoMemory),
+        };
+        let entry = read(self.host.alloc, path, &answer);
+        self.host.note(entry);
+        answer
+    }
+
+    fn out(&mut self, bytes: &[u8]) -> Result<(), Failed> {
+        let entry = printed(self.host.alloc, bytes, Ok(()));
+        self.host.note(entry);
+        Ok(())
+    }
+
+    fn err(&mut self, bytes: &[u8]) -> Result<(), Failed> {
+        let entry = complained(self.host.alloc, bytes, Ok(()));
+        self.host.note(entry);
+        Ok(())
+    }
+}

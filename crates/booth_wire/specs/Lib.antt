@@ -1,0 +1,4 @@
+pub mod Letter
+pub mod Layout
+pub mod Reading
+pub mod Spelling
