@@ -2,7 +2,10 @@
 #![tactic(auto)]
 
 mod address;
+mod checksum;
 mod name;
+#[cfg(test)]
+mod tests;
 mod text;
 mod times;
 mod value;
