@@ -2,7 +2,9 @@
 #![tactic(auto)]
 
 mod address;
+mod address_text;
 mod checksum;
+pub mod laws;
 mod name;
 #[cfg(test)]
 mod tests;
@@ -10,7 +12,7 @@ mod text;
 mod times;
 mod value;
 
-pub use address::{Address, MemberId, NO_ONE, Peer};
+pub use address::{Address, AddressFault, MemberId, NO_ONE, Peer};
 pub use name::{Name, NameFault};
 pub use text::{ByteText, PathFault, PathText};
 pub use times::{Times, guard_ms, promise_ms};
