@@ -1,2 +1,5 @@
+pub mod AddressLemmas
+pub mod CrcLemmas
+pub mod DigitLemmas
 pub mod TextLemmas
 pub mod TreeLemmas

@@ -2,13 +2,18 @@
 #![tactic(auto)]
 
 mod address;
+mod address_text;
 mod buffer;
+mod checksum;
+pub mod laws;
 mod name;
+#[cfg(test)]
+mod tests;
 mod text;
 mod times;
 mod value;
 
-pub use address::{Address, MemberId, NO_ONE, Peer};
+pub use address::{Address, AddressFault, MemberId, NO_ONE, Peer};
 pub use buffer::{TEXT_BYTES, TextBuf};
 pub use name::{Name, NameFault};
 pub use text::{ByteText, PathFault, PathText};
