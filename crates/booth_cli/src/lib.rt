@@ -1,0 +1,12 @@
+//! The programs of Booth over any host: words in, calls on the host, texts and outcome out.
+#![tactic(auto)]
+
+mod conf;
+mod daemon;
+mod outcome;
+mod top;
+mod words;
+
+pub use conf::{Conf, ConfFault, read_conf};
+pub use outcome::Outcome;
+pub use top::{boothd, quiet_boothd};
