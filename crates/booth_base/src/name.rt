@@ -1,5 +1,5 @@
 //! Names of tickets and attributes.
-ghost use Rattle.std.specs.Prelude.{◌≡◌, ◌≤◌, ◌<◌, length, IsTrue};
+ghost use Rattle.std.specs.Prelude.{◌≡◌, ◌≤◌, ◌<◌, codes, length, IsTrue};
 ghost use Rattle.std.specs.List.{list_all};
 ghost use Rattle.std.specs.Cmp.{partial_equiv_from_equiv};
 ghost use Rattle.std.specs.Cmp.Lexicographic.{pointwise, nat_list_eq_equiv};
@@ -64,6 +64,17 @@ impl Hash for Name {
 
     fn hash<H: Hasher>(&self, state: &mut H) {
         self.text.as_str().hash(state);
+    }
+}
+
+/// A name that fills places which no name has taken yet: one `-`.
+impl Default for Name {
+    ghost is_default = { λ n. n ≡ codes "-" };
+
+    fn default() -> Name {
+        let mut text = ArrayString::new();
+        text.push('-');
+        Name { text }
     }
 }
 

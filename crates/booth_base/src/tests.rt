@@ -1,6 +1,11 @@
 //! Tests of what no clause says: values from standards and from other programs.
 
-use crate::{Address, AddressFault, MemberId, NO_ONE};
+use crate::{
+    Address, AddressFault, AttrValue, ByteText, MemberId, NO_ONE, Name, NameFault, PathText, Times,
+    ValueFault, guard_ms, promise_ms,
+};
+use arrayvec::ArrayVec;
+use std::alloc::AllocError;
 
 // The values for V6 are those of zlib's crc32.
 #[test]
@@ -129,4 +134,103 @@ fn an_address_is_its_octets(rt: HostRuntime) {
         Address::read(b"102:304::f10"),
         Ok(Address::V6([1, 2, 3, 4, 0, 0, 0, 0, 0, 0, 0, 0, 0, 0, 0x0F, 0x10]))
     );
+}
+
+#[test]
+fn names_have_1_to_63_bytes_above_the_blank(rt: HostRuntime) {
+    let longest = [b'x'; 63];
+    let good: [&[u8]; 4] = [b"a", b"ticket-db8", b"!~", &longest];
+    for bytes in good {
+        match Name::read(bytes) {
+            Ok(name) => assert_eq!(rt; name.bytes(), bytes),
+            Err(fault) => assert!(rt; false, "{fault}"),
+        }
+    }
+    let too_long = [b' '; 64];
+    let bad: [(&[u8], NameFault); 6] = [
+        (b"", NameFault::Empty),
+        (&too_long, NameFault::TooLong),
+        (b" ", NameFault::BadByte),
+        (b"a b", NameFault::BadByte),
+        (b"a\x7F", NameFault::BadByte),
+        (b"\x1F", NameFault::BadByte),
+    ];
+    for (bytes, fault) in bad {
+        assert!(rt;
+            Name::read(bytes).is_err_and(|found| found == fault),
+            "{fault}"
+        );
+    }
+}
+
+#[test]
+fn values_have_0_to_127_bytes_from_the_blank_on(rt: HostRuntime) {
+    let longest = [b' '; 127];
+    let good: [&[u8]; 4] = [b"", b" ", b"a = ~", &longest];
+    for bytes in good {
+        match AttrValue::read(bytes) {
+            Ok(value) => assert_eq!(rt; value.bytes(), bytes),
+            Err(fault) => assert!(rt; false, "{fault}"),
+        }
+    }
+    let too_long = [0x7F; 128];
+    let bad: [(&[u8], ValueFault); 4] = [
+        (&too_long, ValueFault::TooLong),
+        (b"\x7F", ValueFault::BadByte),
+        (b"a\x1Fb", ValueFault::BadByte),
+        (b"\t", ValueFault::BadByte),
+    ];
+    for (bytes, fault) in bad {
+        assert!(rt;
+            AttrValue::read(bytes).is_err_and(|found| found == fault),
+            "{fault}"
+        );
+    }
+}
+
+#[test]
+fn texts_keep_their_bytes(rt: HostRuntime) -> Result<(), AllocError> {
+    assert_eq!(rt;
+        ByteText::new(rt.alloc(), b"list\n")?.bytes(),
+        b"list\n".as_slice()
+    );
+    let longest = [b'/'; 255];
+    match str::from_utf8(&longest) {
+        Ok(text) => assert!(rt; PathText::read(text).is_ok_and(|path| path.as_str() == text)),
+        Err(_) => assert!(rt; false),
+    }
+    Ok(())
+}
+
+#[test]
+fn an_empty_list_of_names_takes_names(rt: HostRuntime) {
+    let mut names = ArrayVec::<Name, 8>::new();
+    assert!(rt; names.is_empty());
+    assert_eq!(rt; Name::default().bytes(), b"-".as_slice());
+    assert_eq!(rt; AttrValue::default().bytes(), b"".as_slice());
+    if let Ok(name) = Name::read(b"ticket-db8") {
+        names.push(name);
+    }
+    assert_eq!(rt; names.len(), 1);
+}
+
+#[test]
+fn guard_and_promise_of_a_ticket(rt: HostRuntime) {
+    // expire, acquire-after, guard, promise
+    let rows = [
+        (10_000, 5_000, 22, 15_022),
+        (600_000, 0, 1_203, 601_203),
+        (600_000, 60_000, 1_203, 661_203),
+    ];
+    for (expire, after, guard, promise) in rows {
+        let times = Times {
+            expire,
+            after,
+            timeout: 5_000,
+            retries: 10,
+            renewal: 300_000,
+        };
+        assert_eq!(rt; guard_ms(&times), guard);
+        assert_eq!(rt; promise_ms(&times), promise);
+    }
 }

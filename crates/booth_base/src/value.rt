@@ -1,5 +1,5 @@
 //! Values of attributes.
-ghost use Rattle.std.specs.Prelude.{◌≡◌, ◌≤◌, ◌<◌, length, IsTrue};
+ghost use Rattle.std.specs.Prelude.{◌≡◌, ◌≤◌, ◌<◌, length, IsTrue, []};
 ghost use Rattle.std.specs.List.{list_all};
 ghost use Rattle.booth_base.specs.Name.{is_text_byte, is_value, value_read};
 
@@ -32,6 +32,17 @@ pub enum ValueFault {
     TooLong,
     #[error("the value has a byte outside 0x20 to 0x7E")]
     BadByte,
+}
+
+/// The empty value.
+impl Default for AttrValue {
+    ghost is_default = { λ v. v ≡ [] };
+
+    fn default() -> AttrValue {
+        AttrValue {
+            text: ArrayString::new(),
+        }
+    }
 }
 
 fn are_text_bytes(bytes: &[u8]) -> bool
