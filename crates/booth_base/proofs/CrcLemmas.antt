@@ -1,11 +1,10 @@
 -- The register that the code keeps holds what is left of the division.
 use Rattle.std.specs.Int.Bits.{xor_assoc, xor_zero_r}
-use Rattle.std.proofs.Common.{◌≡◌, ◌<◌, ◌≤◌, ◌+◌, ◌-◌, ◌*◌, ◌/◌, ◌%◌, ◌^◌, ◌==◌, ℕ, zero, suc, Bool, true, false, not, if◌then◌else◌, List, [], ◌∷◌, ◌++◌, length, map, fold, flat_map, replicate, take, bit_xor, refl, ap, ◌∙◌, sym, arith, length-append}
+use Rattle.std.proofs.Common.{◌≡◌, ◌<◌, ◌≤◌, ◌+◌, ◌-◌, ◌/◌, ◌%◌, ◌^◌, ◌==◌, ℕ, zero, suc, Bool, true, false, not, if◌then◌else◌, List, [], ◌∷◌, ◌++◌, length, map, fold, flat_map, replicate, take, bit_xor, refl, ap, ◌∙◌, sym, arith, length-append}
 use Rattle.std.proofs.Math.Nat.{pow-suc}
-use Rattle.std.proofs.lemmas.Bool.Decides.{nat_tests}
 use Rattle.std.proofs.lemmas.List.{take_all}
 use Rattle.std.proofs.lemmas.Nat.{xor_comm, xor_lt, xor_mod, xor_shr}
-use Rattle.booth_base.specs.Crc.{add, bits, crc32, divisor_from, left_over, message, number}
+use Rattle.booth_base.specs.Crc.{add, bits, crc32, dividend, divisor_from, left_over, message, number}
 use Rattle.booth_base.specs.Register.{step}
 
 abbrev is_odd : ℕ → Bool
@@ -37,7 +36,7 @@ unfolding add
 add_nothing [] = refl
 add_nothing (x ∷ xs) = refl
 
-add_assoc : (xs ys zs : List Bool) → add (add xs ys) zs ≡ add xs (add ys zs)
+pub add_assoc : (xs ys zs : List Bool) → add (add xs ys) zs ≡ add xs (add ys zs)
 unfolding add
 add_assoc [] ys zs = refl
 add_assoc (x ∷ xs) [] zs = refl
@@ -51,7 +50,7 @@ add_assoc (x ∷ xs) (y ∷ ys) (z ∷ zs) =
     either_way true false z = refl
     either_way false y z = refl
 
-add_comm : (xs ys : List Bool) → add xs ys ≡ add ys xs
+pub add_comm : (xs ys : List Bool) → add xs ys ≡ add ys xs
 unfolding add
 add_comm [] ys = sym (add_nothing ys)
 add_comm (x ∷ xs) [] = refl
@@ -142,7 +141,7 @@ unfolding bits
 ones_are = refl
 
 register_gives : (bytes : List ℕ) → crc32 bytes ≡ 0xFFFF_FFFF - fold step 0xFFFF_FFFF (flat_map (bits 8) bytes)
-unfolding crc32 message
+unfolding crc32 dividend message
 register_gives bytes =
     let ms : List Bool = flat_map (bits 8) bytes in
     let rest : left_over (length ms) (add (ms ++ replicate 32 false) (replicate 32 true)) ≡ bits 32 (fold step 0xFFFF_FFFF ms) =

@@ -32,7 +32,7 @@ IsAddress (V6 bytes) = AreBytes 16 bytes
 -- colons between them, where one `::` may stand for zeros, and the last two groups may be four such decimal numbers.
 abbrev pub Spells : List ℕ → Address → Type 0
 Spells text (V4 bytes) = IsDotted text bytes
-Spells text (V6 bytes) = (length bytes ≡ 16) × ((k : ℕ) → slice_index bytes k < 2 ^ 8) × IsColonHex text (segments_of bytes)
+Spells text (V6 bytes) = AreBytes 16 bytes × IsColonHex text (segments_of bytes)
 
 -- an address that the text spells, or a refusal where it spells none
 abbrev pub ReadsAddress : List ℕ → Result Address AddressFault → Type 0

@@ -1,5 +1,5 @@
 -- The CRC-32 of ISO 3309, ITU-T V.42 and IEEE 802.3: what is left of a division of polynomials modulo 2.
-use Rattle.std.specs.Prelude.{ℕ, zero, suc, ◌+◌, ◌*◌, ◌/◌, ◌%◌, ◌==◌, Bool, true, false, not, List, [], ◌∷◌, ◌++◌, length, map, flat_map, replicate, if◌then◌else◌}
+use Rattle.std.specs.Prelude.{◌≡◌, ℕ, zero, suc, ◌+◌, ◌*◌, ◌/◌, ◌%◌, ◌==◌, Bool, true, false, not, List, [], ◌∷◌, ◌++◌, length, map, flat_map, replicate, if◌then◌else◌}
 use Rattle.std.specs.List.{list_any}
 
 -- A polynomial is the list of its coefficients, the highest power first. A coefficient is 0 (false) or 1 (true).
@@ -40,8 +40,35 @@ number (b ∷ bs) = (if b then 1 else 0) + 2 * number bs
 unfoldable pub message : List ℕ → List Bool
 message bytes = flat_map (bits 8) bytes
 
--- The message times x^32, its first 32 coefficients turned, is divided, so that 32 coefficients are left; these are turned.
--- The highest of them is the lowest bit.
+-- what is divided: the message times x^32, with its first 32 coefficients turned
+unfoldable pub dividend : List ℕ → List Bool
+dividend bytes = add (message bytes ++ replicate 32 false) (replicate 32 true)
+
+-- The 32 coefficients that are left are turned, and the highest is the lowest bit.
 unfoldable pub crc32 : List ℕ → ℕ
-crc32 bytes =
-    number (map not (left_over (length (message bytes)) (add (message bytes ++ replicate 32 false) (replicate 32 true))))
+crc32 bytes = number (map not (left_over (length (message bytes)) (dividend bytes)))
+
+-- ---- the same by multiplication
+
+-- the whole divisor
+unfoldable pub divisor : List Bool
+divisor = divisor_from 32
+
+-- the product with a quotient, from its highest coefficient on
+unfoldable pub times : List Bool → List Bool → List Bool
+times [] d = []
+times (c ∷ q) d = add (if c then d else []) (false ∷ times q d)
+
+-- `cs` is a multiple of the divisor and this rest, which is of a lower power
+pub record IsRemainder (cs rest : List Bool) : Type 0 where
+  pub quotient : List Bool
+  pub degree : length rest ≡ 32
+  pub count : length cs ≡ length quotient + 32
+  pub sum : cs ≡ add (times quotient divisor) (replicate (length quotient) false ++ rest)
+
+-- the dividend of a message has one remainder, and the CRC is its number with each coefficient turned
+abbrev pub CrcIsRemainder : Type 0
+CrcIsRemainder =
+    (bytes : List ℕ) → (rest : List Bool) × IsRemainder (dividend bytes) rest
+    × ((other : List Bool) → IsRemainder (dividend bytes) other → other ≡ rest)
+    × (crc32 bytes ≡ number (map not rest))
