@@ -28,8 +28,9 @@ abbrev pub IsAddress : Address → Type 0
 IsAddress (V4 bytes) = AreBytes 4 bytes
 IsAddress (V6 bytes) = AreBytes 16 bytes
 
--- The text spells this address: four decimal numbers with dots between them, or groups of hexadecimal digits with
--- colons between them, where one `::` may stand for zeros, and the last two groups may be four such decimal numbers.
+-- The text spells this address: four decimal numbers with dots between them, or groups of hexadecimal
+-- digits with colons between them, where one `::` may stand for zeros, and the last two groups may be
+-- written as four such decimal numbers.
 abbrev pub Spells : List ℕ → Address → Type 0
 Spells text (V4 bytes) = IsDotted text bytes
 Spells text (V6 bytes) = AreBytes 16 bytes × IsColonHex text (segments_of bytes)
@@ -38,7 +39,8 @@ Spells text (V6 bytes) = AreBytes 16 bytes × IsColonHex text (segments_of bytes
 abbrev pub ReadsAddress : List ℕ → Result Address AddressFault → Type 0
 ReadsAddress text result = Parses Spells text result
 
--- the text of an address: of V6 in lower case, without leading zeros, and the first longest run of two zero groups or more as `::`
+-- The text of an address. That of V6 is in lower case, without leading zeros, and the longest run of two
+-- zero groups or more, the first among equals, is `::`.
 abbrev pub printed : Address → List ℕ
 printed (V4 bytes) = ipv4_text bytes
 printed (V6 bytes) = hex_groups_text (segments_of bytes)
@@ -54,4 +56,5 @@ OneAddress = (text : List ℕ) (a b : Address) → Spells text a → Spells text
 
 -- what is printed is read as the same
 abbrev pub ReadAgain : Type 0
-ReadAgain = (a : Address) → IsAddress a → (result : Result Address AddressFault) → ReadsAddress (printed a) result → result ≡ Ok a
+ReadAgain =
+    (a : Address) → IsAddress a → (result : Result Address AddressFault) → ReadsAddress (printed a) result → result ≡ Ok a

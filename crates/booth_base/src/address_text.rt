@@ -16,7 +16,7 @@ fn put_digit(text: &mut ArrayString<39>, digit: u8)
 }
 
 /// Puts a decimal number of at most three digits.
-#[tactic(auto, using(crate::proofs::DigitLemmas::decimal_one))]
+#[tactic(auto, using(std::proofs::lemmas::Grind::common_steps, crate::proofs::DigitLemmas::octet_digits))]
 fn put_octet(text: &mut ArrayString<39>, octet: u8)
     requires { length text.old.bytes + 3 ≤ 39 }
     ensures bytes { text.new.bytes ≡ text.old.bytes ++ decimal octet }
@@ -72,7 +72,7 @@ fn put_hex_digit(text: &mut ArrayString<39>, digit: u16)
 }
 
 /// Puts a group in hexadecimal digits, without leading zeros.
-#[tactic(auto, using(crate::proofs::DigitLemmas::hex_one))]
+#[tactic(auto, using(std::proofs::lemmas::Grind::common_steps, crate::proofs::DigitLemmas::hex_digits))]
 fn put_hex(text: &mut ArrayString<39>, segment: u16)
     requires { length text.old.bytes + 4 ≤ 39 }
     ensures bytes { text.new.bytes ≡ text.old.bytes ++ hex segment }

@@ -12,7 +12,7 @@ pub fn printed_address_is_read_again()
     ensures { ReadAgain }
 {}
 
-/// The CRC-32 is the one remainder of a division of polynomials modulo 2, with each coefficient turned.
+/// A CRC-32 is the one remainder of a division of polynomials modulo 2, with each coefficient turned.
 pub fn crc_is_the_remainder()
     ensures { CrcIsRemainder }
 {}

@@ -42,7 +42,7 @@ fn ids_are_crcs_of_the_octets(rt: HostRuntime) {
     }
 }
 
-// The examples of RFC 4291, section 2.2, and of RFC 5952, section 4, and addresses in other spellings.
+// The examples of RFC 4291, section 2.2, and of RFC 5952, section 4, and other spellings.
 #[test]
 fn addresses_are_printed_in_one_spelling(rt: HostRuntime) {
     let spellings = [
