@@ -1,0 +1,33 @@
+# make build   proves boothd and leaves the program at out/boothd
+# make run     builds it, and shows one request and its reply on loopback
+# make check   the gate
+
+PROVED := crates/boothd/out/boothd
+SOURCES := crates.txt HANDLES $(shell find crates/*/src crates/*/specs crates/*/proofs 2>/dev/null)
+NO_RT := the command rt is missing: install the Rattle kit, as README.md says under "Run it"
+NEEDS_RT := command -v rt >/dev/null || { echo 'make: $(NO_RT)' >&2; exit 1; }
+
+.PHONY: build run check
+
+build: out/boothd
+
+run: build
+	@python3 tools/demo.py
+
+check:
+	@$(NEEDS_RT)
+	rt ci
+
+out/boothd: $(PROVED)
+	@mkdir -p out
+	cp $(PROVED) $@
+
+# rt run proves, builds and then runs boothd, without words, which is a usage error: so the program
+# that it leaves tells whether it was proved, and not its status. rt ci leaves the program there too.
+$(PROVED): $(SOURCES)
+	@$(NEEDS_RT)
+	@mkdir -p out
+	@echo "proving and building boothd, some minutes at first (out/build.log)"
+	@rm -f $@
+	@(cd crates/boothd && rt run) >out/build.log 2>&1 </dev/null; \
+	  test -x $@ || { tail -n 30 out/build.log; exit 1; }
