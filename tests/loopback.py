@@ -351,6 +351,9 @@ def usage(room):
         # a path without a `/`, and one of 256 bytes
         *([*good[:2], word, *good[3:]] for word in ("", "booth.conf", "./" + "x" * 254)),
         *([*good[:4], word] for word in no_address),
+        # words that are no UTF-8
+        [b"\xff"],
+        [*good[:2], b"/\xff", *good[3:]],
         ["--help"],
     ]
     text = room.ended([])[2]

@@ -20,8 +20,9 @@ PROGRAMS = [f"{TOP}/out/boothd", f"{TOP}/crates/boothd/out/boothd"]
 
 
 def built_program():
-    """The proved program's path, or None where it is not built."""
-    return next((path for path in PROGRAMS if os.access(path, os.X_OK)), None)
+    """The path of the proved program that was built last, or None where none is."""
+    built = [path for path in PROGRAMS if os.access(path, os.X_OK)]
+    return max(built, key=os.path.getmtime, default=None)
 
 
 def own_addresses():
