@@ -23,7 +23,7 @@ out/boothd: $(PROVED)
 	cp $(PROVED) $@
 
 # rt run proves, builds and then runs boothd, without words, which is a usage error: so the program
-# that it leaves tells whether it was proved, and not its status. rt ci leaves the program there too.
+# that it leaves tells whether it was proved, and not its status. rt ci leaves the program too.
 $(PROVED): $(SOURCES)
 	@$(NEEDS_RT)
 	@mkdir -p out
