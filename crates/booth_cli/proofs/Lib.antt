@@ -1,3 +1,9 @@
+pub mod ConfLines
+pub mod ConfQuotes
+pub mod ConfReading
+pub mod OneAnswerLemmas
+pub mod OneSetting
 pub mod WordLemmas
 pub mod ServeLemmas
 pub mod RunLemmas
+pub mod FaultlessLemmas

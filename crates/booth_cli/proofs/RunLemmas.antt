@@ -12,7 +12,7 @@ use Rattle.booth_cli.specs.declared.outcome.Outcome.TheVariants.{Done, Usage, Co
 use Rattle.booth_cli.specs.Words.{Asks, AskNothing}
 use Rattle.booth_cli.specs.Texts.{text_of}
 use Rattle.booth_cli.specs.Serving.{IsServing, IsServed}
-use Rattle.booth_cli.specs.Run.{IsText, IsComplaint, IsDaemonRun, IsRun, IsAskedRun, AskSome, FitsWords}
+use Rattle.booth_cli.specs.Run.{IsText, IsComplaint, IsRun, IsAskedRun, FitsWords}
 
 run_parts : (words : List (List ℕ)) (path : List ℕ) (address : Address) (outcome : Outcome) → Asks words path address →
     (xs ys : List Entry) → IsServing address path outcome xs → IsComplaint path outcome ys → IsRun words outcome (xs ++ ys)

@@ -1,6 +1,6 @@
 -- The calls before the first turn, and what follows them.
-use Rattle.std.specs.Prelude.{Option, Some, Result, Ok, Err, codes, ◌⊎◌}
-use Rattle.std.proofs.Common.{◌≡◌, ℕ, List, [], ◌∷◌, ◌++◌, refl, sym, ap, ◌∙◌, subst, inl, inr}
+use Rattle.std.specs.Prelude.{Option, Some, Result, Ok, Err, codes}
+use Rattle.std.proofs.Common.{◌≡◌, ℕ, List, [], ◌∷◌, ◌++◌, refl, subst, inr}
 use Rattle.booth_base.specs.declared.address.Address.{Address}
 use Rattle.booth_base.specs.Address.{id_of}
 use Rattle.booth_host.specs.declared.host.Failed.{Failed}
@@ -14,7 +14,7 @@ use Rattle.booth_node.specs.View.{opened_at}
 use Rattle.booth_cli.specs.declared.outcome.Outcome.{Outcome}
 use Rattle.booth_cli.specs.declared.outcome.Outcome.TheVariants.{Done, Usage, ConfUnread, ConfBad, OpenFault, TurnsSpent, OutOfMemory}
 use Rattle.booth_cli.specs.Conf.{Says}
-use Rattle.booth_cli.specs.Serving.{Start, IsStarted, IsRunOf, IsServing}
+use Rattle.booth_cli.specs.Serving.{IsStarted, IsRunOf, IsServing}
 
 -- the clock and the socket, whatever the socket's answer
 abbrev Opening : Address → List ℕ → ℕ → Result (Unit {0}) Failed → List Entry

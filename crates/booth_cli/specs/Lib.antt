@@ -1,8 +1,10 @@
 pub mod Conf
+pub mod Line
 pub mod Words
 pub mod Texts
 pub mod Ending
 pub mod Serving
 pub mod Run
+pub mod Faultless
 pub use Rattle.booth_host.specs.Past
 pub use Rattle.booth_host.specs.Causes

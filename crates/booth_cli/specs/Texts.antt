@@ -1,5 +1,5 @@
 -- What the daemon says on standard error, and its exit status.
-use Rattle.std.specs.Prelude.{◌≡◌, ◌++◌, ℕ, List, [], ◌∷◌, Option, codes, decimal}
+use Rattle.std.specs.Prelude.{◌++◌, ℕ, List, [], codes, decimal}
 use Rattle.booth_cli.specs.declared.conf.ConfFault.{ConfFault}
 use Rattle.booth_cli.specs.declared.conf.ConfFault.TheVariants as faults
 use Rattle.booth_cli.specs.declared.outcome.Outcome.{Outcome}

@@ -1,5 +1,5 @@
 -- The words of the daemon: what they must be, and what they ask for.
-use Rattle.std.specs.Prelude.{◌≡◌, ◌≤◌, ◌==◌, ◌&&◌, ℕ, Bool, IsTrue, List, [], ◌∷◌, length, codes}
+use Rattle.std.specs.Prelude.{◌≡◌, ◌≤◌, ◌==◌, ℕ, IsTrue, List, [], ◌∷◌, length, codes}
 use Rattle.std.specs.List.{list_any}
 use Rattle.booth_base.specs.declared.address.Address.{Address}
 use Rattle.booth_cli.specs.Conf.{SpellsV4}

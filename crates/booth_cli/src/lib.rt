@@ -3,7 +3,10 @@
 
 mod conf;
 mod daemon;
+pub mod laws;
 mod outcome;
+#[cfg(test)]
+mod tests;
 mod top;
 mod words;
 

@@ -13,6 +13,9 @@ use std::io::{ErrorKind, Read, Write};
 use std::net::{IpAddr, Ipv4Addr, Ipv6Addr, SocketAddr, UdpSocket};
 use std::time::{Duration, SystemTime};
 
+#[cfg(test)]
+mod tests;
+
 /// The most bytes of a file that is read.
 const FILE_BYTES: usize = 1 << 30;
 

@@ -1,5 +1,5 @@
 -- What a node does with an arrival: the deeds of one turn, as a tree.
-use Rattle.std.specs.Prelude.{◌≡◌, ◌+◌, ◌-◌, ◌*◌, ◌/◌, ◌%◌, ◌^◌, ◌++◌, ℕ, min, max, Bool, false, List, [], ◌∷◌, Result, Ok, Err, is_ok, codes, slice_index, slice_set}
+use Rattle.std.specs.Prelude.{◌≡◌, ◌+◌, ◌-◌, ◌*◌, ◌/◌, ◌%◌, ◌^◌, ◌++◌, ℕ, min, max, Bool, false, List, ◌∷◌, Result, Ok, Err, is_ok, codes, slice_index, slice_set}
 use Rattle.std.specs.List.{flat_map}
 use Rattle.booth_base.specs.declared.address.Peer.{Peer}
 use Rattle.booth_base.specs.Tree.{Deeds, Ends, Does, Leads, next}

@@ -5,6 +5,8 @@ mod gate;
 mod listing;
 mod node;
 mod state;
+#[cfg(test)]
+mod tests;
 
 pub use gate::DropFault;
 pub use node::{Node, TICKETS, Turn};

@@ -6,6 +6,8 @@ mod frame;
 pub mod laws;
 mod message;
 mod reading;
+#[cfg(test)]
+mod tests;
 mod writing;
 
 pub use command::Cmd;

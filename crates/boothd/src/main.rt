@@ -8,7 +8,11 @@ use std::{env, io};
 
 fn main(rt: HostRuntime) -> io::Result<ExitCode> {
     let alloc = rt.alloc();
-    let words: Vec<String> = env::args(&rt)?.skip(1).collect(alloc)?;
+    // Words that are no UTF-8 are none that are taken.
+    let words: Vec<String> = match env::args(&rt) {
+        Ok(args) => args.skip(1).collect(alloc)?,
+        Err(_) => Vec::new(alloc),
+    };
     let mut host = RealHost::new(rt, alloc)?;
     let outcome = boothd(alloc, &words, &mut host);
     Ok(ExitCode::from(outcome.status()))

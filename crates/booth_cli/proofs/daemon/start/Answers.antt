@@ -1,7 +1,6 @@
 use Rattle.std.proofs.Common.{ap, ◌∙◌}
 use Rattle.booth_node.specs.View.{station_of, state_of}
 use Rattle.booth_base.specs.declared.address.MemberId.{MemberId}
-use Rattle.booth_node.specs.Reaction.{Station}
 use Rattle.booth_cli.proofs.ServeLemmas.{ran, not_opened, no_node}
 use Rattle.booth_cli.proofs.daemon.start.Goals as goal
 

@@ -1,4 +1,4 @@
-use Rattle.std.proofs.Common.{◌≡◌, ◌∙◌, ap, sym, length, arith}
+use Rattle.std.proofs.Common.{◌∙◌, ap, length, arith}
 use Rattle.booth_cli.proofs.RunLemmas.{told}
 use Rattle.booth_cli.proofs.top.complain.Goals as goal
 

@@ -1,0 +1,89 @@
+//! The real devices: a datagram each way on loopback, files, the clock.
+use crate::{Arrival, Datagram, Host, Place, ReadFault, RealHost};
+use booth_base::{Address, PathText, Peer};
+use std::fs;
+use std::test::Fail;
+
+const LOOPBACK: Address = Address::V4([127, 0, 0, 1]);
+
+fn place(local: Option<Address>, port: u16) -> Result<Place, Fail> {
+    Ok(Place {
+        local,
+        port,
+        records: PathText::read("").map_err(|_| Fail::from("a path"))?,
+        conf_path: PathText::read("").map_err(|_| Fail::from("a path"))?,
+    })
+}
+
+// Opens the first of a hundred ports that is free, and says which.
+fn open_somewhere(host: &mut RealHost) -> Result<u16, Fail> {
+    for port in 19_929..20_029 {
+        if host.open(&place(Some(LOOPBACK), port)?).is_ok() {
+            return Ok(port);
+        }
+    }
+    Err(Fail::from("no free port"))
+}
+
+#[test]
+fn a_datagram_goes_each_way(rt: HostRuntime) -> Result<(), Fail> {
+    let alloc = rt.alloc();
+    let mut daemon = RealHost::new(rt.clone()?, alloc)?;
+    let mut client = RealHost::new(rt.clone()?, alloc)?;
+    let mut datagram = Datagram::new(alloc)?;
+    assert!(rt; daemon.next(1, &mut datagram).is_err());
+    assert!(rt; daemon.faults == 1);
+    let port = open_somewhere(&mut daemon)?;
+    let faults = client.faults;
+    assert!(rt; client.open(&place(Some(LOOPBACK), port)?).is_err());
+    assert!(rt; client.faults == faults + 1);
+    assert!(rt; client.open(&place(None, 0)?).is_ok());
+    assert!(rt; daemon.next(1, &mut datagram) == Ok(Arrival::Quiet));
+    let request = [0x51u8; 48];
+    assert!(rt;
+        client
+            .send(
+                &Peer {
+                    address: LOOPBACK,
+                    port
+                },
+                &request
+            )
+            .is_ok()
+    );
+    let Ok(Arrival::Datagram(from)) = daemon.next(5000, &mut datagram) else {
+        return Err(Fail::from("the request did not come"));
+    };
+    assert_eq!(rt; datagram.bytes(), request.as_slice());
+    let reply = [0x52u8; 66];
+    assert!(rt; daemon.send(&from, &reply).is_ok());
+    let Ok(Arrival::Datagram(back)) = client.next(5000, &mut datagram) else {
+        return Err(Fail::from("the reply did not come"));
+    };
+    assert_eq!(rt; datagram.bytes(), reply.as_slice());
+    assert!(rt;
+        back == Peer {
+            address: LOOPBACK,
+            port
+        }
+    );
+    Ok(())
+}
+
+#[test]
+fn a_file_is_read_and_a_missing_one_is_a_failure(rt: HostRuntime) -> Result<(), Fail> {
+    let alloc = rt.alloc();
+    let mut host = RealHost::new(rt.clone()?, alloc)?;
+    assert!(rt; host.now() > 0);
+    let path = "booth-host-test.conf";
+    fs::write(&rt, path, "site=\"127.0.0.1\"\n")?;
+    let Ok(text) = host.read_file(alloc, path) else {
+        return Err(Fail::from("not read"));
+    };
+    fs::remove_file(&rt, path)?;
+    assert_eq!(rt; text.bytes(), b"site=\"127.0.0.1\"\n".as_slice());
+    assert_eq!(rt; host.faults, 0);
+    assert!(rt; host.read_file(alloc, path).err() == Some(ReadFault::Failed));
+    assert_eq!(rt; host.faults, 1);
+    Ok(())
+}
