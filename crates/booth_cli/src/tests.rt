@@ -30,12 +30,14 @@ fn script(alloc: Global) -> Result<Script, Fail> {
         bytes: ByteText::new(alloc, &REQUEST)?,
         reading: 1_700_000_000_123,
         fail_send: false,
+        fail_keep: false,
         fail_out: false,
     })?;
     Ok(Script {
         first: 1_700_000_000_000,
         steps,
         fail_open: false,
+        fail_kept: false,
         fail_err: false,
         fail_send: false,
         fail_out: false,
@@ -47,7 +49,7 @@ fn host(alloc: Global, script: Script, text: &[u8]) -> Result<MemoryHost, Fail> 
     let path = PathText::read("/etc/booth.conf").map_err(|_| Fail::from("a path"))?;
     let mut files = Vec::new(alloc);
     files.push((path, ByteText::new(alloc, text)?))?;
-    Ok(MemoryHost::new(alloc, script, files, 100)?)
+    Ok(MemoryHost::new(alloc, script, files, Vec::new(alloc), 100)?)
 }
 
 fn strings(alloc: Global, words: &[&str]) -> Result<Vec<String>, Fail> {
@@ -81,6 +83,8 @@ fn kind(entry: &Entry) -> char {
         Entry::Now { .. } => 'n',
         Entry::Send { .. } => 's',
         Entry::ReadFile { .. } => 'r',
+        Entry::Kept { .. } => 'k',
+        Entry::Keep { .. } => 'w',
         Entry::Out { .. } => 'p',
         Entry::Err { .. } => 'e',
     }
@@ -133,7 +137,11 @@ fn one_list_request_has_its_reply(rt: HostRuntime) -> Result<(), Fail> {
                 );
                 assert!(rt; answer.is_ok());
             }
-            Entry::Now { .. } | Entry::Out { .. } | Entry::Err { .. } => {}
+            Entry::Now { .. }
+            | Entry::Kept { .. }
+            | Entry::Keep { .. }
+            | Entry::Out { .. }
+            | Entry::Err { .. } => {}
         }
     }
     Ok(())
@@ -255,6 +263,7 @@ fn failures_of_the_host_end_no_daemon(rt: HostRuntime) -> Result<(), Fail> {
         bytes: ByteText::new(alloc, &[])?,
         reading: 1_700_000_000_500,
         fail_send: false,
+        fail_keep: false,
         fail_out: false,
     })?;
     let mut host = host(alloc, script, GOOD)?;

@@ -61,3 +61,7 @@ pub then_some : (Q R : List Entry → Type 0) {a b c : Option (List Entry)} {xs 
 then_some Q R {xs = xs} first gives later =
     let these : List Entry → Type 0 = λ zs. zs ≡ xs in
     some_joined these Q R (λ zs ys e h. let P : List Entry → Type 0 = λ ws. R (ws ++ ys) in subst P (sym e) (gives ys h)) (some_of these first refl) later
+
+-- one entry behind no entry
+pub one_behind_none : {a b c : Option (List Entry)} {x : Entry} → GrewBy a b [] → GrewBy b c (x ∷ []) → GrewBy a c (x ∷ [])
+one_behind_none none one = joined none one

@@ -1,5 +1,7 @@
 -- What a host in memory tells, and what its script makes it answer.
-use Rattle.std.specs.Prelude.{◌≡◌, ◌-◌, ◌==◌, ℕ, List, [], Option, None, Some, Result, Ok, Bool, if◌then◌else◌, slice_get, length, take, min}
+use Rattle.std.specs.Prelude.{◌≡◌, ◌-◌, ◌==◌, ℕ, List, [], ◌∷◌, nat_eq, position, option_map, Option, None, Some, Result, Ok, Err, Bool, false, if◌then◌else◌, slice_get, slice_set, ◌++◌, length, take, min}
+use Rattle.std.specs.Cmp.Lexicographic.{pointwise}
+use Rattle.booth_rec.specs.declared.record.Record.{Record}
 use Rattle.booth_host.specs.declared.entry.Entry.{Entry}
 use Rattle.booth_host.specs.declared.host.Arrival.{Arrival}
 use Rattle.booth_host.specs.declared.host.Arrival.TheVariants.{Stop}
@@ -50,3 +52,41 @@ IsBrought (Some step) answer bytes = (answer ≡ step.arrival) × (bytes ≡ tak
 -- the step that a next begins
 abbrev pub coming : MemoryHost → Option Step
 coming host = slice_get host.script.steps.items host.begun
+
+-- the records that are kept, by their tickets' names
+abbrev pub records_of : MemoryHost → List (List ℕ × Record)
+records_of host = host.records.items
+
+-- where the record of this ticket stands
+abbrev pub place_of : List (List ℕ × Record) → List ℕ → Option ℕ
+place_of records ticket = position (λ pair. pointwise nat_eq pair.0 ticket) records
+
+-- the record of a place
+abbrev pub record_at : List (List ℕ × Record) → Option ℕ → Option Record
+record_at records None = None
+record_at records (Some place) = option_map (λ pair. pair.1) (slice_get records place)
+
+-- the record that is kept of this ticket
+abbrev pub record_of : List (List ℕ × Record) → List ℕ → Option Record
+record_of records ticket = record_at records (place_of records ticket)
+
+abbrev pub stored_at : List (List ℕ × Record) → List ℕ → Record → Option ℕ → List (List ℕ × Record)
+stored_at records ticket rec None = records ++ (ticket, rec) ∷ []
+stored_at records ticket rec (Some place) = slice_set records place (ticket, rec)
+
+-- the records with this one in the place of the one before, or behind the others
+abbrev pub stored : List (List ℕ × Record) → List ℕ → Record → List (List ℕ × Record)
+stored records ticket rec = stored_at records ticket rec (place_of records ticket)
+
+-- the records after a keep with this answer
+abbrev pub kept_after : Result (Unit {0}) Failed → List (List ℕ × Record) → List ℕ → Record → List (List ℕ × Record)
+kept_after (Ok done) records ticket rec = stored records ticket rec
+kept_after (Err fault) records ticket rec = records
+
+abbrev pub keep_flag : Option Step → Bool
+keep_flag None = false
+keep_flag (Some step) = step.fail_keep
+
+-- whether a keep fails now
+abbrev pub keeps_fail : MemoryHost → Bool
+keeps_fail host = keep_flag (running host)

@@ -3,7 +3,8 @@ ghost use Rattle.std.specs.Prelude.{◌≡◌, IfOk};
 ghost use Rattle.booth_host.specs.declared.entry.Entry.{Entry};
 
 use crate::{Arrival, Failed, Place, ReadFault};
-use booth_base::{Address, ByteText, Peer};
+use booth_base::{Address, ByteText, Name, Peer};
+use booth_rec::Record;
 use std::alloc::{AllocError, Global};
 
 /// One call of a host: its arguments and its answer. Texts and bytes are copies.
@@ -33,6 +34,17 @@ pub enum Entry {
     ReadFile {
         path: ByteText,
         answer: Result<ByteText, ReadFault>,
+    },
+    /// The record that is kept of a ticket was read.
+    Kept {
+        ticket: ByteText,
+        answer: Result<Option<Record>, Failed>,
+    },
+    /// A record of a ticket was to be kept.
+    Keep {
+        ticket: ByteText,
+        record: Record,
+        answer: Result<(), Failed>,
     },
     Out {
         bytes: ByteText,
@@ -130,4 +142,31 @@ pub(crate) fn complained(
 {
     let bytes = ByteText::new(alloc, bytes)?;
     Ok(Entry::Err { bytes, answer })
+}
+
+pub(crate) fn was_kept(
+    alloc: Global,
+    ticket: &Name,
+    answer: Result<Option<Record>, Failed>,
+) -> Result<Entry, AllocError>
+    ensures { IfOk result (λ entry. entry ≡ Entry.Kept ticket.now answer) }
+{
+    let ticket = ByteText::new(alloc, ticket.bytes())?;
+    Ok(Entry::Kept { ticket, answer })
+}
+
+pub(crate) fn kept(
+    alloc: Global,
+    ticket: &Name,
+    rec: &Record,
+    answer: Result<(), Failed>,
+) -> Result<Entry, AllocError>
+    ensures { IfOk result (λ entry. entry ≡ Entry.Keep ticket.now rec.now answer) }
+{
+    let ticket = ByteText::new(alloc, ticket.bytes())?;
+    Ok(Entry::Keep {
+        ticket,
+        record: *rec,
+        answer,
+    })
 }

@@ -5,7 +5,8 @@ ghost use Rattle.booth_host.specs.Past.{GrewBy};
 ghost use Rattle.booth_host.specs.Causes.{HasCause, HasReadCause};
 
 use crate::{Datagram, Entry};
-use booth_base::{Address, ByteText, PathText, Peer};
+use booth_base::{Address, ByteText, Name, PathText, Peer};
+use booth_rec::Record;
 use std::alloc::Global;
 use thiserror::Error;
 
@@ -77,6 +78,16 @@ pub trait Host {
     /// Gives a datagram to the network. It may never arrive.
     fn send(&mut self, to: &Peer, bytes: &[u8]) -> Result<(), Failed>
         ensures past { GrewBy (past self.old) (past self.new) (Entry.Send to.now bytes.now result ∷ []) }
+        ensures cause { HasCause (faults self.old) (faults self.new) result };
+
+    /// The record that is kept of this ticket, if there is one.
+    fn kept(&mut self, ticket: &Name) -> Result<Option<Record>, Failed>
+        ensures past { GrewBy (past self.old) (past self.new) (Entry.Kept ticket.now result ∷ []) }
+        ensures cause { HasCause (faults self.old) (faults self.new) result };
+
+    /// Keeps this record of this ticket. Where it fails, the record before or this one may be kept.
+    fn keep(&mut self, ticket: &Name, rec: &Record) -> Result<(), Failed>
+        ensures past { GrewBy (past self.old) (past self.new) (Entry.Keep ticket.now rec.now result ∷ []) }
         ensures cause { HasCause (faults self.old) (faults self.new) result };
 
     /// The bytes of a file.

@@ -11,6 +11,6 @@ mod real;
 pub use datagram::{DATAGRAM_BYTES, Datagram};
 pub use entry::Entry;
 pub use host::{Arrival, Failed, Host, Place, ReadFault};
-pub use memory::{Files, MemoryHost, Script, Step};
+pub use memory::{Files, MemoryHost, Records, Script, Step};
 pub use quiet::QuietHost;
 pub use real::RealHost;

@@ -1,12 +1,13 @@
 //! A host in memory, which runs a script and tells its calls.
-ghost use Rattle.std.specs.Prelude.{◌≡◌, ◌≤◌, [], ◌∷◌, Some, None, IfOk, OnErr, is_err, option_map, if◌then◌else◌};
+ghost use Rattle.std.specs.Prelude.{◌≡◌, ◌≤◌, [], ◌∷◌, Some, None, IfOk, OnOk, OnErr, IsSome, MatchResult, false, true, is_err, option_map, if◌then◌else◌};
 ghost use Rattle.booth_host.specs.Past.{GrewBy};
 ghost use Rattle.booth_host.specs.Causes.{Rose, HasCause};
 ghost use Rattle.booth_host.specs.declared.entry.Entry.{Entry};
 
-use crate::entry::{came, complained, opened, printed, read, sent};
+use crate::entry::{came, complained, kept, opened, printed, read, sent, was_kept};
 use crate::{Arrival, Datagram, Entry, Failed, Host, Place, ReadFault};
-use booth_base::{ByteText, PathText, Peer};
+use booth_base::{ByteText, Name, PathText, Peer};
+use booth_rec::Record;
 use std::alloc::{AllocError, Global};
 
 /// What one turn meets: what arrives, what the clock reads, and which of its calls fail.
@@ -18,6 +19,7 @@ pub struct Step {
     /// Milliseconds since 1970.
     pub reading: u64,
     pub fail_send: bool,
+    pub fail_keep: bool,
     pub fail_out: bool,
 }
 
@@ -28,6 +30,7 @@ pub struct Script {
     pub first: u64,
     pub steps: Vec<Step>,
     pub fail_open: bool,
+    pub fail_kept: bool,
     pub fail_err: bool,
     /// Whether a send before the first step fails.
     pub fail_send: bool,
@@ -38,12 +41,16 @@ pub struct Script {
 /// The files of a host in memory, by their paths.
 pub type Files = Vec<(PathText, ByteText)>;
 
+/// The records that a host in memory keeps, by their tickets' names.
+pub type Records = Vec<(Name, Record)>;
+
 /// A host in memory. It tells its calls while its room of entries holds, and nothing from then on.
 #[derive(Drop)]
 pub struct MemoryHost {
     pub(crate) alloc: Global,
     script: Script,
     files: Files,
+    records: Records,
     room: u32,
     begun: usize,
     entries: Vec<Entry>,
@@ -52,13 +59,14 @@ pub struct MemoryHost {
 }
 
 impl MemoryHost {
-    ghost use Rattle.booth_host.specs.Memory.{memory_past, running, coming, IsBrought};
+    ghost use Rattle.booth_host.specs.Memory.{memory_past, records_of, place_of, record_of, stored, kept_after, running, coming, IsBrought};
 
-    /// A host that runs this script, has these files, and tells at most `room` calls.
+    /// A host that runs this script, has these files and records, and tells at most `room` calls.
     pub fn new(
         alloc: Global,
         script: Script,
         files: Files,
+        records: Records,
         room: u32,
     ) -> Result<MemoryHost, AllocError>
         ensures { IfOk result (λ host. memory_past host ≡ Some []) }
@@ -67,6 +75,7 @@ impl MemoryHost {
             alloc,
             script,
             files,
+            records,
             room,
             begun: 0,
             entries: Vec::new(alloc),
@@ -86,11 +95,19 @@ impl MemoryHost {
         }
     }
 
+    /// The records that are kept.
+    pub fn records(&self) -> &[(Name, Record)]
+        ensures { result.now ≡ records_of self.now }
+    {
+        &self.records
+    }
+
     // Adds this entry, or tells nothing from now on.
     pub(crate) fn note(&mut self, entry: Result<Entry, AllocError>)
         ensures told { IfOk entry (λ entry. GrewBy (memory_past self.old) (memory_past self.new) (entry ∷ [])) }
         ensures untold { OnErr entry (memory_past self.new ≡ None) }
         ensures faults { self.new.faults ≡ self.old.faults }
+        ensures records { records_of self.new ≡ records_of self.old }
     {
         let Ok(entry) = entry else {
             self.tells = false;
@@ -104,6 +121,7 @@ impl MemoryHost {
     // Counts a failure.
     fn fail(&mut self)
         ensures past { memory_past self.new ≡ memory_past self.old }
+        ensures records { records_of self.new ≡ records_of self.old }
         ensures rose { Rose self.old.faults self.new.faults }
         ensures later { self.old.faults ≤ self.new.faults }
     {
@@ -115,6 +133,7 @@ impl MemoryHost {
         ensures past { memory_past self.new ≡ memory_past self.old }
         ensures cause { HasCause self.old.faults self.new.faults result }
         ensures exact { is_err result ≡ fails }
+        ensures records { records_of self.new ≡ records_of self.old }
     {
         if fails {
             self.fail();
@@ -152,6 +171,64 @@ impl MemoryHost {
         self.script.steps.get(self.begun - 1)
     }
 
+    // Where a ticket's record stands, if one is kept.
+    fn place(&self, ticket: &Name) -> Option<usize>
+        ensures { result ≡ place_of (records_of self.now) ticket.now }
+    {
+        self.records.iter().position(|(name, _)| name == ticket)
+    }
+
+    // The record that is kept of a ticket.
+    pub(crate) fn record(&self, ticket: &Name) -> Option<Record>
+        ensures { result ≡ record_of (records_of self.now) ticket.now }
+    {
+        let place = self.place(ticket)?;
+        let (_, record) = self.records.get(place)?;
+        Some(*record)
+    }
+
+    // Keeps a record, in the place of the one before.
+    pub(crate) fn store(&mut self, ticket: &Name, rec: &Record) -> Result<(), AllocError>
+        ensures ok { OnOk result (records_of self.new ≡ stored (records_of self.old) ticket.now rec.now) }
+        ensures err { OnErr result (records_of self.new ≡ records_of self.old) }
+        ensures past { memory_past self.new ≡ memory_past self.old }
+        ensures faults { self.new.faults ≡ self.old.faults }
+    {
+        match self.place(ticket) {
+            Some(place) => {
+                self.records[place] = (ticket.copy(), *rec);
+                Ok(())
+            }
+            None => match self.records.push((ticket.copy(), *rec)) {
+                Ok(()) => Ok(()),
+                Err(_) => Err(AllocError),
+            },
+        }
+    }
+
+    // Keeps a record, or tells nothing from now on where there is no memory for it.
+    pub(crate) fn put(&mut self, ticket: &Name, rec: &Record)
+        ensures past { GrewBy (memory_past self.old) (memory_past self.new) [] }
+        ensures faults { self.new.faults ≡ self.old.faults }
+        ensures records { IsSome (memory_past self.new) → records_of self.new ≡ stored (records_of self.old) ticket.now rec.now }
+    {
+        if self.store(ticket, rec).is_err() {
+            self.tells = false;
+        }
+    }
+
+    // Keeps a record where the keep does not fail.
+    fn put_if_ok(&mut self, answer: Result<(), Failed>, ticket: &Name, rec: &Record)
+        ensures past { GrewBy (memory_past self.old) (memory_past self.new) [] }
+        ensures faults { self.new.faults ≡ self.old.faults }
+        ensures records { IsSome (memory_past self.new) → records_of self.new ≡ kept_after answer (records_of self.old) ticket.now rec.now }
+    {
+        match answer {
+            Ok(()) => self.put(ticket, rec),
+            Err(Failed) => {}
+        }
+    }
+
     // The bytes of a file, where there is one of this path.
     pub(crate) fn file(&self, path: &str) -> Option<&ByteText> {
         for (name, text) in &self.files {
@@ -164,7 +241,7 @@ impl MemoryHost {
 }
 
 impl Host for MemoryHost {
-    ghost use Rattle.booth_host.specs.Memory.{memory_past, reading_of, sends_fail, outs_fail, coming, IsBrought};
+    ghost use Rattle.booth_host.specs.Memory.{memory_past, records_of, record_of, kept_after, reading_of, sends_fail, keeps_fail, outs_fail, coming, IsBrought};
 
     ghost past = { memory_past };
 
@@ -212,6 +289,41 @@ impl Host for MemoryHost {
         };
         let answer = self.fail_if(fails);
         let entry = sent(self.alloc, to, bytes, answer);
+        self.note(entry);
+        answer
+    }
+
+    fn kept(&mut self, ticket: &Name) -> Result<Option<Record>, Failed>
+        ensures past { GrewBy (memory_past self.old) (memory_past self.new) (Entry.Kept ticket.now result ∷ []) }
+        ensures cause { HasCause self.old.faults self.new.faults result }
+        ensures answer { MatchResult result
+            (λ found. (self.old.script.fail_kept ≡ false) × (found ≡ record_of (records_of self.old) ticket.now))
+            (λ _. self.old.script.fail_kept ≡ true) }
+        ensures records { records_of self.new ≡ records_of self.old }
+    {
+        let answer = match self.fail_if(self.script.fail_kept) {
+            Ok(()) => Ok(self.record(ticket)),
+            Err(Failed) => Err(Failed),
+        };
+        let entry = was_kept(self.alloc, ticket, answer);
+        self.note(entry);
+        answer
+    }
+
+    #[tactic(auto, using(crate::proofs::PastLemmas::one_behind_none))]
+    fn keep(&mut self, ticket: &Name, rec: &Record) -> Result<(), Failed>
+        ensures past { GrewBy (memory_past self.old) (memory_past self.new) (Entry.Keep ticket.now rec.now result ∷ []) }
+        ensures cause { HasCause self.old.faults self.new.faults result }
+        ensures fails { is_err result ≡ keeps_fail self.old }
+        ensures records { IsSome (memory_past self.new) → records_of self.new ≡ kept_after result (records_of self.old) ticket.now rec.now }
+    {
+        let fails = match self.step() {
+            Some(step) => step.fail_keep,
+            None => false,
+        };
+        let answer = self.fail_if(fails);
+        self.put_if_ok(answer, ticket, rec);
+        let entry = kept(self.alloc, ticket, rec, answer);
         self.note(entry);
         answer
     }

@@ -1,9 +1,12 @@
 //! A host in memory that never fails.
 ghost use Rattle.std.specs.Prelude.{◌≡◌, [], Some, IfOk, option_map};
 
-use crate::entry::{came, complained, opened, printed, read, sent};
-use crate::{Arrival, Datagram, Entry, Failed, Files, Host, MemoryHost, Place, ReadFault, Script};
-use booth_base::{ByteText, Peer};
+use crate::entry::{came, complained, kept, opened, printed, read, sent, was_kept};
+use crate::{
+    Arrival, Datagram, Entry, Failed, Files, Host, MemoryHost, Place, ReadFault, Records, Script,
+};
+use booth_base::{ByteText, Name, Peer};
+use booth_rec::Record;
 use std::alloc::{AllocError, Global};
 
 /// A host in memory without failures: its count of faults stays 0, a failing step is Quiet, and a
@@ -21,12 +24,13 @@ impl QuietHost {
         alloc: Global,
         script: Script,
         files: Files,
+        records: Records,
         room: u32,
     ) -> Result<QuietHost, AllocError>
         ensures { IfOk result (λ host. quiet_past host ≡ Some []) }
     {
         Ok(QuietHost {
-            host: MemoryHost::new(alloc, script, files, room)?,
+            host: MemoryHost::new(alloc, script, files, records, room)?,
         })
     }
 
@@ -67,6 +71,21 @@ impl Host for QuietHost {
 
     fn send(&mut self, to: &Peer, bytes: &[u8]) -> Result<(), Failed> {
         let entry = sent(self.host.alloc, to, bytes, Ok(()));
+        self.host.note(entry);
+        Ok(())
+    }
+
+    fn kept(&mut self, ticket: &Name) -> Result<Option<Record>, Failed> {
+        let answer = Ok(self.host.record(ticket));
+        let entry = was_kept(self.host.alloc, ticket, answer);
+        self.host.note(entry);
+        answer
+    }
+
+    #[tactic(auto, using(crate::proofs::PastLemmas::one_behind_none))]
+    fn keep(&mut self, ticket: &Name, rec: &Record) -> Result<(), Failed> {
+        self.host.put(ticket, rec);
+        let entry = kept(self.host.alloc, ticket, rec, Ok(()));
         self.host.note(entry);
         Ok(())
     }

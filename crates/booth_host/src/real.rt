@@ -5,7 +5,9 @@ ghost use Rattle.std.specs.Prelude.{◌≡◌, ◌≤◌, None, vec_len};
 ghost use Rattle.booth_host.specs.Causes.{Rose, HasCause};
 
 use crate::{Arrival, DATAGRAM_BYTES, Datagram, Failed, Host, Place, ReadFault};
-use booth_base::{Address, ByteText, Peer};
+use booth_base::{Address, ByteText, Name, PathText, Peer};
+use booth_rec::Record;
+use records::{read_record, write_record};
 use std::alloc::{AllocError, Global};
 use std::fs::File;
 use std::io;
@@ -13,6 +15,7 @@ use std::io::{ErrorKind, Read, Write};
 use std::net::{IpAddr, Ipv4Addr, Ipv6Addr, SocketAddr, UdpSocket};
 use std::time::{Duration, SystemTime};
 
+mod records;
 #[cfg(test)]
 mod tests;
 
@@ -24,6 +27,8 @@ const FILE_BYTES: usize = 1 << 30;
 pub struct RealHost {
     rt: HostRuntime,
     socket: Option<UdpSocket>,
+    /// The directory of the kept records, once a place was opened.
+    records: Option<PathText>,
     /// The wait that the socket is set to, in milliseconds.
     wait_ms: u64,
     buffer: Vec<u8>,
@@ -97,6 +102,7 @@ impl RealHost {
         Ok(RealHost {
             rt,
             socket: None,
+            records: None,
             wait_ms: 0,
             buffer: vec![in alloc; 0; DATAGRAM_BYTES]?,
             faults: 0,
@@ -171,6 +177,7 @@ impl Host for RealHost {
     fn open(&mut self, place: &Place) -> Result<(), Failed> {
         match bind(&self.rt, place) {
             Ok(socket) => {
+                self.records = Some(place.records.copy());
                 self.socket = Some(socket);
                 self.wait_ms = 0;
                 Ok(())
@@ -200,6 +207,16 @@ impl Host for RealHost {
             Ok(_) => Ok(()),
             Err(failed) => Err(failed),
         }
+    }
+
+    fn kept(&mut self, ticket: &Name) -> Result<Option<Record>, Failed> {
+        let answer = read_record(&self.rt, self.records.as_ref(), ticket);
+        self.checked(answer)
+    }
+
+    fn keep(&mut self, ticket: &Name, rec: &Record) -> Result<(), Failed> {
+        let answer = write_record(&self.rt, self.records.as_ref(), ticket, rec);
+        self.checked(answer)
     }
 
     fn read_file(&mut self, alloc: Global, path: &str) -> Result<ByteText, ReadFault> {

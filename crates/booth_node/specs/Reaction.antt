@@ -34,6 +34,8 @@ IsDone (Send peer letter) ok (calls.Open local port records conf_path answer) = 
 IsDone (Send peer letter) ok (calls.Next wait answer bytes) = ⊥
 IsDone (Send peer letter) ok (calls.Now reading) = ⊥
 IsDone (Send peer letter) ok (calls.ReadFile path answer) = ⊥
+IsDone (Send peer letter) ok (calls.Kept ticket answer) = ⊥
+IsDone (Send peer letter) ok (calls.Keep ticket rec answer) = ⊥
 IsDone (Send peer letter) ok (calls.Out bytes answer) = ⊥
 IsDone (Send peer letter) ok (calls.Err bytes answer) = ⊥
 

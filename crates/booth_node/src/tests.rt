@@ -30,6 +30,7 @@ fn step(alloc: Global, bytes: &[u8], reading: u64) -> Result<Step, Fail> {
         bytes: ByteText::new(alloc, bytes)?,
         reading,
         fail_send: false,
+        fail_keep: false,
         fail_out: false,
     })
 }
@@ -39,11 +40,12 @@ fn host(alloc: Global, steps: Vec<Step>) -> Result<MemoryHost, Fail> {
         first: 0,
         steps,
         fail_open: false,
+        fail_kept: false,
         fail_err: false,
         fail_send: false,
         fail_out: false,
     };
-    Ok(MemoryHost::new(alloc, script, Vec::new(alloc), 1000)?)
+    Ok(MemoryHost::new(alloc, script, Vec::new(alloc), Vec::new(alloc), 1000)?)
 }
 
 // A node of one ticket, at the member with the id 7.

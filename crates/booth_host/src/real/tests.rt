@@ -1,16 +1,21 @@
 //! The real devices: a datagram each way on loopback, files, the clock.
 use crate::{Arrival, Datagram, Host, Place, ReadFault, RealHost};
-use booth_base::{Address, PathText, Peer};
+use booth_base::{Address, Name, PathText, Peer};
+use booth_rec::{Lease, Record};
 use std::fs;
 use std::test::Fail;
 
 const LOOPBACK: Address = Address::V4([127, 0, 0, 1]);
 
 fn place(local: Option<Address>, port: u16) -> Result<Place, Fail> {
+    place_with(local, port, "")
+}
+
+fn place_with(local: Option<Address>, port: u16, records: &str) -> Result<Place, Fail> {
     Ok(Place {
         local,
         port,
-        records: PathText::read("").map_err(|_| Fail::from("a path"))?,
+        records: PathText::read(records).map_err(|_| Fail::from("a path"))?,
         conf_path: PathText::read("").map_err(|_| Fail::from("a path"))?,
     })
 }
@@ -85,5 +90,50 @@ fn a_file_is_read_and_a_missing_one_is_a_failure(rt: HostRuntime) -> Result<(), 
     assert_eq!(rt; host.faults, 0);
     assert!(rt; host.read_file(alloc, path).err() == Some(ReadFault::Failed));
     assert_eq!(rt; host.faults, 1);
+    Ok(())
+}
+
+#[test]
+fn a_kept_record_is_read_by_another_host(rt: HostRuntime) -> Result<(), Fail> {
+    let alloc = rt.alloc();
+    let directory = "booth-host-records/below";
+    let name = Name::read(b"ticket-db8").map_err(|_| Fail::from("a name"))?;
+    let mut first = RealHost::new(rt.clone()?, alloc)?;
+    assert!(rt;
+        first.keep(&name, &Record::plain(1, None)).is_err(),
+        "no place was opened"
+    );
+    assert!(rt; first.open(&place_with(None, 0, directory)?).is_ok());
+    assert!(rt; first.kept(&name) == Ok(None), "the directory is missing");
+    let leases = [
+        None,
+        Some(Lease {
+            term: 7,
+            until: 1_600_000,
+        }),
+    ];
+    for lease in leases {
+        let record = Record::plain(7, lease);
+        assert!(rt; first.keep(&name, &record).is_ok());
+        let mut second = RealHost::new(rt.clone()?, alloc)?;
+        assert!(rt; second.open(&place_with(None, 0, directory)?).is_ok());
+        assert!(rt; second.kept(&name) == Ok(Some(record)));
+        assert!(rt; second.faults == 0);
+    }
+    assert!(rt; first.faults == 1);
+    // "ticket-db8" in hexadecimal; a gate that is not open, then an open one before no record
+    let file = "booth-host-records/below/7469636b65742d646238.rec";
+    let mut bytes = [0u8; 64];
+    fs::write(&rt, file, bytes.as_slice())?;
+    assert!(rt; first.kept(&name) == Ok(None));
+    bytes[0] = 1;
+    fs::write(&rt, file, bytes.as_slice())?;
+    assert!(rt; first.kept(&name).is_err());
+    assert!(rt; first.faults == 2);
+    // a file where the directory should be
+    assert!(rt; first.open(&place_with(None, 0, file)?).is_ok());
+    assert!(rt; first.keep(&name, &Record::plain(1, None)).is_err());
+    assert!(rt; first.faults == 3);
+    fs::remove_dir_all(&rt, "booth-host-records")?;
     Ok(())
 }

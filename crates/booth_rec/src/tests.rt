@@ -1,0 +1,53 @@
+//! Records spelled by hand from the layout of the record file.
+use crate::{Lease, Record, RecordFault};
+
+const FREE: [u8; 32] = [
+    0, 0, 0, 1, 0, 0, 0, 1, 0, 0, 0, 0, 0, 0, 0, 0, 0, 0, 0, 0, 0, 0, 0, 0, 0, 0, 0, 0, 0, 0, 0, 0,
+];
+
+// 1,600,000 is 0x186A00.
+const HELD: [u8; 32] = [
+    0, 0, 0, 1, 0, 0, 0, 2, 0, 0, 0, 1, 0, 0, 0, 1, 0, 0, 0, 0, 0, 0x18, 0x6A, 0, 0, 0, 0, 0, 0, 0,
+    0, 0,
+];
+
+#[test]
+fn records_are_spelled_as_the_layout_says(rt: HostRuntime) {
+    let free = Record::plain(1, None);
+    let held = Record::plain(
+        2,
+        Some(Lease {
+            term: 1,
+            until: 1_600_000,
+        }),
+    );
+    for (record, bytes) in [(free, FREE), (held, HELD)] {
+        assert!(rt; record.encode() == bytes, "{record:?}");
+        assert_eq!(rt; Record::decode(bytes.as_slice()), Ok(record));
+    }
+}
+
+#[test]
+fn other_bytes_are_refused_by_the_first_fault(rt: HostRuntime) {
+    for (at, byte, fault) in [
+        (3, 2, RecordFault::Version),
+        (0, 1, RecordFault::Version),
+        (11, 0, RecordFault::Torn),
+        (11, 2, RecordFault::Torn),
+        (8, 1, RecordFault::Torn),
+        (31, 1, RecordFault::Torn),
+        (24, 1, RecordFault::Torn),
+    ] {
+        let mut bytes = HELD;
+        for (place, b) in bytes.iter_mut().enumerate() {
+            if place == at {
+                *b = byte;
+            }
+        }
+        assert_eq!(rt; Record::decode(bytes.as_slice()), Err(fault), "byte {at}");
+    }
+    let mut other = HELD;
+    other[3] = 2;
+    assert_eq!(rt; Record::decode(&other[..31]), Err(RecordFault::Torn));
+    assert_eq!(rt; Record::decode(&[]), Err(RecordFault::Torn));
+}
