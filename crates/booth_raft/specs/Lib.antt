@@ -1,0 +1,15 @@
+pub mod Sound
+pub mod Numbers
+pub mod Members
+pub mod Messages
+pub mod Outcome
+pub mod StartAndLearn
+pub mod GainReleaseLost
+pub mod RoundsAndAnswers
+pub mod OtherMessages
+pub mod AskAndRenew
+pub mod Deadlines
+pub mod Notes
+pub mod Facts
+pub mod State
+pub mod Laws

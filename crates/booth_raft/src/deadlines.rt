@@ -1,0 +1,156 @@
+//! The rules at a deadline: hello, and then the rule of the role.
+ghost use Rattle.std.specs.Prelude.{◌≡◌, ◌<◌, ◌^◌};
+ghost use Rattle.std.specs.Option.{ForSome};
+ghost use Rattle.booth_raft.specs.Deadlines.{candidate_due, due_now, follower_due, greeted, hello, is_tried, leader_due, leader_works, repeats, resends_or_renews, waits_or_acquires};
+ghost use Rattle.booth_raft.specs.Sound.{IsSound};
+
+use crate::code::LOCF;
+use crate::deed::{Deed, Told, Want};
+use crate::leases::{end_round, lose, release};
+use crate::members::{is_promised_elsewhere, others_until};
+use crate::messages::{ask_again, ask_state, revoke};
+use crate::moments::{failover_time, own_end, retry_at, shown_end};
+use crate::view::{Role, Round, View};
+use booth_wire::{Say, Setup};
+
+// At the first deadline after the start all are asked for their state.
+pub(crate) fn hello(setup: &Setup, view: &mut View, now: u64) -> Say
+    ensures view { view.new ≡ greeted view.old }
+    ensures say { result ≡ hello setup.now view.old now }
+{
+    if view.hello {
+        view.hello = false;
+        ask_state(setup, view, now)
+    } else {
+        Say::Nothing
+    }
+}
+
+// The round is still sent again.
+fn is_tried(setup: &Setup, round: &Round, now: u64) -> bool
+    requires sound { IsSound setup.now }
+    requires opened { round.now.opened < 2 ^ 62 }
+    ensures { result ≡ is_tried setup.now round.now now }
+{
+    now < round.opened + setup.times.timeout * (setup.times.retries as u64 + 1)
+}
+
+fn tick_candidate(setup: &Setup, view: &mut View, now: u64) -> Deed
+    requires sound { IsSound setup.now }
+    requires early { now < 2 ^ 62 }
+    requires opened { ForSome view.old.round (λ round. round.opened < 2 ^ 62) }
+    ensures view { view.new ≡ (candidate_due setup.now view.old view.old.round now).view }
+    ensures deed { result ≡ (candidate_due setup.now view.old view.old.round now).deed }
+{
+    let Some(round) = view.round else {
+        return end_round(view, now);
+    };
+    if !is_tried(setup, &round, now) {
+        return end_round(view, now);
+    }
+    view.due = Some(now + setup.times.timeout);
+    Deed::saying(ask_again(setup, view, &round, now), Told::Nothing)
+}
+
+fn resend_or_renew(setup: &Setup, view: &mut View, now: u64) -> Deed
+    requires sound { IsSound setup.now }
+    requires early { now < 2 ^ 62 }
+    requires opened { ForSome view.old.round (λ round. round.opened < 2 ^ 62) }
+    ensures view { view.new ≡ (resends_or_renews setup.now view.old view.old.round now).view }
+    ensures deed { result ≡ (resends_or_renews setup.now view.old view.old.round now).deed }
+{
+    let Some(round) = view.round else {
+        return Deed::wanting(Want::Renew);
+    };
+    if round.won || !is_tried(setup, &round, now) {
+        return Deed::wanting(Want::Renew);
+    }
+    view.due = Some(retry_at(setup, view, now));
+    Deed::saying(ask_again(setup, view, &round, now), Told::Nothing)
+}
+
+fn tick_leader(setup: &Setup, view: &mut View, now: u64) -> Deed
+    requires sound { IsSound setup.now }
+    requires early { now < 2 ^ 62 }
+    requires opened { ForSome view.old.round (λ round. round.opened < 2 ^ 62) }
+    ensures view { view.new ≡ (leader_due setup.now view.old now).view }
+    ensures deed { result ≡ (leader_due setup.now view.old now).deed }
+{
+    if now >= own_end(view) {
+        lose(setup, view, now);
+        return Deed::saying(Say::Nothing, Told::Lost);
+    }
+    if view.job.is_some() {
+        view.job = None;
+        return release(view, LOCF, now);
+    }
+    resend_or_renew(setup, view, now)
+}
+
+fn repeat_revocation(setup: &Setup, view: &mut View, now: u64) -> Deed
+    requires sound { IsSound setup.now }
+    requires early { now < 2 ^ 62 }
+    requires repeats { 0 < view.old.repeat }
+    ensures view { view.new ≡ (repeats setup.now view.old now).view }
+    ensures deed { result ≡ (repeats setup.now view.old now).deed }
+{
+    view.due = if view.repeat == 1 {
+        None
+    } else {
+        Some(now + setup.times.timeout)
+    };
+    view.repeat -= 1;
+    let again = revoke(setup, view.repeat_term, view.repeat_reason);
+    Deed::saying(again, Told::Nothing)
+}
+
+fn wait_or_acquire(setup: &Setup, view: &mut View, now: u64) -> Deed
+    requires sound { IsSound setup.now }
+    requires early { now < 2 ^ 62 }
+    ensures view { view.new ≡ (waits_or_acquires setup.now view.old now).view }
+    ensures deed { result ≡ (waits_or_acquires setup.now view.old now).deed }
+{
+    if now < shown_end(view.shown) {
+        view.due = Some(failover_time(setup, view));
+        return Deed::quiet();
+    }
+    if is_promised_elsewhere(view.promise, setup.me, now) {
+        let free = others_until(view.promise, setup.me);
+        view.due = Some(free.saturating_add(setup.rank as u64 * setup.times.timeout));
+        return Deed::quiet();
+    }
+    view.shown = None;
+    Deed::wanting(Want::Acquire)
+}
+
+fn tick_follower(setup: &Setup, view: &mut View, now: u64) -> Deed
+    requires sound { IsSound setup.now }
+    requires early { now < 2 ^ 62 }
+    ensures view { view.new ≡ (follower_due setup.now view.old now).view }
+    ensures deed { result ≡ (follower_due setup.now view.old now).deed }
+{
+    if view.repeat > 0 {
+        return repeat_revocation(setup, view, now);
+    }
+    if setup.site && view.managed {
+        return wait_or_acquire(setup, view, now);
+    }
+    view.due = None;
+    Deed::quiet()
+}
+
+// The rule of the role at its deadline.
+pub(crate) fn tick(setup: &Setup, view: &mut View, now: u64) -> Deed
+    requires sound { IsSound setup.now }
+    requires early { now < 2 ^ 62 }
+    requires opened { ForSome view.old.round (λ round. round.opened < 2 ^ 62) }
+    ensures view { view.new ≡ (due_now setup.now view.old now view.old.role).view }
+    ensures deed { result ≡ (due_now setup.now view.old now view.old.role).deed }
+{
+    match view.role {
+        Role::Follower => tick_follower(setup, view, now),
+        Role::Working => Deed::quiet(),
+        Role::Candidate => tick_candidate(setup, view, now),
+        Role::Leader => tick_leader(setup, view, now),
+    }
+}

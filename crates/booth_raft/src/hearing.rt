@@ -1,0 +1,142 @@
+//! The rule for other messages, and which rule a command is heard by.
+ghost use Rattle.std.specs.Prelude.{◌≡◌, ◌<◌, ◌^◌};
+ghost use Rattle.std.specs.Option.{ForSome};
+ghost use Rattle.booth_raft.specs.OtherMessages.{freed, is_owner, unmanaged, revoked, heard};
+ghost use Rattle.booth_raft.specs.Sound.{IsSound};
+
+use crate::code::{LOCF, SPLT};
+use crate::deed::{Deed, Told};
+use crate::learning::{learn, see};
+use crate::messages::tell_state;
+use crate::rounds::{hear_answer, hear_round};
+use crate::view::{Role, RoundKind, Shown, View};
+use booth_base::MemberId;
+use booth_wire::{Cmd, Head, Setup, TicketPart};
+
+// A promise to a site of a term at most this is dropped.
+fn free(view: &mut View, site: MemberId, term: u32)
+    ensures { view.new ≡ freed view.old site term }
+{
+    if view.promise.is_some_and(|p| p.to == site && p.term <= term) {
+        view.promise = None;
+    }
+}
+
+fn is_owner(shown: Option<Shown>, member: MemberId) -> bool
+    ensures { result ≡ is_owner shown member }
+{
+    shown.is_some_and(|s| s.owner == member)
+}
+
+// What a site does about a ticket that its owner gave back.
+fn leave_unmanaged(setup: &Setup, view: &mut View, reason: u32, now: u64)
+    requires sound { IsSound setup.now }
+    requires early { now < 2 ^ 62 }
+    ensures { view.new ≡ unmanaged setup.now view.old reason now }
+{
+    let follows = view.role == Role::Follower;
+    if reason == LOCF {
+        if follows && setup.site {
+            view.managed = true;
+            view.due = Some(now + (setup.rank as u64 + 1) * setup.times.timeout);
+        }
+    } else {
+        view.managed = false;
+        if follows && view.repeat == 0 {
+            view.due = None;
+        }
+    }
+}
+
+// A revocation is heard.
+fn hear_revoke(setup: &Setup, view: &mut View, head: &Head, term: u32, now: u64)
+    requires sound { IsSound setup.now }
+    requires early { now < 2 ^ 62 }
+    ensures { view.new ≡ revoked setup.now view.old head.now.from term head.now.reason now }
+{
+    free(view, head.from, term);
+    if view.term <= term && is_owner(view.shown, head.from) && head.reason != SPLT {
+        view.shown = None;
+        leave_unmanaged(setup, view, head.reason, now);
+    }
+}
+
+// A message of the member at a place is heard.
+pub(crate) fn hear(
+    setup: &Setup,
+    view: &mut View,
+    place: u32,
+    head: &Head,
+    part: &TicketPart,
+    now: u64,
+) -> Deed
+    requires sound { IsSound setup.now }
+    requires early { now < 2 ^ 62 }
+    requires place { place < setup.now.members }
+    requires opened { ForSome view.old.round (λ round. round.opened < 2 ^ 62) }
+    ensures view { view.new ≡ (heard setup.now view.old place head.now part.now now head.now.cmd).view }
+    ensures deed { result ≡ (heard setup.now view.old place head.now part.now now head.now.cmd).deed }
+{
+    let elects = head.options == 0;
+    match head.cmd {
+        Cmd::RVot => {
+            see(view, part.term);
+            if elects {
+                hear_round(setup, view, RoundKind::Election, head, part, now)
+            } else {
+                Deed::quiet()
+            }
+        }
+        Cmd::HrtB => {
+            see(view, part.term);
+            if !elects {
+                hear_round(setup, view, RoundKind::Renewal, head, part, now)
+            } else {
+                Deed::quiet()
+            }
+        }
+        Cmd::VtFr => {
+            see(view, part.term);
+            if elects {
+                hear_answer(setup, view, place, head, part, now)
+            } else {
+                Deed::quiet()
+            }
+        }
+        Cmd::Ack => {
+            see(view, part.term);
+            if !elects {
+                hear_answer(setup, view, place, head, part, now)
+            } else {
+                Deed::quiet()
+            }
+        }
+        Cmd::Stat => {
+            learn(setup, view, part, now);
+            Deed::saying(tell_state(setup, view, head, now), Told::Nothing)
+        }
+        Cmd::MIdx | Cmd::Rjc | Cmd::UpdE => {
+            learn(setup, view, part, now);
+            Deed::quiet()
+        }
+        Cmd::Revk => {
+            see(view, part.term);
+            hear_revoke(setup, view, head, part.term, now);
+            Deed::quiet()
+        }
+        Cmd::CLst
+        | Cmd::Peer
+        | Cmd::CGnt
+        | Cmd::CRvk
+        | Cmd::ASet
+        | Cmd::AGet
+        | Cmd::ADel
+        | Cmd::ALst
+        | Cmd::RLst
+        | Cmd::RPer
+        | Cmd::RALs
+        | Cmd::RGnt
+        | Cmd::RRvk
+        | Cmd::RAtr => Deed::quiet(),
+    }
+}

@@ -1,0 +1,197 @@
+//! The core: one automatic ticket at one member, as its callers see it. Each call is one rule.
+ghost use Rattle.std.specs.Prelude.{◌≡◌, ◌≢◌, ◌<◌, ◌≤◌, ◌^◌, ◌↔◌, IfOk, IsErr, IsTrue, OnErr, OnOk, max, true, false, None};
+ghost use Rattle.std.specs.Option.{option_copied};
+
+use crate::asking::{are_terms_spent, ask, keep_is_answered, renew};
+use crate::deadlines::{hello, tick};
+use crate::deed::{Deed, Note};
+use crate::hearing::hear;
+use crate::leases::release;
+use crate::noting::note;
+use crate::starting::start;
+use crate::view::View;
+use booth_rec::Record;
+use booth_wire::{Head, Say, Setup, TermSpent, TicketPart};
+use std::marker::Model;
+
+/// The lease rules of one automatic ticket at one member.
+///
+/// Every `now` is a reading of the member's clock in milliseconds since 1970, below 2^62. A deed is
+/// done in the order keep, say, told; after a deed with a keep the next call is `kept`, at the same
+/// reading. No call takes memory.
+#[derive(Drop)]
+pub struct Core {
+    setup: Setup,
+    view: View,
+}
+
+impl Model for Core {
+    ghost use Rattle.booth_raft.specs.Facts.{ViewFacts};
+    ghost use Rattle.booth_raft.specs.Sound.{IsSound};
+    ghost use Rattle.booth_raft.specs.State.{State};
+
+    ghost Value = { State };
+
+    ghost view = { λ core. record { setup = core.setup; view = core.view } };
+
+    ghost invariant = { λ core. IsSound core.setup × ViewFacts core.setup core.view };
+}
+
+// An equal setup.
+fn copy_of(setup: &Setup) -> Setup
+    ensures { result ≡ setup.now }
+{
+    Setup {
+        ticket: setup.ticket.copy(),
+        me: setup.me,
+        place: setup.place,
+        members: setup.members,
+        site: setup.site,
+        rank: setup.rank,
+        times: setup.times,
+    }
+}
+
+impl Core {
+    ghost use Rattle.booth_rec.specs.Record.{record_or_none};
+    ghost use Rattle.booth_raft.specs.AskAndRenew.{ask, keep_answered, renewed};
+    ghost use Rattle.booth_raft.specs.Deadlines.{due_now, greeted, hello};
+    ghost use Rattle.booth_raft.specs.Facts.{KeepWaits, ViewFacts};
+    ghost use Rattle.booth_raft.specs.GainReleaseLost.{release};
+    ghost use Rattle.booth_raft.specs.Members.{is_leader, is_working};
+    ghost use Rattle.booth_raft.specs.Notes.{MayNote, noted};
+    ghost use Rattle.booth_raft.specs.OtherMessages.{heard};
+    ghost use Rattle.booth_raft.specs.Sound.{IsSound};
+    ghost use Rattle.booth_raft.specs.StartAndLearn.{started};
+    ghost use Rattle.booth_raft.specs.State.{IsDue, IsWaiting, MayRelease, State, with_view};
+
+    /// A member starts, from the record that it kept.
+    pub fn start(setup: &Setup, kept: Option<&Record>, now: u64) -> Core
+        requires sound { IsSound setup.now }
+        requires early { now < 2 ^ 62 }
+        ensures { result ≡ record { setup = setup.now; view = started setup.now (record_or_none (option_copied kept.entry)) now } }
+    {
+        let kept = kept.copied().unwrap_or(Record::plain(0, None));
+        Core {
+            setup: copy_of(setup),
+            view: start(setup, kept, now),
+        }
+    }
+
+    /// What the member knows of the ticket.
+    pub fn view(&self) -> &View
+        ensures value { result.now ≡ self.now.view }
+        ensures facts { ViewFacts self.now.setup self.now.view }
+    {
+        &self.view
+    }
+
+    /// The setup that it started with.
+    pub fn setup(&self) -> &Setup
+        ensures value { result.now ≡ self.now.setup }
+        ensures sound { IsSound result.now }
+    {
+        &self.setup
+    }
+
+    /// A new term is asked for. Where the terms are spent, nothing changes.
+    pub fn ask(&mut self, now: u64, reason: u32) -> Result<Deed, TermSpent>
+        requires early { now < 2 ^ 62 }
+        requires idle { self.old.view.waiting ≡ None }
+        requires site { IsTrue self.old.setup.site }
+        ensures spent { IsErr result ↔ (4294967294 ≤ max self.old.view.term self.old.view.seen) }
+        ensures err { OnErr result (self.new ≡ self.old) }
+        ensures view { OnOk result (self.new ≡ with_view self.old (ask self.old.view reason now).view) }
+        ensures deed { IfOk result (λ deed. deed ≡ (ask self.old.view reason now).deed) }
+        ensures waits { IfOk result (λ deed. KeepWaits deed.keep self.new.view.waiting now) }
+    {
+        if are_terms_spent(&self.view) {
+            return Err(TermSpent);
+        }
+        Ok(ask(&mut self.view, reason, now))
+    }
+
+    /// A message of the member at the place `from`, another than this one, is heard.
+    pub fn hear(&mut self, now: u64, from: u32, head: &Head, part: &TicketPart) -> Deed
+        requires early { now < 2 ^ 62 }
+        requires idle { self.old.view.waiting ≡ None }
+        requires place { from < self.old.setup.members }
+        requires other { from ≢ self.old.setup.place }
+        ensures view { self.new ≡ with_view self.old (heard self.old.setup self.old.view from head.now part.now now head.now.cmd).view }
+        ensures deed { result ≡ (heard self.old.setup self.old.view from head.now part.now now head.now.cmd).deed }
+        ensures waits { KeepWaits result.keep self.new.view.waiting now }
+    {
+        hear(&self.setup, &mut self.view, from, head, part, now)
+    }
+
+    /// The keep that waits was answered: `ok` where the record is kept.
+    pub fn kept(&mut self, now: u64, ok: bool) -> Deed
+        requires early { now < 2 ^ 62 }
+        requires waiting { IsWaiting self.old.view now }
+        ensures view { self.new ≡ with_view self.old (keep_answered self.old.setup self.old.view self.old.view.waiting now ok).view }
+        ensures deed { result ≡ (keep_answered self.old.setup self.old.view self.old.view.waiting now ok).deed }
+        ensures waits { KeepWaits result.keep self.new.view.waiting now }
+    {
+        keep_is_answered(&self.setup, &mut self.view, now, ok)
+    }
+
+    /// At the first deadline after the start all members are asked for their state.
+    pub fn hello(&mut self, now: u64) -> Say
+        requires early { now < 2 ^ 62 }
+        requires idle { self.old.view.waiting ≡ None }
+        requires due { IsDue self.old.view now }
+        ensures view { self.new ≡ with_view self.old (greeted self.old.view) }
+        ensures say { result ≡ hello self.old.setup self.old.view now }
+    {
+        hello(&self.setup, &mut self.view, now)
+    }
+
+    /// The rule of the role at its deadline.
+    pub fn tick(&mut self, now: u64) -> Deed
+        requires early { now < 2 ^ 62 }
+        requires idle { self.old.view.waiting ≡ None }
+        requires due { IsDue self.old.view now }
+        requires greeted { self.old.view.hello ≡ false }
+        requires role { is_working self.old.view.role ≡ false }
+        ensures view { self.new ≡ with_view self.old (due_now self.old.setup self.old.view now self.old.view.role).view }
+        ensures deed { result ≡ (due_now self.old.setup self.old.view now self.old.view.role).deed }
+        ensures waits { KeepWaits result.keep self.new.view.waiting now }
+    {
+        tick(&self.setup, &mut self.view, now)
+    }
+
+    /// What became of a handler or of a client's request is noted.
+    pub fn note(&mut self, now: u64, note_made: Note)
+        requires early { now < 2 ^ 62 }
+        requires idle { self.old.view.waiting ≡ None }
+        requires fitting { MayNote self.old.view note_made }
+        ensures { self.new ≡ with_view self.old (noted self.old.setup self.old.view now note_made) }
+    {
+        note(&self.setup, &mut self.view, now, note_made);
+    }
+
+    /// The lease is renewed, after the handler where there is one.
+    pub fn renew(&mut self, now: u64) -> Deed
+        requires early { now < 2 ^ 62 }
+        requires idle { self.old.view.waiting ≡ None }
+        requires role { IsTrue (is_leader self.old.view.role) }
+        ensures view { self.new ≡ with_view self.old (renewed self.old.setup self.old.view self.old.view.round now).view }
+        ensures deed { result ≡ (renewed self.old.setup self.old.view self.old.view.round now).deed }
+        ensures waits { KeepWaits result.keep self.new.view.waiting now }
+    {
+        renew(&self.setup, &mut self.view, now)
+    }
+
+    /// The lease is given back.
+    pub fn release(&mut self, now: u64, reason: u32) -> Deed
+        requires early { now < 2 ^ 62 }
+        requires idle { self.old.view.waiting ≡ None }
+        requires site { IsTrue self.old.setup.site }
+        requires fitting { MayRelease self.old.view reason now }
+        ensures view { self.new ≡ with_view self.old (release self.old.view reason now).view }
+        ensures deed { result ≡ (release self.old.view reason now).deed }
+        ensures waits { KeepWaits result.keep self.new.view.waiting now }
+    {
+        release(&mut self.view, reason, now)
+    }
+}

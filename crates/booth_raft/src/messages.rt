@@ -1,0 +1,147 @@
+//! What the rules say to members.
+ghost use Rattle.std.specs.Prelude.{◌≡◌};
+ghost use Rattle.booth_raft.specs.Messages.{head_of, part_of, owner_now, state_part, asks_state, tells_state, tells_gain, revokes, answer_cmd, answers_round, refuses_round, round_head, round_part, asks_all, asks_again};
+
+use crate::members::unanswered;
+use crate::moments::{own_end, seconds_left, shown_end};
+use crate::view::{Round, RoundKind, Shown, View};
+use booth_base::{MemberId, NO_ONE};
+use booth_wire::{Cmd, Head, Say, Setup, TicketPart};
+
+fn head(setup: &Setup, cmd: Cmd, request: u32, options: u32, reason: u32, result_code: u32) -> Head
+    ensures { result ≡ head_of setup.now cmd request options reason result_code }
+{
+    Head {
+        auth: false,
+        secs: 0,
+        usecs: 0,
+        from: setup.me,
+        cmd,
+        request,
+        options,
+        reason,
+        result: result_code,
+    }
+}
+
+fn part(setup: &Setup, leader: MemberId, term: u32, valid_for: u32) -> TicketPart
+    ensures { result ≡ part_of setup.now leader term valid_for }
+{
+    TicketPart {
+        ticket: setup.ticket.copy(),
+        leader,
+        term,
+        valid_for,
+    }
+}
+
+// The owner that is shown now, or no one.
+fn owner_now(shown: Option<Shown>, now: u64) -> MemberId
+    ensures { result ≡ owner_now shown now }
+{
+    match shown {
+        Some(shown) if now < shown.until => shown.owner,
+        Some(_) | None => NO_ONE,
+    }
+}
+
+// The owner now, the term, and the seconds left.
+fn state(setup: &Setup, view: &View, now: u64) -> TicketPart
+    ensures { result ≡ state_part setup.now view.now now }
+{
+    let left = seconds_left(shown_end(view.shown), now);
+    part(setup, owner_now(view.shown, now), view.term, left)
+}
+
+// All are asked for their state.
+pub(crate) fn ask_state(setup: &Setup, view: &View, now: u64) -> Say
+    ensures { result ≡ asks_state setup.now view.now now }
+{
+    Say::All(head(setup, Cmd::Stat, 0, 0, 0, 0), state(setup, view, now))
+}
+
+// Who asked for the state is told it.
+pub(crate) fn tell_state(setup: &Setup, view: &View, asked: &Head, now: u64) -> Say
+    ensures { result ≡ tells_state setup.now view.now asked.now now }
+{
+    let answer = head(setup, Cmd::MIdx, asked.request, 0, 0, 0);
+    Say::Reply(answer, state(setup, view, now))
+}
+
+// All are told of a lease.
+pub(crate) fn tell_gain(setup: &Setup, view: &View, now: u64) -> Say
+    ensures { result ≡ tells_gain setup.now view.now now }
+{
+    Say::All(head(setup, Cmd::UpdE, 0, 0, 0, 0), state(setup, view, now))
+}
+
+// All are told that a term's lease was given back.
+pub(crate) fn revoke(setup: &Setup, term: u32, reason: u32) -> Say
+    ensures { result ≡ revokes setup.now term reason }
+{
+    let revoked = head(setup, Cmd::Revk, 0, 0, reason, 0);
+    Say::All(revoked, part(setup, NO_ONE, term, 0))
+}
+
+fn answer_cmd(kind: RoundKind) -> Cmd
+    ensures { result ≡ answer_cmd kind }
+{
+    match kind {
+        RoundKind::Election => Cmd::VtFr,
+        RoundKind::Renewal => Cmd::Ack,
+    }
+}
+
+// The answer to a round.
+pub(crate) fn answer_round(setup: &Setup, kind: RoundKind, round: &Head, term: u32) -> Say
+    ensures { result ≡ answers_round setup.now kind round.now term }
+{
+    let answer = head(setup, answer_cmd(kind), round.request, round.options, 0, 0);
+    Say::Reply(answer, part(setup, round.from, term, 0))
+}
+
+// The refusal of a round.
+pub(crate) fn refuse_round(setup: &Setup, view: &View, round: &Head, why: u32, now: u64) -> Say
+    ensures { result ≡ refuses_round setup.now view.now round.now why now }
+{
+    let refusal = head(setup, Cmd::Rjc, round.request, round.options, 0, why);
+    Say::Reply(refusal, state(setup, view, now))
+}
+
+fn round_head(setup: &Setup, view: &View, number: u32) -> Head
+    ensures { result ≡ round_head setup.now view.now number }
+{
+    if number == 0 {
+        head(setup, Cmd::RVot, 0, 0, view.reason, 0)
+    } else {
+        head(setup, Cmd::HrtB, 0, number, 0, 0)
+    }
+}
+
+fn round_part(setup: &Setup, view: &View, now: u64) -> TicketPart
+    ensures { result ≡ round_part setup.now view.now now }
+{
+    let left = seconds_left(own_end(view), now);
+    part(setup, setup.me, view.term, left)
+}
+
+// All are asked to answer a round.
+pub(crate) fn ask_all(setup: &Setup, view: &View, number: u32, now: u64) -> Say
+    ensures { result ≡ asks_all setup.now view.now number now }
+{
+    Say::All(
+        round_head(setup, view, number),
+        round_part(setup, view, now),
+    )
+}
+
+// Those that have not answered a round are asked again.
+pub(crate) fn ask_again(setup: &Setup, view: &View, round: &Round, now: u64) -> Say
+    ensures { result ≡ asks_again setup.now view.now round.now now }
+{
+    Say::Unanswered(
+        round_head(setup, view, round.number),
+        round_part(setup, view, now),
+        unanswered(setup, &round.answers),
+    )
+}
