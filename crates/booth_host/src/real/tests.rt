@@ -39,9 +39,8 @@ fn a_datagram_goes_each_way(rt: HostRuntime) -> Result<(), Fail> {
     assert!(rt; daemon.next(1, &mut datagram).is_err());
     assert!(rt; daemon.faults == 1);
     let port = open_somewhere(&mut daemon)?;
-    let faults = client.faults;
     assert!(rt; client.open(&place(Some(LOOPBACK), port)?).is_err());
-    assert!(rt; client.faults == faults + 1);
+    assert!(rt; client.faults == 1);
     assert!(rt; client.open(&place(None, 0)?).is_ok());
     assert!(rt; daemon.next(1, &mut datagram) == Ok(Arrival::Quiet));
     let request = [0x51u8; 48];
@@ -93,47 +92,75 @@ fn a_file_is_read_and_a_missing_one_is_a_failure(rt: HostRuntime) -> Result<(), 
     Ok(())
 }
 
+// A host that keeps its records in this directory.
+fn keeper(rt: &HostRuntime, directory: &str) -> Result<RealHost, Fail> {
+    let mut host = RealHost::new(rt.clone()?, rt.alloc())?;
+    if host.open(&place_with(None, 0, directory)?).is_err() {
+        return Err(Fail::from("not opened"));
+    }
+    Ok(host)
+}
+
+fn ticket() -> Result<Name, Fail> {
+    Name::read(b"ticket-db8").map_err(|_| Fail::from("a name"))
+}
+
 #[test]
 fn a_kept_record_is_read_by_another_host(rt: HostRuntime) -> Result<(), Fail> {
-    let alloc = rt.alloc();
-    let directory = "booth-host-records/below";
-    let name = Name::read(b"ticket-db8").map_err(|_| Fail::from("a name"))?;
-    let mut first = RealHost::new(rt.clone()?, alloc)?;
-    assert!(rt;
-        first.keep(&name, &Record::plain(1, None)).is_err(),
-        "no place was opened"
-    );
-    assert!(rt; first.open(&place_with(None, 0, directory)?).is_ok());
+    let directory = "booth-host-kept/below";
+    let name = ticket()?;
+    let mut first = keeper(&rt, directory)?;
     assert!(rt; first.kept(&name) == Ok(None), "the directory is missing");
-    let leases = [
+    for lease in [
         None,
         Some(Lease {
             term: 7,
             until: 1_600_000,
         }),
-    ];
-    for lease in leases {
+    ] {
         let record = Record::plain(7, lease);
         assert!(rt; first.keep(&name, &record).is_ok());
-        let mut second = RealHost::new(rt.clone()?, alloc)?;
-        assert!(rt; second.open(&place_with(None, 0, directory)?).is_ok());
+        let mut second = keeper(&rt, directory)?;
         assert!(rt; second.kept(&name) == Ok(Some(record)));
         assert!(rt; second.faults == 0);
     }
-    assert!(rt; first.faults == 1);
-    // "ticket-db8" in hexadecimal; a gate that is not open, then an open one before no record
-    let file = "booth-host-records/below/7469636b65742d646238.rec";
+    assert!(rt; first.faults == 0);
+    fs::remove_dir_all(&rt, "booth-host-kept")?;
+    Ok(())
+}
+
+#[test]
+fn a_gate_before_no_record_is_a_failure(rt: HostRuntime) -> Result<(), Fail> {
+    let name = ticket()?;
+    let mut host = keeper(&rt, "booth-host-torn")?;
+    fs::create_dir_all(&rt, "booth-host-torn")?;
+    // "ticket-db8" in hexadecimal
+    let file = "booth-host-torn/7469636b65742d646238.rec";
     let mut bytes = [0u8; 64];
     fs::write(&rt, file, bytes.as_slice())?;
-    assert!(rt; first.kept(&name) == Ok(None));
+    assert!(rt; host.kept(&name) == Ok(None), "the gate is not open");
     bytes[0] = 1;
     fs::write(&rt, file, bytes.as_slice())?;
-    assert!(rt; first.kept(&name).is_err());
-    assert!(rt; first.faults == 2);
-    // a file where the directory should be
-    assert!(rt; first.open(&place_with(None, 0, file)?).is_ok());
-    assert!(rt; first.keep(&name, &Record::plain(1, None)).is_err());
-    assert!(rt; first.faults == 3);
-    fs::remove_dir_all(&rt, "booth-host-records")?;
+    assert!(rt; host.kept(&name).is_err());
+    assert!(rt; host.faults == 1);
+    fs::remove_dir_all(&rt, "booth-host-torn")?;
+    Ok(())
+}
+
+#[test]
+fn a_record_that_has_no_place_is_a_failure(rt: HostRuntime) -> Result<(), Fail> {
+    let name = ticket()?;
+    let record = Record::plain(1, None);
+    let mut unopened = RealHost::new(rt.clone()?, rt.alloc())?;
+    assert!(rt; unopened.keep(&name, &record).is_err());
+    assert!(rt; unopened.faults == 1);
+    fs::write(&rt, "booth-host-file", "")?;
+    let mut host = keeper(&rt, "booth-host-file")?;
+    assert!(rt;
+        host.keep(&name, &record).is_err(),
+        "a file stands where the directory should"
+    );
+    assert!(rt; host.faults == 1);
+    fs::remove_file(&rt, "booth-host-file")?;
     Ok(())
 }
