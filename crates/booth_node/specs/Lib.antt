@@ -1,3 +1,4 @@
+pub mod Clock
 pub mod Gate
 pub mod Reaction
 pub mod Log

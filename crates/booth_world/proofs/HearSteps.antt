@@ -1,0 +1,293 @@
+-- A round that is heard, and other messages, as steps of the member.
+use Rattle.std.proofs.Common.{◌≡◌, ℕ, ◌+◌, ◌*◌, ◌≤◌, [], ◌∷◌, Bool, true, false, cond, ◌&&◌, refl, sym, ap, ◌∙◌, subst, inl, inr, ⊎_elim, arith}
+use Rattle.std.specs.Prelude.{Option, Some, None, not, ◌==◌, nat_lt, nat_le, IsTrue}
+use Rattle.std.specs.Option.{ForSome}
+use Rattle.std.proofs.lemmas.Bool.Decides.{nat_tests}
+use native.Mathlib.Nat.{le_refl}
+use Rattle.booth_base.specs.declared.address.MemberId.{MemberId}
+use Rattle.booth_base.specs.Times.{promise_of}
+use Rattle.booth_wire.specs.declared.message.Head.{Head}
+use Rattle.booth_wire.specs.declared.message.TicketPart.{TicketPart}
+use Rattle.booth_wire.specs.declared.message.Setup.{Setup}
+use Rattle.booth_raft.specs.declared.code.TheConstants.{LOCF, SPLT}
+use Rattle.booth_raft.specs.declared.view.Promise.{Promise as ViewPromise}
+use Rattle.booth_raft.specs.declared.view.Role.{Role}
+use Rattle.booth_raft.specs.declared.view.Role.TheVariants.{Follower, Working, Candidate, Leader}
+use Rattle.booth_raft.specs.declared.view.Round.{Round as ViewRound}
+use Rattle.booth_raft.specs.declared.view.RoundKind.{RoundKind}
+use Rattle.booth_raft.specs.declared.view.RoundKind.TheVariants.{Election, Renewal}
+use Rattle.booth_raft.specs.declared.view.View.{View}
+use Rattle.booth_raft.specs.Facts.{RoundFits}
+use Rattle.booth_raft.specs.Members.{is_follower, is_same}
+use Rattle.booth_raft.specs.Outcome.{Outcome, quiet}
+use Rattle.booth_node.specs.Clock.{Cluster}
+use Rattle.booth_world.specs.Facts.{Has, Round, Release, Facts}
+use Rattle.booth_world.specs.States.{Promise, MemberState}
+use Rattle.booth_world.specs.Rounds.{new_promise, new_answer}
+use Rattle.booth_world.specs.Leases.{cleared}
+use Rattle.booth_world.specs.Steps.{Promises, Answers, Clears}
+use Rattle.booth_world.specs.Agreement.{AreIds, seat, promise_in, Agrees}
+use Rattle.booth_world.specs.Messages.{IsFact, AnswerSaid}
+use Rattle.booth_world.specs.Calls.{LeadsTo}
+use Rattle.booth_world.proofs.Lists.{none_is}
+use Rattle.booth_world.proofs.Invariant.{FactsGood}
+use Rattle.booth_world.proofs.Views.{on_cond, on_test, may_promise, SameParts, nothing_waits, agrees_same, rests}
+use Rattle.booth_raft.specs.OtherMessages.{is_freed_by, is_owner, freed, unmanaged, revoked}
+use Rattle.booth_raft.specs.RoundsAndAnswers.{may_answer, promised, stood_down, shows_site, with_site, with_due, answering, round_heard}
+use Rattle.booth_raft.specs.StartAndLearn.{seeing, awaits_failover, showing, shows_leader, with_failover, learned}
+use Rattle.booth_raft.specs.Messages.{answer_cmd, answers_round, head_of, part_of}
+use Rattle.booth_world.specs.Rounds.{with_answer}
+use Rattle.booth_world.specs.Leases.{clearing}
+use Rattle.booth_raft.specs.RoundsAndAnswers.{MayAnswer}
+use Rattle.booth_raft.proofs.AnswerLemmas.{tests_may_answer, is_same-true, same-is_same}
+
+pub untrue : false ≡ true → ⊥
+untrue e = cc
+
+-- the same view
+pub unchanged : (view : View) → view.waiting ≡ None → SameParts view view
+unchanged view none = record { term = refl; bound = refl; promise = refl; abstain = refl; kept = refl; round = inl refl; role = λ h. h; repeated = λ h. (h, refl); waiting = none }
+
+pub then_same : (a b c : View) → SameParts a b → SameParts b c → SameParts a c
+then_same a b c p q = record {
+  term = q.term ∙ p.term;
+  bound = q.bound ∙ p.bound;
+  promise = q.promise ∙ p.promise;
+  abstain = q.abstain ∙ p.abstain;
+  kept = q.kept ∙ p.kept;
+  round = ⊎_elim (λ (same : c.round ≡ b.round). ⊎_elim (λ (old : b.round ≡ a.round). inl (same ∙ old)) (λ (gone : b.round ≡ None). inr (same ∙ gone)) p.round) (λ (gone : c.round ≡ None). inr gone) q.round;
+  role = λ h. p.role (q.role h);
+  repeated = λ h. let r = q.repeated h in let o = p.repeated r.0 in (o.0, r.1 ∙ o.1);
+  waiting = q.waiting;
+}
+
+-- ---- learn
+
+pub same_learned : (setup : Setup) (view : View) (part : TicketPart) (now : ℕ) → view.waiting ≡ None → SameParts view (learned setup view part now)
+same_learned setup view part now none =
+    let shown : View = showing (seeing view part.term) part.leader (now + 1000 * part.valid_for) in
+    on_cond (λ (w : View). SameParts view w) (shows_leader setup view part now) (with_failover setup shown) (seeing view part.term)
+    (on_cond (λ (w : View). SameParts view w) (awaits_failover setup shown) _ shown
+    (record { term = refl; bound = refl; promise = refl; abstain = refl; kept = refl; round = inl refl; role = λ h. h; repeated = λ h. (h, refl); waiting = none })
+    (record { term = refl; bound = refl; promise = refl; abstain = refl; kept = refl; round = inl refl; role = λ h. h; repeated = λ h. (h, refl); waiting = none }))
+    (record { term = refl; bound = refl; promise = refl; abstain = refl; kept = refl; round = inl refl; role = λ h. h; repeated = λ h. (h, refl); waiting = none })
+
+-- ---- a round is heard
+
+-- who stood down has no round
+stood_down_same : (view : View) (role : Role) → view.waiting ≡ None → SameParts view (stood_down view role)
+stood_down_same view Follower none = unchanged view none
+stood_down_same view Working none = unchanged view none
+stood_down_same view Candidate none = record { term = refl; bound = refl; promise = refl; abstain = refl; kept = refl; round = inr refl; role = λ h. absurd (untrue h); repeated = λ h. (h, refl); waiting = none }
+stood_down_same view Leader none = record { term = refl; bound = refl; promise = refl; abstain = refl; kept = refl; round = inr refl; role = λ h. h; repeated = λ h. (h, refl); waiting = none }
+
+never_active : (o : Option ViewRound) (active : Bool) → active ≡ false → ForSome o (λ r. IsTrue active) → o ≡ None
+never_active None active e fits = refl
+never_active (Some r) active e fits = absurd (untrue (sym e ∙ fits r refl))
+
+no_round_left : (view : View) (role : Role) (term : ℕ) (old : Option ViewRound) → view.round ≡ old → RoundFits term role old → (stood_down view role).round ≡ None
+no_round_left view Follower term old e fits = e ∙ never_active old false refl fits.active
+no_round_left view Working term old e fits = e ∙ never_active old false refl fits.active
+no_round_left view Candidate term old e fits = refl
+no_round_left view Leader term old e fits = refl
+
+with_site_same : (view : View) (site : MemberId) (kind : RoundKind) (part : TicketPart) (now : ℕ) → view.waiting ≡ None → SameParts view (with_site view site kind part now)
+with_site_same view site kind part now none =
+    on_cond (λ (w : View). SameParts view w) (shows_site kind part) (showing view site (now + 1000 * part.valid_for)) view
+    (record { term = refl; bound = refl; promise = refl; abstain = refl; kept = refl; round = inl refl; role = λ h. h; repeated = λ h. (h, refl); waiting = none }) (unchanged view none)
+
+with_due_same : (setup : Setup) (view : View) (kind : RoundKind) (part : TicketPart) (now : ℕ) → view.waiting ≡ None → SameParts view (with_due setup view kind part now)
+with_due_same setup view kind part now none =
+    on_cond (λ (w : View). SameParts view w) (awaits_failover setup view && view.managed) _ view
+    (record { term = refl; bound = refl; promise = refl; abstain = refl; kept = refl; round = inl refl; role = λ h. h; repeated = λ h. (h, refl); waiting = none }) (unchanged view none)
+
+-- the view after an answer, from the one that stood down
+answering_same : (setup : Setup) (view : View) (site : MemberId) (kind : RoundKind) (part : TicketPart) (now : ℕ) → view.waiting ≡ None
+    → SameParts (stood_down (promised setup view site part.term now) view.role) (answering setup view site kind part now)
+answering_same setup view site kind part now none =
+    let bound : View = promised setup view site part.term now in
+    let still : View = stood_down bound view.role in
+    let first = stood_down_same bound view.role none in
+    let second = with_site_same still site kind part now first.waiting in
+    then_same still (with_site still site kind part now) (answering setup view site kind part now) second
+    (with_due_same setup (with_site still site kind part now) kind part now second.waiting)
+
+-- an answer that was given is a fact
+answer_said : (id_of : ℕ → MemberId) (f : Facts) (m : ℕ) (head : Head) (part : TicketPart) (kind : RoundKind) → AnswerSaid id_of f m part.leader part.term head.options → IsFact id_of f m head part (answer_cmd kind)
+answer_said id_of f m head part Election said = said
+answer_said id_of f m head part Renewal said = said
+
+-- steps lead to an outcome
+abbrev pub Leads : Cluster → (ℕ → MemberId) → ℕ → ℕ → Facts → MemberState → Outcome → Type 0
+Leads c id_of now m f x outcome = LeadsTo c id_of now m f x x.reading outcome.view outcome.deed.say
+
+-- ids are equal where places are
+pub same_test : (id_of : ℕ → MemberId) → AreIds id_of → (a b : ℕ) → is_same (id_of a) (id_of b) ≡ (a == b)
+same_test id_of ids a b = by_tests (is_same (id_of a) (id_of b)) (a == b) refl refl
+  where
+    by_tests : (p q : Bool) → is_same (id_of a) (id_of b) ≡ p → (a == b) ≡ q → p ≡ q
+    by_tests true true e k = refl
+    by_tests false false e k = refl
+    by_tests true false e k = let same = ids a b (is_same-true (id_of a) (id_of b) e) in absurd (grind (arith, nat_tests))
+    by_tests false true e k =
+        let same : a ≡ b = grind (arith, nat_tests) in
+        absurd (untrue (sym e ∙ same-is_same (id_of a) (id_of b) (ap id_of same)))
+
+-- a promise is dropped in the view where it is in the world
+pub freed_promise : (id_of : ℕ → MemberId) → AreIds id_of → (o : Option Promise) (s t : ℕ)
+    → promise_in id_of (cleared o s t) ≡ cond (is_freed_by (promise_in id_of o) (id_of s) t) None (promise_in id_of o)
+freed_promise id_of ids None s t = refl
+freed_promise id_of ids (Some p) s t = rw (same_test id_of ids p.to s) (by_tests (p.to == s) (nat_lt t p.term) (nat_le p.term t) refl refl)
+  where
+    by_tests : (a b d : Bool) → nat_lt t p.term ≡ b → nat_le p.term t ≡ d
+        → promise_in id_of (cond (a && not b) None (Some p)) ≡ cond (a && d) None (promise_in id_of (Some p))
+    by_tests false b d e k = refl
+    by_tests true true false e k = refl
+    by_tests true false true e k = refl
+    by_tests true true true e k = absurd (grind (arith, nat_tests))
+    by_tests true false false e k = absurd (grind (arith, nat_tests))
+
+module _ (c : Cluster) (id_of : ℕ → MemberId) (ids : AreIds id_of) (now m : ℕ) (f : Facts) (x : MemberState) (setup : Setup) where
+  -- Round heard: where it is answered, a promise and an answer
+  answers_it : (view : View) (kind : RoundKind) (head : Head) (part : TicketPart) (r : Round)
+      → FactsGood c now f → x.at ≡ now → view.waiting ≡ None → RoundFits view.term view.role view.round → Agrees c id_of f m view x
+      → Has f.rounds r → head.from ≡ id_of r.site → r.term ≡ part.term → r.number ≡ head.options
+      → may_answer view head.from part.term x.reading ≡ true
+      → LeadsTo c id_of now m f x x.reading (answering (seat c id_of m setup) view head.from kind part x.reading) (answers_round (seat c id_of m setup) kind head part.term)
+  answers_it view kind head part r good timely none fits a fact from term number test = (
+    Promises r.site part.term ∷ Answers r (new_promise c x r.site part.term) ∷ [],
+    (
+      may_promise c id_of f m view x ids a r.site part.term (good.rounds r fact).site may,
+      (record { up = a.up; fact = fact; own_term = sym term; bound = refl; stands = refl; to = refl; for_term = sym term; long = le_refl _; later = past }, tt),
+    ),
+    record {
+      agrees = agrees_same c id_of _ m gone final _
+          (record { term = s.term; bound = s.bound; promise = s.promise; abstain = s.abstain; kept = s.kept; round = inr none_final; role = s.role; repeated = s.repeated; waiting = s.waiting })
+          (record {
+            up = a.up;
+            term = refl;
+            bound = ap (λ (i : MemberId). let o : Option MemberId = Some i in o) from;
+            promise = ap (λ (i : MemberId). let o : Option ViewPromise = Some (record { to = i; term = part.term; until = x.reading + promise_of c.times }) in o) from;
+            abstain = a.abstain;
+            kept = a.kept;
+            round = λ r e. absurd (none_is r e);
+            tried = nothing_waits _ view.waiting none;
+            asked = nothing_waits _ view.waiting none;
+            keeping = nothing_waits _ view.waiting none;
+            active = a.active;
+            repeated = a.repeated;
+          });
+      said = answer_said id_of (with_answer f (new_answer m x r)) m (head_of (seat c id_of m setup) (answer_cmd kind) head.request head.options 0 0) (part_of (seat c id_of m setup) head.from part.term 0) kind (new_answer m x r, inl refl, refl, sym from, term, number);
+      unread = refl;
+    },
+  )
+    where
+      past : r.at ≤ x.at
+      past = let l = (good.rounds r fact).past in omega (arith, l, timely)
+
+      may : MayAnswer view (id_of r.site) part.term x.reading
+      may = subst (λ (i : MemberId). MayAnswer view i part.term x.reading) from ((tests_may_answer view head.from part.term x.reading).0 test)
+
+      bound : View
+      bound = promised (seat c id_of m setup) view head.from part.term x.reading
+
+      gone : View
+      gone = record bound { round = None }
+
+      final : View
+      final = answering (seat c id_of m setup) view head.from kind part x.reading
+
+      last : SameParts (stood_down bound view.role) final
+      last = answering_same (seat c id_of m setup) view head.from kind part x.reading none
+
+      s : SameParts bound final
+      s = then_same bound (stood_down bound view.role) final (stood_down_same bound view.role none) last
+
+      none_final : final.round ≡ None
+      none_final = ⊎_elim
+          (λ (same : final.round ≡ (stood_down bound view.role).round). same ∙ no_round_left bound view.role view.term view.round refl fits)
+          (λ (none : final.round ≡ None). none)
+          last.round
+
+  pub hears_round : (view : View) (kind : RoundKind) (head : Head) (part : TicketPart) (r : Round)
+      → FactsGood c now f → x.at ≡ now → view.waiting ≡ None → RoundFits view.term view.role view.round → Agrees c id_of f m view x
+      → Has f.rounds r → head.from ≡ id_of r.site → r.term ≡ part.term → r.number ≡ head.options
+      → Leads c id_of now m f x (round_heard (seat c id_of m setup) view kind head part x.reading)
+  hears_round view kind head part r good timely none fits a fact from term number =
+      on_test (λ (o : Outcome). Leads c id_of now m f x o) (may_answer view head.from part.term x.reading) _ _
+      (λ test. answers_it view kind head part r good timely none fits a fact from term number test)
+      (λ test. rests c id_of now m f x view _ a tt)
+
+  -- a promise that is freed in the view is cleared in the world
+  freed_agrees : (view : View) (z : Release) → view.waiting ≡ None → Agrees c id_of f m view x
+      → Agrees c id_of f m (freed view (id_of z.site) z.term) (clearing x z)
+  freed_agrees view z none a =
+      on_test (λ (w : View). Agrees c id_of f m w (clearing x z)) (is_freed_by view.promise (id_of z.site) z.term) _ _
+      (λ test. record {
+        up = a.up;
+        term = a.term;
+        bound = a.bound;
+        promise = sym (cleared_so true test);
+        abstain = a.abstain;
+        kept = a.kept;
+        round = a.round;
+        tried = nothing_waits _ view.waiting none;
+        asked = nothing_waits _ view.waiting none;
+        keeping = nothing_waits _ view.waiting none;
+        active = a.active;
+        repeated = a.repeated;
+      })
+      (λ test. record {
+        up = a.up;
+        term = a.term;
+        bound = a.bound;
+        promise = a.promise ∙ sym (cleared_so false test);
+        abstain = a.abstain;
+        kept = a.kept;
+        round = a.round;
+        tried = nothing_waits _ view.waiting none;
+        asked = nothing_waits _ view.waiting none;
+        keeping = nothing_waits _ view.waiting none;
+        active = a.active;
+        repeated = a.repeated;
+      })
+    where
+      cleared_so : (b : Bool) → is_freed_by view.promise (id_of z.site) z.term ≡ b
+          → promise_in id_of (cleared x.promise z.site z.term) ≡ cond b None (promise_in id_of x.promise)
+      cleared_so b test =
+          freed_promise id_of ids x.promise z.site z.term
+          ∙ ap (λ (d : Bool). cond d None (promise_in id_of x.promise)) (sym (ap (λ (o : Option ViewPromise). is_freed_by o (id_of z.site) z.term) a.promise) ∙ test)
+
+  unmanaged_same : (view : View) (reason reading : ℕ) → view.waiting ≡ None → SameParts view (unmanaged (seat c id_of m setup) view reason reading)
+  unmanaged_same view reason reading none =
+      on_cond (λ (w : View). SameParts view w) (reason == LOCF) _ _
+      (on_cond (λ (w : View). SameParts view w) (is_follower view.role && c.is_site m) _ view
+      (record { term = refl; bound = refl; promise = refl; abstain = refl; kept = refl; round = inl refl; role = λ h. h; repeated = λ h. (h, refl); waiting = none }) (unchanged view none))
+      (on_cond (λ (w : View). SameParts view w) (is_follower view.role && view.repeat == 0) _ _
+      (record { term = refl; bound = refl; promise = refl; abstain = refl; kept = refl; round = inl refl; role = λ h. h; repeated = λ h. (h, refl); waiting = none })
+      (record { term = refl; bound = refl; promise = refl; abstain = refl; kept = refl; round = inl refl; role = λ h. h; repeated = λ h. (h, refl); waiting = none }))
+
+  revoked_same : (view : View) (site : MemberId) (term reason reading : ℕ) → view.waiting ≡ None
+      → SameParts (freed view site term) (revoked (seat c id_of m setup) view site term reason reading)
+  revoked_same view site term reason reading none =
+      let free : View = freed view site term in
+      let hidden : View = record free { shown = None } in
+      let still : free.waiting ≡ None = on_cond (λ (w : View). w.waiting ≡ None) (is_freed_by view.promise site term) _ view none none in
+      on_cond (λ (w : View). SameParts free w) (nat_le view.term term && is_owner view.shown site && not (reason == SPLT)) _ _
+      (then_same free hidden (unmanaged (seat c id_of m setup) hidden reason reading)
+      (record { term = refl; bound = refl; promise = refl; abstain = refl; kept = refl; round = inl refl; role = λ h. h; repeated = λ h. (h, refl); waiting = still })
+      (unmanaged_same hidden reason reading still))
+      (unchanged free still)
+
+  -- a revocation that is heard: a clearing
+  pub hears_release : (view : View) (reason : ℕ) (z : Release) → view.waiting ≡ None → Agrees c id_of f m view x → Has f.releases z
+      → Leads c id_of now m f x (quiet (revoked (seat c id_of m setup) view (id_of z.site) z.term reason x.reading))
+  hears_release view reason z none a fact = (
+    Clears z ∷ [],
+    (record { up = a.up; fact = fact }, tt),
+    record {
+      agrees = agrees_same c id_of f m (freed view (id_of z.site) z.term) _ (clearing x z) (revoked_same view (id_of z.site) z.term reason x.reading none) (freed_agrees view z none a);
+      said = tt;
+      unread = refl;
+    },
+  )

@@ -1,0 +1,96 @@
+-- Gains and keeps keep what holds.
+use Rattle.std.proofs.Common.{◌≡◌, ℕ, ◌≤◌, List, [], ◌∷◌, refl, ap, subst, inl, inr, ⊎_elim, arith}
+use Rattle.std.specs.Prelude.{Option, Some, None}
+use native.Mathlib.Nat.{le_of_eq, le_refl}
+use Rattle.booth_rec.specs.declared.record.Lease.{Lease}
+use Rattle.booth_rec.specs.declared.record.Record.{Record}
+use Rattle.booth_node.specs.Clock.{Cluster}
+use Rattle.booth_world.specs.Facts.{Has, Round, Gain, Facts}
+use Rattle.booth_world.specs.States.{MemberState}
+use Rattle.booth_world.specs.Leases.{IsWon, MayLease, MayKeep}
+use Rattle.booth_world.specs.Steps.{Gains, TriesKeep, HasKept}
+use Rattle.booth_world.proofs.Lists.{new_or_old, none_is, some_same}
+use Rattle.booth_world.proofs.Invariant.{LeaseGood, MemberGood, LeaseFact, FactsGood}
+use Rattle.booth_world.proofs.Stays.{Stays, Law, facts_stay}
+
+-- gain
+pub gains : (c : Cluster) (now : ℕ) (f : Facts) (m : ℕ) (x : MemberState) (r : Round) (ms : List ℕ) → Law c now f m x (Gains r ms)
+gains c now f m x r ms i g below may =
+    let new : Gain = record { round = r; at = now; answers = ms } in
+    let more : (k : ℕ) (y : MemberState) → MemberGood c now f k y → MemberGood c now (record f { leases = new ∷ f.leases }) k y
+    = λ k y j. record {
+      clock = j.clock;
+      may = j.may;
+      term = j.term;
+      round = j.round;
+      promise = j.promise;
+      answers = j.answers;
+      lease = λ z hz l e. let q = j.lease z hz l e in record { gained = q.gained; fact = inr q.fact; site = q.site; term = q.term; until = q.until; above = q.above };
+    } in
+    record {
+      self = more m x i;
+      others = λ k y other j. more k y j;
+      facts = record {
+        within = g.within;
+        rounds = g.rounds;
+        one_round = g.one_round;
+        answers = g.answers;
+        releases = g.releases;
+        apart = g.apart;
+        leases = new_or_old (LeaseFact c now f.rounds f.answers) new f.leases
+            (record {
+              round = (i.round r may.open_round).fact;
+              past = le_refl _;
+              majority = may.majority;
+              answered = λ k h. let a = may.answered k h in (a.0, a.1, a.2, a.3, (g.answers a.0 a.1).past);
+            })
+            g.leases;
+      };
+    }
+
+-- keep
+kept_lease :
+    (c : Cluster) (now : ℕ) (f : Facts) (m : ℕ) (x : MemberState) (o : Option Lease) (l : Lease)
+    → MemberGood c now f m x → MayLease c f x o → o ≡ Some l → LeaseGood c f.leases f.releases m l
+kept_lease c now f m x None l i may e = absurd (none_is l e)
+kept_lease c now f m x (Some q) l i may e = subst (λ (y : Lease). LeaseGood c f.leases f.releases m y) (some_same q l e) (⊎_elim
+    (λ (old : (k : Record) × Has x.may k × (k.lease ≡ Some q)). i.lease old.0 old.1 q old.2)
+    (λ (won : IsWon c f x q).
+    let r = i.round won.gained.round won.open_round in
+    record {
+      gained = won.gained;
+      fact = won.fact;
+      site = r.site;
+      term = ap (λ (y : Lease). y.term) won.same;
+      until = ap (λ (y : Lease). y.until) won.same;
+      above = λ z h z_site. let n = r.above z h z_site in let t = ap (λ (y : Lease). y.term) won.same in omega arith;
+    })
+    may)
+
+-- what is kept beside what may be kept already
+joins :
+    (c : Cluster) (now : ℕ) (f : Facts) (m : ℕ) (x : MemberState) (k : Record) (rest : List Record)
+    → MemberGood c now f m x → FactsGood c now f → MayKeep c f m x k → ((y : Record) → Has rest y → Has x.may y)
+    → Stays c now f m f (record x { may = k ∷ rest })
+joins c now f m x k rest i g may part =
+    let first = i.may.some in
+    let least : first.0.term ≤ k.term = let l = i.term may.up first.0 first.1 in let t = may.own_term in omega arith in
+    facts_stay c now f m _ g (record {
+      clock = i.clock;
+      may = record {
+        some = (k, inl refl);
+        own_rounds = λ r h e. new_or_old (λ (z : Record). r.term ≤ z.term) k rest (let l = i.may.own_rounds r h e first.0 first.1 in omega arith) (λ y hy. i.may.own_rounds r h e y (part y hy));
+        own_releases = λ r h e. new_or_old (λ (z : Record). r.term ≤ z.term) k rest (let l = i.may.own_releases r h e first.0 first.1 in omega arith) (λ y hy. i.may.own_releases r h e y (part y hy));
+      };
+      term = λ up. new_or_old (λ (z : Record). z.term ≤ x.term) k rest (le_of_eq may.own_term) (λ y hy. i.term up y (part y hy));
+      round = i.round;
+      lease = new_or_old (λ (z : Record). (l : Lease) → z.lease ≡ Some l → LeaseGood c f.leases f.releases m l) k rest (λ l e. kept_lease c now f m x k.lease l i may.lease e) (λ y hy. i.lease y (part y hy));
+      promise = i.promise;
+      answers = i.answers;
+    })
+
+pub tries : (c : Cluster) (now : ℕ) (f : Facts) (m : ℕ) (x : MemberState) (k : Record) → Law c now f m x (TriesKeep k)
+tries c now f m x k i g below may = joins c now f m x k x.may i g may (λ y h. h)
+
+pub keeps : (c : Cluster) (now : ℕ) (f : Facts) (m : ℕ) (x : MemberState) (k : Record) → Law c now f m x (HasKept k)
+keeps c now f m x k i g below may = joins c now f m x k [] i g may (λ y n. absurd n)

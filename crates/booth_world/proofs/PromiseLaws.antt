@@ -1,0 +1,130 @@
+-- Promises and answers keep what holds.
+use Rattle.std.proofs.Common.{◌≡◌, ◌≢◌, ◌⊎◌, ℕ, ◌+◌, ◌<◌, ◌≤◌, List, Bool, true, false, refl, sym, ap, ◌∙◌, subst, inl, inr, ⊎_elim, arith}
+use Rattle.std.specs.Prelude.{Option, Some, None, if◌then◌else◌, ◌==◌, ◌&&◌, nat_eq}
+use Rattle.std.specs.Option.{ForSome}
+use Rattle.std.proofs.lemmas.Bool.Decides.{nat_tests}
+use native.Mathlib.Nat.{le_of_eq, le_refl}
+use native.Mathlib.Decide.{ℕ_discrete}
+use Rattle.booth_node.specs.Clock.{Cluster, promise_time}
+use Rattle.booth_world.specs.Facts.{Has, Round, Answer, Release, Facts}
+use Rattle.booth_world.specs.States.{Promise, MemberState}
+use Rattle.booth_world.specs.Rounds.{MayPromise, round_left, new_promise, new_answer}
+use Rattle.booth_world.specs.Steps.{Promises, Answers, member_after}
+use Rattle.booth_world.proofs.Lists.{new_or_old, none_is, some_same}
+use Rattle.booth_world.proofs.Invariant.{Freed, Covers, StateGuard, Guard, Stands, PromiseGood, AnswerGood, AnswerFact, Apart}
+use Rattle.booth_world.proofs.Stays.{Law, facts_stay, not_up, stands_by}
+
+round_kept : (m s t : ℕ) (x : MemberState) (r : Round) → round_left m x s t ≡ Some r → (x.round ≡ Some r) × (x.term ≡ t)
+round_kept m s t x r e = go (s == m) (nat_eq x.term t) refl e
+  where
+    go : (a b : Bool) → nat_eq x.term t ≡ b → (if a && b then x.round else None) ≡ Some r → (x.round ≡ Some r) × (x.term ≡ t)
+    go true true q e = (e, grind (arith, nat_tests))
+    go true false q e = absurd (none_is r e)
+    go false b q e = absurd (none_is r e)
+
+-- a promise is to the site, or over
+to_or_over : (o : Option Promise) (s reading : ℕ) (p : Promise) → o ≡ Some p
+    → ForSome o (λ promise. promise.to ≢ s → promise.until ≤ reading) → (p.to ≡ s) ⊎ (p.until ≤ reading)
+to_or_over o s reading p e free = by_site (ℕ_discrete p.to s)
+  where
+    by_site : Dec (p.to ≡ s) → (p.to ≡ s) ⊎ (p.until ≤ reading)
+    by_site (yes same) = inl same
+    by_site (no other) = inr (free p e other)
+
+-- promise
+promise_stands :
+    (c : Cluster) (z : List Release) (a : Answer) (x : MemberState) (m s t : ℕ)
+    → x.term ≤ t → MayPromise c x s t → ((p : Promise) → x.promise ≡ Some p → PromiseGood x.term x.reading x.abstain p) → a.reading ≤ x.reading
+    → StateGuard c a x → Stands c z a x.reading (StateGuard c a (member_after c 0 m x (Promises s t)))
+promise_stands c z a x m s t rise may good past (inl down) = Stands.Guarded (inl down)
+promise_stands c z a x m s t rise may good past (inr (Covers.Abstains h)) = let l = may.rested in Stands.Passed (omega arith)
+promise_stands c z a x m s t rise may good past (inr (Covers.Promised p e to term until)) =
+    let q = (good p e).within in
+    ⊎_elim
+    (λ (same : p.to ≡ s). Stands.Guarded (inr (Covers.Promised (new_promise c x s t) refl (sym same ∙ to) (omega arith) (omega arith))))
+    (λ (over : p.until ≤ x.reading). Stands.Passed (omega arith))
+    (to_or_over x.promise s x.reading p e may.unpromised)
+
+pub promises : (c : Cluster) (now : ℕ) (f : Facts) (m : ℕ) (x : MemberState) (s t : ℕ) → Law c now f m x (Promises s t)
+promises c now f m x s t i g below may =
+    let rise : x.term ≤ t = ⊎_elim (λ (l : x.term < t). omega arith) (λ (p : (x.term ≡ t) × ForSome x.bound (λ bound. bound ≡ s)). omega (arith, p.0)) may.unbound in
+    facts_stay c now f m _ g (record {
+      clock = i.clock;
+      may = i.may;
+      term = λ up k h. let l = i.term up k h in omega arith;
+      round = λ r e. let p = round_kept m s t x r e in let q = i.round r p.0 in record { site = q.site; same = q.same ∙ p.1; fact = q.fact; above = q.above; last = λ z h e t. q.last z h e t };
+      lease = i.lease;
+      promise = λ p e. let q = some_same _ p e in record { within = le_of_eq (ap (λ (y : Promise). y.term) (sym q)); rested = may.rested };
+      answers = λ a h e. let b = i.answers a h e in record { past = b.past; stands = stands_by c f.releases a x.reading (Guard c a x) (Guard c a (member_after c 0 m x (Promises s t))) (promise_stands c f.releases a x m s t rise may i.promise b.past) b.stands };
+    })
+
+-- answer
+answer_apart :
+    (c : Cluster) (z : List Release) (b : Answer) (x : MemberState) (site : ℕ) (given : Promise)
+    → x.up ≡ true → x.promise ≡ Some given → given.to ≡ site → b.round.site ≢ site
+    → PromiseGood x.term x.reading x.abstain given
+    → Stands c z b x.reading (StateGuard c b x)
+    → (b.reading + promise_time c ≤ x.reading) ⊎ Freed z b.round
+answer_apart c z b x site given up e to other good (Stands.Passed h) = inl h
+answer_apart c z b x site given up e to other good (Stands.Free f) = inr f
+answer_apart c z b x site given up e to other good (Stands.Guarded (inl h)) = absurd (not_up (sym h ∙ up))
+answer_apart c z b x site given up e to other good (Stands.Guarded (inr (Covers.Abstains h))) = let l = good.rested in inl (omega arith)
+answer_apart c z b x site given up e to other good (Stands.Guarded (inr (Covers.Promised p q pto term until))) = absurd (other (sym pto ∙ ap (λ (y : Promise). y.to) (some_same p given (sym q ∙ e)) ∙ to))
+
+pub answers : (c : Cluster) (now : ℕ) (f : Facts) (m : ℕ) (x : MemberState) (r : Round) (given : Promise) → Law c now f m x (Answers r given)
+answers c now f m x r given i g below may =
+    let new : Answer = new_answer m x r in
+    let good = i.promise given may.stands in
+    let here : AnswerGood c f.releases new x.reading (Guard c new x) = record {
+      past = le_refl _;
+      stands = Stands.Guarded (inr (Covers.Promised given may.stands may.to (le_of_eq (sym may.for_term)) may.long));
+    } in
+    let apart : (b : Answer) → Has f.answers b → b.member ≡ m → b.round.site ≢ r.site → (b.reading + promise_time c ≤ x.reading) ⊎ Freed f.releases b.round
+    = λ b h e other. answer_apart c f.releases b x r.site given may.up may.stands may.to other good (i.answers b h e).stands in
+    record {
+      self = record {
+        clock = i.clock;
+        may = i.may;
+        term = i.term;
+        round = i.round;
+        lease = i.lease;
+        promise = i.promise;
+        answers = new_or_old (λ (a : Answer). a.member ≡ m → AnswerGood c f.releases a x.reading (Guard c a x)) new f.answers (λ _. here) i.answers;
+      };
+      others = λ k y other j. record {
+        clock = j.clock;
+        may = j.may;
+        term = j.term;
+        round = j.round;
+        lease = j.lease;
+        promise = j.promise;
+        answers = new_or_old (λ (a : Answer). a.member ≡ k → AnswerGood c f.releases a y.reading (Guard c a y)) new f.answers (λ e. absurd (other (sym e))) j.answers;
+      };
+      facts = record {
+        within = g.within;
+        rounds = g.rounds;
+        one_round = g.one_round;
+        answers = new_or_old (AnswerFact c now f.rounds) new f.answers
+            (record { below = below; clock = i.clock.clock; round = may.fact; later = may.later; past = i.clock.past })
+            g.answers;
+        leases = λ l h. let q = g.leases l h in record {
+          round = q.round;
+          past = q.past;
+          majority = q.majority;
+          answered = λ k hk. let a = q.answered k hk in (a.0, inr a.1, a.2, a.3, a.4);
+        };
+        releases = g.releases;
+        apart = λ a b ha hb. ⊎_elim
+            (λ (ea : new ≡ a). subst (λ (y : Answer). y.member ≡ b.member → y.round.site ≢ b.round.site → Apart c f.releases y b) ea
+            (λ (same : m ≡ b.member) (other : r.site ≢ b.round.site). ⊎_elim
+            (λ (eb : new ≡ b). absurd (other (ap (λ (y : Answer). y.round.site) eb)))
+            (λ (hb' : Has f.answers b). ⊎_elim (λ (p : b.reading + promise_time c ≤ x.reading). Apart.After p) (λ (p : Freed f.releases b.round). Apart.Second p) (apart b hb' (sym same) (λ e. other (sym e))))
+            hb))
+            (λ (ha' : Has f.answers a). ⊎_elim
+            (λ (eb : new ≡ b). subst (λ (y : Answer). a.member ≡ y.member → a.round.site ≢ y.round.site → Apart c f.releases a y) eb
+            (λ (same : a.member ≡ m) (other : a.round.site ≢ r.site). ⊎_elim (λ (p : a.reading + promise_time c ≤ x.reading). Apart.Before p) (λ (p : Freed f.releases a.round). Apart.First p) (apart a ha' same other)))
+            (λ (hb' : Has f.answers b). g.apart a b ha' hb')
+            hb)
+            ha;
+      };
+    }

@@ -1,0 +1,26 @@
+-- Steps of one member, one after the other, while nothing else happens.
+use Rattle.std.specs.Prelude.{ℕ, List, [], ◌∷◌}
+use Rattle.booth_node.specs.Clock.{Cluster}
+use Rattle.booth_world.specs.Facts.{Facts}
+use Rattle.booth_world.specs.States.{MemberState}
+use Rattle.booth_world.specs.Steps.{MemberStep, WorldStep, Does, May, member_after, facts_after}
+
+-- each step may be done where it stands
+abbrev pub DoesAll : Cluster → ℕ → ℕ → Facts → MemberState → List MemberStep → Type 0
+DoesAll c now m f x [] = Unit {0}
+DoesAll c now m f x (step ∷ steps) =
+    May c f m x step × DoesAll c now m (facts_after now m x step f) (member_after c now m x step) steps
+
+abbrev pub member_after_all : Cluster → ℕ → ℕ → MemberState → List MemberStep → MemberState
+member_after_all c now m x [] = x
+member_after_all c now m x (step ∷ steps) = member_after_all c now m (member_after c now m x step) steps
+
+abbrev pub facts_after_all : Cluster → ℕ → ℕ → Facts → MemberState → List MemberStep → Facts
+facts_after_all c now m f x [] = f
+facts_after_all c now m f x (step ∷ steps) =
+    facts_after_all c now m (facts_after now m x step f) (member_after c now m x step) steps
+
+-- the same as steps of the world
+abbrev pub does_all : ℕ → List MemberStep → List WorldStep
+does_all m [] = []
+does_all m (step ∷ steps) = Does m step ∷ does_all m steps

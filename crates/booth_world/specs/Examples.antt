@@ -1,0 +1,102 @@
+-- Small runs in which a ticket is held: the laws speak of something.
+use Rattle.std.specs.Prelude.{ℕ, zero, suc, ◌+◌, ◌++◌, nat_lt, List, [], ◌∷◌, Some, None}
+use Rattle.booth_rec.specs.declared.record.Record.{Record}
+use Rattle.booth_rec.specs.Record.{no_record}
+use Rattle.booth_node.specs.Clock.{Cluster}
+use Rattle.booth_world.specs.Facts.{Round, Release}
+use Rattle.booth_world.specs.Steps.{WorldStep, Elects, Renews, Promises, Answers, Gains, TriesKeep, HasKept, Releases, Clears, Learns, Crashes, Starts, ReadsClock, Does, Passes}
+
+-- ---- three members, whose clocks differ by all that the drift allows over so short a time
+
+-- one clock springs ahead, one stands still for a moment, and one is true
+abbrev pub ahead : List ℕ
+ahead = 0 ∷ 1 ∷ 2 ∷ 3 ∷ 5 ∷ 6 ∷ 7 ∷ 8 ∷ []
+
+abbrev pub behind : List ℕ
+behind = 1 ∷ 2 ∷ 3 ∷ 4 ∷ 4 ∷ 5 ∷ 6 ∷ 7 ∷ []
+
+abbrev pub exact : List ℕ
+exact = 0 ∷ 1 ∷ 2 ∷ 3 ∷ 4 ∷ 5 ∷ 6 ∷ 7 ∷ []
+
+abbrev pub clock_of : ℕ → List ℕ
+clock_of zero = ahead
+clock_of (suc zero) = behind
+clock_of (suc (suc m)) = exact
+
+abbrev pub three : Cluster
+three = record {
+  members = 3;
+  is_site = λ m. nat_lt m 2;
+  times = record { expire = 2; after = 1; timeout = 1; retries = 1; renewal = 1 };
+  span = 8;
+  clock = clock_of;
+}
+
+-- ---- what they do
+
+abbrev pub plain : ℕ → Record
+plain term = record { term = term; lease = None }
+
+abbrev pub won_by : Round → Record
+won_by round = record { term = round.term; lease = Some (record { term = round.term; until = round.opened + 2 }) }
+
+-- all start, and have kept nothing
+abbrev pub start : List WorldStep
+start = Does 0 (Starts no_record) ∷ Does 1 (Starts no_record) ∷ Does 2 (Starts no_record) ∷ []
+
+abbrev pub all_read_at : ℕ → List WorldStep
+all_read_at time = Passes time ∷ Does 0 ReadsClock ∷ Does 1 ReadsClock ∷ Does 2 ReadsClock ∷ []
+
+-- a member promises to a round until a reading, and answers it
+abbrev pub answers : ℕ → Round → ℕ → List WorldStep
+answers m round until =
+    Does m (Promises round.site round.term)
+    ∷ Does m (Answers round (record { to = round.site; term = round.term; until = until }))
+    ∷ []
+
+-- a site takes a new term, and opens its first round
+abbrev pub election : ℕ → ℕ → List WorldStep
+election s term =
+    Does s (Learns term) ∷ Does s (TriesKeep (plain term)) ∷ Does s (HasKept (plain term)) ∷ Does s Elects ∷ []
+
+-- with its own answer and that of the last member a site gains a lease, and keeps it
+abbrev pub gain : Round → List WorldStep
+gain round =
+    Does round.site (Gains round (round.site ∷ 2 ∷ []))
+    ∷ Does round.site (TriesKeep (won_by round))
+    ∷ Does round.site (HasKept (won_by round))
+    ∷ []
+
+-- ---- a ticket is granted, renewed, released, and granted at the other site
+
+abbrev pub first_round : Round
+first_round = record { site = 0; term = 1; number = 0; opened = 7; at = 6 }
+
+abbrev pub second_round : Round
+second_round = record { site = 0; term = 1; number = 1; opened = 8; at = 7 }
+
+abbrev pub third_round : Round
+third_round = record { site = 1; term = 2; number = 0; opened = 7; at = 7 }
+
+abbrev pub first_release : Release
+first_release = record { site = 0; term = 1; at = 7 }
+
+abbrev pub granted : List WorldStep
+granted = start ++ all_read_at 6 ++ election 0 1 ++ answers 0 first_round 12 ++ answers 2 first_round 11 ++ gain first_round
+
+abbrev pub renewed : List WorldStep
+renewed =
+    all_read_at 7 ++ (Does 0 (Renews first_round) ∷ []) ++ answers 0 second_round 13 ++ answers 2 second_round 12
+    ++ gain second_round
+
+abbrev pub released : List WorldStep
+released =
+    Does 0 (TriesKeep (plain 1)) ∷ Does 0 (HasKept (plain 1)) ∷ Does 0 Releases ∷ Does 2 (Clears first_release) ∷ []
+
+abbrev pub granted_elsewhere : List WorldStep
+granted_elsewhere = election 1 2 ++ answers 1 third_round 12 ++ answers 2 third_round 12 ++ gain third_round
+
+-- ---- a holder crashes, and starts again with what it kept
+
+abbrev pub crashed_and_started : List WorldStep
+crashed_and_started = Does 0 Crashes ∷ Does 2 Crashes ∷ Does 0 (Starts (won_by first_round)) ∷ Does 2 (Starts no_record) ∷ []

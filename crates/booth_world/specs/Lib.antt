@@ -1,0 +1,14 @@
+pub use Rattle.booth_node.specs.Clock
+pub mod Facts
+pub mod States
+pub mod Rounds
+pub mod Leases
+pub mod Lives
+pub mod Steps
+pub mod Held
+pub mod Doings
+pub mod Messages
+pub mod Agreement
+pub mod Calls
+pub mod Laws
+pub mod Examples

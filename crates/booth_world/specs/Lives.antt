@@ -1,0 +1,52 @@
+-- The kinds of step by which a member learns a term, crashes and starts, and by which time passes: for each its
+-- condition, and what it changes.
+use Rattle.std.specs.Prelude.{◌≡◌, ℕ, ◌+◌, ◌<◌, ◌≤◌, true, false, None, [], ◌∷◌}
+use Rattle.booth_rec.specs.declared.record.Record.{Record}
+use Rattle.booth_node.specs.Clock.{Cluster, promise_time, reads}
+use Rattle.booth_world.specs.Facts.{Has}
+use Rattle.booth_world.specs.States.{MemberState, WorldState}
+
+-- ---- a term is learnt
+-- A member takes a term above its own: it answered nobody in it, and its round is closed.
+
+pub record MayLearn (x : MemberState) (term : ℕ) : Type 0 where
+  pub up : x.up ≡ true
+  pub above : x.term < term
+
+abbrev pub learning : MemberState → ℕ → MemberState
+learning x term = record x { term = term; bound = None; round = None }
+
+-- ---- a crash
+-- A member that is up may crash at any moment.
+
+abbrev pub crashing : MemberState → MemberState
+crashing x = record x { up = false }
+
+-- ---- a start
+-- A member that is down starts with a record that it may have kept. It has promised nothing that it knows of, so it
+-- answers nobody for a whole promise.
+
+pub record MayStart (x : MemberState) (kept : Record) : Type 0 where
+  pub down : x.up ≡ false
+  pub fact : Has x.may kept
+
+abbrev pub starting : Cluster → MemberState → Record → MemberState
+starting c x kept = record x {
+  up = true;
+  term = kept.term;
+  bound = None;
+  promise = None;
+  abstain = x.reading + promise_time c;
+  may = kept ∷ [];
+  round = None;
+}
+
+-- ---- time
+-- True time rises within the clocks' span, and a member, up or down, may read its clock.
+
+pub record MayPass (c : Cluster) (w : WorldState) (time : ℕ) : Type 0 where
+  pub later : w.now ≤ time
+  pub within : time < c.span
+
+abbrev pub reading_clock : Cluster → ℕ → ℕ → MemberState → MemberState
+reading_clock c now m x = record x { reading = reads c m now; at = now }

@@ -1,0 +1,90 @@
+-- The kinds of step by which a round is opened, promised to and answered: for each its condition, and what it changes.
+-- The clock is the stepping member's last reading.
+use Rattle.std.specs.Prelude.{◌≡◌, ◌≢◌, ◌⊎◌, ℕ, ◌+◌, ◌<◌, ◌≤◌, ◌&&◌, true, if◌then◌else◌, ◌==◌, nat_eq, Option, Some, None, ◌∷◌}
+use Rattle.std.specs.Option.{ForSome}
+use Rattle.booth_rec.specs.declared.record.Record.{Record}
+use Rattle.booth_node.specs.Clock.{Cluster, promise_time}
+use Rattle.booth_world.specs.Facts.{Has, Round, Answer, Release, Facts}
+use Rattle.booth_world.specs.States.{Promise, MemberState}
+
+-- the round that a member opens now
+abbrev pub new_round : ℕ → MemberState → ℕ → Round
+new_round m x number = record { site = m; term = x.term; number = number; opened = x.reading; at = x.at }
+
+-- ---- an election is opened
+-- A site opens the first round of its term, where every record that it may have kept is of that term, it answered no
+-- other in it, and it neither opened a round of the term nor released it. It is bound to itself.
+
+pub record MayElect (c : Cluster) (f : Facts) (m : ℕ) (x : MemberState) : Type 0 where
+  pub up : x.up ≡ true
+  pub site : c.is_site m ≡ true
+  pub kept : (k : Record) → Has x.may k → k.term ≡ x.term
+  pub unbound : ForSome x.bound (λ bound. bound ≡ m)
+  pub no_round : (r : Round) → Has f.rounds r → r.site ≡ m → r.term ≢ x.term
+  pub no_release : (r : Release) → Has f.releases r → r.site ≡ m → r.term ≢ x.term
+
+abbrev pub electing : ℕ → MemberState → MemberState
+electing m x = record x { bound = Some m; round = Some (new_round m x 0) }
+
+-- ---- a renewal is opened
+-- A site whose round is open, of its own term and with itself as bound, opens the next round of the term.
+
+pub record MayRenew (m : ℕ) (x : MemberState) (before : Round) : Type 0 where
+  pub up : x.up ≡ true
+  pub open_round : x.round ≡ Some before
+  pub own_term : before.term ≡ x.term
+  pub bound : x.bound ≡ Some m
+
+abbrev pub renewing : ℕ → MemberState → Round → MemberState
+renewing m x before = record x { round = Some (new_round m x (before.number + 1)) }
+
+-- either opening adds the round to the facts
+abbrev pub with_round : Facts → Round → Facts
+with_round f round = record f { rounds = round ∷ f.rounds }
+
+-- ---- a promise
+-- A member promises to a site and a term where it may answer a round of them, whatever lease it may have: it does not
+-- abstain, no promise to another is live, and the term is new to it, or is its own and it answered no other in it.
+-- A round of its own stays open only where it promises to itself within its term.
+
+pub record MayPromise (c : Cluster) (x : MemberState) (site term : ℕ) : Type 0 where
+  pub up : x.up ≡ true
+  pub to_site : c.is_site site ≡ true
+  pub rested : x.abstain ≤ x.reading
+  pub unpromised : ForSome x.promise (λ promise. promise.to ≢ site → promise.until ≤ x.reading)
+  pub unbound : (x.term < term) ⊎ ((x.term ≡ term) × ForSome x.bound (λ bound. bound ≡ site))
+
+abbrev pub new_promise : Cluster → MemberState → ℕ → ℕ → Promise
+new_promise c x site term = record { to = site; term = term; until = x.reading + promise_time c }
+
+abbrev pub round_left : ℕ → MemberState → ℕ → ℕ → Option Round
+round_left m x site term = if site == m && nat_eq x.term term then x.round else None
+
+abbrev pub promising : Cluster → ℕ → MemberState → ℕ → ℕ → MemberState
+promising c m x site term = record x {
+  term = term;
+  bound = Some site;
+  promise = Some (new_promise c x site term);
+  round = round_left m x site term;
+}
+
+-- ---- an answer
+-- A member answers a round of the facts where it is of the round's term, bound to its site, and promised to it for a
+-- whole promise from now on, and read its clock no earlier than the round's site did. The answer is added to the facts.
+
+pub record MayAnswer (c : Cluster) (f : Facts) (x : MemberState) (round : Round) (given : Promise) : Type 0 where
+  pub up : x.up ≡ true
+  pub fact : Has f.rounds round
+  pub own_term : x.term ≡ round.term
+  pub bound : x.bound ≡ Some round.site
+  pub stands : x.promise ≡ Some given
+  pub to : given.to ≡ round.site
+  pub for_term : given.term ≡ round.term
+  pub long : x.reading + promise_time c ≤ given.until
+  pub later : round.at ≤ x.at
+
+abbrev pub new_answer : ℕ → MemberState → Round → Answer
+new_answer m x round = record { member = m; round = round; reading = x.reading; at = x.at }
+
+abbrev pub with_answer : Facts → Answer → Facts
+with_answer f answer = record f { answers = answer ∷ f.answers }

@@ -1,0 +1,106 @@
+-- What may happen next to a ticket in a cluster, and lists of it.
+use Rattle.std.specs.Prelude.{◌≡◌, ℕ, ◌+◌, ◌<◌, true, List, [], ◌∷◌}
+use Rattle.booth_rec.specs.declared.record.Record.{Record}
+use Rattle.booth_node.specs.Clock.{Cluster}
+use Rattle.booth_world.specs.Facts.{Round, Release, Facts}
+use Rattle.booth_world.specs.States.{Promise, MemberState, WorldState, opening, put}
+use Rattle.booth_world.specs.Rounds.{new_round, MayElect, electing, MayRenew, renewing, with_round, MayPromise, promising, MayAnswer, new_answer, with_answer}
+use Rattle.booth_world.specs.Leases.{MayGain, with_gain, MayKeep, trying, having, MayRelease, releasing, with_release, MayClear, clearing}
+use Rattle.booth_world.specs.Lives.{MayLearn, learning, crashing, MayStart, starting, MayPass, reading_clock}
+
+-- what one member does
+pub data MemberStep : Type 0 where
+  Elects : MemberStep
+  Renews : (before : Round) → MemberStep
+  Promises : (site term : ℕ) → MemberStep
+  Answers : (round : Round) (given : Promise) → MemberStep
+  Gains : (round : Round) (places : List ℕ) → MemberStep
+  TriesKeep : (kept : Record) → MemberStep
+  HasKept : (kept : Record) → MemberStep
+  Releases : MemberStep
+  Clears : (release : Release) → MemberStep
+  Learns : (term : ℕ) → MemberStep
+  Crashes : MemberStep
+  Starts : (kept : Record) → MemberStep
+  ReadsClock : MemberStep
+
+-- a member does something, or true time rises
+pub data WorldStep : Type 0 where
+  Does : (m : ℕ) (step : MemberStep) → WorldStep
+  Passes : (time : ℕ) → WorldStep
+
+-- the condition of each kind, of a member in this state
+abbrev pub May : Cluster → Facts → ℕ → MemberState → MemberStep → Type 0
+May c f m x Elects = MayElect c f m x
+May c f m x (Renews before) = MayRenew m x before
+May c f m x (Promises site term) = MayPromise c x site term
+May c f m x (Answers round given) = MayAnswer c f x round given
+May c f m x (Gains round places) = MayGain c f x round places
+May c f m x (TriesKeep kept) = MayKeep c f m x kept
+May c f m x (HasKept kept) = MayKeep c f m x kept
+May c f m x Releases = MayRelease c m x
+May c f m x (Clears release) = MayClear f x release
+May c f m x (Learns term) = MayLearn x term
+May c f m x Crashes = x.up ≡ true
+May c f m x (Starts kept) = MayStart x kept
+May c f m x ReadsClock = Unit {0}
+
+-- the member after what it does
+abbrev pub member_after : Cluster → ℕ → ℕ → MemberState → MemberStep → MemberState
+member_after c now m x Elects = electing m x
+member_after c now m x (Renews before) = renewing m x before
+member_after c now m x (Promises site term) = promising c m x site term
+member_after c now m x (Answers round given) = x
+member_after c now m x (Gains round places) = x
+member_after c now m x (TriesKeep kept) = trying x kept
+member_after c now m x (HasKept kept) = having x kept
+member_after c now m x Releases = releasing m x
+member_after c now m x (Clears release) = clearing x release
+member_after c now m x (Learns term) = learning x term
+member_after c now m x Crashes = crashing x
+member_after c now m x (Starts kept) = starting c x kept
+member_after c now m x ReadsClock = reading_clock c now m x
+
+-- the facts after what a member does
+abbrev pub facts_after : ℕ → ℕ → MemberState → MemberStep → Facts → Facts
+facts_after now m x Elects f = with_round f (new_round m x 0)
+facts_after now m x (Renews before) f = with_round f (new_round m x (before.number + 1))
+facts_after now m x (Promises site term) f = f
+facts_after now m x (Answers round given) f = with_answer f (new_answer m x round)
+facts_after now m x (Gains round places) f = with_gain f round now places
+facts_after now m x (TriesKeep kept) f = f
+facts_after now m x (HasKept kept) f = f
+facts_after now m x Releases f = with_release f m x.term now
+facts_after now m x (Clears release) f = f
+facts_after now m x (Learns term) f = f
+facts_after now m x Crashes f = f
+facts_after now m x (Starts kept) f = f
+facts_after now m x ReadsClock f = f
+
+-- the condition of a step of the world
+abbrev pub MayStep : Cluster → WorldState → WorldStep → Type 0
+MayStep c w (Does m step) = (m < c.members) × May c w.facts m (w.member m) step
+MayStep c w (Passes time) = MayPass c w time
+
+-- the world after a step
+abbrev pub happens : Cluster → WorldState → WorldStep → WorldState
+happens c w (Does m step) = record {
+  now = w.now;
+  member = put w.member m (member_after c w.now m (w.member m) step);
+  facts = facts_after w.now m (w.member m) step w.facts;
+}
+happens c w (Passes time) = record w { now = time }
+
+-- a list of steps, each of which may happen where it stands
+abbrev pub IsRun : Cluster → WorldState → List WorldStep → Type 0
+IsRun c w [] = Unit {0}
+IsRun c w (step ∷ steps) = MayStep c w step × IsRun c (happens c w step) steps
+
+-- the world after a list of steps
+abbrev pub after_steps : Cluster → WorldState → List WorldStep → WorldState
+after_steps c w [] = w
+after_steps c w (step ∷ steps) = after_steps c (happens c w step) steps
+
+-- the world that a list of steps leads to, from before anything has happened
+abbrev pub world_of : Cluster → List WorldStep → WorldState
+world_of c steps = after_steps c (opening c) steps

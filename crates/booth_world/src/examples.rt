@@ -1,0 +1,23 @@
+//! Small runs, each the contract of a function that does nothing: the laws speak of something.
+ghost use Rattle.std.specs.Prelude.{◌++◌};
+ghost use Rattle.booth_node.specs.Clock.{HasClocks};
+ghost use Rattle.booth_world.specs.Examples.{three, granted, renewed, released, granted_elsewhere, crashed_and_started};
+ghost use Rattle.booth_world.specs.Held.{Held};
+ghost use Rattle.booth_world.specs.States.{opening};
+ghost use Rattle.booth_world.specs.Steps.{IsRun, world_of};
+
+/// Among three members, whose clocks are at the limits of drift, a ticket is granted, renewed,
+/// released, and granted at another site.
+pub fn ticket_moves()
+    ensures clocks { HasClocks three }
+    ensures run { IsRun three (opening three) (granted ++ renewed ++ released ++ granted_elsewhere) }
+    ensures held { Held three (world_of three granted) 0 }
+    ensures renewed { Held three (world_of three (granted ++ renewed)) 0 }
+    ensures elsewhere { Held three (world_of three (granted ++ renewed ++ released ++ granted_elsewhere)) 1 }
+{}
+
+/// A holder and a member that answered it crash and start again, and the ticket is held on.
+pub fn holder_restarts()
+    ensures run { IsRun three (opening three) (granted ++ crashed_and_started) }
+    ensures held { Held three (world_of three (granted ++ crashed_and_started)) 0 }
+{}
