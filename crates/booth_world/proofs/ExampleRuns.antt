@@ -1,15 +1,20 @@
 -- The example runs are runs, and the ticket is held in them.
-use Rattle.std.proofs.Common.{◌≡◌, ◌≢◌, ℕ, zero, suc, ◌+◌, ◌<◌, ◌≤◌, List, [], ◌∷◌, ◌++◌, refl, sym, ap, subst, inl, inr, ⊎_elim, length, arith}
+use Rattle.std.proofs.Common.{true, false, ◌≡◌, ◌≢◌, ℕ, zero, suc, ◌+◌, ◌<◌, ◌≤◌, List, [], ◌∷◌, ◌++◌, refl, sym, ap, subst, inl, inr, ⊎_elim, length, arith}
 use Rattle.std.specs.Prelude.{Some, None, slice_index}
 use Rattle.std.specs.Option.{ForSome}
 use native.Mathlib.Decide.{ℕ_discrete}
 use Rattle.booth_rec.specs.declared.record.Record.{Record}
+use Rattle.booth_rec.specs.Record.{no_record}
+use Rattle.booth_base.specs.declared.address.MemberId.{MemberId}
+use Rattle.booth_base.specs.declared.name.Name.{Name}
+use Rattle.booth_raft.specs.StartAndLearn.{started}
+use Rattle.booth_world.specs.Calls.{IsMember}
 use Rattle.booth_node.specs.Clock.{Cluster, HasClocks, IsClock}
 use Rattle.booth_world.specs.Facts.{Has, Round, Answer, Release}
 use Rattle.booth_world.specs.States.{Promise, WorldState, opening}
 use Rattle.booth_world.specs.Steps.{WorldStep, IsRun, happens, after_steps, world_of}
 use Rattle.booth_world.specs.Held.{Held}
-use Rattle.booth_world.specs.Examples.{ahead, behind, exact, clock_of, three, plain, won_by, first_round, second_round, third_round, first_release, granted, renewed, released, granted_elsewhere, crashed_and_started}
+use Rattle.booth_world.specs.Examples.{ahead, behind, exact, clock_of, three, plain, won_by, first_round, second_round, third_round, first_release, granted, renewed, released, granted_elsewhere, crashed_and_started, start, id_of_place, first_setup}
 use Rattle.booth_world.proofs.Lists.{new_or_old, none_is, some_same}
 
 -- ---- clocks
@@ -310,3 +315,50 @@ restarts = runs_append three (opening three) granted crashed_and_started granted
 
 pub restart_held : Held three (world_of three (granted ++ crashed_and_started)) 0
 restart_held = (omega arith, (won_by first_round, inl refl, omega arith))
+
+-- ---- a view that agrees
+
+same_place : (s t : ℕ) → id_of_place s ≡ id_of_place t → s ≡ t
+same_place s t e = ap (λ (i : MemberId). i.0) e
+
+inactive : false ≡ true → ⊥
+inactive e = cc
+
+pub started_agrees : (ticket : Name) → IsMember three id_of_place (world_of three start) 0 (first_setup ticket) (started (first_setup ticket) no_record 0)
+started_agrees ticket = record {
+  ids = same_place;
+  below = omega arith;
+  seated = refl;
+  sound = record {
+    place = omega arith;
+    members = omega arith;
+    rank = omega arith;
+    expire = omega arith;
+    after = omega arith;
+    timeout = omega arith;
+    renewal = omega arith;
+    retries = omega arith;
+  };
+  view_facts = record {
+    round_fits = record {
+      active = λ r e. absurd (none_is r e);
+      own_term = λ r e. absurd (none_is r e);
+      at_reading = λ r e. absurd (none_is r e);
+    };
+    tried = λ w e. absurd (none_is w e);
+  };
+  agrees = record {
+    up = refl;
+    term = refl;
+    bound = refl;
+    promise = refl;
+    abstain = refl;
+    kept = inl refl;
+    round = λ r e. absurd (none_is r e);
+    tried = λ w e. absurd (none_is w e);
+    asked = λ w e. absurd (none_is w e);
+    keeping = λ w e. absurd (none_is w e);
+    active = λ h. absurd (inactive h);
+    repeated = λ h. absurd (omega (arith, h));
+  };
+}

@@ -1,7 +1,10 @@
 -- Small runs in which a ticket is held: the laws speak of something.
-use Rattle.std.specs.Prelude.{ℕ, zero, suc, ◌+◌, ◌++◌, nat_lt, List, [], ◌∷◌, Some, None}
+use Rattle.std.specs.Prelude.{ℕ, zero, suc, ◌+◌, ◌++◌, nat_lt, true, List, [], ◌∷◌, Some, None}
+use Rattle.booth_base.specs.declared.address.MemberId.{MemberId}
+use Rattle.booth_base.specs.declared.name.Name.{Name}
 use Rattle.booth_rec.specs.declared.record.Record.{Record}
 use Rattle.booth_rec.specs.Record.{no_record}
+use Rattle.booth_wire.specs.declared.message.Setup.{Setup}
 use Rattle.booth_node.specs.Clock.{Cluster}
 use Rattle.booth_world.specs.Facts.{Round, Release}
 use Rattle.booth_world.specs.Steps.{WorldStep, Elects, Renews, Promises, Answers, Gains, TriesKeep, HasKept, Releases, Clears, Learns, Crashes, Starts, ReadsClock, Does, Passes}
@@ -100,3 +103,20 @@ granted_elsewhere = election 1 2 ++ answers 1 third_round 12 ++ answers 2 third_
 
 abbrev pub crashed_and_started : List WorldStep
 crashed_and_started = Does 0 Crashes ∷ Does 2 Crashes ∷ Does 0 (Starts (won_by first_round)) ∷ Does 2 (Starts no_record) ∷ []
+
+-- ---- a member whose view agrees with its state
+
+-- the id of a place is its number
+abbrev pub id_of_place : ℕ → MemberId
+id_of_place m = record { 0 = m }
+
+abbrev pub first_setup : Name → Setup
+first_setup ticket = record {
+  ticket = ticket;
+  me = id_of_place 0;
+  place = 0;
+  members = 3;
+  site = true;
+  rank = 0;
+  times = three.times;
+}

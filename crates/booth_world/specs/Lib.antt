@@ -10,5 +10,6 @@ pub mod Doings
 pub mod Messages
 pub mod Agreement
 pub mod Calls
+pub mod Standing
 pub mod Laws
 pub mod Examples

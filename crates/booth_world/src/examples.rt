@@ -1,7 +1,11 @@
 //! Small runs, each the contract of a function that does nothing: the laws speak of something.
 ghost use Rattle.std.specs.Prelude.{◌++◌};
+ghost use Rattle.booth_base.specs.declared.name.Name.{Name};
+ghost use Rattle.booth_raft.specs.StartAndLearn.{started};
+ghost use Rattle.booth_rec.specs.Record.{no_record};
+ghost use Rattle.booth_world.specs.Calls.{IsMember};
 ghost use Rattle.booth_node.specs.Clock.{HasClocks};
-ghost use Rattle.booth_world.specs.Examples.{three, granted, renewed, released, granted_elsewhere, crashed_and_started};
+ghost use Rattle.booth_world.specs.Examples.{three, granted, renewed, released, granted_elsewhere, crashed_and_started, start, id_of_place, first_setup};
 ghost use Rattle.booth_world.specs.Held.{Held};
 ghost use Rattle.booth_world.specs.States.{opening};
 ghost use Rattle.booth_world.specs.Steps.{IsRun, world_of};
@@ -20,4 +24,9 @@ pub fn ticket_moves()
 pub fn holder_restarts()
     ensures run { IsRun three (opening three) (granted ++ crashed_and_started) }
     ensures held { Held three (world_of three (granted ++ crashed_and_started)) 0 }
+{}
+
+/// A member that has started is one of whose calls the law speaks.
+pub fn started_view_agrees()
+    ensures { (ticket : Name) → IsMember three id_of_place (world_of three start) 0 (first_setup ticket) (started (first_setup ticket) no_record 0) }
 {}

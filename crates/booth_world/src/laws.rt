@@ -1,5 +1,6 @@
 //! The laws of a ticket's world, each the contract of a function that does nothing.
 ghost use Rattle.booth_world.specs.Calls.{CallsAreSteps, PromisesWhereItMayAnswer, StepsOfOneAreSteps};
+ghost use Rattle.booth_world.specs.Standing.{AgreementStays, CallsLeadOn};
 ghost use Rattle.booth_world.specs.Laws.{HasOneHolder, HoldersAreApart, KeptTermsNeverFall};
 
 /// At no moment is the ticket held at two sites.
@@ -43,4 +44,15 @@ pub fn calls_are_steps()
 /// Steps that one member may do are steps of the world.
 pub fn steps_of_one_are_steps()
     ensures { StepsOfOneAreSteps }
+{}
+
+/// While others step and time passes, a member's view agrees on, and what was said stays a fact.
+pub fn agreement_stays()
+    ensures { AgreementStays }
+{}
+
+/// Each call of a member leads on from world to world: its view agrees, what it says is a fact, and
+/// what agreed of others agrees.
+pub fn calls_lead_on()
+    ensures { CallsLeadOn }
 {}

@@ -1,0 +1,169 @@
+-- A member's agreement stays while others step.
+use Rattle.std.proofs.Common.{List, ◌∷◌, ◌≢◌, ◌≡◌, ℕ, Bool, true, false, cond, refl, sym, subst, inr, arith, [], ◌∙◌}
+use Rattle.std.specs.Prelude.{◌==◌}
+use Rattle.std.proofs.lemmas.Bool.Decides.{nat_tests}
+use Rattle.booth_base.specs.declared.address.MemberId.{MemberId}
+use Rattle.booth_wire.specs.declared.command.Cmd.{Cmd}
+use Rattle.booth_wire.specs.declared.command.Cmd.TheVariants as cmds
+use Rattle.booth_wire.specs.declared.message.Head.{Head}
+use Rattle.booth_wire.specs.declared.message.TicketPart.{TicketPart}
+use Rattle.booth_raft.specs.declared.view.View.{View}
+use Rattle.booth_node.specs.Clock.{Cluster}
+use Rattle.booth_world.specs.Facts.{Has, Round, Answer, Release, Facts}
+use Rattle.booth_world.specs.States.{MemberState, WorldState}
+use Rattle.booth_world.specs.Steps.{MemberStep, WorldStep, Elects, Renews, Promises, Answers, Gains, TriesKeep, HasKept, Releases, Clears, Learns, Crashes, Starts, ReadsClock, Does, Passes, member_after, facts_after, happens, after_steps}
+use Rattle.booth_world.specs.Agreement.{Agrees}
+use Rattle.booth_world.specs.Messages.{IsFact}
+use Rattle.booth_world.specs.Doings.{does_all, member_after_all}
+use Rattle.booth_world.specs.Calls.{IsReached, reading_of}
+use Rattle.booth_world.specs.Standing.{AgreementStays, CallsLeadOn, IsOthers}
+use Rattle.booth_world.proofs.CallSteps.{steps_of_one}
+
+-- facts that were added to
+record More (f f' : Facts) : Type 0 where
+  pub rounds : (r : Round) → Has f.rounds r → Has f'.rounds r
+  pub answers : (a : Answer) → Has f.answers a → Has f'.answers a
+  pub releases : (z : Release) → Has f.releases z → Has f'.releases z
+
+all_there : (f : Facts) → More f f
+all_there f = record { rounds = λ r h. h; answers = λ a h. h; releases = λ z h. h }
+
+step_adds : (now m : ℕ) (x : MemberState) (step : MemberStep) (f : Facts) → More f (facts_after now m x step f)
+step_adds now m x Elects f = record { rounds = λ r h. inr h; answers = λ a h. h; releases = λ z h. h }
+step_adds now m x (Renews before) f = record { rounds = λ r h. inr h; answers = λ a h. h; releases = λ z h. h }
+step_adds now m x (Promises site term) f = all_there f
+step_adds now m x (Answers round given) f = record { rounds = λ r h. h; answers = λ a h. inr h; releases = λ z h. h }
+step_adds now m x (Gains round places) f = record { rounds = λ r h. h; answers = λ a h. h; releases = λ z h. h }
+step_adds now m x (TriesKeep kept) f = all_there f
+step_adds now m x (HasKept kept) f = all_there f
+step_adds now m x Releases f = record { rounds = λ r h. h; answers = λ a h. h; releases = λ z h. inr h }
+step_adds now m x (Clears release) f = all_there f
+step_adds now m x (Learns term) f = all_there f
+step_adds now m x Crashes f = all_there f
+step_adds now m x (Starts kept) f = all_there f
+step_adds now m x ReadsClock f = all_there f
+
+adds : (c : Cluster) (w : WorldState) (step : WorldStep) → More w.facts (happens c w step).facts
+adds c w (Does m step) = step_adds w.now m (w.member m) step w.facts
+adds c w (Passes time) = all_there w.facts
+
+-- what was said stays a fact
+fact_stays : (id_of : ℕ → MemberId) (s : ℕ) (f f' : Facts) (head : Head) (part : TicketPart) (cmd : Cmd) → More f f' → IsFact id_of f s head part cmd → IsFact id_of f' s head part cmd
+fact_stays id_of s f f' head part cmds.RVot more said = (said.0, more.rounds said.0 said.1, said.2, said.3, said.4)
+fact_stays id_of s f f' head part cmds.HrtB more said = (said.0, more.rounds said.0 said.1, said.2, said.3, said.4)
+fact_stays id_of s f f' head part cmds.VtFr more said = (said.0, more.answers said.0 said.1, said.2, said.3, said.4, said.5)
+fact_stays id_of s f f' head part cmds.Ack more said = (said.0, more.answers said.0 said.1, said.2, said.3, said.4, said.5)
+fact_stays id_of s f f' head part cmds.Stat more said = tt
+fact_stays id_of s f f' head part cmds.MIdx more said = tt
+fact_stays id_of s f f' head part cmds.Rjc more said = tt
+fact_stays id_of s f f' head part cmds.UpdE more said = tt
+fact_stays id_of s f f' head part cmds.Revk more said = (said.0, more.releases said.0 said.1, said.2, said.3)
+fact_stays id_of s f f' head part cmds.CLst more said = tt
+fact_stays id_of s f f' head part cmds.Peer more said = tt
+fact_stays id_of s f f' head part cmds.CGnt more said = tt
+fact_stays id_of s f f' head part cmds.CRvk more said = tt
+fact_stays id_of s f f' head part cmds.ASet more said = tt
+fact_stays id_of s f f' head part cmds.AGet more said = tt
+fact_stays id_of s f f' head part cmds.ADel more said = tt
+fact_stays id_of s f f' head part cmds.ALst more said = tt
+fact_stays id_of s f f' head part cmds.RLst more said = tt
+fact_stays id_of s f f' head part cmds.RPer more said = tt
+fact_stays id_of s f f' head part cmds.RALs more said = tt
+fact_stays id_of s f f' head part cmds.RGnt more said = tt
+fact_stays id_of s f f' head part cmds.RRvk more said = tt
+fact_stays id_of s f f' head part cmds.RAtr more said = tt
+
+-- a view agrees with the same state, where there are more facts
+agrees_on : (c : Cluster) (id_of : ℕ → MemberId) (f f' : Facts) (m : ℕ) (view : View) (x : MemberState) → More f f' → Agrees c id_of f m view x → Agrees c id_of f' m view x
+agrees_on c id_of f f' m view x more a = record {
+  up = a.up;
+  term = a.term;
+  bound = a.bound;
+  promise = a.promise;
+  abstain = a.abstain;
+  kept = a.kept;
+  round = λ r e. let o = a.round r e in record {
+    own = o.own;
+    open_at = o.open_at;
+    site = o.site;
+    term = o.term;
+    number = o.number;
+    opened = o.opened;
+    answered = λ place h. let q = o.answered place h in (q.0, more.answers q.0 q.1, q.2, q.3);
+  };
+  tried = a.tried;
+  asked = a.asked;
+  keeping = a.keeping;
+  active = a.active;
+  repeated = λ h. let q = a.repeated h in (q.0, more.releases q.0 q.1, q.2, q.3);
+}
+
+others_stay : (c : Cluster) (w : WorldState) (m : ℕ) (step : WorldStep) → IsOthers m step → (happens c w step).member m ≡ w.member m
+others_stay c w m (Passes time) other = refl
+others_stay c w m (Does k step) other = by_test (m == k) refl
+  where
+    by_test : (b : Bool) → (m == k) ≡ b → cond b (member_after c w.now k (w.member k) step) (w.member m) ≡ w.member m
+    by_test true e = absurd (other (grind (arith, nat_tests)))
+    by_test false e = refl
+
+pub agreement_stays : AgreementStays
+agreement_stays = record {
+  unmoved = others_stay;
+  agreed = λ c id_of w m view step other a.
+      subst (λ (x : MemberState). Agrees c id_of (happens c w step).facts m view x) (sym (others_stay c w m step other))
+      (agrees_on c id_of w.facts (happens c w step).facts m view (w.member m) (adds c w step) a);
+  said_on = λ c id_of w step s head part cmd said. fact_stays id_of s w.facts (happens c w step).facts head part cmd (adds c w step) said;
+  clock_read = λ c id_of f m now view x a. record {
+    up = a.up;
+    term = a.term;
+    bound = a.bound;
+    promise = a.promise;
+    abstain = a.abstain;
+    kept = a.kept;
+    round = a.round;
+    tried = a.tried;
+    asked = a.asked;
+    keeping = a.keeping;
+    active = a.active;
+    repeated = a.repeated;
+  };
+}
+
+-- ---- steps of one member, as steps of the world
+
+time_stays : (c : Cluster) (w : WorldState) (m : ℕ) (steps : List MemberStep) → (after_steps c w (does_all m steps)).now ≡ w.now
+time_stays c w m [] = refl
+time_stays c w m (step ∷ steps) = time_stays c (happens c w (Does m step)) m steps
+
+unmoved_by_all : (c : Cluster) (w : WorldState) (m k : ℕ) (steps : List MemberStep) → k ≢ m → (after_steps c w (does_all m steps)).member k ≡ w.member k
+unmoved_by_all c w m k [] other = refl
+unmoved_by_all c w m k (step ∷ steps) other =
+    unmoved_by_all c (happens c w (Does m step)) m k steps other ∙ others_stay c w k (Does m step) (λ e. other (sym e))
+
+agree_on : (c : Cluster) (id_of : ℕ → MemberId) (w : WorldState) (m k : ℕ) (view : View) (steps : List MemberStep) → k ≢ m → Agrees c id_of w.facts k view (w.member k)
+    → Agrees c id_of (after_steps c w (does_all m steps)).facts k view ((after_steps c w (does_all m steps)).member k)
+agree_on c id_of w m k view [] other a = a
+agree_on c id_of w m k view (step ∷ steps) other a =
+    agree_on c id_of (happens c w (Does m step)) m k view steps other (agreement_stays.agreed c id_of w k view (Does m step) (λ e. other (sym e)) a)
+
+said_by_all : (c : Cluster) (id_of : ℕ → MemberId) (w : WorldState) (m : ℕ) (steps : List MemberStep) (s : ℕ) (head : Head) (part : TicketPart) (cmd : Cmd)
+    → IsFact id_of w.facts s head part cmd → IsFact id_of (after_steps c w (does_all m steps)).facts s head part cmd
+said_by_all c id_of w m [] s head part cmd said = said
+said_by_all c id_of w m (step ∷ steps) s head part cmd said =
+    said_by_all c id_of (happens c w (Does m step)) m steps s head part cmd (agreement_stays.said_on c id_of w (Does m step) s head part cmd said)
+
+pub calls_lead_on : CallsLeadOn
+calls_lead_on c id_of w m view say below gives =
+    let one = steps_of_one c w m gives.0 below gives.1 in
+    let after = after_steps c w (does_all m gives.0) in (
+      does_all m gives.0,
+      record {
+        run = one.0;
+        reached = subst (λ (x : MemberState). IsReached c id_of m (reading_of w m) view say after.facts x) (sym one.1)
+            (subst (λ (f : Facts). IsReached c id_of m (reading_of w m) view say f (member_after_all c w.now m (w.member m) gives.0)) (sym one.2) gives.2);
+        same_time = time_stays c w m gives.0;
+        unmoved = λ k other. unmoved_by_all c w m k gives.0 other;
+        others_agree = λ k view other a. agree_on c id_of w m k view gives.0 other a;
+        said_on = λ s head part cmd said. said_by_all c id_of w m gives.0 s head part cmd said;
+      },
+    )
