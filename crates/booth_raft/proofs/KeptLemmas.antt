@@ -5,6 +5,7 @@ use Rattle.booth_rec.specs.declared.record.Record.{Record}
 use Rattle.booth_wire.specs.declared.message.Setup.{Setup}
 use Rattle.booth_raft.specs.declared.code.TheConstants.{SPLT, RACQ}
 use Rattle.booth_raft.specs.declared.view.Round.{Round}
+use Rattle.booth_raft.specs.declared.view.TheConstants.{LAST_NUMBER}
 use Rattle.booth_raft.specs.declared.view.Rule.{Rule}
 use Rattle.booth_raft.specs.declared.view.Rule.TheVariants as rules
 use Rattle.booth_raft.specs.declared.view.View.{View}
@@ -146,6 +147,6 @@ renewed_good setup view None now early none facts = renewed_by_term_good setup v
 renewed_good setup view (Some round) now early none facts =
     on_cond (Good setup now) (needs_term setup view) _ _
     (renewed_by_term_good setup view now none facts.round_fits)
-    (on_cond (Good setup now) (round.number == 4294967295) _ _
+    (on_cond (Good setup now) (round.number == LAST_NUMBER) _ _
     (runs_out_good setup view now none facts.round_fits)
     (opened_good setup view (round.number + 1) now early none))

@@ -2,9 +2,11 @@
 use Rattle.std.specs.Prelude.{ℕ, ◌+◌, max, List, Bool, true, false, not, ◌&&◌, ◌||◌, nat_lt, nat_le, ◌==◌, Option, Some, None, if◌then◌else◌}
 use Rattle.booth_base.specs.Times.{promise_of}
 use Rattle.booth_rec.specs.declared.record.Record.{Record}
+use Rattle.booth_rec.specs.Record.{plain}
 use Rattle.booth_wire.specs.declared.message.Setup.{Setup}
 use Rattle.booth_raft.specs.declared.code.TheConstants.{RACQ}
 use Rattle.booth_raft.specs.declared.deed.Told.TheVariants as tells
+use Rattle.booth_raft.specs.declared.view.TheConstants.{LAST_NUMBER, LAST_TERM}
 use Rattle.booth_raft.specs.declared.view.Role.TheVariants.{Follower, Candidate}
 use Rattle.booth_raft.specs.declared.view.Round.{Round}
 use Rattle.booth_raft.specs.declared.view.Rule.{Rule}
@@ -18,9 +20,9 @@ use Rattle.booth_raft.specs.Outcome.{Outcome, keeping, quiet, saying, telling}
 
 -- ---- ask
 
--- the last term but one was used or seen: no further term is asked for
+-- the last term was used or seen: no further term is asked for
 abbrev pub are_terms_spent : View → Bool
-are_terms_spent view = nat_le 4294967294 (max view.term view.seen)
+are_terms_spent view = nat_le LAST_TERM (max view.term view.seen)
 
 abbrev pub next_term : View → ℕ
 next_term view = max view.term view.seen + 1
@@ -39,7 +41,7 @@ in_next_term view reason = record view {
 -- Ask: the new term is kept, with the record's lease
 abbrev pub ask : View → ℕ → ℕ → Outcome
 ask view reason now =
-    keeping (in_next_term view reason) (rules.Ask reason) (record { term = next_term view; lease = view.kept.lease }) now
+    keeping (in_next_term view reason) (rules.Ask reason) (plain (next_term view) view.kept.lease) now
 
 -- an acquisition fails: it is tried again where the ticket is managed
 abbrev pub acquisition_failed : Setup → View → ℕ → View
@@ -132,5 +134,5 @@ abbrev pub renewed : Setup → View → Option Round → ℕ → Outcome
 renewed setup view None now = renewed_by_term view now
 renewed setup view (Some round) now =
     if needs_term setup view then renewed_by_term view now else
-    if round.number == 4294967295 then runs_out view else
+    if round.number == LAST_NUMBER then runs_out view else
     opened setup view (round.number + 1) now

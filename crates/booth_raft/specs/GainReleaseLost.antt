@@ -3,7 +3,7 @@ use Rattle.std.specs.Prelude.{ℕ, ◌+◌, ◌*◌, min, max, Bool, true, false
 use Rattle.booth_base.specs.declared.address.MemberId.{MemberId}
 use Rattle.booth_base.specs.Times.{guard_of}
 use Rattle.booth_rec.specs.declared.record.Record.{Record}
-use Rattle.booth_rec.specs.Record.{lease_end}
+use Rattle.booth_rec.specs.Record.{lease_end, plain}
 use Rattle.booth_wire.specs.declared.message.Setup.{Setup}
 use Rattle.booth_raft.specs.declared.code.TheConstants.{SPLT}
 use Rattle.booth_raft.specs.declared.deed.Told.TheVariants as tells
@@ -32,8 +32,7 @@ due_by_rank setup view now = if view.managed then Some (now + (setup.rank + 1) *
 
 -- the record of the lease that a round gives: it runs from the reading at which the round was opened
 abbrev pub lease_record : Setup → ℕ → Round → Record
-lease_record setup term round =
-    record { term = term; lease = Some (record { term = term; until = round.opened + setup.times.expire }) }
+lease_record setup term round = plain term (Some (record { term = term; until = round.opened + setup.times.expire }))
 
 -- Gain: the round is won, and its lease is this member's
 abbrev pub gained : Setup → View → Round → ℕ → View
@@ -58,7 +57,7 @@ gain_answered setup view now false = telling (record view { sure = false }) (tel
 -- ---- release
 
 abbrev pub free_record : View → Record
-free_record view = record { term = view.term; lease = None }
+free_record view = plain view.term None
 
 -- Release: a record without a lease is kept
 abbrev pub release : View → ℕ → ℕ → Outcome

@@ -93,8 +93,8 @@ with_due setup view kind part now =
 abbrev pub answering : Setup → View → MemberId → RoundKind → TicketPart → ℕ → View
 answering setup view site kind part now =
     let bound = promised setup view site part.term now in
-    let quiet = stood_down bound bound.role in
-    with_due setup (with_site quiet site kind part now) kind part now
+    let stood = stood_down bound bound.role in
+    with_due setup (with_site stood site kind part now) kind part now
 
 -- the clients of a candidate hear that its round failed
 abbrev pub told_by_answer : Role → Told

@@ -9,16 +9,13 @@ use crate::leases::{gain_is_answered, keep, release_is_answered, round_end_is_an
 use crate::members::{is_majority, is_promised_elsewhere};
 use crate::messages::ask_all;
 use crate::moments::{due_by_rank, own_end, retry_at};
-use crate::view::{MOST_MEMBERS, Promise, Role, Round, Rule, View};
+use crate::view::{LAST_NUMBER, LAST_TERM, MOST_MEMBERS, Promise, Role, Round, Rule, View};
 use booth_base::promise_ms;
 use booth_rec::Record;
 use booth_wire::{Say, Setup};
 
-/// The greatest term that may be asked for.
-const LAST_TERM: u32 = 4_294_967_294;
-
-// No further term is asked for.
-pub(crate) fn are_terms_spent(view: &View) -> bool
+/// No further term is asked for: the greater of `term` and `seen` is at least `LAST_TERM`.
+pub fn are_terms_spent(view: &View) -> bool
     ensures { result ≡ are_terms_spent view.now }
 {
     view.term.max(view.seen) >= LAST_TERM
@@ -26,7 +23,7 @@ pub(crate) fn are_terms_spent(view: &View) -> bool
 
 // A new term is asked for.
 pub(crate) fn ask(view: &mut View, reason: u32, now: u64) -> Deed
-    requires { max view.old.term view.old.seen < 4294967294 }
+    requires { max view.old.term view.old.seen < LAST_TERM }
     ensures view { view.new ≡ (ask view.old reason now).view }
     ensures deed { result ≡ (ask view.old reason now).deed }
 {
@@ -175,7 +172,7 @@ pub(crate) fn keep_is_answered(setup: &Setup, view: &mut View, now: u64, ok: boo
     let tried = waiting.tried;
     match waiting.rule {
         Rule::Gain => gain_is_answered(setup, view, now, ok),
-        Rule::Ask { reason: _ } => ask_is_answered(setup, view, tried, now, ok),
+        Rule::Ask { .. } => ask_is_answered(setup, view, tried, now, ok),
         Rule::Release { reason } => release_is_answered(setup, view, tried, reason, now, ok),
         Rule::EndRound => round_end_is_answered(setup, view, tried, now, ok),
     }
@@ -218,7 +215,7 @@ pub(crate) fn renew(setup: &Setup, view: &mut View, now: u64) -> Deed
     if needs_term(setup, view) {
         return renew_by_term(view, now);
     }
-    if round.number == u32::MAX {
+    if round.number == LAST_NUMBER {
         return run_out(view);
     }
     open_round(setup, view, round.number + 1, now)

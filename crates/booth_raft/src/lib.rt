@@ -20,7 +20,14 @@ mod starting;
 mod tests;
 mod view;
 
+pub use asking::are_terms_spent;
 pub use code::{ADMN, BUSY, LOCF, OUTD, RACQ, SPLT, TLST, TODT, TVLD};
 pub use deed::{Deed, Note, Told, Want};
 pub use machine::Core;
-pub use view::{MOST_MEMBERS, Promise, Role, Round, RoundKind, Rule, Shown, View, Waiting};
+pub use members::is_promised_elsewhere;
+pub use messages::owner_now;
+pub use moments::{own_end, seconds_left, shown_end};
+pub use view::{
+    LAST_NUMBER, LAST_TERM, MOST_MEMBERS, Promise, Role, Round, RoundKind, Rule, Shown, View,
+    Waiting,
+};

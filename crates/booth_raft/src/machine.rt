@@ -9,7 +9,7 @@ use crate::hearing::hear;
 use crate::leases::release;
 use crate::noting::note;
 use crate::starting::start;
-use crate::view::View;
+use crate::view::{LAST_TERM, View};
 use booth_rec::Record;
 use booth_wire::{Head, Say, Setup, TermSpent, TicketPart};
 use std::marker::Model;
@@ -69,7 +69,8 @@ impl Core {
     pub fn start(setup: &Setup, kept: Option<&Record>, now: u64) -> Core
         requires sound { IsSound setup.now }
         requires early { now < 2 ^ 62 }
-        ensures { result ≡ record { setup = setup.now; view = started setup.now (record_or_none (option_copied kept.entry)) now } }
+        ensures { result ≡
+            record { setup = setup.now; view = started setup.now (record_or_none (option_copied kept.entry)) now } }
     {
         let kept = kept.copied().unwrap_or(Record::plain(0, None));
         Core {
@@ -99,7 +100,7 @@ impl Core {
         requires early { now < 2 ^ 62 }
         requires idle { self.old.view.waiting ≡ None }
         requires site { IsTrue self.old.setup.site }
-        ensures spent { IsErr result ↔ (4294967294 ≤ max self.old.view.term self.old.view.seen) }
+        ensures spent { IsErr result ↔ (LAST_TERM ≤ max self.old.view.term self.old.view.seen) }
         ensures err { OnErr result (self.new ≡ self.old) }
         ensures view { OnOk result (self.new ≡ with_view self.old (ask self.old.view reason now).view) }
         ensures deed { IfOk result (λ deed. deed ≡ (ask self.old.view reason now).deed) }
@@ -117,8 +118,10 @@ impl Core {
         requires idle { self.old.view.waiting ≡ None }
         requires place { from < self.old.setup.members }
         requires other { from ≢ self.old.setup.place }
-        ensures view { self.new ≡ with_view self.old (heard self.old.setup self.old.view from head.now part.now now head.now.cmd).view }
-        ensures deed { result ≡ (heard self.old.setup self.old.view from head.now part.now now head.now.cmd).deed }
+        ensures view { self.new ≡ with_view self.old
+            (heard self.old.setup self.old.view from head.now part.now now head.now.cmd).view }
+        ensures deed { result ≡
+            (heard self.old.setup self.old.view from head.now part.now now head.now.cmd).deed }
         ensures waits { KeepWaits result.keep self.new.view.waiting now }
     {
         hear(&self.setup, &mut self.view, from, head, part, now)
@@ -128,8 +131,10 @@ impl Core {
     pub fn kept(&mut self, now: u64, ok: bool) -> Deed
         requires early { now < 2 ^ 62 }
         requires waiting { IsWaiting self.old.view now }
-        ensures view { self.new ≡ with_view self.old (keep_answered self.old.setup self.old.view self.old.view.waiting now ok).view }
-        ensures deed { result ≡ (keep_answered self.old.setup self.old.view self.old.view.waiting now ok).deed }
+        ensures view { self.new ≡ with_view self.old
+            (keep_answered self.old.setup self.old.view self.old.view.waiting now ok).view }
+        ensures deed { result ≡
+            (keep_answered self.old.setup self.old.view self.old.view.waiting now ok).deed }
         ensures waits { KeepWaits result.keep self.new.view.waiting now }
     {
         keep_is_answered(&self.setup, &mut self.view, now, ok)
@@ -153,7 +158,8 @@ impl Core {
         requires due { IsDue self.old.view now }
         requires greeted { self.old.view.hello ≡ false }
         requires role { is_working self.old.view.role ≡ false }
-        ensures view { self.new ≡ with_view self.old (due_now self.old.setup self.old.view now self.old.view.role).view }
+        ensures view { self.new ≡ with_view self.old
+            (due_now self.old.setup self.old.view now self.old.view.role).view }
         ensures deed { result ≡ (due_now self.old.setup self.old.view now self.old.view.role).deed }
         ensures waits { KeepWaits result.keep self.new.view.waiting now }
     {
@@ -175,8 +181,10 @@ impl Core {
         requires early { now < 2 ^ 62 }
         requires idle { self.old.view.waiting ≡ None }
         requires role { IsTrue (is_leader self.old.view.role) }
-        ensures view { self.new ≡ with_view self.old (renewed self.old.setup self.old.view self.old.view.round now).view }
-        ensures deed { result ≡ (renewed self.old.setup self.old.view self.old.view.round now).deed }
+        ensures view { self.new ≡ with_view self.old
+            (renewed self.old.setup self.old.view self.old.view.round now).view }
+        ensures deed { result ≡
+            (renewed self.old.setup self.old.view self.old.view.round now).deed }
         ensures waits { KeepWaits result.keep self.new.view.waiting now }
     {
         renew(&self.setup, &mut self.view, now)

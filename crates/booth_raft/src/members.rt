@@ -7,8 +7,8 @@ use crate::view::{MOST_MEMBERS, Promise};
 use booth_base::MemberId;
 use booth_wire::Setup;
 
-// A promise to another member than this is live.
-pub(crate) fn is_promised_elsewhere(promise: Option<Promise>, member: MemberId, now: u64) -> bool
+/// A promise to another member than this is live: now is below its end.
+pub fn is_promised_elsewhere(promise: Option<Promise>, member: MemberId, now: u64) -> bool
     ensures { result ≡ is_promised_elsewhere promise member now }
 {
     promise.is_some_and(|p| p.to != member && now < p.until)

@@ -35,8 +35,8 @@ fn part(setup: &Setup, leader: MemberId, term: u32, valid_for: u32) -> TicketPar
     }
 }
 
-// The owner that is shown now, or no one.
-fn owner_now(shown: Option<Shown>, now: u64) -> MemberId
+/// The owner now: the one that is shown, while it is, else `NO_ONE`.
+pub fn owner_now(shown: Option<Shown>, now: u64) -> MemberId
     ensures { result ≡ owner_now shown now }
 {
     match shown {

@@ -14,8 +14,9 @@ use booth_base::guard_ms;
 use booth_rec::Lease;
 use booth_wire::Setup;
 
-// Whole seconds from now until a moment, rounded up.
-pub(crate) fn seconds_left(moment: u64, now: u64) -> u32
+/// Whole seconds from now until a moment (both in milliseconds), rounded up: 0 where it is over,
+/// at most 2^32 - 1.
+pub fn seconds_left(moment: u64, now: u64) -> u32
     ensures { result ≡ seconds_left moment now }
 {
     let left = moment.saturating_sub(now);
@@ -32,15 +33,15 @@ pub(crate) fn lease_end(lease: Option<Lease>) -> u64
     lease.map_or(0, |l| l.until)
 }
 
-// Where the lease of the view's record ends.
-pub(crate) fn own_end(view: &View) -> u64
+/// Where the lease of the view's record ends, and 0 where it has none.
+pub fn own_end(view: &View) -> u64
     ensures { result ≡ own_end view.now }
 {
     lease_end(view.kept.lease)
 }
 
-// Where what is shown ends, and 0 where nothing is.
-pub(crate) fn shown_end(shown: Option<Shown>) -> u64
+/// Where what is shown ends, and 0 where nothing is.
+pub fn shown_end(shown: Option<Shown>) -> u64
     ensures { result ≡ shown_end shown }
 {
     shown.map_or(0, |s| s.until)

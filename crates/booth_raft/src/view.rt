@@ -5,6 +5,12 @@ use booth_rec::Record;
 /// The most members that a configuration has.
 pub const MOST_MEMBERS: usize = 16;
 
+/// From this term on no further term is asked for.
+pub const LAST_TERM: u32 = 4_294_967_294;
+
+/// The number of a round after which no renewal is opened.
+pub const LAST_NUMBER: u32 = 4_294_967_295;
+
 /// An answer that binds: while it is live no round of another member is answered.
 #[derive(Clone, Copy, Debug, PartialEq, Eq)]
 pub struct Promise {

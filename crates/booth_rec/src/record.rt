@@ -1,5 +1,6 @@
 //! A kept record, and its spelling in 32 bytes.
 ghost use Rattle.std.specs.Prelude.{◌≡◌, ◌+◌, ◌≤◌, ◌↔◌, length, IsTrue, Ok};
+ghost use Rattle.booth_rec.specs.Record.{plain};
 ghost use Rattle.booth_rec.specs.Spelling.{spelling, word_at, long_at, lease_in, Reads, FitsTypes};
 
 use thiserror::Error;
@@ -37,7 +38,7 @@ pub enum RecordFault {
 impl Record {
     /// The record of this term and lease.
     pub fn plain(term: u32, lease: Option<Lease>) -> Record
-        ensures { result ≡ record { term = term; lease = lease } }
+        ensures { result ≡ plain term lease }
     {
         Record { term, lease }
     }
