@@ -1,1 +1,4 @@
+pub mod ByteLemmas
+pub mod FoundLemmas
 pub mod AgainLemmas
+pub mod FrameLemmas

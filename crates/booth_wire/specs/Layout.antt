@@ -1,56 +1,37 @@
--- Where the numbers of a frame stand, the codes of the commands, and the head of a frame.
-use Rattle.std.specs.Prelude.{◌++◌, ◌==◌, ℕ, List, take, drop, Option, None, Some, if◌then◌else◌}
+-- What a frame is made of: numbers and fields, their places, and the bits of opts.
+use Rattle.std.specs.Prelude.{ℕ, ◌+◌, ◌-◌, Bool, if◌then◌else◌, List, ◌++◌, length, take, drop, replicate}
 use Rattle.std.specs.Int.{w32, from_be_bytes, to_be_bytes}
-use Rattle.booth_wire.specs.declared.command.Cmd.{Cmd}
-use Rattle.booth_wire.specs.declared.command.Cmd.TheVariants.{CLst, Peer, CGnt, CRvk, ASet, AGet, ADel, ALst, RLst, RPer, RALs, RGnt, RRvk, RAtr, Stat, MIdx, RVot, VtFr, HrtB, Ack, UpdE, Revk, Rjc}
-use Rattle.booth_wire.specs.declared.message.Head.{Head}
+use Rattle.booth_wire.specs.declared.command.Kind.{Kind}
+use Rattle.booth_wire.specs.declared.command.Kind.TheVariants as kinds
 
--- a number as four bytes in network order
+-- a number, the most significant byte first
 unfoldable pub word : ℕ → List ℕ
-word number = to_be_bytes w32 number
+word n = to_be_bytes w32 n
 
--- the number in the four bytes at this place
+-- a name or a value, and zeros up to the field's size
+unfoldable pub padded_to : ℕ → List ℕ → List ℕ
+padded_to size text = text ++ replicate (size - length text) 0
+
+-- the number, and the field of so many bytes, at a place
 abbrev pub word_at : ℕ → List ℕ → ℕ
 word_at at bytes = from_be_bytes w32 (take 4 (drop at bytes))
 
-abbrev pub magic : ℕ
-magic = 0x5F1BA08C
+abbrev pub field_at : ℕ → ℕ → List ℕ → List ℕ
+field_at at size bytes = take size (drop at bytes)
 
-abbrev pub version : ℕ
-version = 0x00010003
+-- the bits of opts: 1 where an authentication part follows, 4 where the body is an attribute's
+abbrev pub auth_bit : Bool → ℕ
+auth_bit auth = if auth then 1 else 0
 
--- the code of a command: its four letters as a number
-abbrev pub code_of : Cmd → ℕ
-code_of CLst = 0x434C7374
-code_of Peer = 0x50656572
-code_of CGnt = 0x43476E74
-code_of CRvk = 0x4352766B
-code_of ASet = 0x41536574
-code_of AGet = 0x41476574
-code_of ADel = 0x4144656C
-code_of ALst = 0x414C7374
-code_of RLst = 0x524C7374
-code_of RPer = 0x52506572
-code_of RALs = 0x52414C73
-code_of RGnt = 0x52476E74
-code_of RRvk = 0x5252766B
-code_of RAtr = 0x52417472
-code_of Stat = 0x53746174
-code_of MIdx = 0x4D496478
-code_of RVot = 0x52566F74
-code_of VtFr = 0x56744672
-code_of HrtB = 0x48727442
-code_of Ack = 0x41636B2E
-code_of UpdE = 0x55706445
-code_of Revk = 0x5265766B
-code_of Rjc = 0x524A4321
+abbrev pub attr_bit : Kind → ℕ
+attr_bit kinds.Bare = 0
+attr_bit kinds.Ticket = 0
+attr_bit kinds.Attr = 4
+attr_bit kinds.Text = 0
 
--- the command that is read, of all codes
-abbrev pub cmd_of : ℕ → Option Cmd
-cmd_of code = if code == code_of CLst then Some CLst else None
+abbrev pub opts_of : Bool → Kind → ℕ
+opts_of auth kind = attr_bit kind + auth_bit auth
 
--- the twelve numbers before the body of a frame of so many bytes, without an authentication part
-unfoldable pub head_of : Head → ℕ → List ℕ
-head_of head len =
-    word 0 ++ word head.secs ++ word head.usecs ++ word magic ++ word version ++ word head.from.0
-    ++ word len ++ word (code_of head.cmd) ++ word head.request ++ word head.options ++ word head.reason ++ word head.result
+-- the size of an authentication part, where there is one
+abbrev pub auth_len : Bool → ℕ
+auth_len auth = if auth then 28 else 0

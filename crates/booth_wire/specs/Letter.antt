@@ -1,18 +1,24 @@
--- A message as plain data, without where its bytes lie.
-use Rattle.std.specs.Prelude.{ℕ, List}
+-- What a message says, apart from where its text lies in memory, and the forms of its parts.
+use Rattle.std.specs.Prelude.{ℕ, Bool, true, not, ◌&&◌, ◌||◌, ◌==◌, nat_le, List, length, is_none, if◌then◌else◌}
+use Rattle.std.specs.List.{list_all}
+use Rattle.booth_base.specs.Name.{is_text_byte}
+use Rattle.booth_wire.specs.declared.command.Cmd.{Cmd}
+use Rattle.booth_wire.specs.declared.command.Cmd.TheVariants.{ALst}
+use Rattle.booth_wire.specs.declared.command.Kind.{Kind}
+use Rattle.booth_wire.specs.declared.command.Kind.TheVariants as kinds
 use Rattle.booth_wire.specs.declared.message.Head.{Head}
 use Rattle.booth_wire.specs.declared.message.TicketPart.{TicketPart}
 use Rattle.booth_wire.specs.declared.message.AttrPart.{AttrPart}
 use Rattle.booth_wire.specs.declared.message.Body.{Body}
 use Rattle.booth_wire.specs.declared.message.Body.TheVariants as bodies
 use Rattle.booth_wire.specs.declared.message.Message.{Message}
+use Rattle.booth_wire.specs.Command.{code_of}
 
--- what a body says
 pub data Content : Type 0 where
   Bare : Content
-  Ticket : TicketPart → Content
-  Attr : AttrPart → Content
-  Text : List ℕ → Content
+  Ticket : (part : TicketPart) → Content
+  Attr : (part : AttrPart) → Content
+  Text : (text : List ℕ) → Content
 
 pub record Letter : Type 0 where
   pub head : Head
@@ -25,4 +31,33 @@ content_of (bodies.Attr part) = Attr part
 content_of (bodies.Text text) = Text text.now
 
 abbrev pub letter_of : Message → Letter
-letter_of message = record { head = message.head; content = content_of message.body }
+letter_of m = record { head = m.head; content = content_of m.body }
+
+abbrev pub kind_in : Content → Kind
+kind_in Bare = kinds.Bare
+kind_in (Ticket part) = kinds.Ticket
+kind_in (Attr part) = kinds.Attr
+kind_in (Text text) = kinds.Text
+
+-- only the command that asks for a list of attributes names none
+abbrev pub names_none : Cmd → Bool
+names_none cmd = code_of cmd == code_of ALst
+
+abbrev pub is_same : Bool → Bool → Bool
+is_same a b = if a then b else not b
+
+abbrev pub is_named : Cmd → Content → Bool
+is_named cmd Bare = true
+is_named cmd (Ticket part) = true
+is_named cmd (Attr part) = is_same (names_none cmd) (is_none part.name)
+is_named cmd (Text text) = true
+
+-- a byte of a text: a printing byte, or the line end
+abbrev pub is_line_byte : ℕ → Bool
+is_line_byte b = is_text_byte b || b == 0x0A
+
+abbrev pub has_text : Content → Bool
+has_text Bare = true
+has_text (Ticket part) = true
+has_text (Attr part) = true
+has_text (Text text) = nat_le (length text) 16384 && list_all is_line_byte text

@@ -1,3 +1,6 @@
+pub use Rattle.booth_base.specs.Name
+pub mod Command
+pub mod Codes
 pub mod Letter
 pub mod Layout
 pub mod Reading

@@ -1,14 +1,19 @@
-//! The bytes of one frame, whose memory is taken once.
-ghost use Rattle.std.specs.Prelude.{◌≡◌, ◌+◌, ◌≤◌, [], ◌++◌, IfOk, length};
+//! The bytes of a frame, in memory that is taken once.
+ghost use Rattle.std.specs.Prelude.{◌≡◌, ◌≤◌, ◌+◌, ◌++◌, [], length, replicate, IfOk};
 ghost use Rattle.booth_wire.specs.Layout.{word};
+ghost use Rattle.booth_wire.specs.Spelling.{HasAuth, signed};
 
+use crate::layout::AUTH_BYTES;
 use std::alloc::{AllocError, Global};
 use std::marker::Model;
 
 /// The most bytes of a frame.
 pub const FRAME_BYTES: usize = 16_460;
 
-/// Up to 16,460 bytes. Contracts see them as a list.
+/// The most bytes of a text.
+pub const TEXT_BYTES: usize = 16_384;
+
+/// Room for one frame. Contracts see its bytes.
 #[derive(Drop)]
 pub struct Frame {
     bytes: Vec<u8>,
@@ -16,16 +21,17 @@ pub struct Frame {
 
 impl Model for Frame {
     ghost use Rattle.std.specs.Prelude.{List, ℕ, ◌≤◌, vec_len, vec_capacity};
+    ghost use Rattle.booth_wire.specs.declared.frame.TheConstants.{FRAME_BYTES};
 
     ghost Value = { List ℕ };
 
     ghost view = { λ f. f.bytes.items };
 
-    ghost invariant = { λ f. (16460 ≤ vec_capacity f.bytes) × (vec_len f.bytes ≤ 16460) };
+    ghost invariant = { λ f. (FRAME_BYTES ≤ vec_capacity f.bytes) × (vec_len f.bytes ≤ FRAME_BYTES) };
 }
 
 impl Frame {
-    /// An empty frame, with the memory of all that it will hold.
+    /// An empty frame, with all the memory that it will have.
     pub fn new(alloc: Global) -> Result<Frame, AllocError>
         ensures { IfOk result (λ frame. frame ≡ []) }
     {
@@ -34,12 +40,31 @@ impl Frame {
         })
     }
 
-    /// The bytes of the frame.
+    /// The bytes.
     pub fn bytes(&self) -> &[u8]
         ensures value { result.now ≡ self.now }
-        ensures short { length result.now ≤ 16460 }
+        ensures fits { length result.now ≤ FRAME_BYTES }
     {
         &self.bytes
+    }
+
+    /// Writes an authentication part in place of the frame's own: the last 28 bytes.
+    pub fn set_auth(&mut self, id: u32, hash: &[u8; 24])
+        requires { HasAuth self.old }
+        ensures signed { self.new ≡ signed self.old id hash.now }
+        ensures auth { HasAuth self.new }
+    {
+        self.replace_auth(id, hash);
+    }
+
+    #[tactic(auto, unfolding(crate::specs::Layout::word))]
+    fn replace_auth(&mut self, id: u32, hash: &[u8; 24])
+        requires { 28 ≤ length self.old }
+        ensures { self.new ≡ signed self.old id hash.now }
+    {
+        self.bytes.truncate(self.bytes.len() - AUTH_BYTES);
+        self.put(&id.to_be_bytes());
+        self.put(hash);
     }
 
     pub(crate) fn clear(&mut self)
@@ -48,19 +73,17 @@ impl Frame {
         self.bytes.clear();
     }
 
-    pub(crate) fn put(&mut self, more: &[u8])
-        requires { length self.old + length more.now ≤ 16460 }
-        ensures { self.new ≡ self.old ++ more.now }
+    pub(crate) fn put(&mut self, piece: &[u8])
+        requires { length self.old + length piece.now ≤ FRAME_BYTES }
+        ensures { self.new ≡ self.old ++ piece.now }
     {
-        self.bytes.extend_from_slice(more).unwrap();
+        self.bytes.extend_from_slice(piece).unwrap();
     }
 
-    #[tactic(auto, unfolding(crate::specs::Layout::word))]
-    pub(crate) fn put_word(&mut self, number: u32)
-        requires { length self.old + 4 ≤ 16460 }
-        ensures bytes { self.new ≡ self.old ++ word number }
-        ensures len { length self.new ≡ length self.old + 4 }
+    pub(crate) fn put_zeros(&mut self, count: usize)
+        requires { length self.old + count ≤ FRAME_BYTES }
+        ensures { self.new ≡ self.old ++ replicate count 0 }
     {
-        self.put(&number.to_be_bytes());
+        self.bytes.resize(self.bytes.len() + count, 0).unwrap();
     }
 }

@@ -1,7 +1,55 @@
-//! What holds of frames, whoever reads or writes them.
-ghost use Rattle.booth_wire.specs.Spelling.{RequestIsRead};
+//! Laws between bytes and messages, over all of them.
+ghost use Rattle.std.specs.Prelude.{◌≡◌, ◌++◌, ℕ, List, length, Ok, Err};
+ghost use Rattle.booth_wire.specs.declared.command.Cmd.{Cmd};
+ghost use Rattle.booth_wire.specs.declared.message.FrameFault.{FrameFault};
+ghost use Rattle.booth_wire.specs.Command.{code_of, letters_of};
+ghost use Rattle.booth_wire.specs.Codes.{number_of, ResultsAreLetters, ReasonsAreLetters};
+ghost use Rattle.booth_wire.specs.Letter.{Letter};
+ghost use Rattle.booth_wire.specs.Layout.{auth_len, word};
+ghost use Rattle.booth_wire.specs.Reading.{decoded};
+ghost use Rattle.booth_wire.specs.Spelling.{Fits, frame_with, spelling, Spells, signed};
 
-/// A spelled list request is read as itself.
-pub fn request_is_read()
-    ensures { RequestIsRead }
+/// The spelling of a letter is read as that letter.
+pub fn spelling_is_read()
+    ensures { (l : Letter) → Fits l → decoded (spelling l) ≡ Ok l }
+{}
+
+/// So is its frame with any other authentication part of the right size.
+pub fn signed_is_read()
+    ensures { (l : Letter) (auth : List ℕ) → Fits l → length auth ≡ auth_len l.head.auth → decoded (frame_with auth l) ≡ Ok l }
+{}
+
+/// A letter has one spelling for each authentication part.
+pub fn one_spelling()
+    ensures { (a b : List ℕ) (l : Letter) (s : Spells a l) (t : Spells b l) → s.auth ≡ t.auth → a ≡ b }
+{}
+
+/// Bytes spell one letter at most.
+pub fn one_letter()
+    ensures { (bytes : List ℕ) (l m : Letter) → Fits l → Fits m → Spells bytes l → Spells bytes m → l ≡ m }
+{}
+
+/// What is refused spells no letter.
+pub fn refused_spells_nothing()
+    ensures { (bytes : List ℕ) (fault : FrameFault) → decoded bytes ≡ Err fault → (l : Letter) → Fits l → Spells bytes l → ⊥ }
+{}
+
+/// Signing changes the authentication part, and nothing else of a frame.
+pub fn signing_changes_no_more()
+    ensures { (l : Letter) (auth hash : List ℕ) (id : ℕ) → length auth ≡ 28 → signed (frame_with auth l) id hash ≡ frame_with (word id ++ hash) l }
+{}
+
+/// Each command's code is its letters.
+pub fn commands_are_letters()
+    ensures { (cmd : Cmd) → code_of cmd ≡ number_of (letters_of cmd) }
+{}
+
+/// Each result's number is its letters.
+pub fn results_are_letters()
+    ensures { ResultsAreLetters }
+{}
+
+/// Each reason's number is its letters.
+pub fn reasons_are_letters()
+    ensures { ReasonsAreLetters }
 {}
