@@ -26,7 +26,7 @@ pub(crate) const TICKET_BYTES: usize = 76;
 pub(crate) const ATTR_BYTES: usize = 256;
 
 /// The bytes of an authentication part: a number and a hash.
-pub(crate) const AUTH_BYTES: usize = 28;
+pub const AUTH_BYTES: usize = 28;
 
 /// How many bytes an authentication part has, where there is one.
 pub(crate) fn auth_len(auth: bool) -> usize

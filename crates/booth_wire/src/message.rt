@@ -1,4 +1,6 @@
 //! What a frame says: head and body, and the types that the lease rules speak.
+ghost use Rattle.std.specs.Prelude.{◌≡◌};
+
 use crate::Cmd;
 use booth_base::{AttrValue, MemberId, Name, Times};
 use thiserror::Error;
@@ -34,12 +36,39 @@ pub struct TicketPart {
     pub valid_for: u32,
 }
 
+impl TicketPart {
+    /// An equal part.
+    pub fn copy(&self) -> TicketPart
+        ensures { result ≡ self.now }
+    {
+        TicketPart {
+            ticket: self.ticket.copy(),
+            leader: self.leader,
+            term: self.term,
+            valid_for: self.valid_for,
+        }
+    }
+}
+
 /// The body of a message about an attribute. Only a list of attributes names none.
 #[derive(Drop)]
 pub struct AttrPart {
     pub ticket: Name,
     pub name: Option<Name>,
     pub value: AttrValue,
+}
+
+impl AttrPart {
+    /// An equal part.
+    pub fn copy(&self) -> AttrPart
+        ensures { result ≡ self.now }
+    {
+        AttrPart {
+            ticket: self.ticket.copy(),
+            name: self.name.as_ref().map(Name::copy),
+            value: self.value.copy(),
+        }
+    }
 }
 
 /// The body of a message. A text is of bytes 0x20 to 0x7E and 0x0A, at most 16,384 of them.
@@ -49,6 +78,20 @@ pub enum Body<'a> {
     Ticket(TicketPart),
     Attr(AttrPart),
     Text(&'a [u8]),
+}
+
+impl<'a> Body<'a> {
+    /// An equal body. A text is the same bytes in memory.
+    pub fn copy(&self) -> Body<'a>
+        ensures { result ≡ self.now }
+    {
+        match self {
+            Body::Bare => Body::Bare,
+            Body::Ticket(part) => Body::Ticket(part.copy()),
+            Body::Attr(part) => Body::Attr(part.copy()),
+            Body::Text(text) => Body::Text(*text),
+        }
+    }
 }
 
 /// A message: its head and its body.
@@ -91,6 +134,23 @@ pub struct Setup {
     /// How many sites come before this one.
     pub rank: u32,
     pub times: Times,
+}
+
+impl Setup {
+    /// An equal setup.
+    pub fn copy(&self) -> Setup
+        ensures { result ≡ self.now }
+    {
+        Setup {
+            ticket: self.ticket.copy(),
+            me: self.me,
+            place: self.place,
+            members: self.members,
+            site: self.site,
+            rank: self.rank,
+            times: self.times,
+        }
+    }
 }
 
 /// What a rule says to members. The fields `auth`, `secs` and `usecs` are set when it is sent.
