@@ -2,7 +2,7 @@
 use Rattle.std.proofs.Common.{◌≡◌, ℕ, true, false, ◌||◌, ◌&&◌, Option, Some, None, refl, sym, ◌∙◌}
 use Rattle.std.specs.Prelude.{nat_lt, nat_le, not}
 use Rattle.booth_wire.specs.declared.message.Setup.{Setup}
-use Rattle.booth_raft.specs.declared.code.TheConstants.{LOCF}
+use Rattle.booth_wire.specs.declared.codes.reasons.TheConstants.{LOCF}
 use Rattle.booth_raft.specs.declared.deed.Note.{Note}
 use Rattle.booth_raft.specs.declared.deed.Note.TheVariants as notes
 use Rattle.booth_raft.specs.declared.view.Role.{Role}

@@ -16,7 +16,7 @@ use Rattle.booth_raft.specs.declared.view.Round.{Round}
 use Rattle.booth_raft.specs.declared.view.RoundKind.{RoundKind}
 use Rattle.booth_raft.specs.declared.view.RoundKind.TheVariants.{Election, Renewal}
 use Rattle.booth_raft.specs.declared.view.View.{View}
-use Rattle.booth_raft.specs.declared.code.TheConstants.{LOCF, SPLT}
+use Rattle.booth_wire.specs.declared.codes.reasons.TheConstants.{LOCF, SPLT}
 use Rattle.booth_raft.specs.Facts.{RoundFits, ViewFacts}
 use Rattle.booth_raft.specs.GainReleaseLost.{gain, gained}
 use Rattle.booth_raft.specs.Members.{is_candidate, is_leader, is_follower}

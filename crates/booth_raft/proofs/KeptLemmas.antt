@@ -3,7 +3,7 @@ use Rattle.std.proofs.Common.{◌≡◌, ℕ, ◌+◌, ◌<◌, ◌^◌, Bool, t
 use Rattle.std.specs.Prelude.{◌==◌}
 use Rattle.booth_rec.specs.declared.record.Record.{Record}
 use Rattle.booth_wire.specs.declared.message.Setup.{Setup}
-use Rattle.booth_raft.specs.declared.code.TheConstants.{SPLT, RACQ}
+use Rattle.booth_wire.specs.declared.codes.reasons.TheConstants.{SPLT, RACQ}
 use Rattle.booth_raft.specs.declared.view.Round.{Round}
 use Rattle.booth_raft.specs.declared.view.TheConstants.{LAST_NUMBER}
 use Rattle.booth_raft.specs.declared.view.Rule.{Rule}

@@ -4,7 +4,7 @@ use Rattle.booth_base.specs.Times.{promise_of}
 use Rattle.booth_rec.specs.declared.record.Record.{Record}
 use Rattle.booth_rec.specs.Record.{plain}
 use Rattle.booth_wire.specs.declared.message.Setup.{Setup}
-use Rattle.booth_raft.specs.declared.code.TheConstants.{RACQ}
+use Rattle.booth_wire.specs.declared.codes.reasons.TheConstants.{RACQ}
 use Rattle.booth_raft.specs.declared.deed.Told.TheVariants as tells
 use Rattle.booth_raft.specs.declared.view.TheConstants.{LAST_NUMBER, LAST_TERM}
 use Rattle.booth_raft.specs.declared.view.Role.TheVariants.{Follower, Candidate}

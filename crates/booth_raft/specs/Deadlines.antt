@@ -3,7 +3,7 @@ use Rattle.std.specs.Prelude.{ℕ, ◌+◌, ◌-◌, ◌*◌, Bool, false, not, 
 use Rattle.booth_wire.specs.declared.message.Setup.{Setup}
 use Rattle.booth_wire.specs.declared.message.Say.{Say}
 use Rattle.booth_wire.specs.declared.message.Say.TheVariants as says
-use Rattle.booth_raft.specs.declared.code.TheConstants.{LOCF}
+use Rattle.booth_wire.specs.declared.codes.reasons.TheConstants.{LOCF}
 use Rattle.booth_raft.specs.declared.deed.Told.TheVariants as tells
 use Rattle.booth_raft.specs.declared.deed.Want.TheVariants as wants
 use Rattle.booth_raft.specs.declared.view.Role.{Role}

@@ -5,7 +5,7 @@ use Rattle.booth_base.specs.Times.{guard_of}
 use Rattle.booth_rec.specs.declared.record.Record.{Record}
 use Rattle.booth_rec.specs.Record.{lease_end, plain}
 use Rattle.booth_wire.specs.declared.message.Setup.{Setup}
-use Rattle.booth_raft.specs.declared.code.TheConstants.{SPLT}
+use Rattle.booth_wire.specs.declared.codes.reasons.TheConstants.{SPLT}
 use Rattle.booth_raft.specs.declared.deed.Told.TheVariants as tells
 use Rattle.booth_raft.specs.declared.view.Promise.{Promise}
 use Rattle.booth_raft.specs.declared.view.Role.TheVariants.{Follower, Leader}

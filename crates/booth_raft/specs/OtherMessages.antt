@@ -6,7 +6,7 @@ use Rattle.booth_wire.specs.declared.command.Cmd.TheVariants as cmds
 use Rattle.booth_wire.specs.declared.message.Head.{Head}
 use Rattle.booth_wire.specs.declared.message.TicketPart.{TicketPart}
 use Rattle.booth_wire.specs.declared.message.Setup.{Setup}
-use Rattle.booth_raft.specs.declared.code.TheConstants.{LOCF, SPLT}
+use Rattle.booth_wire.specs.declared.codes.reasons.TheConstants.{LOCF, SPLT}
 use Rattle.booth_raft.specs.declared.deed.Told.TheVariants as tells
 use Rattle.booth_raft.specs.declared.view.Promise.{Promise}
 use Rattle.booth_raft.specs.declared.view.RoundKind.TheVariants.{Election, Renewal}

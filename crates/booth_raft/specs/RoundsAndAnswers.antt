@@ -6,7 +6,7 @@ use Rattle.booth_base.specs.Times.{promise_of}
 use Rattle.booth_wire.specs.declared.message.Head.{Head}
 use Rattle.booth_wire.specs.declared.message.TicketPart.{TicketPart}
 use Rattle.booth_wire.specs.declared.message.Setup.{Setup}
-use Rattle.booth_raft.specs.declared.code.TheConstants.{BUSY, TVLD, OUTD, TODT}
+use Rattle.booth_wire.specs.declared.codes.results.TheConstants.{BUSY, TVLD, OUTD, TODT}
 use Rattle.booth_raft.specs.declared.deed.Told.{Told}
 use Rattle.booth_raft.specs.declared.deed.Told.TheVariants as tells
 use Rattle.booth_raft.specs.declared.view.Role.{Role}

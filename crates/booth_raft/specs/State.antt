@@ -1,7 +1,7 @@
 -- What contracts see of a core, and when its calls may be made.
 use Rattle.std.specs.Prelude.{◌≡◌, ◌⊎◌, ℕ, ◌≤◌, IsTrue, IsSomeAnd}
 use Rattle.booth_wire.specs.declared.message.Setup.{Setup}
-use Rattle.booth_raft.specs.declared.code.TheConstants.{ADMN, LOCF, SPLT}
+use Rattle.booth_wire.specs.declared.codes.reasons.TheConstants.{ADMN, LOCF, SPLT}
 use Rattle.booth_raft.specs.declared.view.View.{View}
 use Rattle.booth_raft.specs.Members.{is_leader}
 

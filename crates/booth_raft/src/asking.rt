@@ -3,7 +3,6 @@ ghost use Rattle.std.specs.Prelude.{◌≡◌, ◌<◌, ◌^◌, max};
 ghost use Rattle.booth_raft.specs.AskAndRenew.{acquisition_failed, answers_itself, are_terms_spent, ask, ask_answered, ask_failed, asking_all, keep_answered, needs_term, new_round, opened, own_answer, promised_itself, renewed, renewed_by_term, runs_out};
 ghost use Rattle.booth_raft.specs.Sound.{IsSound};
 
-use crate::code::RACQ;
 use crate::deed::{Deed, Told};
 use crate::leases::{gain_is_answered, keep, release_is_answered, round_end_is_answered, win};
 use crate::members::{is_majority, is_promised_elsewhere};
@@ -12,6 +11,7 @@ use crate::moments::{due_by_rank, own_end, retry_at};
 use crate::view::{LAST_NUMBER, LAST_TERM, MOST_MEMBERS, Promise, Role, Round, Rule, View};
 use booth_base::promise_ms;
 use booth_rec::Record;
+use booth_wire::reasons::RACQ;
 use booth_wire::{Say, Setup};
 
 /// No further term is asked for: the greater of `term` and `seen` is at least `LAST_TERM`.

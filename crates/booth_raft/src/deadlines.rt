@@ -4,13 +4,13 @@ ghost use Rattle.std.specs.Option.{ForSome};
 ghost use Rattle.booth_raft.specs.Deadlines.{candidate_due, due_now, follower_due, greeted, hello, is_tried, leader_due, leader_works, repeats, resends_or_renews, waits_or_acquires};
 ghost use Rattle.booth_raft.specs.Sound.{IsSound};
 
-use crate::code::LOCF;
 use crate::deed::{Deed, Told, Want};
 use crate::leases::{end_round, lose, release};
 use crate::members::{is_promised_elsewhere, others_until};
 use crate::messages::{ask_again, ask_state, revoke};
 use crate::moments::{failover_time, own_end, retry_at, shown_end};
 use crate::view::{Role, Round, View};
+use booth_wire::reasons::LOCF;
 use booth_wire::{Say, Setup};
 
 // At the first deadline after the start all are asked for their state.

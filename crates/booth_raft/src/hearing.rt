@@ -4,13 +4,13 @@ ghost use Rattle.std.specs.Option.{ForSome};
 ghost use Rattle.booth_raft.specs.OtherMessages.{freed, is_owner, unmanaged, revoked, heard};
 ghost use Rattle.booth_raft.specs.Sound.{IsSound};
 
-use crate::code::{LOCF, SPLT};
 use crate::deed::{Deed, Told};
 use crate::learning::{learn, see};
 use crate::messages::tell_state;
 use crate::rounds::{hear_answer, hear_round};
 use crate::view::{Role, RoundKind, Shown, View};
 use booth_base::MemberId;
+use booth_wire::reasons::{LOCF, SPLT};
 use booth_wire::{Cmd, Head, Setup, TicketPart};
 
 // A promise to a site of a term at most this is dropped.

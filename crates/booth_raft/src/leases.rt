@@ -4,13 +4,13 @@ ghost use Rattle.booth_raft.specs.GainReleaseLost.{free_record, gained, gain, ga
 ghost use Rattle.booth_raft.specs.Outcome.{keeping};
 ghost use Rattle.booth_raft.specs.Sound.{IsSound};
 
-use crate::code::SPLT;
 use crate::deed::{Deed, Told, Want};
 use crate::messages::{revoke, tell_gain};
 use crate::moments::{due_by_rank, retry_at};
 use crate::view::{Promise, Role, Round, Rule, Shown, View, Waiting};
 use booth_base::{MemberId, guard_ms};
 use booth_rec::{Lease, Record};
+use booth_wire::reasons::SPLT;
 use booth_wire::{Say, Setup};
 
 // A rule asks for a keep, and waits for its answer.

@@ -2,7 +2,6 @@
 #![tactic(auto)]
 
 mod asking;
-mod code;
 mod deadlines;
 mod deed;
 mod hearing;
@@ -21,7 +20,6 @@ mod tests;
 mod view;
 
 pub use asking::are_terms_spent;
-pub use code::{ADMN, BUSY, LOCF, OUTD, RACQ, SPLT, TLST, TODT, TVLD};
 pub use deed::{Deed, Note, Told, Want};
 pub use machine::Core;
 pub use members::is_promised_elsewhere;

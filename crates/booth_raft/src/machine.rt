@@ -37,21 +37,6 @@ impl Model for Core {
     ghost invariant = { λ core. IsSound core.setup × ViewFacts core.setup core.view };
 }
 
-// An equal setup.
-fn copy_of(setup: &Setup) -> Setup
-    ensures { result ≡ setup.now }
-{
-    Setup {
-        ticket: setup.ticket.copy(),
-        me: setup.me,
-        place: setup.place,
-        members: setup.members,
-        site: setup.site,
-        rank: setup.rank,
-        times: setup.times,
-    }
-}
-
 impl Core {
     ghost use Rattle.booth_rec.specs.Record.{record_or_none};
     ghost use Rattle.booth_raft.specs.AskAndRenew.{ask, keep_answered, renewed};
@@ -74,7 +59,7 @@ impl Core {
     {
         let kept = kept.copied().unwrap_or(Record::plain(0, None));
         Core {
-            setup: copy_of(setup),
+            setup: setup.copy(),
             view: start(setup, kept, now),
         }
     }

@@ -4,7 +4,6 @@ ghost use Rattle.std.specs.Option.{ForSome};
 ghost use Rattle.booth_raft.specs.RoundsAndAnswers.{MayAnswer, may_answer, why_refused, promised, stood_down, shows_site, with_site, due_after_answer, with_due, told_by_answer, answering, round_heard, is_answer_to, wins, joined, answer_heard};
 ghost use Rattle.booth_raft.specs.Sound.{IsSound};
 
-use crate::code::{BUSY, OUTD, TODT, TVLD};
 use crate::deed::{Deed, Told};
 use crate::learning::{awaits_failover, show};
 use crate::leases::win;
@@ -13,6 +12,7 @@ use crate::messages::{answer_round, refuse_round};
 use crate::moments::failover_time;
 use crate::view::{Promise, Role, Round, RoundKind, View};
 use booth_base::{MemberId, promise_ms};
+use booth_wire::results::{BUSY, OUTD, TODT, TVLD};
 use booth_wire::{Head, Setup, TicketPart};
 
 // Whether a round of a site and a term may be answered.

@@ -7,9 +7,10 @@ use crate::members::is_majority;
 use crate::moments::{failover_time, seconds_left};
 use crate::rounds::may_answer;
 use crate::view::{Promise, Role, Round, Shown, View};
-use crate::{ADMN, Told, Want};
+use crate::{Told, Want};
 use booth_base::{MemberId, NO_ONE, Name};
 use booth_rec::{Lease, Record};
+use booth_wire::reasons::ADMN;
 use booth_wire::{Cmd, Setup, TicketPart};
 use std::process::Abort;
 

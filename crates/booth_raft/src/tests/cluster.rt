@@ -2,9 +2,10 @@
 ghost use Rattle.std.specs.Prelude.{◌<◌, ◌^◌};
 
 use super::script::{S1, S2, core, hear, hello, kept, renew, setup, tick};
-use crate::{ADMN, Core, Deed, Role, TLST, Told, Want};
+use crate::{Core, Deed, Role, Told, Want};
 use booth_base::MemberId;
 use booth_rec::{Lease, Record};
+use booth_wire::reasons::{ADMN, TLST};
 use booth_wire::{Head, Say, TicketPart};
 use std::alloc::AllocError;
 use std::collections::VecDeque;

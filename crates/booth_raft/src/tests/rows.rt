@@ -2,9 +2,11 @@
 use super::script::{
     Did, NOTHING, S1, S2, Said, Step, To, core, hello, keeps, note, play, says, tells,
 };
-use crate::{ADMN, BUSY, Core, LOCF, Note, Promise, Role, SPLT, TLST, TODT, TVLD, Told, Want};
+use crate::{Core, Note, Promise, Role, Told, Want};
 use booth_base::{MemberId, NO_ONE};
 use booth_rec::{Lease, Record};
+use booth_wire::reasons::{ADMN, LOCF, SPLT, TLST};
+use booth_wire::results::{BUSY, TODT, TVLD};
 use booth_wire::{Cmd, TermSpent};
 use std::process::Abort;
 

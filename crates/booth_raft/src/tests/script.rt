@@ -2,9 +2,10 @@
 ghost use Rattle.std.specs.Prelude.{◌<◌, ◌^◌};
 ghost use Rattle.booth_raft.specs.Sound.{IsSound};
 
-use crate::{ADMN, Core, Deed, LOCF, Note, Role, Told, Want};
+use crate::{Core, Deed, Note, Role, Told, Want};
 use booth_base::{MemberId, Name, Times};
 use booth_rec::Record;
+use booth_wire::reasons::{ADMN, LOCF};
 use booth_wire::{Cmd, Head, Say, Setup, TicketPart};
 use std::process::Abort;
 
