@@ -6,7 +6,7 @@ use Rattle.std.proofs.lemmas.Bool.{leb-true, le-leb, le-ltb, ltb-true}
 use Rattle.std.proofs.lemmas.Bool.Decides.{nat_tests}
 use Rattle.std.proofs.lemmas.List.{take_at, drop_at, drop-drop, append-nil, length-append}
 use Rattle.std.proofs.lemmas.Nat.{from_be_bytes-to_be_bytes_4}
-use Rattle.booth_base.specs.Name.{is_name_byte, is_text_byte, is_name, is_value}
+use Rattle.booth_base.specs.Name.{is_name_byte, is_text_byte, is_name, is_value, is_line_byte}
 use Rattle.booth_wire.specs.declared.command.Cmd.{Cmd}
 use Rattle.booth_wire.specs.declared.command.Kind.{Kind}
 use Rattle.booth_wire.specs.declared.message.Head.{Head}
@@ -14,7 +14,7 @@ use Rattle.booth_wire.specs.declared.message.TicketPart.{TicketPart}
 use Rattle.booth_wire.specs.declared.message.AttrPart.{AttrPart}
 use Rattle.booth_wire.specs.declared.message.FrameFault.{FrameFault}
 use Rattle.booth_wire.specs.Command.{code_of, cmd_of, kind_of}
-use Rattle.booth_wire.specs.Letter.{Content, Bare, Ticket, Attr, Text, Letter, kind_in, names_none, is_same, is_named, is_line_byte, has_text}
+use Rattle.booth_wire.specs.Letter.{Content, Bare, Ticket, Attr, Text, Letter, kind_in, names_none, is_same, is_named, has_text}
 use Rattle.booth_wire.specs.Layout.{opts_of, auth_len, word_at, word, padded_to}
 use Rattle.booth_wire.specs.Reading.{text_of, are_zeros, is_padded, name_in, value_in, auth_in, head_read, has_size, body_read, ticket_in, attr_in, content_in, decoded}
 use Rattle.booth_wire.specs.Spelling.{HeadFits, TicketFits, AttrFits, PartFits, Fits, header, body, body_len, frame_len, frame_with, blank_auth, spelling, Spells}

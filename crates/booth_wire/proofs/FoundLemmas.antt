@@ -5,7 +5,7 @@ use Rattle.std.specs.List.{find, list_all}
 use Rattle.std.proofs.lemmas.Bool.{eqb-true, ltb-false, leb-true}
 use Rattle.std.proofs.lemmas.List.{append-nil, drop_all, length-drop}
 use Rattle.std.proofs.lemmas.Option.{cond_some}
-use Rattle.booth_base.specs.Name.{is_name}
+use Rattle.booth_base.specs.Name.{is_name, is_line_byte}
 use Rattle.booth_wire.specs.declared.command.Cmd.{Cmd}
 use Rattle.booth_wire.specs.declared.command.Kind.{Kind}
 use Rattle.booth_wire.specs.declared.command.Kind.TheVariants as kinds
@@ -14,7 +14,7 @@ use Rattle.booth_wire.specs.declared.message.Message.{Message}
 use Rattle.booth_wire.specs.declared.message.FrameFault.{FrameFault}
 use Rattle.booth_wire.specs.declared.message.FrameFault.TheVariants as faults
 use Rattle.booth_wire.specs.Command.{code_of, cmd_of, kind_of, all_cmds}
-use Rattle.booth_wire.specs.Letter.{Content, Bare, Attr, Text, Letter, letter_of, kind_in, names_none, is_same, is_named, is_line_byte, has_text}
+use Rattle.booth_wire.specs.Letter.{Content, Bare, Attr, Text, Letter, letter_of, kind_in, names_none, is_same, is_named, has_text}
 use Rattle.booth_wire.specs.Layout.{opts_of, auth_len, word_at, field_at, word, padded_to}
 use Rattle.booth_wire.specs.Reading.{◌>>=◌, are_zeros, name_in, value_in, auth_in, head_at, head_read, has_size, body_read, ticket_with, ticket_in, attr_name_in, attr_with, attr_in, text_in, content_in, decoded, Gives}
 use Rattle.booth_wire.specs.Spelling.{HeadFits, PartFits, Fits, header, body, body_len, frame_len, frame_with, Spells}

@@ -1,7 +1,7 @@
 -- What a message says, apart from where its text lies in memory, and the forms of its parts.
-use Rattle.std.specs.Prelude.{ℕ, Bool, true, not, ◌&&◌, ◌||◌, ◌==◌, nat_le, List, length, is_none, if◌then◌else◌}
+use Rattle.std.specs.Prelude.{ℕ, Bool, true, not, ◌&&◌, ◌==◌, nat_le, List, length, is_none, if◌then◌else◌}
 use Rattle.std.specs.List.{list_all}
-use Rattle.booth_base.specs.Name.{is_text_byte}
+use Rattle.booth_base.specs.Name.{is_line_byte}
 use Rattle.booth_wire.specs.declared.command.Cmd.{Cmd}
 use Rattle.booth_wire.specs.declared.command.Cmd.TheVariants.{ALst}
 use Rattle.booth_wire.specs.declared.command.Kind.{Kind}
@@ -51,10 +51,6 @@ is_named cmd Bare = true
 is_named cmd (Ticket part) = true
 is_named cmd (Attr part) = is_same (names_none cmd) (is_none part.name)
 is_named cmd (Text text) = true
-
--- a byte of a text: a printing byte, or the line end
-abbrev pub is_line_byte : ℕ → Bool
-is_line_byte b = is_text_byte b || b == 0x0A
 
 abbrev pub has_text : Content → Bool
 has_text Bare = true

@@ -1,7 +1,7 @@
 -- What bytes are read as, each field from its place, and the first fault.
 use Rattle.std.specs.Prelude.{◌≡◌, ℕ, ◌+◌, ◌-◌, Bool, true, false, not, ◌&&◌, ◌||◌, ◌==◌, nat_le, nat_lt, if◌then◌else◌, List, length, drop, Option, Some, None, option_map, ok_or, Result, Ok, Err}
 use Rattle.std.specs.List.{list_all, take_while}
-use Rattle.booth_base.specs.Name.{is_name, is_value}
+use Rattle.booth_base.specs.Name.{is_name, is_value, is_line_byte}
 use Rattle.booth_wire.specs.declared.command.Cmd.{Cmd}
 use Rattle.booth_wire.specs.declared.command.Kind.{Kind}
 use Rattle.booth_wire.specs.declared.command.Kind.TheVariants as kinds
@@ -12,7 +12,7 @@ use Rattle.booth_wire.specs.declared.message.FrameFault.{FrameFault}
 use Rattle.booth_wire.specs.declared.message.FrameFault.TheVariants as faults
 use Rattle.booth_wire.specs.Command.{cmd_of, kind_of}
 use Rattle.booth_wire.specs.Layout.{word_at, field_at, opts_of, auth_len}
-use Rattle.booth_wire.specs.Letter.{Content, Bare, Ticket, Attr, Text, Letter, content_of, letter_of, names_none, is_line_byte}
+use Rattle.booth_wire.specs.Letter.{Content, Bare, Ticket, Attr, Text, Letter, content_of, letter_of, names_none}
 
 infixl 10 ◌>>=◌
 abbrev pub ◌>>=◌ : {A B : Type 0} → Result A FrameFault → (A → Result B FrameFault) → Result B FrameFault

@@ -10,9 +10,6 @@ use std::marker::Model;
 /// The most bytes of a frame.
 pub const FRAME_BYTES: usize = 16_460;
 
-/// The most bytes of a text.
-pub const TEXT_BYTES: usize = 16_384;
-
 /// Room for one frame. Contracts see its bytes.
 #[derive(Drop)]
 pub struct Frame {

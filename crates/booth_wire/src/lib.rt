@@ -12,7 +12,7 @@ mod writing;
 
 pub use codes::{options, reasons, results};
 pub use command::{Cmd, Direction, Kind};
-pub use frame::{FRAME_BYTES, Frame, TEXT_BYTES};
+pub use frame::{FRAME_BYTES, Frame};
 pub use layout::AUTH_BYTES;
 pub use message::{AttrPart, Body, FrameFault, Head, Message, Say, Setup, TermSpent, TicketPart};
 pub use reading::decode;

@@ -1,17 +1,18 @@
 //! From bytes to a message.
 ghost use Rattle.std.specs.Prelude.{◌≡◌, ◌≤◌, ◌+◌, ◌==◌, length, not, option_map, Some, None, if◌then◌else◌, IsTrue, IsOk, IfOk, Ok, Err, MatchResult};
 ghost use Rattle.std.specs.List.{list_all, prefix_len};
+ghost use Rattle.booth_base.specs.Name.{is_line_byte};
 ghost use Rattle.booth_wire.specs.Command.{kind_of};
-ghost use Rattle.booth_wire.specs.Letter.{Letter, letter_of, names_none, is_line_byte};
+ghost use Rattle.booth_wire.specs.Letter.{Letter, letter_of, names_none};
 ghost use Rattle.booth_wire.specs.Layout.{word_at, auth_len};
 ghost use Rattle.booth_wire.specs.Reading.{text_of, are_zeros, is_padded, name_in, value_in, auth_in, head_at, head_read, has_size, body_read, attr_name_in, ticket_in, attr_in, text_in, content_in, decoded, Gives, GivesContent};
 ghost use Rattle.booth_wire.specs.Spelling.{Fits, frame_len, Spells};
 
 use crate::command::{Cmd, Kind};
-use crate::frame::{FRAME_BYTES, TEXT_BYTES};
+use crate::frame::FRAME_BYTES;
 use crate::layout::{ATTR_BYTES, HEADER_BYTES, MAGIC, TICKET_BYTES, VERSION, auth_len, opts_of};
 use crate::message::{AttrPart, Body, FrameFault, Head, Message, TicketPart};
-use booth_base::{AttrValue, MemberId, Name};
+use booth_base::{AttrValue, MemberId, Name, TEXT_BYTES};
 
 fn word_at(bytes: &[u8], at: usize) -> u32
     requires { at + 4 ≤ length bytes.now }
