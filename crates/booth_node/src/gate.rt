@@ -1,8 +1,8 @@
 //! Which datagrams are dropped, and why.
 ghost use Rattle.std.specs.Prelude.{◌≡◌, ◌<◌};
-ghost use Rattle.booth_node.specs.Gate.{place_of, verdict, request_of};
+ghost use Rattle.booth_node.specs.Gate.{place_of, is_spoken, verdict, request_of};
 
-use booth_wire::{FrameFault, decode};
+use booth_wire::{Cmd, FrameFault, Head, decode};
 use thiserror::Error;
 
 /// Why a datagram is dropped. The first that holds is told, in this order.
@@ -27,6 +27,13 @@ impl DropFault {
     }
 }
 
+// Whether the node speaks such a frame: a list request without an authentication part.
+fn is_spoken(head: &Head) -> bool
+    ensures { result ≡ is_spoken head.now }
+{
+    head.cmd == Cmd::CLst && !head.auth
+}
+
 /// The number of the request that these bytes make, or why they are dropped.
 pub(crate) fn request_in(bytes: &[u8]) -> Result<u32, DropFault>
     ensures { result ≡ request_of (verdict bytes.now) }
@@ -35,6 +42,9 @@ pub(crate) fn request_in(bytes: &[u8]) -> Result<u32, DropFault>
         Ok(message) => message,
         Err(fault) => return Err(DropFault::Frame(fault)),
     };
+    if !is_spoken(&message.head) {
+        return Err(DropFault::Frame(FrameFault::Command));
+    }
     if message.head.from.0 != 0 {
         return Err(DropFault::Stranger);
     }
