@@ -7,7 +7,7 @@ use Rattle.booth_rec.specs.declared.record.Record.{Record}
 use Rattle.booth_wire.specs.declared.message.Setup.{Setup}
 use Rattle.booth_wire.specs.declared.message.Say.{Say}
 use Rattle.booth_wire.specs.declared.message.Say.TheVariants as says
-use Rattle.booth_raft.specs.declared.code.TheConstants.{LOCF}
+use Rattle.booth_wire.specs.declared.codes.reasons.TheConstants.{LOCF}
 use Rattle.booth_raft.specs.declared.view.Role.{Role}
 use Rattle.booth_raft.specs.declared.view.Role.TheVariants.{Follower, Working, Candidate, Leader}
 use Rattle.booth_raft.specs.declared.view.Round.{Round as ViewRound}
@@ -27,7 +27,7 @@ use Rattle.booth_world.specs.Calls.{LeadsTo}
 use Rattle.booth_world.proofs.Lists.{none_is}
 use Rattle.booth_world.proofs.Invariant.{MemberGood, FactsGood}
 use Rattle.booth_world.proofs.Views.{on_cond, on_test, SameParts, nothing_waits, agrees_same, rests, leads_on}
-use Rattle.booth_raft.specs.declared.code.TheConstants.{RACQ}
+use Rattle.booth_wire.specs.declared.codes.reasons.TheConstants.{RACQ}
 use Rattle.booth_raft.specs.declared.deed.Note.{Note}
 use Rattle.booth_raft.specs.declared.deed.Note.TheVariants as notes
 use Rattle.booth_raft.specs.AskAndRenew.{opened, renewed, renewed_by_term, are_terms_spent, needs_term}

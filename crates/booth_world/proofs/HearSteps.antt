@@ -9,7 +9,7 @@ use Rattle.booth_base.specs.Times.{promise_of}
 use Rattle.booth_wire.specs.declared.message.Head.{Head}
 use Rattle.booth_wire.specs.declared.message.TicketPart.{TicketPart}
 use Rattle.booth_wire.specs.declared.message.Setup.{Setup}
-use Rattle.booth_raft.specs.declared.code.TheConstants.{LOCF, SPLT}
+use Rattle.booth_wire.specs.declared.codes.reasons.TheConstants.{LOCF, SPLT}
 use Rattle.booth_raft.specs.declared.view.Promise.{Promise as ViewPromise}
 use Rattle.booth_raft.specs.declared.view.Role.{Role}
 use Rattle.booth_raft.specs.declared.view.Role.TheVariants.{Follower, Working, Candidate, Leader}

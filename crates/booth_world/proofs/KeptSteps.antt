@@ -6,7 +6,7 @@ use Rattle.booth_base.specs.declared.address.MemberId.{MemberId}
 use Rattle.booth_rec.specs.declared.record.Lease.{Lease}
 use Rattle.booth_rec.specs.declared.record.Record.{Record}
 use Rattle.booth_wire.specs.declared.message.Setup.{Setup}
-use Rattle.booth_raft.specs.declared.code.TheConstants.{SPLT}
+use Rattle.booth_wire.specs.declared.codes.reasons.TheConstants.{SPLT}
 use Rattle.booth_raft.specs.declared.view.Promise.{Promise as ViewPromise}
 use Rattle.booth_raft.specs.declared.view.Rule.{Rule}
 use Rattle.booth_raft.specs.declared.view.Rule.TheVariants as rules
