@@ -1,101 +1,83 @@
 #!/usr/bin/env python3
-"""Frames of every command, spelled by hand with `struct`, as constants for booth_wire's tests.
+"""Prints a frame of every command, as constants for the tests of crates/booth_wire.
 
-It knows nothing of the Rattle sources: field order, codes and sizes are written out again here, as
-docs/PROTOCOL.md has them. Its output is the file crates/booth_wire/src/tests/frames.rt:
+tools/frames.py spells them, so nothing here is of the program's own making. Every byte of the free
+fields of a head and of a ticket's numbers is another one: a field at another place, or with its
+bytes in another order, shows. From the top of the repository:
 
-    python3 tests/frames.py > crates/booth_wire/src/tests/frames.rt
-
-Every byte of the header's free fields and of a ticket's numbers is another one, so that a field at
-another place, or with its bytes in another order, shows.
+    python3 tests/every_frame.py > crates/booth_wire/src/tests/frames.rt
 """
-import struct
 
-MAGIC = 0x5F1BA08C
-VERSION = 0x00010003
-AUTH, ATTR = 1, 4
+import os
+import sys
 
-BARE, TICKET, ATTRIBUTE, TEXT = range(4)
+sys.path.insert(0, os.path.join(os.path.dirname(os.path.abspath(__file__)), "../tools"))
 
-COMMANDS = [
-    (b"CLst", BARE), (b"Peer", BARE),
-    (b"CGnt", TICKET), (b"CRvk", TICKET),
-    (b"ASet", ATTRIBUTE), (b"AGet", ATTRIBUTE), (b"ADel", ATTRIBUTE), (b"ALst", ATTRIBUTE),
-    (b"RLst", TEXT), (b"RPer", TEXT), (b"RALs", TEXT),
-    (b"RGnt", TICKET), (b"RRvk", TICKET),
-    (b"RAtr", ATTRIBUTE),
-    (b"Stat", TICKET), (b"MIdx", TICKET), (b"RVot", TICKET), (b"VtFr", TICKET), (b"HrtB", TICKET),
-    (b"Ack.", TICKET), (b"UpdE", TICKET), (b"Revk", TICKET), (b"RJC!", TICKET),
-]
+import frames
 
-SIZE_OF = {BARE: 0, TICKET: 64 + 3 * 4, ATTRIBUTE: 64 + 64 + 128, TEXT: len("ticket-db8 none 0\n")}
+HEAD = {
+    "secs": 0x01020304,
+    "usecs": 0x05060708,
+    "sender": 0x090A0B0C,
+    "request": 0x0D0E0F10,
+    "options": 0x11121314,
+    "reason": 0x15161718,
+    "result": 0x191A1B1C,
+}
 
+BODIES = {
+    frames.BARE: b"",
+    frames.TICKET: frames.ticket_body(b"ticket-db8", 0x1D1E1F20, 0x21222324, 0x25262728),
+    frames.ATTRIBUTE: frames.attribute_body(b"ticket-db8", b"color", b"dark blue"),
+    frames.TEXT: b"ticket-db8 none 0\n",
+}
+ALL_ATTRIBUTES = frames.attribute_body(b"ticket-db8", b"", b"dark blue")
 
-def numbers(*values):
-    """A row of numbers, four bytes each, the most significant first."""
-    return struct.pack(f">{len(values)}I", *values)
+NOT_SIGNED = frames.numbers(2) + bytes(24)
+SIGNED = frames.numbers(0x292A2B2C) + bytes(range(0xA0, 0xB8))
+WITH_AUTH = ["Peer", "HrtB", "ALst", "RPer"]
 
-
-def field(text, size):
-    """A row of a text, and rows of zeros up to the field's size; at least one zero."""
-    assert len(text) < size
-    whole = text + bytes(size - len(text))
-    return [whole[at:at + 32] for at in range(0, size, 32)]
-
-
-def body(command, kind):
-    if kind == BARE:
-        return []
-    if kind == TICKET:
-        return field(b"ticket-db8", 64) + [numbers(0x1D1E1F20, 0x21222324, 0x25262728)]
-    if kind == ATTRIBUTE:
-        name = b"" if command == b"ALst" else b"color"
-        return field(b"ticket-db8", 64) + field(name, 64) + field(b"dark blue", 128)
-    return [b"ticket-db8 none 0\n"]
+# where the lines of a header begin; those of a body have 32 bytes
+HEAD_LINES = [0, 16, 28, 32]
 
 
-def frame(command, kind, auth=()):
-    """The rows of a frame, with these rows as authentication part."""
-    opts = (AUTH if auth else 0) + (ATTR if kind == ATTRIBUTE else 0)
-    length = 48 + SIZE_OF[kind] + (28 if auth else 0)
-    rows = [
-        numbers(opts, 0x01020304, 0x05060708, MAGIC),
-        numbers(VERSION, 0x090A0B0C, length),
-        command,
-        numbers(0x0D0E0F10, 0x11121314, 0x15161718, 0x191A1B1C),
-    ] + body(command, kind) + list(auth)
-    assert len(b"".join(rows)) == length
-    return rows
+def frame(letters, auth=b""):
+    body = ALL_ATTRIBUTES if letters == "ALst" else BODIES[frames.BODY_OF[letters]]
+    return frames.frame(letters, body, auth, **HEAD)
 
 
-def rendered(row):
-    """A row of a Rust byte string. What begins with a letter is a text, and else all are numbers."""
-    text = chr(row[0]).isalpha() and row[0] < 0x80
+def rendered(line):
+    """A line of a Rust byte string. One that begins with a letter is a text, and else numbers."""
+    is_text = line[:1].isalpha()
     return "".join(
-        "\\0" if byte == 0 else
-        "\\n" if text and byte == 0x0A else
-        chr(byte) if text else
-        f"\\x{byte:02x}" for byte in row)
+        "\\0" if byte == 0
+        else "\\n" if is_text and byte == 0x0A
+        else chr(byte) if is_text
+        else f"\\x{byte:02x}"
+        for byte in line
+    )
 
 
-def constant(name, about, rows):
+def print_constant(name, about, datagram, auth_bytes=0):
+    body_end = len(datagram) - auth_bytes
+    starts = [*HEAD_LINES, *range(frames.HEAD_BYTES, body_end, 32)]
+    starts += [body_end, body_end + 4, len(datagram)] if auth_bytes else [body_end]
+    lines = [datagram[a:b] for a, b in zip(starts, starts[1:])]
     print(f"\n/// {about}")
     print(f'pub const {name}: &[u8] = b"\\')
-    print("\\\n".join("    " + rendered(row) for row in rows) + '";')
+    print("\\\n".join("    " + rendered(line) for line in lines) + '";')
 
 
-def name_of(command):
-    return command.decode().upper().strip(".!")
+def name_of(letters):
+    return letters.upper().strip(".!")
 
 
-BLANK = [numbers(2), bytes(24)]
-SIGNED = [numbers(0x292A2B2C), bytes(range(0xA0, 0xB8))]
-
-print("//! Frames of every command: the output of tests/frames.py.")
-for command, kind in COMMANDS:
-    constant(name_of(command), f"`{command.decode()}`.", frame(command, kind))
-for command, kind in [(b"Peer", BARE), (b"HrtB", TICKET), (b"ALst", ATTRIBUTE), (b"RPer", TEXT)]:
-    constant(name_of(command) + "_WITH_AUTH",
-             f"`{command.decode()}` with an authentication part that is not signed.",
-             frame(command, kind, BLANK))
-constant("HRTB_SIGNED", "`HrtB` with another authentication part.", frame(b"HrtB", TICKET, SIGNED))
+print("//! Frames of every command: the output of tests/every_frame.py.")
+for command in frames.BODY_OF:
+    print_constant(name_of(command), f"`{command}`.", frame(command))
+for command in WITH_AUTH:
+    about = f"`{command}` with an authentication part that is not signed."
+    name = name_of(command) + "_WITH_AUTH"
+    print_constant(name, about, frame(command, NOT_SIGNED), frames.AUTH_BYTES)
+about = "`HrtB` with another authentication part."
+print_constant("HRTB_SIGNED", about, frame("HrtB", SIGNED), frames.AUTH_BYTES)

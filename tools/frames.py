@@ -1,7 +1,7 @@
 """Booth's frames as docs/PROTOCOL.md states them, for the Python programs of this repository.
 
-It is imported by tools/ask.py, tools/serving.py and tests/loopback.py, and not run by itself. It
-shares nothing with crates/, so that a slip there is not repeated here.
+It is imported by the programs in tools/ and tests/, and not run by itself. It shares nothing with
+crates/, so that a slip there is not repeated here.
 """
 
 import socket
@@ -15,12 +15,30 @@ MAGIC = 0x5F1BA08C
 VERSION = 0x00010003
 HEAD_BYTES = 48
 FRAME_BYTES = 16_460
+AUTH_BYTES = 28
+
+# the bits of opts
+AUTH = 1
+ATTR = 4
+
+# which body a command has
+BARE, TICKET, ATTRIBUTE, TEXT = range(4)
+BODY_OF = {
+    **dict.fromkeys(["CLst", "Peer"], BARE),
+    **dict.fromkeys(["CGnt", "CRvk"], TICKET),
+    **dict.fromkeys(["ASet", "AGet", "ADel", "ALst"], ATTRIBUTE),
+    **dict.fromkeys(["RLst", "RPer", "RALs"], TEXT),
+    **dict.fromkeys(["RGnt", "RRvk"], TICKET),
+    "RAtr": ATTRIBUTE,
+    **dict.fromkeys(["Stat", "MIdx", "RVot", "VtFr", "HrtB", "Ack."], TICKET),
+    **dict.fromkeys(["UpdE", "Revk", "RJC!"], TICKET),
+}
 
 LAYOUT = struct.Struct(">12I")
 
 
 def code(letters):
-    """The number of a command: its four ASCII letters in network order."""
+    """The number of a command, a result or a reason: its four ASCII letters in network order."""
     return int.from_bytes(letters.encode("ascii"), "big")
 
 
@@ -60,6 +78,34 @@ class Head(NamedTuple):
     def millis(self):
         """The sender's clock: milliseconds since 1970."""
         return self.secs * 1000 + self.usecs // 1000
+
+
+def numbers(*values):
+    """Numbers one after the other, four bytes each, the most significant first."""
+    return struct.pack(f">{len(values)}I", *values)
+
+
+def field(text, size):
+    """The field of a name or a value: its bytes, then zeros to its end, one at least."""
+    assert len(text) < size and 0 not in text
+    return text.ljust(size, b"\0")
+
+
+def ticket_body(ticket, leader, term, valid_for):
+    return field(ticket, 64) + numbers(leader, term, valid_for)
+
+
+def attribute_body(ticket, name, value):
+    """The body of an attribute. The name is empty where a list of attributes is asked for."""
+    return field(ticket, 64) + field(name, 64) + field(value, 128)
+
+
+def frame(letters, body=b"", auth=b"", **fields):
+    """The frame of this command with this body, and with this authentication part where it is
+    not empty. `fields` are those of its head that are not what they are at first."""
+    opts = (AUTH if auth else 0) | (ATTR if BODY_OF[letters] == ATTRIBUTE else 0)
+    length = HEAD_BYTES + len(body) + len(auth)
+    return Head(opts=opts, length=length, cmd=code(letters), **fields).spelled() + body + auth
 
 
 def list_request(request):

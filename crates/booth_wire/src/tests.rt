@@ -1,5 +1,5 @@
-//! Frames from outside: the protocol's worked example, what tests/frames.py spells, and frames with
-//! one or two faults.
+//! Frames from outside: the protocol's worked example, what tests/every_frame.py spells, and frames
+//! with one or two faults.
 use super::*;
 use booth_base::MemberId;
 use std::alloc::{AllocError, Global};
@@ -42,7 +42,7 @@ fn the_worked_example_is_read_and_written(rt: HostRuntime) -> Result<(), Fail> {
     Ok(())
 }
 
-/// The head of each frame that tests/frames.py spells.
+/// The head of each frame that tests/every_frame.py spells.
 fn spelled_head(cmd: Cmd, auth: bool) -> Head {
     Head {
         auth,

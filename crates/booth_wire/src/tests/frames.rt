@@ -1,4 +1,4 @@
-//! Frames of every command: the output of tests/frames.py.
+//! Frames of every command: the output of tests/every_frame.py.
 
 /// `CLst`.
 pub const CLST: &[u8] = b"\
