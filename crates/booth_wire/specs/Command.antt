@@ -139,7 +139,9 @@ answer_of Revk = None
 answer_of Rjc = None
 
 abbrev pub all_cmds : List Cmd
-all_cmds = CLst ∷ Peer ∷ CGnt ∷ CRvk ∷ ASet ∷ AGet ∷ ADel ∷ ALst ∷ RLst ∷ RPer ∷ RALs ∷ RGnt ∷ RRvk ∷ RAtr ∷ Stat ∷ MIdx ∷ RVot ∷ VtFr ∷ HrtB ∷ Ack ∷ UpdE ∷ Revk ∷ Rjc ∷ []
+all_cmds =
+    CLst ∷ Peer ∷ CGnt ∷ CRvk ∷ ASet ∷ AGet ∷ ADel ∷ ALst ∷ RLst ∷ RPer ∷ RALs ∷ RGnt ∷ RRvk ∷ RAtr ∷
+    Stat ∷ MIdx ∷ RVot ∷ VtFr ∷ HrtB ∷ Ack ∷ UpdE ∷ Revk ∷ Rjc ∷ []
 
 -- the command of a code
 abbrev pub cmd_of : ℕ → Option Cmd

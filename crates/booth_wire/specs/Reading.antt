@@ -15,7 +15,8 @@ use Rattle.booth_wire.specs.Layout.{word_at, field_at, opts_of, auth_len}
 use Rattle.booth_wire.specs.Letter.{Content, Bare, Ticket, Attr, Text, Letter, content_of, letter_of, names_none}
 
 infixl 10 ◌>>=◌
-abbrev pub ◌>>=◌ : {A B : Type 0} → Result A FrameFault → (A → Result B FrameFault) → Result B FrameFault
+abbrev pub ◌>>=◌ : {A B : Type 0} → Result A FrameFault → (A → Result B FrameFault)
+    → Result B FrameFault
 (Ok x) >>= f = f x
 (Err e) >>= f = Err e
 
@@ -61,7 +62,8 @@ head_read bytes =
     if nat_lt (length bytes) 48 then Err faults.Short else
     if not (word_at 12 bytes == 0x5F1BA08C) then Err faults.Magic else
     if not (word_at 16 bytes == 0x00010003) then Err faults.Version else
-    if not (word_at 24 bytes == length bytes) || nat_lt 16460 (length bytes) then Err faults.Length else do
+    if not (word_at 24 bytes == length bytes) || nat_lt 16460 (length bytes) then Err faults.Length
+    else do
       cmd ← ok_or (cmd_of (word_at 28 bytes)) faults.Command
       auth ← ok_or (auth_in (kind_of cmd) (word_at 0 bytes)) faults.Command
       Ok (head_at auth cmd bytes)
@@ -78,7 +80,8 @@ abbrev pub body_read : Head → List ℕ → Result (List ℕ) FrameFault
 body_read h bytes =
     let around = 48 + auth_len h.auth in
     let size = length bytes - around in
-    if nat_le around (length bytes) && has_size (kind_of h.cmd) size then Ok (field_at 48 size bytes) else Err faults.Size
+    if nat_le around (length bytes) && has_size (kind_of h.cmd) size then Ok (field_at 48 size bytes)
+    else Err faults.Size
 
 abbrev pub ticket_with : List ℕ → List ℕ → Content
 ticket_with bytes ticket = Ticket (record {
@@ -94,16 +97,20 @@ ticket_in bytes = option_map (ticket_with bytes) (name_in (field_at 0 64 bytes))
 -- an attribute's name; none, in a field of zeros, where the command names none
 abbrev pub attr_name_in : Cmd → List ℕ → Option (Option (List ℕ))
 attr_name_in cmd field =
-    if names_none cmd then (if are_zeros field then Some None else None) else option_map (λ name. Some name) (name_in field)
+    if names_none cmd then (if are_zeros field then Some None else None)
+    else option_map (λ name. Some name) (name_in field)
 
 abbrev pub attr_with : Option (List ℕ) → Option (Option (List ℕ)) → Option (List ℕ) → Option Content
-attr_with (Some ticket) (Some name) (Some value) = Some (Attr (record { ticket = ticket; name = name; value = value }))
+attr_with (Some ticket) (Some name) (Some value) =
+    Some (Attr (record { ticket = ticket; name = name; value = value }))
 attr_with (Some ticket) (Some name) None = None
 attr_with (Some ticket) None value = None
 attr_with None name value = None
 
 abbrev pub attr_in : Cmd → List ℕ → Option Content
-attr_in cmd bytes = attr_with (name_in (field_at 0 64 bytes)) (attr_name_in cmd (field_at 64 64 bytes)) (value_in (field_at 128 128 bytes))
+attr_in cmd bytes =
+    attr_with (name_in (field_at 0 64 bytes)) (attr_name_in cmd (field_at 64 64 bytes))
+    (value_in (field_at 128 128 bytes))
 
 abbrev pub text_in : List ℕ → Option Content
 text_in bytes = if list_all is_line_byte bytes then Some (Text bytes) else None

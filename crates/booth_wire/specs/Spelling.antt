@@ -11,13 +11,16 @@ use Rattle.booth_wire.specs.Letter.{Content, Bare, Ticket, Attr, Text, Letter, k
 -- the twelve numbers of the header, in a frame of so many bytes
 unfoldable pub header : Head → ℕ → List ℕ
 header h size =
-    word (opts_of h.auth (kind_of h.cmd)) ++ word h.secs ++ word h.usecs ++ word 0x5F1BA08C ++ word 0x00010003 ++ word h.from.0
-    ++ word size ++ word (code_of h.cmd) ++ word h.request ++ word h.options ++ word h.reason ++ word h.result
+    word (opts_of h.auth (kind_of h.cmd)) ++ word h.secs ++ word h.usecs ++ word 0x5F1BA08C
+    ++ word 0x00010003 ++ word h.from.0 ++ word size ++ word (code_of h.cmd)
+    ++ word h.request ++ word h.options ++ word h.reason ++ word h.result
 
 abbrev pub body : Content → List ℕ
 body Bare = []
-body (Ticket part) = padded_to 64 part.ticket ++ word part.leader.0 ++ word part.term ++ word part.valid_for
-body (Attr part) = padded_to 64 part.ticket ++ padded_to 64 (unwrap_or part.name []) ++ padded_to 128 part.value
+body (Ticket part) =
+    padded_to 64 part.ticket ++ word part.leader.0 ++ word part.term ++ word part.valid_for
+body (Attr part) =
+    padded_to 64 part.ticket ++ padded_to 64 (unwrap_or part.name []) ++ padded_to 128 part.value
 body (Text text) = text
 
 abbrev pub body_len : Content → ℕ

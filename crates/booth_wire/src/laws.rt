@@ -16,27 +16,32 @@ pub fn spelling_is_read()
 
 /// So is its frame with any other authentication part of the right size.
 pub fn signed_is_read()
-    ensures { (l : Letter) (auth : List ℕ) → Fits l → length auth ≡ auth_len l.head.auth → decoded (frame_with auth l) ≡ Ok l }
+    ensures { (l : Letter) (auth : List ℕ) → Fits l → length auth ≡ auth_len l.head.auth
+        → decoded (frame_with auth l) ≡ Ok l }
 {}
 
 /// A letter has one spelling for each authentication part.
 pub fn one_spelling()
-    ensures { (a b : List ℕ) (l : Letter) (s : Spells a l) (t : Spells b l) → s.auth ≡ t.auth → a ≡ b }
+    ensures { (a b : List ℕ) (l : Letter) (s : Spells a l) (t : Spells b l) → s.auth ≡ t.auth
+        → a ≡ b }
 {}
 
 /// Bytes spell one letter at most.
 pub fn one_letter()
-    ensures { (bytes : List ℕ) (l m : Letter) → Fits l → Fits m → Spells bytes l → Spells bytes m → l ≡ m }
+    ensures { (bytes : List ℕ) (l m : Letter) → Fits l → Fits m → Spells bytes l → Spells bytes m
+        → l ≡ m }
 {}
 
 /// What is refused spells no letter.
 pub fn refused_spells_nothing()
-    ensures { (bytes : List ℕ) (fault : FrameFault) → decoded bytes ≡ Err fault → (l : Letter) → Fits l → Spells bytes l → ⊥ }
+    ensures { (bytes : List ℕ) (fault : FrameFault) → decoded bytes ≡ Err fault → (l : Letter) → Fits l
+        → Spells bytes l → ⊥ }
 {}
 
 /// Signing changes the authentication part, and nothing else of a frame.
 pub fn signing_changes_no_more()
-    ensures { (l : Letter) (auth hash : List ℕ) (id : ℕ) → length auth ≡ 28 → signed (frame_with auth l) id hash ≡ frame_with (word id ++ hash) l }
+    ensures { (l : Letter) (auth hash : List ℕ) (id : ℕ) → length auth ≡ 28
+        → signed (frame_with auth l) id hash ≡ frame_with (word id ++ hash) l }
 {}
 
 /// Each command's code is its letters.

@@ -37,7 +37,8 @@ fn text_len(field: &[u8]) -> usize
 
 // The text of a field that is filled up with zeros.
 fn padded(field: &[u8]) -> Option<&[u8]>
-    ensures { option_map (λ t. t.now) result ≡ (if is_padded field.now then Some (text_of field.now) else None) }
+    ensures { option_map (λ t. t.now) result ≡
+        (if is_padded field.now then Some (text_of field.now) else None) }
 {
     let (text, zeros) = field.split_at(text_len(field));
     if are_zeros(zeros) { Some(text) } else { None }
@@ -119,7 +120,8 @@ fn read_head(bytes: &[u8]) -> Result<Head, FrameFault>
 
 // The bytes between header and authentication part.
 fn read_body<'a>(head: &Head, bytes: &'a [u8]) -> Result<&'a [u8], FrameFault>
-    ensures value { MatchResult result (λ inner. body_read head.now bytes.now ≡ Ok inner.now) (λ fault. body_read head.now bytes.now ≡ Err fault) }
+    ensures value { MatchResult result (λ inner. body_read head.now bytes.now ≡ Ok inner.now)
+        (λ fault. body_read head.now bytes.now ≡ Err fault) }
     ensures size { IfOk result (λ inner. IsTrue (has_size (kind_of head.now.cmd) (length inner.now))) }
 {
     let around = HEADER_BYTES + auth_len(head.auth);

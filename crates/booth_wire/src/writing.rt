@@ -3,7 +3,7 @@ ghost use Rattle.std.specs.Prelude.{◌≡◌, ◌≤◌, ◌<◌, ◌+◌, ◌^
 ghost use Rattle.booth_base.specs.Name.{is_name};
 ghost use Rattle.booth_wire.specs.declared.frame.TheConstants.{FRAME_BYTES};
 ghost use Rattle.booth_wire.specs.Command.{kind_of};
-ghost use Rattle.booth_wire.specs.Letter.{letter_of, content_of, kind_in, is_named, has_text};
+ghost use Rattle.booth_wire.specs.Letter.{Ticket, Attr, letter_of, content_of, kind_in, is_named, has_text};
 ghost use Rattle.booth_wire.specs.Layout.{auth_len, word, padded_to};
 ghost use Rattle.booth_wire.specs.Spelling.{HeadFits, TicketFits, AttrFits, PartFits, Fits, header, body, body_len, frame_len, blank_auth, spelling, HasAuth};
 
@@ -59,7 +59,7 @@ fn put_header(into: &mut Frame, head: &Head, size: u32)
 
 fn put_ticket(into: &mut Frame, part: &TicketPart)
     requires { length into.old + 76 ≤ FRAME_BYTES }
-    ensures bytes { into.new ≡ into.old ++ (padded_to 64 part.now.ticket ++ word part.now.leader.0 ++ word part.now.term ++ word part.now.valid_for) }
+    ensures bytes { into.new ≡ into.old ++ body (Ticket part.now) }
     ensures len { length into.new ≡ length into.old + 76 }
     ensures fits { TicketFits part.now }
 {
@@ -84,7 +84,7 @@ fn put_name(into: &mut Frame, name: &Option<Name>)
 
 fn put_attr(into: &mut Frame, part: &AttrPart)
     requires { length into.old + 256 ≤ FRAME_BYTES }
-    ensures bytes { into.new ≡ into.old ++ (padded_to 64 part.now.ticket ++ padded_to 64 (unwrap_or part.now.name []) ++ padded_to 128 part.now.value) }
+    ensures bytes { into.new ≡ into.old ++ body (Attr part.now) }
     ensures len { length into.new ≡ length into.old + 256 }
     ensures fits { AttrFits part.now }
 {
