@@ -3,7 +3,7 @@ ghost use Rattle.std.specs.Prelude.{◌≡◌, ◌++◌, ℕ, List, length, Ok, 
 ghost use Rattle.booth_wire.specs.declared.command.Cmd.{Cmd};
 ghost use Rattle.booth_wire.specs.declared.message.FrameFault.{FrameFault};
 ghost use Rattle.booth_wire.specs.Command.{code_of, letters_of};
-ghost use Rattle.booth_wire.specs.Codes.{number_of, ResultsAreLetters, ReasonsAreLetters};
+ghost use Rattle.booth_wire.specs.Codes.{number_of, ResultsAreLetters, ReasonsAreLetters, OptionsAreBits};
 ghost use Rattle.booth_wire.specs.Letter.{Letter};
 ghost use Rattle.booth_wire.specs.Layout.{auth_len, word};
 ghost use Rattle.booth_wire.specs.Reading.{decoded};
@@ -57,4 +57,9 @@ pub fn results_are_letters()
 /// Each reason's number is its letters.
 pub fn reasons_are_letters()
     ensures { ReasonsAreLetters }
+{}
+
+/// Each option is a bit of its own.
+pub fn options_are_bits()
+    ensures { OptionsAreBits }
 {}
