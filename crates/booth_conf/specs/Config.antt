@@ -1,0 +1,122 @@
+-- The configuration that settings say together, and what may be wrong with the whole file.
+use Rattle.std.specs.Prelude.{ℕ, Bool, true, false, not, nat_lt, ◌==◌, ◌||◌, ◌+◌, ◌*◌, ◌/◌, List, [], ◌∷◌, ◌++◌, length, map, drop, position, Option, Some, None, option_map, unwrap_or, if◌then◌else◌}
+use Rattle.std.specs.List.{list_any, filter_map, enumerate_from}
+use Rattle.std.specs.Option.{option_or}
+use Rattle.booth_base.specs.declared.address.MemberId.{MemberId}
+use Rattle.booth_base.specs.declared.address.TheConstants.{NO_ONE}
+use Rattle.booth_base.specs.declared.times.Times.{Times}
+use Rattle.booth_conf.specs.Parts.{PartSays, first, part_of}
+use Rattle.booth_conf.specs.Rules.{Summary}
+use Rattle.booth_conf.specs.declared.keys.KeyNo.{KeyNo}
+use Rattle.booth_conf.specs.declared.members.Member.{Member}
+use Rattle.booth_conf.specs.declared.tickets.GrantKind.{GrantKind}
+use Rattle.booth_conf.specs.declared.tickets.GrantKind.TheVariants.{Auto, Manual}
+use Rattle.booth_conf.specs.declared.tickets.TicketConf.{TicketConf}
+use Rattle.booth_conf.specs.declared.parts.NamedPart.{NamedPart}
+use Rattle.booth_conf.specs.declared.faults.ConfFault.{ConfFault}
+use Rattle.booth_conf.specs.declared.faults.ConfFault.TheVariants.{NoSite, NoTicket, IdClash, Renewal, RetryTime}
+
+-- a configuration: the members and the tickets in the order of the file
+pub record ConfigSays : Type 0 where
+  pub port : ℕ
+  pub authfile : Option (List ℕ)
+  pub skew : ℕ
+  pub extras : List (KeyNo × List ℕ)
+  pub members : List Member
+  pub tickets : List TicketConf
+
+-- DEFAULTS
+
+-- the ticket's own value, else that of `__default__`, else that of the table
+abbrev pub chosen : {X : Type 0} → Option X → Option X → X → X
+chosen own default table = unwrap_or (option_or own default) table
+
+-- the renewal that is set, in seconds, else half of expire
+abbrev pub renewal_of : Option ℕ → ℕ → ℕ
+renewal_of None expire = expire / 2
+renewal_of (Some seconds) expire = 1000 * seconds
+
+-- the times in milliseconds
+abbrev pub times_of : PartSays → PartSays → Times
+times_of defaults own =
+    let expire : ℕ = 1000 * chosen own.expire defaults.expire 600 in
+    record {
+      expire = expire;
+      after = 1000 * chosen own.after defaults.after 0;
+      timeout = 1000 * chosen own.timeout defaults.timeout 5;
+      retries = chosen own.retries defaults.retries 10;
+      renewal = renewal_of (option_or own.renewal defaults.renewal) expire;
+    }
+
+abbrev pub is_manual : GrantKind → Bool
+is_manual Auto = false
+is_manual Manual = true
+
+abbrev pub ticket_of : PartSays → NamedPart → TicketConf
+ticket_of defaults t = record {
+  name = t.name;
+  manual = is_manual (chosen t.part.mode defaults.mode Auto);
+  times = times_of defaults t.part;
+  weights = chosen t.part.weights defaults.weights (record { items = [] });
+  handler = option_or t.part.handler defaults.handler;
+  prereqs = record { items = t.part.prereqs };
+}
+
+-- the defaults, which are empty where there is no `__default__`
+abbrev pub defaults_of : Summary → PartSays
+defaults_of d = unwrap_or d.defaults (part_of [] [])
+
+abbrev pub config_of : Summary → ConfigSays
+config_of d = record {
+  port = unwrap_or d.top.port 9929;
+  authfile = d.top.authfile;
+  skew = unwrap_or d.top.skew 600;
+  extras = d.top.extras;
+  members = d.members;
+  tickets = map (ticket_of (defaults_of d)) d.tickets;
+}
+
+-- WHOLE-FILE FAULTS
+
+abbrev pub is_site : Member → Bool
+is_site m = m.site
+
+abbrev pub no_site : List Member → List ConfFault
+no_site members = if list_any is_site members then [] else NoSite ∷ []
+
+abbrev pub no_ticket : List TicketConf → List ConfFault
+no_ticket [] = NoTicket ∷ []
+no_ticket (t ∷ tickets) = []
+
+-- the id of nobody: 0, or the one that is reserved
+abbrev pub is_reserved : MemberId → Bool
+is_reserved id = id.0 == 0 || id.0 == NO_ONE.0
+
+abbrev pub reserved_id : ℕ × Member → Option ConfFault
+reserved_id p = if is_reserved p.1.id then Some (IdClash p.0 p.0) else None
+
+abbrev pub has_id : MemberId → Member → Bool
+has_id id m = m.id.0 == id.0
+
+-- a member, and the next one behind it with the same id
+abbrev pub same_id : List Member → ℕ × Member → Option ConfFault
+same_id members p =
+    option_map (λ k. IdClash p.0 (p.0 + 1 + k)) (position (has_id p.1.id) (drop (p.0 + 1) members))
+
+abbrev pub time_fault : ℕ × TicketConf → Option ConfFault
+time_fault p =
+    let times : Times = p.1.times in
+    if not (nat_lt times.renewal times.expire) then Some (Renewal p.0)
+    else (if not (nat_lt (times.timeout * (times.retries + 1)) times.renewal) then Some (RetryTime p.0) else None)
+
+-- what is wrong with the whole file, in the order in which it is told
+abbrev pub file_faults : List Member → List TicketConf → List ConfFault
+file_faults members tickets =
+    no_site members
+    ++ (no_ticket tickets
+    ++ (filter_map reserved_id (enumerate_from 0 members)
+    ++ (filter_map (same_id members) (enumerate_from 0 members)
+    ++ filter_map time_fault (enumerate_from 0 tickets))))
+
+abbrev pub file_fault : List Member → List TicketConf → Option ConfFault
+file_fault members tickets = first (file_faults members tickets)

@@ -1,0 +1,21 @@
+-- What reading a line computes. The proofs show that it is what the line says.
+use Rattle.std.specs.Prelude.{ℕ, List, Option, Some, None}
+use Rattle.booth_conf.specs.LineReader.{Reading, line_read}
+use Rattle.booth_conf.specs.LineReader as reads
+use Rattle.booth_conf.specs.Keys.{key_named}
+use Rattle.booth_conf.specs.ValueReader.{setting_in}
+use Rattle.booth_conf.specs.declared.keys.Key.{Key}
+use Rattle.booth_conf.specs.declared.readings.Said.{Said}
+use Rattle.booth_conf.specs.declared.readings.Said.TheVariants.{Empty, Broken, Unknown, Pair}
+
+abbrev pub said_by : List ℕ → Option Key → Said
+said_by value None = Unknown
+said_by value (Some key) = Pair key (setting_in key value)
+
+abbrev pub said_of : Reading → Said
+said_of reads.Empty = Empty
+said_of (reads.Pair name value) = said_by value (key_named name)
+said_of reads.Broken = Broken
+
+abbrev pub said : List ℕ → Said
+said line = said_of (line_read line)

@@ -1,0 +1,179 @@
+-- What the functions that read a value compute. The proofs show that it is the form of the key.
+use Rattle.std.specs.Prelude.{◌≡◌, ℕ, Bool, true, false, ◌&&◌, ◌||◌, not, nat_le, nat_lt, List, [], ◌∷◌, ◌++◌, length, Option, Some, None, is_some, option_map, option_and_then, if◌then◌else◌, codes, bytes_eq, ◌==◌}
+use Rattle.std.specs.List.{list_all, list_any, slice_split}
+use Rattle.std.specs.Borrow.{Bor}
+use Rattle.std.specs.Net.Addr.{octets_of}
+use Rattle.std.specs.Net.Reader.{read_ipv4, read_ipv6, whole_value}
+use Rattle.booth_base.specs.Name.{is_name, is_value}
+use Rattle.booth_base.specs.declared.address.Address.{Address}
+use Rattle.booth_base.specs.declared.address.Address.TheVariants.{V4, V6}
+use Rattle.booth_conf.specs.Grammar.{past}
+use Rattle.booth_conf.specs.LineReader.{front}
+use Rattle.booth_conf.specs.Keys.{number_of}
+use Rattle.booth_conf.specs.Values.{is_digit, worth, is_gap, is_word_byte, default_name, member_at}
+use Rattle.booth_conf.specs.declared.limits.TheConstants.{MEMBERS, SECONDS, WEIGHT}
+use Rattle.booth_conf.specs.declared.words.FourWords.{FourWords}
+use Rattle.booth_conf.specs.declared.keys.Key.{Key}
+use Rattle.booth_conf.specs.declared.keys.Key.TheVariants as keys
+use Rattle.booth_conf.specs.declared.tickets.GrantKind.{GrantKind}
+use Rattle.booth_conf.specs.declared.tickets.GrantKind.TheVariants.{Auto, Manual}
+use Rattle.booth_conf.specs.declared.tickets.Prereq.{Prereq as PrereqOf}
+use Rattle.booth_conf.specs.declared.settings.Transport.{Transport as TransportOf}
+use Rattle.booth_conf.specs.declared.settings.Transport.TheVariants.{Udp}
+use Rattle.booth_conf.specs.declared.settings.FileSetting.TheVariants.{Port, Transport, Authfile, Skew, Extra}
+use Rattle.booth_conf.specs.declared.settings.TicketSetting.TheVariants.{Expire, After, Timeout, Retries, Renewal, Weights, Handler, Prereq, Mode}
+use Rattle.booth_conf.specs.declared.settings.Setting.{Setting}
+use Rattle.booth_conf.specs.declared.settings.Setting.TheVariants.{File, Member, Ticket, Defaults, Of}
+use Rattle.booth_base.specs.declared.text.TheConstants.{PATH_BYTES}
+
+-- NUMBERS
+
+abbrev pub number_in : List ℕ → Option ℕ
+number_in text =
+    if nat_lt 0 (length text) && nat_le (length text) 10 && list_all is_digit text
+    then Some (worth text) else None
+
+abbrev pub when_within : ℕ → ℕ → ℕ → Option ℕ
+when_within least most n = if nat_le least n && nat_le n most then Some n else None
+
+abbrev pub number_within : ℕ → ℕ → List ℕ → Option ℕ
+number_within least most text = option_and_then (when_within least most) (number_in text)
+
+-- WORDS
+
+abbrev pub word_of : List ℕ → Option (List ℕ × List ℕ)
+word_of [] = None
+word_of (b ∷ bs) = Some (front is_word_byte (b ∷ bs), past is_word_byte (b ∷ bs))
+
+-- the first word, and what stands behind it
+abbrev pub word_in : List ℕ → Option (List ℕ × List ℕ)
+word_in text = word_of (past is_gap text)
+
+abbrev pub then_word : {A : Type 0} → Option (List ℕ × List ℕ) → (List ℕ → List ℕ → Option A) → Option A
+then_word None f = None
+then_word (Some w) f = f w.0 w.1
+
+abbrev pub last_word : List ℕ → List ℕ → Option (List ℕ)
+last_word word rest = if is_some (word_in rest) then None else Some word
+
+abbrev pub one_word : List ℕ → Option (List ℕ)
+one_word text = then_word (word_in text) last_word
+
+abbrev pub Words : Type 0
+Words = List ℕ × List ℕ × List ℕ × List ℕ
+
+abbrev pub four_words : List ℕ → Option Words
+four_words text =
+    then_word (word_in text) (λ a after_a.
+    then_word (word_in after_a) (λ b after_b.
+    then_word (word_in after_b) (λ c after_c.
+    then_word (word_in after_c) (λ d after_d.
+    if is_some (word_in after_d) then None else Some (a, b, c, d)))))
+
+abbrev pub GivesWord : Option (Bor (List ℕ) × Bor (List ℕ)) → Option (List ℕ × List ℕ) → Type 0
+GivesWord None read = read ≡ None
+GivesWord (Some w) read = read ≡ Some (w.0.now, w.1.now)
+
+abbrev pub GivesFour : Option FourWords → Option Words → Type 0
+GivesFour None read = read ≡ None
+GivesFour (Some w) read = read ≡ Some (w.kind.now, w.name.now, w.test.now, w.value.now)
+
+-- FORMS
+
+abbrev pub text_in : ℕ → List ℕ → Option (List ℕ)
+text_in least text = if nat_le least (length text) && nat_le (length text) PATH_BYTES then Some text else None
+
+abbrev pub command_in : List ℕ → Option (List ℕ)
+command_in text = if list_any is_word_byte text then text_in 1 text else None
+
+abbrev pub transport_in : List ℕ → Option TransportOf
+transport_in text = if bytes_eq text (codes "UDP") || bytes_eq text (codes "udp") then Some Udp else None
+
+abbrev pub mode_in : List ℕ → Option GrantKind
+mode_in text =
+    if bytes_eq text (codes "manual") || bytes_eq text (codes "MANUAL") then Some Manual
+    else (if bytes_eq text (codes "auto") || bytes_eq text (codes "AUTO") then Some Auto else None)
+
+abbrev pub is_segment : ℕ → Bool
+is_segment segment = nat_lt segment 65536
+
+abbrev pub are_segments : List ℕ → Bool
+are_segments segments = length segments == 8 && list_all is_segment segments
+
+abbrev pub address_by : Option (List ℕ) → Option (List ℕ) → Option Address
+address_by (Some octets) v6 = Some (V4 octets)
+address_by None None = None
+address_by None (Some segments) = if are_segments segments then Some (V6 (octets_of segments)) else None
+
+abbrev pub address_in : List ℕ → Option Address
+address_in text = address_by (whole_value (read_ipv4 text)) (whole_value (read_ipv6 text))
+
+abbrev pub name_in : List ℕ → Option (List ℕ)
+name_in text = if is_name text then Some text else None
+
+abbrev pub value_in : List ℕ → Option (List ℕ)
+value_in text = if is_value text then Some text else None
+
+abbrev pub ticket_in : List ℕ → Option Setting
+ticket_in text = if bytes_eq text default_name then Some Defaults else option_map Ticket (name_in text)
+
+abbrev pub weight_in : List ℕ → Option ℕ
+weight_in piece = option_and_then (number_within 0 WEIGHT) (one_word piece)
+
+-- one more weight, where the piece spells one and there is room for it
+abbrev pub weight_added : List ℕ → List ℕ → Option (List ℕ)
+weight_added weights piece =
+    option_and_then (λ n. if nat_lt (length weights) MEMBERS then Some (weights ++ n ∷ []) else None) (weight_in piece)
+
+-- these weights, and those of the pieces that are left
+abbrev pub weights_from : List ℕ → List (List ℕ) → Option (List ℕ)
+weights_from weights [] = Some weights
+weights_from weights (p ∷ ps) = option_and_then (λ more. weights_from more ps) (weight_added weights p)
+
+abbrev pub weights_in : List ℕ → Option (List ℕ)
+weights_in text = weights_from [] (slice_split (λ b. b == 0x2C) text)
+
+abbrev pub kind_in : List ℕ → Option GrantKind
+kind_in word = if bytes_eq word (codes "auto") then Some Auto else (if bytes_eq word (codes "manual") then Some Manual else None)
+
+abbrev pub test_in : List ℕ → Option Bool
+test_in word = if bytes_eq word (codes "eq") then Some true else (if bytes_eq word (codes "ne") then Some false else None)
+
+abbrev pub prereq_of : Words → Option PrereqOf
+prereq_of w =
+    option_and_then (λ kind.
+    option_and_then (λ name.
+    option_and_then (λ equal.
+    option_map (λ value. record { kind = kind; name = name; equal = equal; value = value })
+    (value_in w.3)) (test_in w.2)) (name_in w.1)) (kind_in w.0)
+
+abbrev pub prereq_in : List ℕ → Option PrereqOf
+prereq_in text = option_and_then prereq_of (four_words text)
+
+-- THE VALUE OF EACH KEY
+
+abbrev pub extra_in : Key → List ℕ → Option Setting
+extra_in key text = option_map (λ value. File (Extra (number_of key) value)) (text_in 0 text)
+
+abbrev pub setting_in : Key → List ℕ → Option Setting
+setting_in keys.Port text = option_map (λ n. File (Port n)) (number_within 1 65535 text)
+setting_in keys.Transport text = option_map (λ t. File (Transport t)) (transport_in text)
+setting_in keys.Authfile text = option_map (λ value. File (Authfile value)) (text_in 1 text)
+setting_in keys.Maxtimeskew text = option_map (λ n. File (Skew n)) (number_within 1 SECONDS text)
+setting_in keys.Debug text = extra_in keys.Debug text
+setting_in keys.SiteUser text = extra_in keys.SiteUser text
+setting_in keys.SiteGroup text = extra_in keys.SiteGroup text
+setting_in keys.ArbitratorUser text = extra_in keys.ArbitratorUser text
+setting_in keys.ArbitratorGroup text = extra_in keys.ArbitratorGroup text
+setting_in keys.Site text = option_map (λ a. Member (member_at true a)) (address_in text)
+setting_in keys.Arbitrator text = option_map (λ a. Member (member_at false a)) (address_in text)
+setting_in keys.Ticket text = ticket_in text
+setting_in keys.Expire text = option_map (λ n. Of (Expire n)) (number_within 1 SECONDS text)
+setting_in keys.AcquireAfter text = option_map (λ n. Of (After n)) (number_within 0 SECONDS text)
+setting_in keys.Timeout text = option_map (λ n. Of (Timeout n)) (number_within 1 SECONDS text)
+setting_in keys.Retries text = option_map (λ n. Of (Retries n)) (number_within 3 100 text)
+setting_in keys.RenewalFreq text = option_map (λ n. Of (Renewal n)) (number_within 1 SECONDS text)
+setting_in keys.Weights text = option_map (λ ws. Of (Weights (record { items = ws }))) (weights_in text)
+setting_in keys.BeforeAcquireHandler text = option_map (λ value. Of (Handler value)) (command_in text)
+setting_in keys.AttrPrereq text = option_map (λ q. Of (Prereq q)) (prereq_in text)
+setting_in keys.Mode text = option_map (λ kind. Of (Mode kind)) (mode_in text)

@@ -1,0 +1,244 @@
+//! The configuration as a value.
+ghost use Rattle.std.specs.Prelude.{◌≡◌, ◌≤◌, ◌<◌, true, length, position, slice_get, IfOk, OnOk, IsTrue, IsSomeAnd, List, ℕ};
+ghost use Rattle.std.specs.Option.{option_copied};
+ghost use Rattle.booth_conf.specs.Config.{ConfigSays, has_id};
+ghost use Rattle.booth_conf.specs.Finish.{Finishes, is_called, rank_of, weights_at};
+ghost use Rattle.booth_conf.specs.Print.{printed};
+ghost use Rattle.booth_conf.specs.Says.{Parses, Says};
+ghost use Rattle.booth_conf.specs.Sound.{IsSound};
+ghost use Rattle.booth_conf.specs.SoundDraft.{IsSoundDraft};
+
+use crate::drafts::{Draft, NamesAndParts};
+use crate::faults::ConfFault;
+use crate::finishes::tickets;
+use crate::limits::{MEMBERS, TEXT_BYTES, TICKETS};
+use crate::lines::read_lines;
+use crate::members::Member;
+use crate::parts::{Extra, Part};
+use crate::print_tickets::{push_members, push_tickets};
+use crate::prints::push_top;
+use crate::ranks::rank;
+use crate::tickets::{TicketConf, copy_path};
+use crate::wholes::file_fault;
+use booth_base::{ByteText, MemberId, Name, PathText};
+use indexmap::IndexSet;
+use std::alloc::{AllocError, Global};
+use std::marker::Model;
+
+/// The configuration of a cluster. Its members and its tickets stand in the order of the file.
+#[derive(Drop)]
+pub struct Config {
+    port: u16,
+    authfile: Option<PathText>,
+    skew: u64,
+    extras: Vec<Extra>,
+    members: Vec<Member>,
+    names: IndexSet<Name>,
+    tickets: Vec<TicketConf>,
+}
+
+impl Model for Config {
+    ghost use Rattle.std.specs.Prelude.{◌≡◌, map};
+    ghost use Rattle.booth_conf.specs.Config.{ConfigSays};
+    ghost use Rattle.booth_conf.specs.Finish.{ticket_name};
+    ghost use Rattle.booth_conf.specs.Sound.{IsSound};
+
+    ghost Value = { ConfigSays };
+
+    ghost view = { λ c. record { port = c.port; authfile = c.authfile; skew = c.skew; extras = c.extras.items; members = c.members.items; tickets = c.tickets.items } };
+
+    ghost invariant = { λ c. (c.names.keys ≡ map ticket_name c.tickets.items) × IsSound (record { port = c.port; authfile = c.authfile; skew = c.skew; extras = c.extras.items; members = c.members.items; tickets = c.tickets.items }) };
+}
+
+fn defaults(draft: Option<Part>) -> Part
+    ensures { result ≡ unwrap_or draft (part_of [] []) }
+{
+    match draft {
+        Some(part) => part,
+        None => Part::new(),
+    }
+}
+
+ghost use Rattle.std.specs.Prelude.{unwrap_or, []};
+ghost use Rattle.booth_conf.specs.Parts.{part_of};
+
+// The configuration of a draft, or the first fault of the whole file.
+fn finish(alloc: Global, draft: Draft) -> Result<Config, ConfFault>
+    requires { IsSoundDraft draft }
+    ensures { Finishes draft result }
+{
+    let Draft {
+        top,
+        members,
+        defaults: default,
+        tickets: parts,
+    } = draft;
+    let defaults = defaults(default);
+    let NamesAndParts { names, parts } = parts.into_parts();
+    let members = members.into_vec();
+    let tickets = match tickets(alloc, &defaults, &parts) {
+        Ok(tickets) => tickets,
+        Err(_) => return Err(ConfFault::OutOfMemory),
+    };
+    match file_fault(&members, &tickets) {
+        Some(fault) => Err(fault),
+        None => Ok(Config {
+            port: top.port.unwrap_or(9929),
+            authfile: top.authfile,
+            skew: u64::from(top.skew.unwrap_or(600)),
+            extras: top.extras,
+            members,
+            names,
+            tickets,
+        }),
+    }
+}
+
+fn copy_extras(alloc: Global, extras: &[Extra]) -> Result<Vec<Extra>, AllocError>
+    ensures { IfOk result (λ v. v.items ≡ extras.now) }
+{
+    let mut copied = Vec::with_capacity(alloc, extras.len())?;
+    for extra in extras {
+        copied.push((extra.0, extra.1.copy()))?;
+    }
+    Ok(copied)
+}
+
+fn copy_tickets(alloc: Global, tickets: &[TicketConf]) -> Result<Vec<TicketConf>, AllocError>
+    ensures { IfOk result (λ v. v.items ≡ tickets.now) }
+{
+    let mut copied = Vec::with_capacity(alloc, tickets.len())?;
+    for ticket in tickets {
+        copied.push(ticket.copy())?;
+    }
+    Ok(copied)
+}
+
+impl Config {
+    /// The configuration that a text of `booth.conf` says, or the first fault of the text.
+    ///
+    /// It takes time linear in the bytes of the text.
+    #[tactic(auto, using(crate::proofs::ParseLemmas::finish_parses, crate::proofs::ParseLemmas::read_parses))]
+    pub fn parse(alloc: Global, text: &[u8]) -> Result<Config, ConfFault>
+        ensures { Parses text.now result }
+    {
+        if text.len() > TEXT_BYTES {
+            return Err(ConfFault::TooLarge);
+        }
+        match read_lines(alloc, text) {
+            Ok(draft) => finish(alloc, draft),
+            Err(fault) => Err(fault),
+        }
+    }
+
+    /// The UDP port of the daemons.
+    pub fn port(&self) -> u16
+        ensures { result ≡ self.now.port }
+    {
+        self.port
+    }
+
+    /// The path of the key file, where one is set.
+    pub fn authfile(&self) -> Option<&PathText>
+        ensures { option_copied result ≡ self.now.authfile }
+    {
+        self.authfile.as_ref()
+    }
+
+    /// How far clocks may be apart, in seconds.
+    pub fn skew(&self) -> u64
+        ensures { result ≡ self.now.skew }
+    {
+        self.skew
+    }
+
+    /// The keys without effect, in the order of the file.
+    pub fn extras(&self) -> &[Extra]
+        ensures { result.now ≡ self.now.extras }
+    {
+        &self.extras
+    }
+
+    /// The members, in the order of the file.
+    pub fn members(&self) -> &[Member]
+        ensures value { result.now ≡ self.now.members }
+        ensures few { length result.now ≤ MEMBERS }
+    {
+        &self.members
+    }
+
+    /// The tickets, in the order of the file.
+    pub fn tickets(&self) -> &[TicketConf]
+        ensures value { result.now ≡ self.now.tickets }
+        ensures few { length result.now ≤ TICKETS }
+    {
+        &self.tickets
+    }
+
+    /// The place of the member with this id.
+    pub fn member(&self, id: MemberId) -> Option<usize>
+        ensures { result ≡ position (has_id id) self.now.members }
+    {
+        self.members.iter().position(|member| member.id.0 == id.0)
+    }
+
+    /// The place of the ticket of this name.
+    pub fn ticket(&self, name: &Name) -> Option<usize>
+        ensures { result ≡ position (is_called name.now) self.now.tickets }
+    {
+        self.names.get_index_of(name)
+    }
+
+    /// How many sites come before this one at this ticket: those of greater weight, and those of equal weight that
+    /// stand earlier in the file. The ticket and the member are places.
+    pub fn rank(&self, ticket: usize, member: usize) -> u32
+        requires ticket { ticket < length self.now.tickets }
+        requires site { IsSomeAnd (slice_get self.now.members member) (λ m. IsTrue m.site) }
+        ensures { result ≡ rank_of self.now.members (weights_at self.now.tickets ticket) member }
+    {
+        rank(&self.members, &self.tickets[ticket].weights, member)
+    }
+
+    /// The same configuration.
+    pub fn copy(&self, alloc: Global) -> Result<Config, AllocError>
+        ensures { IfOk result (λ config. config ≡ self.now) }
+    {
+        Ok(Config {
+            port: self.port,
+            authfile: copy_path(&self.authfile),
+            skew: self.skew,
+            extras: copy_extras(alloc, &self.extras)?,
+            members: Vec::from_slice(alloc, &self.members)?,
+            names: self.names.clone()?,
+            tickets: copy_tickets(alloc, &self.tickets)?,
+        })
+    }
+
+    #[tactic(auto, using(crate::proofs::LineLemmas::config_pushed))]
+    fn push_to(&self, alloc: Global, text: &mut Vec<u8>) -> Result<(), AllocError>
+        requires { text.old.items ≡ [] }
+        ensures exact { OnOk result (text.new.items ≡ printed self.now) }
+        ensures sound { IsSound self.now }
+    {
+        push_top(
+            alloc,
+            text,
+            self.port,
+            &self.authfile,
+            self.skew,
+            &self.extras,
+        )?;
+        push_members(text, &self.members)?;
+        push_tickets(alloc, text, &self.tickets)
+    }
+
+    /// A text that says this configuration: a line for each key, with the defaults written out.
+    pub fn print(&self, alloc: Global) -> Result<ByteText, AllocError>
+        ensures exact { IfOk result (λ text. text ≡ printed self.now) }
+        ensures again { IfOk result (λ text. Says text self.now) }
+    {
+        let mut text = Vec::new(alloc);
+        self.push_to(alloc, &mut text)?;
+        Ok(ByteText::from_vec(text))
+    }
+}

@@ -1,0 +1,164 @@
+//! The table of keys: the number, the name and the scope of each.
+ghost use Rattle.std.specs.Prelude.{◌≡◌, ◌==◌, bytes_eq};
+ghost use Rattle.booth_conf.specs.Keys.{IsRow, has_number, row, is_named, key_named, key_numbered, name_at, number_of, row_of, Names};
+
+use std::fmt;
+
+/// The number of a key: 1 to 21.
+#[derive(Clone, Copy, Debug, PartialEq, Eq)]
+pub struct KeyNo(pub u8);
+
+/// A key.
+#[derive(Clone, Copy, Debug)]
+pub enum Key {
+    Port,
+    Transport,
+    Authfile,
+    Maxtimeskew,
+    Debug,
+    SiteUser,
+    SiteGroup,
+    ArbitratorUser,
+    ArbitratorGroup,
+    Site,
+    Arbitrator,
+    Ticket,
+    Expire,
+    AcquireAfter,
+    Timeout,
+    Retries,
+    RenewalFreq,
+    Weights,
+    BeforeAcquireHandler,
+    AttrPrereq,
+    Mode,
+}
+
+/// What a key belongs to: the whole file, or the last `ticket` line.
+#[derive(Clone, Copy, Debug)]
+pub enum Scope {
+    File,
+    Ticket,
+}
+
+/// What the table says of a key.
+#[derive(Clone, Copy)]
+pub struct Row {
+    pub number: KeyNo,
+    pub name: &'static str,
+    pub scope: Scope,
+}
+
+impl Row {
+    fn new(number: u8, name: &'static str, scope: Scope) -> Row
+        ensures { IsRow result (row number name.entry.now scope) }
+    {
+        Row {
+            number: KeyNo(number),
+            name,
+            scope,
+        }
+    }
+}
+
+impl Key {
+    /// Each key, in the order of their numbers.
+    const ALL: [Key; 21] = [
+        Key::Port,
+        Key::Transport,
+        Key::Authfile,
+        Key::Maxtimeskew,
+        Key::Debug,
+        Key::SiteUser,
+        Key::SiteGroup,
+        Key::ArbitratorUser,
+        Key::ArbitratorGroup,
+        Key::Site,
+        Key::Arbitrator,
+        Key::Ticket,
+        Key::Expire,
+        Key::AcquireAfter,
+        Key::Timeout,
+        Key::Retries,
+        Key::RenewalFreq,
+        Key::Weights,
+        Key::BeforeAcquireHandler,
+        Key::AttrPrereq,
+        Key::Mode,
+    ];
+
+    /// The table.
+    pub fn row(self) -> Row
+        ensures { IsRow result (row_of self) }
+    {
+        match self {
+            Key::Port => Row::new(1, "port", Scope::File),
+            Key::Transport => Row::new(2, "transport", Scope::File),
+            Key::Authfile => Row::new(3, "authfile", Scope::File),
+            Key::Maxtimeskew => Row::new(4, "maxtimeskew", Scope::File),
+            Key::Debug => Row::new(5, "debug", Scope::File),
+            Key::SiteUser => Row::new(6, "site-user", Scope::File),
+            Key::SiteGroup => Row::new(7, "site-group", Scope::File),
+            Key::ArbitratorUser => Row::new(8, "arbitrator-user", Scope::File),
+            Key::ArbitratorGroup => Row::new(9, "arbitrator-group", Scope::File),
+            Key::Site => Row::new(10, "site", Scope::File),
+            Key::Arbitrator => Row::new(11, "arbitrator", Scope::File),
+            Key::Ticket => Row::new(12, "ticket", Scope::File),
+            Key::Expire => Row::new(13, "expire", Scope::Ticket),
+            Key::AcquireAfter => Row::new(14, "acquire-after", Scope::Ticket),
+            Key::Timeout => Row::new(15, "timeout", Scope::Ticket),
+            Key::Retries => Row::new(16, "retries", Scope::Ticket),
+            Key::RenewalFreq => Row::new(17, "renewal-freq", Scope::Ticket),
+            Key::Weights => Row::new(18, "weights", Scope::Ticket),
+            Key::BeforeAcquireHandler => Row::new(19, "before-acquire-handler", Scope::Ticket),
+            Key::AttrPrereq => Row::new(20, "attr-prereq", Scope::Ticket),
+            Key::Mode => Row::new(21, "mode", Scope::Ticket),
+        }
+    }
+
+    fn is_named(self, name: &[u8]) -> bool
+        ensures { result ≡ is_named name.now self }
+    {
+        self.row().name.as_bytes() == name
+    }
+
+    fn has_number(self, number: KeyNo) -> bool
+        ensures { result ≡ has_number number self }
+    {
+        self.row().number.0 == number.0
+    }
+
+    /// The key of this name.
+    pub fn named(name: &[u8]) -> Option<Key>
+        ensures { result ≡ key_named name.now }
+    {
+        Key::ALL.iter().copied().find(|key| key.is_named(name))
+    }
+
+    fn numbered(number: KeyNo) -> Option<Key>
+        ensures { result ≡ key_numbered number }
+    {
+        Key::ALL.iter().copied().find(|key| key.has_number(number))
+    }
+}
+
+impl KeyNo {
+    /// The name of the key, as a text of a configuration writes it. None is told where no key has this number.
+    pub fn name(self) -> Option<&'static str>
+        ensures { Names result (name_at self) }
+    {
+        match Key::numbered(self) {
+            Some(key) => Some(key.row().name),
+            None => None,
+        }
+    }
+}
+
+impl fmt::Display for KeyNo {
+    fn fmt<W: fmt::Write>(&self, f: &mut fmt::Formatter<W>) -> fmt::Result {
+        match self.name() {
+            Some(name) => f.write_str(name),
+            None => write!(f, "key {}", self.0),
+        }
+    }
+}

@@ -1,0 +1,19 @@
+//! Laws of texts and configurations.
+ghost use Rattle.std.specs.Prelude.{List, ℕ};
+ghost use Rattle.booth_conf.specs.Grammar.{OneReading};
+ghost use Rattle.booth_conf.specs.Says.{OneAnswer, PrintIsRead};
+
+/// No line is read in two ways.
+pub fn one_reading()
+    ensures { OneReading }
+{}
+
+/// Each text says one configuration or has one first fault, and never both.
+pub fn one_answer()
+    ensures { (text : List ℕ) → OneAnswer text }
+{}
+
+/// The text that is printed of a sound configuration says that configuration.
+pub fn print_is_read()
+    ensures { PrintIsRead }
+{}

@@ -1,0 +1,36 @@
+//! The configuration that all members share: `booth.conf` as a text and as a value.
+#![tactic(auto)]
+
+mod configuration;
+mod digits;
+mod drafts;
+mod faults;
+mod finishes;
+mod grammar;
+mod keys;
+pub mod laws;
+mod limits;
+mod lines;
+mod members;
+mod parts;
+mod print_tickets;
+mod prints;
+mod ranks;
+mod readings;
+mod settings;
+#[cfg(test)]
+mod tests;
+mod texts;
+mod tickets;
+mod values;
+mod weights;
+mod wholes;
+mod words;
+
+pub use configuration::Config;
+pub use faults::ConfFault;
+pub use keys::KeyNo;
+pub use limits::{MEMBERS, PREREQS, TEXT_BYTES, TICKETS};
+pub use members::Member;
+pub use parts::Extra;
+pub use tickets::{GrantKind, Prereq, TicketConf};

@@ -1,0 +1,19 @@
+//! The limits of a configuration.
+
+/// The most bytes of a text.
+pub const TEXT_BYTES: usize = 1_048_576;
+
+/// The most members.
+pub const MEMBERS: usize = 16;
+
+/// The most tickets.
+pub const TICKETS: usize = 64;
+
+/// The most prerequisites of a ticket, those that it inherits counted.
+pub const PREREQS: usize = 8;
+
+/// The most seconds of a time.
+pub const SECONDS: u32 = 10_000_000;
+
+/// The greatest weight of a member.
+pub const WEIGHT: u32 = 1_000_000_000;

@@ -1,0 +1,145 @@
+//! The lines of members and tickets.
+ghost use Rattle.std.specs.Prelude.{◌≡◌, ◌∷◌, [], map};
+ghost use Rattle.std.specs.List.{flat_map};
+ghost use Rattle.booth_conf.specs.Grows.{Grows};
+ghost use Rattle.booth_conf.specs.Print.{handler_settings, kind_of, line_text, lines_text, prereq_setting, renewal_settings, role_name, ticket_settings, times_settings, weights_settings};
+ghost use Rattle.booth_conf.specs.declared.settings.Setting.TheVariants.{Member as MemberSetting};
+
+use crate::keys::Key;
+use crate::members::Member;
+use crate::prints::{kind_word, prereq_text, push_line, push_number, weights_text};
+use crate::tickets::{GrantKind, Prereq, TicketConf};
+use booth_base::{PathText, Times};
+use std::alloc::{AllocError, Global};
+
+fn role_name(site: bool) -> &'static str
+    ensures { result.now ≡ role_name site }
+{
+    if site {
+        Key::Site.row().name
+    } else {
+        Key::Arbitrator.row().name
+    }
+}
+
+fn push_member(out: &mut Vec<u8>, member: &Member) -> Result<(), AllocError>
+    ensures { Grows result out.old.items out.new.items (lines_text (MemberSetting member.now ∷ [])) }
+{
+    push_line(
+        out,
+        role_name(member.site),
+        member.address.print().as_bytes(),
+    )
+}
+
+/// Prints the members.
+#[tactic(auto, using(crate::proofs::LineLemmas::lines_more, std::proofs::lemmas::List::map_more, crate::proofs::LineLemmas::lines_append))]
+pub fn push_members(out: &mut Vec<u8>, members: &[Member]) -> Result<(), AllocError>
+    ensures { Grows result out.old.items out.new.items (lines_text (map MemberSetting members.now)) }
+{
+    for member in members {
+        push_member(out, member)?;
+    }
+    Ok(())
+}
+
+// A renewal that is half of expire is left out.
+fn push_renewal(alloc: Global, out: &mut Vec<u8>, times: &Times) -> Result<(), AllocError>
+    ensures { Grows result out.old.items out.new.items (lines_text (renewal_settings times.now)) }
+{
+    if times.renewal == times.expire / 2 {
+        return Ok(());
+    }
+    push_number(alloc, out, Key::RenewalFreq, times.renewal / 1000)
+}
+
+#[tactic(auto, using(crate::proofs::PushLemmas::five_pushed))]
+fn push_times(alloc: Global, out: &mut Vec<u8>, times: &Times) -> Result<(), AllocError>
+    ensures { Grows result out.old.items out.new.items (lines_text (times_settings times.now)) }
+{
+    push_number(alloc, out, Key::Expire, times.expire / 1000)?;
+    push_number(alloc, out, Key::AcquireAfter, times.after / 1000)?;
+    push_number(alloc, out, Key::Timeout, times.timeout / 1000)?;
+    push_number(alloc, out, Key::Retries, u64::from(times.retries))?;
+    push_renewal(alloc, out, times)
+}
+
+// Weights that are empty are left out.
+fn push_weights(alloc: Global, out: &mut Vec<u8>, weights: &[u32]) -> Result<(), AllocError>
+    ensures { Grows result out.old.items out.new.items (lines_text (weights_settings weights.now)) }
+{
+    match weights {
+        [] => Ok(()),
+        [first, rest @ ..] => {
+            let text = weights_text(alloc, *first, rest)?;
+            push_line(out, Key::Weights.row().name, &text)
+        }
+    }
+}
+
+fn push_handler(out: &mut Vec<u8>, handler: &Option<PathText>) -> Result<(), AllocError>
+    ensures { Grows result out.old.items out.new.items (lines_text (handler_settings handler.now)) }
+{
+    match handler {
+        Some(command) => push_line(
+            out,
+            Key::BeforeAcquireHandler.row().name,
+            command.as_str().as_bytes(),
+        ),
+        None => Ok(()),
+    }
+}
+
+fn push_prereq(alloc: Global, out: &mut Vec<u8>, prereq: &Prereq) -> Result<(), AllocError>
+    ensures { Grows result out.old.items out.new.items (lines_text (prereq_setting prereq.now ∷ [])) }
+{
+    let text = prereq_text(alloc, prereq)?;
+    push_line(out, Key::AttrPrereq.row().name, &text)
+}
+
+#[tactic(auto, using(crate::proofs::LineLemmas::lines_more, std::proofs::lemmas::List::map_more, crate::proofs::LineLemmas::lines_append))]
+fn push_prereqs(alloc: Global, out: &mut Vec<u8>, prereqs: &[Prereq]) -> Result<(), AllocError>
+    ensures { Grows result out.old.items out.new.items (lines_text (map prereq_setting prereqs.now)) }
+{
+    for prereq in prereqs {
+        push_prereq(alloc, out, prereq)?;
+    }
+    Ok(())
+}
+
+fn kind_of(manual: bool) -> GrantKind
+    ensures { result ≡ kind_of manual }
+{
+    if manual {
+        GrantKind::Manual
+    } else {
+        GrantKind::Auto
+    }
+}
+
+#[tactic(auto, using(crate::proofs::LineLemmas::ticket_pushed))]
+fn push_ticket(alloc: Global, out: &mut Vec<u8>, ticket: &TicketConf) -> Result<(), AllocError>
+    ensures { Grows result out.old.items out.new.items (lines_text (ticket_settings ticket.now)) }
+{
+    push_line(out, Key::Ticket.row().name, ticket.name.bytes())?;
+    push_times(alloc, out, &ticket.times)?;
+    push_weights(alloc, out, &ticket.weights)?;
+    push_handler(out, &ticket.handler)?;
+    push_prereqs(alloc, out, &ticket.prereqs)?;
+    push_line(out, Key::Mode.row().name, kind_word(kind_of(ticket.manual)))
+}
+
+/// Prints the tickets.
+#[tactic(auto, using(crate::proofs::LineLemmas::tickets_more))]
+pub fn push_tickets(
+    alloc: Global,
+    out: &mut Vec<u8>,
+    tickets: &[TicketConf],
+) -> Result<(), AllocError>
+    ensures { Grows result out.old.items out.new.items (lines_text (flat_map ticket_settings tickets.now)) }
+{
+    for ticket in tickets {
+        push_ticket(alloc, out, ticket)?;
+    }
+    Ok(())
+}

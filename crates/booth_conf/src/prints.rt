@@ -1,0 +1,214 @@
+//! The text of a configuration.
+ghost use Rattle.std.specs.Prelude.{◌≡◌, ◌++◌, ◌∷◌, [], map, IfOk, decimal, unwrap_or};
+ghost use Rattle.std.specs.List.{list_all};
+ghost use Rattle.booth_conf.specs.Grammar.{is_other};
+ghost use Rattle.booth_conf.specs.Grows.{Grows, quote_of};
+ghost use Rattle.booth_conf.specs.Keys.{name_at, row_of};
+ghost use Rattle.booth_conf.specs.Print.{authfile_settings, extra_setting, kind_word, line_text, lines_text, prereq_text, test_word, top_settings, weights_text, written};
+
+use crate::keys::{Key, KeyNo};
+use crate::parts::Extra;
+use crate::tickets::{GrantKind, Prereq};
+use booth_base::PathText;
+use std::alloc::{AllocError, Global};
+
+/// What a value is put in.
+#[derive(Clone, Copy, Debug)]
+pub enum Quote {
+    Double,
+    Single,
+    Bare,
+}
+
+fn holds_no(quote: u8, value: &[u8]) -> bool
+    ensures { result ≡ list_all (is_other quote) value.now }
+{
+    value.iter().all(|b| *b != quote)
+}
+
+fn quote_of(value: &[u8]) -> Quote
+    ensures { result ≡ quote_of value.now }
+{
+    if holds_no(b'"', value) {
+        return Quote::Double;
+    }
+    if holds_no(b'\'', value) {
+        return Quote::Single;
+    }
+    Quote::Bare
+}
+
+fn push(out: &mut Vec<u8>, bytes: &[u8]) -> Result<(), AllocError>
+    ensures { Grows result out.old.items out.new.items bytes.now }
+{
+    out.extend_from_slice(bytes)
+}
+
+#[tactic(auto, using(crate::proofs::PushLemmas::three_pushed))]
+fn push_within(out: &mut Vec<u8>, quote: &[u8], value: &[u8]) -> Result<(), AllocError>
+    ensures { Grows result out.old.items out.new.items (quote.now ++ (value.now ++ quote.now)) }
+{
+    push(out, quote)?;
+    push(out, value)?;
+    push(out, quote)
+}
+
+fn push_value(out: &mut Vec<u8>, value: &[u8]) -> Result<(), AllocError>
+    ensures { Grows result out.old.items out.new.items (written value.now) }
+{
+    match quote_of(value) {
+        Quote::Double => push_within(out, b"\"", value),
+        Quote::Single => push_within(out, b"'", value),
+        Quote::Bare => push(out, value),
+    }
+}
+
+// One line: a key and its value.
+#[tactic(auto, using(crate::proofs::PushLemmas::line_pushed), unfolding(crate::specs::Print::line_text))]
+pub fn push_line(out: &mut Vec<u8>, name: &str, value: &[u8]) -> Result<(), AllocError>
+    ensures { Grows result out.old.items out.new.items (line_text name.now value.now) }
+{
+    push(out, name.as_bytes())?;
+    push(out, b" = ")?;
+    push_value(out, value)?;
+    push(out, b"\n")
+}
+
+fn push_decimal(alloc: Global, out: &mut Vec<u8>, n: u64) -> Result<(), AllocError>
+    ensures { Grows result out.old.items out.new.items (decimal n) }
+{
+    let digits = format!(in alloc; "{n}")?;
+    push(out, digits.as_bytes())
+}
+
+pub fn push_number(alloc: Global, out: &mut Vec<u8>, key: Key, n: u64) -> Result<(), AllocError>
+    ensures { Grows result out.old.items out.new.items (line_text (row_of key).name (decimal n)) }
+{
+    let digits = format!(in alloc; "{n}")?;
+    push_line(out, key.row().name, digits.as_bytes())
+}
+
+// A space and a word.
+#[tactic(auto, using(crate::proofs::PushLemmas::two_pushed))]
+fn push_word(out: &mut Vec<u8>, word: &[u8]) -> Result<(), AllocError>
+    ensures { Grows result out.old.items out.new.items (0x20 ∷ word.now) }
+{
+    push(out, b" ")?;
+    push(out, word)
+}
+
+pub fn kind_word(kind: GrantKind) -> &'static [u8]
+    ensures { result.now ≡ kind_word kind }
+{
+    match kind {
+        GrantKind::Auto => b"auto",
+        GrantKind::Manual => b"manual",
+    }
+}
+
+fn test_word(equal: bool) -> &'static [u8]
+    ensures { result.now ≡ test_word equal }
+{
+    if equal { b"eq" } else { b"ne" }
+}
+
+#[tactic(auto, using(crate::proofs::PushLemmas::four_pushed))]
+fn push_prereq(out: &mut Vec<u8>, prereq: &Prereq) -> Result<(), AllocError>
+    ensures { Grows result out.old.items out.new.items (prereq_text prereq.now) }
+{
+    push(out, kind_word(prereq.kind))?;
+    push_word(out, prereq.name.bytes())?;
+    push_word(out, test_word(prereq.equal))?;
+    push_word(out, prereq.value.bytes())
+}
+
+pub fn prereq_text(alloc: Global, prereq: &Prereq) -> Result<Vec<u8>, AllocError>
+    ensures { IfOk result (λ text. text.items ≡ prereq_text prereq.now) }
+{
+    let mut text = Vec::new(alloc);
+    push_prereq(&mut text, prereq)?;
+    Ok(text)
+}
+
+// A comma and a number.
+#[tactic(auto, using(crate::proofs::PushLemmas::two_pushed))]
+fn push_next_weight(alloc: Global, out: &mut Vec<u8>, weight: u32) -> Result<(), AllocError>
+    ensures { Grows result out.old.items out.new.items (0x2C ∷ decimal weight) }
+{
+    push(out, b",")?;
+    push_decimal(alloc, out, u64::from(weight))
+}
+
+#[tactic(auto, using(std::proofs::lemmas::List::flat_map_more))]
+fn push_more_weights(alloc: Global, out: &mut Vec<u8>, weights: &[u32]) -> Result<(), AllocError>
+    ensures { Grows result out.old.items out.new.items (flat_map (λ m. 0x2C ∷ decimal m) weights.now) }
+{
+    for weight in weights {
+        push_next_weight(alloc, out, *weight)?;
+    }
+    Ok(())
+}
+
+ghost use Rattle.std.specs.Prelude.{flat_map};
+
+pub fn weights_text(alloc: Global, first: u32, rest: &[u32]) -> Result<Vec<u8>, AllocError>
+    ensures { IfOk result (λ text. text.items ≡ weights_text (first ∷ rest.now)) }
+{
+    let mut text = Vec::new(alloc);
+    push_decimal(alloc, &mut text, u64::from(first))?;
+    push_more_weights(alloc, &mut text, rest)?;
+    Ok(text)
+}
+
+fn push_authfile(out: &mut Vec<u8>, path: &Option<PathText>) -> Result<(), AllocError>
+    ensures { Grows result out.old.items out.new.items (lines_text (authfile_settings path.now)) }
+{
+    match path {
+        Some(path) => push_line(out, Key::Authfile.row().name, path.as_str().as_bytes()),
+        None => Ok(()),
+    }
+}
+
+fn extra_name(key: KeyNo) -> &'static str
+    ensures { result.now ≡ unwrap_or (name_at key) [] }
+{
+    match key.name() {
+        Some(name) => name,
+        None => "",
+    }
+}
+
+fn push_extra(out: &mut Vec<u8>, extra: &Extra) -> Result<(), AllocError>
+    ensures { Grows result out.old.items out.new.items (lines_text (extra_setting (extra.now.0, extra.now.1) ∷ [])) }
+{
+    push_line(out, extra_name(extra.0), extra.1.as_str().as_bytes())
+}
+
+#[tactic(auto, using(crate::proofs::LineLemmas::lines_more, std::proofs::lemmas::List::map_more, crate::proofs::LineLemmas::lines_append))]
+fn push_extras(out: &mut Vec<u8>, extras: &[Extra]) -> Result<(), AllocError>
+    ensures { Grows result out.old.items out.new.items (lines_text (map extra_setting extras.now)) }
+{
+    for extra in extras {
+        push_extra(out, extra)?;
+    }
+    Ok(())
+}
+
+/// Prints the keys of the whole file.
+#[tactic(auto, using(crate::proofs::LineLemmas::top_pushed))]
+pub fn push_top(
+    alloc: Global,
+    out: &mut Vec<u8>,
+    port: u16,
+    authfile: &Option<PathText>,
+    skew: u64,
+    extras: &[Extra],
+) -> Result<(), AllocError>
+    ensures { Grows result out.old.items out.new.items (lines_text (top_settings port authfile.now skew extras.now)) }
+{
+    push_number(alloc, out, Key::Port, u64::from(port))?;
+    push_line(out, Key::Transport.row().name, b"UDP")?;
+    push_authfile(out, authfile)?;
+    push_number(alloc, out, Key::Maxtimeskew, skew)?;
+    push_extras(out, extras)
+}

@@ -1,0 +1,61 @@
+//! Texts that a value spells: paths, names and addresses.
+ghost use Rattle.std.specs.Prelude.{◌≡◌, true};
+ghost use Rattle.std.specs.List.{list_all, list_any};
+ghost use Rattle.booth_conf.specs.Grammar.{is_value_byte};
+ghost use Rattle.booth_conf.specs.Values.{is_word_byte};
+ghost use Rattle.booth_conf.specs.ValueReader.{text_in, command_in, name_in, value_in, address_in};
+
+use booth_base::{Address, AttrValue, Name, PathText};
+
+/// A text of at most 255 bytes, and of at least so many.
+#[tactic(auto, using(crate::proofs::TextLemmas::plain_utf8))]
+pub fn text(bytes: &[u8], least: usize) -> Option<PathText>
+    requires { list_all is_value_byte bytes.now ≡ true }
+    ensures { result ≡ text_in least bytes.now }
+{
+    if bytes.len() < least {
+        return None;
+    }
+    let text = std::str::from_utf8(bytes).ok()?;
+    PathText::read(text).ok()
+}
+
+fn has_word(bytes: &[u8]) -> bool
+    ensures { result ≡ list_any is_word_byte bytes.now }
+{
+    bytes.iter().any(|b| !matches!(*b, b' ' | b'\t'))
+}
+
+/// A path and its arguments.
+pub fn command(bytes: &[u8]) -> Option<PathText>
+    requires { list_all is_value_byte bytes.now ≡ true }
+    ensures { result ≡ command_in bytes.now }
+{
+    if has_word(bytes) {
+        text(bytes, 1)
+    } else {
+        None
+    }
+}
+
+/// The name of these bytes.
+pub fn name(bytes: &[u8]) -> Option<Name>
+    ensures { result ≡ name_in bytes.now }
+{
+    Name::read(bytes).ok()
+}
+
+/// The attribute's value of these bytes.
+pub fn attr_value(bytes: &[u8]) -> Option<AttrValue>
+    ensures { result ≡ value_in bytes.now }
+{
+    AttrValue::read(bytes).ok()
+}
+
+/// The address that the text spells.
+#[tactic(auto, using(crate::proofs::AddressLemmas::address_read))]
+pub fn address(bytes: &[u8]) -> Option<Address>
+    ensures { result ≡ address_in bytes.now }
+{
+    Address::read(bytes).ok()
+}
