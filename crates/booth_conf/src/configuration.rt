@@ -1,8 +1,9 @@
 //! The configuration as a value.
-ghost use Rattle.std.specs.Prelude.{◌≡◌, ◌≤◌, ◌<◌, true, length, position, slice_get, IfOk, OnOk, IsTrue, IsSomeAnd, List, ℕ};
+ghost use Rattle.std.specs.Prelude.{◌≡◌, ◌≤◌, ◌<◌, true, length, position, slice_get, IfOk, OnOk, IsTrue, IsSomeAnd, List, ℕ, [], unwrap_or};
 ghost use Rattle.std.specs.Option.{option_copied};
 ghost use Rattle.booth_conf.specs.Config.{ConfigSays, has_id};
 ghost use Rattle.booth_conf.specs.Finish.{Finishes, is_called, rank_of, weights_at};
+ghost use Rattle.booth_conf.specs.Parts.{part_of};
 ghost use Rattle.booth_conf.specs.Print.{printed};
 ghost use Rattle.booth_conf.specs.Says.{Parses, Says};
 ghost use Rattle.booth_conf.specs.Sound.{IsSound};
@@ -58,9 +59,6 @@ fn defaults(draft: Option<Part>) -> Part
         None => Part::new(),
     }
 }
-
-ghost use Rattle.std.specs.Prelude.{unwrap_or, []};
-ghost use Rattle.booth_conf.specs.Parts.{part_of};
 
 // The configuration of a draft, or the first fault of the whole file.
 fn finish(alloc: Global, draft: Draft) -> Result<Config, ConfFault>

@@ -1,7 +1,7 @@
 //! Tickets with the defaults filled in.
 ghost use Rattle.std.specs.Prelude.{◌≡◌, ◌*◌, [], IfOk, map};
 ghost use Rattle.std.specs.Option.{option_or};
-ghost use Rattle.booth_conf.specs.Config.{chosen, renewal_of, ticket_of, times_of};
+ghost use Rattle.booth_conf.specs.Config.{chosen, is_manual, renewal_of, ticket_of, times_of};
 
 use crate::limits::MEMBERS;
 use crate::parts::{NamedPart, Part};
@@ -46,8 +46,6 @@ fn is_manual(kind: GrantKind) -> bool
         GrantKind::Manual => true,
     }
 }
-
-ghost use Rattle.booth_conf.specs.Config.{is_manual};
 
 fn weights(
     own: &Option<ArrayVec<u32, MEMBERS>>,

@@ -1,5 +1,5 @@
 //! The text of a configuration.
-ghost use Rattle.std.specs.Prelude.{◌≡◌, ◌++◌, ◌∷◌, [], map, IfOk, decimal, unwrap_or};
+ghost use Rattle.std.specs.Prelude.{◌≡◌, ◌++◌, ◌∷◌, [], flat_map, map, IfOk, decimal, unwrap_or};
 ghost use Rattle.std.specs.List.{list_all};
 ghost use Rattle.booth_conf.specs.Grammar.{is_other};
 ghost use Rattle.booth_conf.specs.Grows.{Grows, quote_of};
@@ -148,8 +148,6 @@ fn push_more_weights(alloc: Global, out: &mut Vec<u8>, weights: &[u32]) -> Resul
     }
     Ok(())
 }
-
-ghost use Rattle.std.specs.Prelude.{flat_map};
 
 pub fn weights_text(alloc: Global, first: u32, rest: &[u32]) -> Result<Vec<u8>, AllocError>
     ensures { IfOk result (λ text. text.items ≡ weights_text (first ∷ rest.now)) }

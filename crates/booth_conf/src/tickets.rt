@@ -29,9 +29,9 @@ impl Default for Prereq {
     fn default() -> Prereq {
         Prereq {
             kind: GrantKind::Auto,
-            name: Name::read(b"-").unwrap(),
+            name: Name::default(),
             equal: false,
-            value: AttrValue::read(b"").unwrap(),
+            value: AttrValue::default(),
         }
     }
 }

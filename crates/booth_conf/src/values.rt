@@ -1,5 +1,5 @@
 //! The value of a key.
-ghost use Rattle.std.specs.Prelude.{◌≡◌, true, option_map};
+ghost use Rattle.std.specs.Prelude.{◌≡◌, true, bytes_eq, option_map};
 ghost use Rattle.std.specs.List.{list_all};
 ghost use Rattle.booth_conf.specs.Grammar.{is_value_byte};
 ghost use Rattle.booth_conf.specs.Keys.{number_of};
@@ -38,8 +38,6 @@ fn is_word(bytes: &[u8], word: &str) -> bool
 {
     bytes == word.as_bytes()
 }
-
-ghost use Rattle.std.specs.Prelude.{bytes_eq};
 
 fn kind(word: &[u8]) -> Option<GrantKind>
     ensures { result ≡ kind_in word.now }

@@ -1,31 +1,21 @@
 //! Small texts and their first faults.
-use crate::{ConfFault, Config, KeyNo};
-use std::alloc::Global;
+use super::{bad, clash, fault, repeated, syntax};
+use crate::{ConfFault, KeyNo};
 use std::test::Fail;
 
 const SMALL: &str =
     "site=\"192.168.201.100\"\nsite=\"192.168.202.100\"\narbitrator=\"192.168.203.100\"\nticket=\"ticket-db8\"\n";
 
-fn fault(alloc: Global, text: &str) -> Option<ConfFault> {
-    match Config::parse(alloc, text.as_bytes()) {
-        Ok(_) => None,
-        Err(fault) => Some(fault),
-    }
-}
-
 #[test]
 fn the_first_fault_is_told_with_its_line(rt: HostRuntime) -> Result<(), Fail> {
+    let retry = Some(ConfFault::RetryTime { ticket: 0 });
     let table = [
         ("", None),
-        (
-            "retries = 2\n",
-            Some(ConfFault::BadValue {
-                line: 5,
-                key: KeyNo(16),
-            }),
-        ),
-        ("timeout = 28\n", Some(ConfFault::RetryTime { ticket: 0 })),
+        ("retries = 2\n", bad(5, 16)),
+        ("timeout = 28\n", retry),
         ("timeout = 27\n", None),
+        ("expire = 8\ntimeout = 1\nretries = 3", retry),
+        ("expire = 9\ntimeout = 1\nretries = 3", None),
         (
             "expire = 600\nrenewal-freq = 600\n",
             Some(ConfFault::Renewal { ticket: 0 }),
@@ -35,159 +25,50 @@ fn the_first_fault_is_told_with_its_line(rt: HostRuntime) -> Result<(), Fail> {
             Some(ConfFault::DefaultLate { line: 5 }),
         ),
         ("expires = 3\n", Some(ConfFault::UnknownKey { line: 5 })),
+        ("expire = 600s\n", bad(5, 13)),
+        ("port = \"1\n", syntax(5)),
+        ("port = '1", syntax(5)),
+        ("ticket=\"ticket-db8\"\n", repeated(5)),
         (
-            "expire = 600s\n",
-            Some(ConfFault::BadValue {
-                line: 5,
-                key: KeyNo(13),
-            }),
-        ),
-        ("port = \"1\n", Some(ConfFault::Syntax { line: 5 })),
-        (
-            "ticket=\"ticket-db8\"\n",
-            Some(ConfFault::Repeated { line: 5 }),
-        ),
-        (
-            "# comment \u{e9} of any bytes\n \t\r\nport=1\nport=1",
-            Some(ConfFault::Repeated { line: 8 }),
+            "# of any bytes \u{e9}\u{1}\n \t\r\nport=1\nport=1",
+            repeated(8),
         ),
         ("site = ::ffff:192.168.201.100", None),
-        (
-            "arbitrator = '192.168.201.100' # again",
-            Some(ConfFault::Repeated { line: 5 }),
-        ),
-        (
-            "site = 255.255.255.255",
-            Some(ConfFault::IdClash {
-                first: 3,
-                second: 3,
-            }),
-        ),
-        (
-            "site = 157.10.217.109",
-            Some(ConfFault::IdClash {
-                first: 3,
-                second: 3,
-            }),
-        ),
+        ("arbitrator = '192.168.201.100' # again", repeated(5)),
+        ("site = ::1\nsite = 0:0:0:0:0:0:0:1", repeated(6)),
+        ("site = fe80::1%eth0", bad(5, 10)),
+        ("site = 255.255.255.255", clash(3, 3)),
+        ("site = 157.10.217.109", clash(3, 3)),
         ("expire = 0600", None),
-        (
-            "expire = 10000001",
-            Some(ConfFault::BadValue {
-                line: 5,
-                key: KeyNo(13),
-            }),
-        ),
-        (
-            "expire = 00000000600",
-            Some(ConfFault::BadValue {
-                line: 5,
-                key: KeyNo(13),
-            }),
-        ),
-        (
-            "before-acquire-handler = '  '",
-            Some(ConfFault::BadValue {
-                line: 5,
-                key: KeyNo(19),
-            }),
-        ),
-        (
-            "attr-prereq = auto a eq b c",
-            Some(ConfFault::BadValue {
-                line: 5,
-                key: KeyNo(20),
-            }),
-        ),
-        (
-            "weights = 1,,2",
-            Some(ConfFault::BadValue {
-                line: 5,
-                key: KeyNo(18),
-            }),
-        ),
-        (
-            "transport = SCTP",
-            Some(ConfFault::BadValue {
-                line: 5,
-                key: KeyNo(2),
-            }),
-        ),
-        (
-            "port = 0",
-            Some(ConfFault::BadValue {
-                line: 5,
-                key: KeyNo(1),
-            }),
-        ),
-        (
-            "port = 9#9",
-            Some(ConfFault::BadValue {
-                line: 5,
-                key: KeyNo(1),
-            }),
-        ),
+        ("expire = 10000001", bad(5, 13)),
+        ("expire = 00000000600", bad(5, 13)),
+        ("before-acquire-handler = '  '", bad(5, 19)),
+        ("attr-prereq = auto a eq b c", bad(5, 20)),
+        ("weights = 1,,2", bad(5, 18)),
+        ("transport = SCTP", bad(5, 2)),
+        ("mode = Manual", bad(5, 21)),
+        ("authfile = \"\"", bad(5, 3)),
+        ("port = 0", bad(5, 1)),
+        ("port = 9#9", bad(5, 1)),
         ("port = 99 #9", None),
-        ("debug =", Some(ConfFault::Syntax { line: 5 })),
+        ("port = 1\nport = 0", bad(6, 1)),
+        ("debug =", syntax(5)),
         ("debug = \"\"", None),
-        ("port", Some(ConfFault::Syntax { line: 5 })),
-        (" = 1", Some(ConfFault::Syntax { line: 5 })),
-        ("po.rt = 1", Some(ConfFault::Syntax { line: 5 })),
-        ("port = '1' 2", Some(ConfFault::Syntax { line: 5 })),
-        ("port = '1\nport = 2'", Some(ConfFault::Syntax { line: 5 })),
-        ("port = 'a\u{e9}'", Some(ConfFault::Syntax { line: 5 })),
-        ("port = a\u{7f}", Some(ConfFault::Syntax { line: 5 })),
-        ("port = #1", Some(ConfFault::Syntax { line: 5 })),
+        ("debug = 1\ndebug = 2", repeated(6)),
+        ("retries = 3\nretries = 3", repeated(6)),
+        ("port", syntax(5)),
+        (" = 1", syntax(5)),
+        ("po.rt = 1", syntax(5)),
+        ("port = '1' 2", syntax(5)),
+        ("port = '1\nport = 2'", syntax(5)),
+        ("port = 'a\u{e9}'", syntax(5)),
+        ("port = a\u{7f}", syntax(5)),
+        ("port = #1", syntax(5)),
         ("\tport\t=\t'1'\t#\u{1}\r", None),
-        (
-            "port = 1\nport = 0",
-            Some(ConfFault::BadValue {
-                line: 6,
-                key: KeyNo(1),
-            }),
-        ),
-        (
-            "site = ::1\nsite = 0:0:0:0:0:0:0:1",
-            Some(ConfFault::Repeated { line: 6 }),
-        ),
-        (
-            "site = fe80::1%eth0",
-            Some(ConfFault::BadValue {
-                line: 5,
-                key: KeyNo(10),
-            }),
-        ),
-        (
-            "retries = 3\nretries = 3",
-            Some(ConfFault::Repeated { line: 6 }),
-        ),
-        (
-            "debug = 1\ndebug = 2",
-            Some(ConfFault::Repeated { line: 6 }),
-        ),
-        (
-            "expire = 8\ntimeout = 1\nretries = 3",
-            Some(ConfFault::RetryTime { ticket: 0 }),
-        ),
-        ("expire = 9\ntimeout = 1\nretries = 3", None),
-        (
-            "authfile = \"\"",
-            Some(ConfFault::BadValue {
-                line: 5,
-                key: KeyNo(3),
-            }),
-        ),
-        (
-            "mode = Manual",
-            Some(ConfFault::BadValue {
-                line: 5,
-                key: KeyNo(21),
-            }),
-        ),
     ];
     for (line, want) in table {
         let text = format!(in rt.alloc(); "{SMALL}{line}")?;
-        assert_eq!(rt; fault(rt.alloc(), &text), want, "at {line}");
+        assert_eq!(rt; fault(rt.alloc(), text.as_bytes()), want, "at {line}");
     }
     Ok(())
 }
@@ -201,13 +82,10 @@ fn a_text_may_lack_members_or_tickets(rt: HostRuntime) {
         ("expire = 3", Some(ConfFault::Misplaced { line: 1 })),
         ("expire = none", Some(ConfFault::Misplaced { line: 1 })),
         ("ticket = __default__\nexpire = 3", Some(ConfFault::NoSite)),
-        (
-            "ticket = __default__\nticket = '__default__'",
-            Some(ConfFault::Repeated { line: 2 }),
-        ),
+        ("ticket = __default__\nticket = '__default__'", repeated(2)),
         (
             "ticket = __default__\nticket = a\nticket = __default__",
-            Some(ConfFault::Repeated { line: 3 }),
+            repeated(3),
         ),
         (
             "site=10.0.0.1\nticket=a\nticket=b\ntimeout=60",
@@ -215,8 +93,18 @@ fn a_text_may_lack_members_or_tickets(rt: HostRuntime) {
         ),
     ];
     for (text, want) in table {
-        assert_eq!(rt; fault(rt.alloc(), text), want, "at {text}");
+        assert_eq!(rt; fault(rt.alloc(), text.as_bytes()), want, "at {text}");
     }
+}
+
+#[test]
+fn only_a_comment_may_hold_any_bytes(rt: HostRuntime) {
+    let comment = b"site=10.0.0.1\nticket=a # \x00\xff\n#\xfe\r";
+    assert_eq!(rt; fault(rt.alloc(), comment), None);
+    assert_eq!(rt;
+        fault(rt.alloc(), b"site=10.0.0.1\nticket=a\n\xff"),
+        syntax(3)
+    );
 }
 
 #[test]

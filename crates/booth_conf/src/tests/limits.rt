@@ -1,23 +1,10 @@
 //! Texts at the limits, and one past them.
-use crate::{ConfFault, Config, KeyNo};
+use super::{bad, fault, repeated, too_many};
+use crate::ConfFault;
 use std::alloc::{AllocError, Global};
 use std::test::Fail;
 
 const SITE: &str = "site=10.0.0.1\n";
-
-fn fault(alloc: Global, text: &str) -> Option<ConfFault> {
-    match Config::parse(alloc, text.as_bytes()) {
-        Ok(_) => None,
-        Err(fault) => Some(fault),
-    }
-}
-
-fn bad(line: u32, key: u8) -> Option<ConfFault> {
-    Some(ConfFault::BadValue {
-        line,
-        key: KeyNo(key),
-    })
-}
 
 // So many lines between two texts, each of them a text and a number.
 fn lines(
@@ -45,36 +32,12 @@ fn so_many_lines_of_a_kind_may_stand(rt: HostRuntime) -> Result<(), Fail> {
     let prereq = "attr-prereq = manual load ne ";
     let table = [
         (SITE, members, 15, "ticket=a", None),
-        (
-            SITE,
-            members,
-            15,
-            "site=10.0.0.1",
-            Some(ConfFault::Repeated { line: 17 }),
-        ),
-        (
-            SITE,
-            members,
-            16,
-            "ticket=a",
-            Some(ConfFault::TooMany { line: 17 }),
-        ),
+        (SITE, members, 15, "site=10.0.0.1", repeated(17)),
+        (SITE, members, 16, "ticket=a", too_many(17)),
         (SITE, "ticket = ticket-", 64, "retries=4", None),
-        (
-            SITE,
-            "ticket = ticket-",
-            65,
-            "retries=4",
-            Some(ConfFault::TooMany { line: 66 }),
-        ),
+        (SITE, "ticket = ticket-", 65, "retries=4", too_many(66)),
         ("site=10.0.0.1\nticket=a\n", prereq, 8, "", None),
-        (
-            "site=10.0.0.1\nticket=a\n",
-            prereq,
-            9,
-            "",
-            Some(ConfFault::TooMany { line: 11 }),
-        ),
+        ("site=10.0.0.1\nticket=a\n", prereq, 9, "", too_many(11)),
         (
             inherits,
             prereq,
@@ -82,24 +45,16 @@ fn so_many_lines_of_a_kind_may_stand(rt: HostRuntime) -> Result<(), Fail> {
             "ticket=b\nattr-prereq=auto a eq 7",
             None,
         ),
-        (
-            inherits,
-            prereq,
-            7,
-            "",
-            Some(ConfFault::TooMany { line: 12 }),
-        ),
-        (
-            "ticket=__default__\n",
-            prereq,
-            9,
-            "ticket=a",
-            Some(ConfFault::TooMany { line: 10 }),
-        ),
+        (inherits, prereq, 7, "", too_many(12)),
+        ("ticket=__default__\n", prereq, 9, "ticket=a", too_many(10)),
     ];
     for (before, line, count, after, want) in table {
         let text = lines(rt.alloc(), before, line, count, after)?;
-        assert_eq!(rt; fault(rt.alloc(), &text), want, "at {count} times {line}");
+        assert_eq!(rt;
+            fault(rt.alloc(), text.as_bytes()),
+            want,
+            "at {count} times {line}"
+        );
     }
     Ok(())
 }
@@ -123,7 +78,11 @@ fn values_may_be_so_long(rt: HostRuntime) -> Result<(), Fail> {
         let end = if line.contains('\'') { "'" } else { "" };
         let filler = "x".repeat(rt.alloc(), count)?;
         let text = format!(in rt.alloc(); "{SITE}ticket=a\n{line}x{filler}{end}")?;
-        assert_eq!(rt; fault(rt.alloc(), &text), want, "at {line} and {count}");
+        assert_eq!(rt;
+            fault(rt.alloc(), text.as_bytes()),
+            want,
+            "at {line} and {count}"
+        );
     }
     Ok(())
 }
@@ -134,10 +93,16 @@ fn a_text_has_up_to_1_048_576_bytes(rt: HostRuntime) -> Result<(), Fail> {
     let comment = "x".repeat(rt.alloc(), 1_048_551)?;
     let longest = format!(in rt.alloc(); "{SITE}ticket=a\n\n#{comment}")?;
     assert_eq!(rt; longest.len(), 1_048_576);
-    assert_eq!(rt; fault(rt.alloc(), &longest), None);
+    assert_eq!(rt; fault(rt.alloc(), longest.as_bytes()), None);
     let longer = format!(in rt.alloc(); "{longest}\n")?;
-    assert_eq!(rt; fault(rt.alloc(), &longer), Some(ConfFault::TooLarge));
+    assert_eq!(rt;
+        fault(rt.alloc(), longer.as_bytes()),
+        Some(ConfFault::TooLarge)
+    );
     let blank = format!(in rt.alloc(); "{longest}=\n")?;
-    assert_eq!(rt; fault(rt.alloc(), &blank), Some(ConfFault::TooLarge));
+    assert_eq!(rt;
+        fault(rt.alloc(), blank.as_bytes()),
+        Some(ConfFault::TooLarge)
+    );
     Ok(())
 }

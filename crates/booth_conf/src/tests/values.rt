@@ -1,6 +1,7 @@
 //! Texts that are configurations, their values, and the text that is printed of them.
-use crate::{Config, GrantKind, KeyNo};
-use booth_base::{Address, Name, promise_ms};
+use crate::{Config, KeyNo};
+use booth_base::{Address, ByteText, Name, promise_ms};
+use std::alloc::Global;
 use std::test::Fail;
 
 const REALISTIC: &str = "\
@@ -113,56 +114,94 @@ attr-prereq = \"auto a eq v\"
 mode = \"manual\"
 ";
 
+// The text that is printed of a copy of the configuration that a text says.
+fn printed(alloc: Global, text: &[u8]) -> Result<ByteText, Fail> {
+    let config = Config::parse(alloc, text)?;
+    let copied = config.copy(alloc)?;
+    Ok(copied.print(alloc)?)
+}
+
+// The rank of a site, where there are such a ticket and such a site.
+fn rank(config: &Config, ticket: usize, member: usize) -> Option<u32> {
+    let is_site = config.members().get(member)?.site;
+    if is_site && ticket < config.tickets().len() {
+        return Some(config.rank(ticket, member));
+    }
+    None
+}
+
 #[test]
-fn a_realistic_text_is_read(rt: HostRuntime) -> Result<(), Fail> {
-    let config = Config::parse(rt.alloc(), REALISTIC.as_bytes())?;
-    assert_eq!(rt; config.port(), 9929);
-    assert_eq!(rt; config.skew(), 600);
-    assert_eq!(rt;
-        config.authfile().map(|path| path.as_str()),
-        Some("/etc/booth/authkey")
-    );
-    assert_eq!(rt; config.members().len(), 3);
-    assert!(rt; config.members()[1].site);
-    assert!(rt; config.members()[2].site);
-    assert_eq!(rt; config.tickets().len(), 2);
-    assert_eq!(rt; promise_ms(&config.tickets()[0].times), 661_203);
-    assert_eq!(rt; config.rank(0, 1), 0);
-    assert_eq!(rt; config.rank(0, 2), 1);
-    assert_eq!(rt; config.rank(1, 1), 0);
-    assert_eq!(rt; config.rank(1, 2), 1);
-    let name = Name::read(b"ticket-B")?;
-    assert_eq!(rt; config.ticket(&name), Some(1));
-    assert_eq!(rt; config.member(Address::V4([147, 18, 2, 1]).id()), Some(2));
-    let text = config.print(rt.alloc())?;
-    assert_eq!(rt; text.bytes(), REALISTIC_PRINTED.as_bytes());
-    let again = Config::parse(rt.alloc(), text.bytes())?.copy(rt.alloc())?;
-    let text = again.print(rt.alloc())?;
-    assert_eq!(rt; text.bytes(), REALISTIC_PRINTED.as_bytes());
+fn what_is_printed_says_the_same(rt: HostRuntime) -> Result<(), Fail> {
+    for (text, want) in [
+        (REALISTIC, REALISTIC_PRINTED),
+        (REALISTIC_PRINTED, REALISTIC_PRINTED),
+        (EVERY_KEY, EVERY_KEY_PRINTED),
+        (EVERY_KEY_PRINTED, EVERY_KEY_PRINTED),
+    ] {
+        let text = printed(rt.alloc(), text.as_bytes())?;
+        assert_eq!(rt; text.bytes(), want.as_bytes());
+    }
     Ok(())
 }
 
 #[test]
-fn each_key_is_read_and_printed(rt: HostRuntime) -> Result<(), Fail> {
+fn members_and_tickets_have_places_and_ranks(rt: HostRuntime) -> Result<(), Fail> {
+    let config = Config::parse(rt.alloc(), REALISTIC.as_bytes())?;
+    for (ticket, member, want) in [
+        (0, 0, None),
+        (0, 1, Some(0)),
+        (0, 2, Some(1)),
+        (1, 1, Some(0)),
+        (1, 2, Some(1)),
+        (2, 1, None),
+    ] {
+        assert_eq!(rt;
+            rank(&config, ticket, member),
+            want,
+            "at {ticket} and {member}"
+        );
+    }
+    assert_eq!(rt; config.ticket(&Name::read(b"ticket-B")?), Some(1));
+    assert_eq!(rt; config.member(Address::V4([147, 18, 2, 1]).id()), Some(2));
+    Ok(())
+}
+
+#[test]
+fn values_are_those_of_the_text(rt: HostRuntime) -> Result<(), Fail> {
     let config = Config::parse(rt.alloc(), EVERY_KEY.as_bytes())?;
-    let extras = config.extras();
-    assert_eq!(rt; extras.len(), 5);
-    for (number, extra) in (5u8..).zip(extras) {
+    assert_eq!(rt; config.port(), 1);
+    assert_eq!(rt; config.skew(), 10_000_000);
+    assert_eq!(rt; config.authfile().map(|path| path.as_str()), Some("  "));
+    for (number, extra) in (5u8..).zip(config.extras()) {
         assert_eq!(rt; extra.0, KeyNo(number));
     }
-    assert_eq!(rt; extras[1].1.as_str(), "hacluster");
-    assert_eq!(rt; config.tickets().len(), 2);
-    let [own, inherited] = config.tickets() else {
-        return Ok(());
-    };
-    assert!(rt; !own.manual);
-    assert!(rt; inherited.manual);
-    assert_eq!(rt; own.prereqs.len(), 2);
-    assert_eq!(rt; own.prereqs[0].kind, GrantKind::Auto);
-    assert!(rt; own.prereqs[0].equal);
-    assert_eq!(rt; own.prereqs[1].kind, GrantKind::Manual);
-    assert!(rt; !own.prereqs[1].equal);
-    let text = config.print(rt.alloc())?;
-    assert_eq!(rt; text.bytes(), EVERY_KEY_PRINTED.as_bytes());
+    for (ticket, want) in config.tickets().iter().zip([
+        (42_000, 0, 10_000, 3, 41_000, false),
+        (7_200_000, 0, 5_000, 10, 60_000, true),
+    ]) {
+        let times = ticket.times;
+        assert_eq!(rt;
+            (
+                times.expire,
+                times.after,
+                times.timeout,
+                times.retries,
+                times.renewal,
+                ticket.manual
+            ),
+            want
+        );
+    }
+    Ok(())
+}
+
+#[test]
+fn defaults_are_those_of_the_manual(rt: HostRuntime) -> Result<(), Fail> {
+    let config = Config::parse(rt.alloc(), REALISTIC.as_bytes())?;
+    assert_eq!(rt; config.port(), 9929);
+    assert_eq!(rt; config.skew(), 600);
+    for ticket in config.tickets() {
+        assert_eq!(rt; promise_ms(&ticket.times), 661_203);
+    }
     Ok(())
 }
