@@ -1,10 +1,10 @@
 -- A printed address is read as the same.
-use Rattle.std.proofs.Common.{◌≡◌, ◌<◌, ◌≤◌, ◌+◌, ◌*◌, ◌==◌, ◌^◌, ℕ, zero, suc, Bool, true, false, ◌&&◌, List, [], ◌∷◌, ◌++◌, length, get_or, take, drop, Some, All, refl, arith, ap, ◌∙◌, sym, decimal, length-append, length-take, length-drop, cond, inl, inr}
+use Rattle.std.proofs.Common.{◌≡◌, ◌<◌, ◌≤◌, ◌+◌, ◌*◌, ◌==◌, ◌^◌, ℕ, zero, suc, Bool, true, false, List, [], ◌∷◌, ◌++◌, length, get_or, take, drop, Some, All, refl, arith, ap, decimal, length-append, length-take, length-drop, cond, inl, inr}
 use Rattle.std.specs.Prelude.{codes, slice_index, nat_lt, ◌/◌, ◌%◌}
 use Rattle.std.specs.Char.{digit_char}
 use Rattle.std.specs.List.{list_all, flat_map}
 use Rattle.std.specs.Net.Addr.{segments_of}
-use Rattle.std.specs.Net.Text.{ipv4_text, hex, groups_text, hex_groups_text, compressed_text, longest_zero_run, leading_zero_digits}
+use Rattle.std.specs.Net.Text.{ipv4_text, hex, groups_text, hex_groups_text, longest_zero_run, leading_zero_digits}
 use Rattle.std.proofs.NetLemmas.Alphabet.{IsDigitOrDot, IsHexOrColon, All-ipv4_text, All-hex_groups_text}
 use Rattle.std.proofs.lemmas.List.Sums.{list_all-from_AllPass}
 use Rattle.std.proofs.lemmas.Fmt.{length-decimal-le}

@@ -1,17 +1,15 @@
 -- What is printed is read as the same configuration.
-use Rattle.std.proofs.Common.{◌≡◌, ◌≤◌, ◌<◌, ◌*◌, ◌/◌, ◌==◌, ℕ, Bool, true, false, not, ◌&&◌, ◌||◌, cond, List, [], ◌∷◌, ◌++◌, length, map, Option, Some, None, refl, arith, ap, ◌∙◌, sym, subst, append_assoc}
+use Rattle.std.proofs.Common.{◌≡◌, ◌*◌, ◌/◌, ◌==◌, ℕ, Bool, true, false, List, [], ◌∷◌, ◌++◌, length, map, Option, Some, None, refl, arith, ap, ◌∙◌, sym, subst}
 use Rattle.std.specs.Prelude.{is_some, if◌then◌else◌}
 use Rattle.std.specs.List.{list_all, flat_map}
-use Rattle.std.proofs.lemmas.List.{map-append}
 use Rattle.std.proofs.lemmas.Bool.Decides.{nat_tests}
 use Rattle.booth_base.specs.declared.times.Times.{Times}
-use Rattle.booth_conf.specs.Keys.{row_of}
-use Rattle.booth_conf.specs.Rules.{Summary, summary, settings, AreFine}
+use Rattle.booth_conf.specs.Rules.{Summary, summary, AreFine}
 use Rattle.booth_conf.specs.SaidReader.{said}
 use Rattle.booth_conf.specs.Steps.{added}
 use Rattle.booth_conf.specs.Reads.{lines_of, said_lines}
 use Rattle.booth_conf.specs.Config.{ConfigSays, config_of, file_fault}
-use Rattle.booth_conf.specs.Print.{setting_name, setting_value, setting_line, line_text, lines_text, authfile_settings, extra_setting, renewal_settings, weights_settings, handler_settings, prereq_setting, kind_of, times_settings, key_settings, ticket_settings, top_settings, settings_of, printed}
+use Rattle.booth_conf.specs.Print.{setting_name, setting_value, setting_line, line_text, lines_text, authfile_settings, extra_setting, weights_settings, handler_settings, prereq_setting, times_settings, ticket_settings, top_settings, settings_of, printed}
 use Rattle.booth_conf.specs.Sound.{is_within, each, is_text, is_command, is_extra, is_member, are_weights, is_prereq, is_seconds, is_renewal, is_ticket, IsSound}
 use Rattle.booth_conf.specs.Says.{Says, said_config}
 use Rattle.booth_conf.specs.declared.keys.KeyNo.{KeyNo}
@@ -21,11 +19,10 @@ use Rattle.booth_conf.specs.declared.tickets.TicketConf.{TicketConf}
 use Rattle.booth_conf.specs.declared.faults.ConfFault.{ConfFault}
 use Rattle.booth_conf.specs.declared.readings.Said.{Said}
 use Rattle.booth_conf.specs.declared.readings.Said.TheVariants.{Empty, Pair}
-use Rattle.booth_conf.specs.declared.settings.Transport.TheVariants.{Udp}
-use Rattle.booth_conf.specs.declared.settings.FileSetting.TheVariants.{Port, Transport, Authfile, Skew, Extra}
-use Rattle.booth_conf.specs.declared.settings.TicketSetting.TheVariants.{Expire, After, Timeout, Retries, Renewal, Weights, Handler, Prereq, Mode}
+use Rattle.booth_conf.specs.declared.settings.FileSetting.TheVariants.{Skew}
+use Rattle.booth_conf.specs.declared.settings.TicketSetting.TheVariants.{Renewal}
 use Rattle.booth_conf.specs.declared.settings.Setting.{Setting}
-use Rattle.booth_conf.specs.declared.settings.Setting.TheVariants.{File, Member, Ticket, Defaults, Of}
+use Rattle.booth_conf.specs.declared.settings.Setting.TheVariants.{File, Member, Of}
 use Rattle.booth_conf.proofs.FinishLemmas.{both_true}
 use Rattle.booth_conf.proofs.SaidLemmas.{all_said_found}
 use Rattle.booth_conf.proofs.LineAgain.{line_cut}

@@ -1,7 +1,7 @@
 -- The settings that are printed are taken one after the other, and give the configuration.
-use Rattle.std.proofs.Common.{◌≡◌, ◌≤◌, ◌<◌, ◌+◌, ◌*◌, ◌/◌, ◌==◌, ℕ, Bool, true, false, not, ◌&&◌, ◌||◌, cond, nat_lt, nat_le, List, [], ◌∷◌, ◌++◌, length, map, Option, Some, None, refl, arith, ap, ◌∙◌, sym, subst, append-nil, append_assoc, length-append}
+use Rattle.std.proofs.Common.{◌≡◌, ◌≤◌, ◌<◌, ◌+◌, ◌*◌, ◌/◌, ◌==◌, ℕ, Bool, true, false, not, nat_lt, nat_le, List, [], ◌∷◌, ◌++◌, length, map, Option, Some, None, refl, arith, ap, ◌∙◌, sym, subst, append-nil, append_assoc, length-append}
 use Rattle.std.specs.Prelude.{is_some, bytes_eq, unwrap_or, if◌then◌else◌}
-use Rattle.std.specs.List.{list_all, list_any, flat_map, filter_map}
+use Rattle.std.specs.List.{list_all, list_any, flat_map}
 use Rattle.std.proofs.lemmas.List.{length_push, length-map, map-append}
 use Rattle.std.specs.Option.{option_or}
 use Rattle.arrayvec.specs.ArrayVec.{ArrayVec}
@@ -9,7 +9,7 @@ use Rattle.std.proofs.lemmas.Bool.Decides.{nat_tests}
 use Rattle.booth_base.specs.declared.times.Times.{Times}
 use Rattle.booth_conf.specs.Parts.{PartSays, part_of, part_clash, once}
 use Rattle.booth_conf.specs.Rules.{Summary, summary, clash, open_part, prereqs_of, has_name, is_at}
-use Rattle.booth_conf.specs.Steps.{added, last_added, part_added, placed}
+use Rattle.booth_conf.specs.Steps.{added, last_added, part_added}
 use Rattle.booth_conf.specs.Config.{ConfigSays, renewal_of, times_of, ticket_of, config_of, is_manual}
 use Rattle.booth_conf.specs.Print.{authfile_settings, extra_setting, renewal_settings, weights_settings, handler_settings, prereq_setting, kind_of, times_settings, key_settings, ticket_settings, top_settings, settings_of}
 use Rattle.booth_conf.specs.Sound.{is_within, is_seconds, is_renewal, are_times, is_ticket, are_new, same_key, same_member, same_ticket, IsSound, are_prereqs, is_prereq, is_ticket_name, are_weights, each, is_command}
@@ -20,17 +20,13 @@ use Rattle.booth_conf.specs.declared.tickets.Prereq.{Prereq as PrereqOf}
 use Rattle.booth_conf.specs.declared.tickets.TicketConf.{TicketConf}
 use Rattle.booth_conf.specs.declared.parts.NamedPart.{NamedPart}
 use Rattle.booth_conf.specs.declared.settings.Transport.TheVariants.{Udp}
-use Rattle.booth_conf.specs.declared.settings.FileSetting.TheVariants.{Port, Transport, Authfile, Skew, Extra}
+use Rattle.booth_conf.specs.declared.settings.FileSetting.TheVariants.{Skew}
 use Rattle.booth_conf.specs.declared.settings.TicketSetting.{TicketSetting}
 use Rattle.booth_conf.specs.declared.settings.TicketSetting.TheVariants.{Expire, After, Timeout, Retries, Renewal, Weights, Handler, Prereq, Mode}
 use Rattle.booth_conf.specs.declared.settings.Setting.{Setting}
-use Rattle.booth_conf.specs.declared.settings.Setting.TheVariants.{File, Member, Ticket, Defaults, Of}
+use Rattle.booth_conf.specs.declared.settings.Setting.TheVariants.{File, Member, Ticket, Of}
 use Rattle.booth_conf.proofs.FinishLemmas.{both_true}
 use Rattle.booth_conf.proofs.Runs.{Runs, runs_append}
-
--- what is taken in one step more
-step : (d : Summary) (s : Setting) (ss : List Setting) (e : Summary) → clash d s ≡ None → Runs (added d s) ss e → Runs d (s ∷ ss) e
-step d s ss e h r = (h, r)
 
 -- EXTRAS
 

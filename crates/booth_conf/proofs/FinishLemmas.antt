@@ -1,5 +1,5 @@
 -- A configuration is sound where its draft is.
-use Rattle.std.proofs.Common.{◌≡◌, ◌≤◌, ◌*◌, ◌/◌, ◌==◌, ℕ, Bool, true, false, not, ◌&&◌, ◌||◌, List, [], ◌∷◌, ◌++◌, length, map, Option, Some, None, refl, arith, ap, ◌∙◌, sym, subst}
+use Rattle.std.proofs.Common.{◌≡◌, ◌*◌, ◌/◌, ℕ, Bool, true, false, not, ◌&&◌, List, [], ◌∷◌, ◌++◌, map, Option, Some, None, refl, arith, ap}
 use Rattle.std.specs.Prelude.{is_some, unwrap_or}
 use Rattle.std.specs.List.{list_all, list_any}
 use Rattle.std.specs.Option.{option_or}
@@ -8,12 +8,11 @@ use Rattle.std.proofs.lemmas.Bool.Decides.{nat_tests}
 use Rattle.booth_base.specs.declared.times.Times.{Times}
 use Rattle.booth_conf.specs.Parts.{PartSays, part_of}
 use Rattle.booth_conf.specs.Rules.{Summary, name_of}
-use Rattle.booth_conf.specs.Config.{ConfigSays, chosen, renewal_of, times_of, ticket_of, defaults_of, config_of, file_fault}
+use Rattle.booth_conf.specs.Config.{chosen, renewal_of, times_of, ticket_of, defaults_of, config_of, file_fault}
 use Rattle.booth_conf.specs.Finish.{ticket_name}
-use Rattle.booth_conf.specs.Sound.{is_within, each, is_seconds, is_renewal, are_times, are_weights, is_command, is_ticket_name, are_prereqs, is_ticket, are_new, same_ticket, IsSound}
+use Rattle.booth_conf.specs.Sound.{is_within, each, is_seconds, is_renewal, are_times, is_command, is_ticket_name, are_prereqs, is_ticket, are_new, same_ticket, IsSound}
 use Rattle.booth_conf.specs.SoundDraft.{are_some_weights, is_part, is_named_part, same_part, IsSoundDraft}
 use Rattle.booth_conf.specs.declared.parts.NamedPart.{NamedPart}
-use Rattle.booth_conf.specs.declared.tickets.TicketConf.{TicketConf}
 use Rattle.booth_conf.specs.declared.limits.TheConstants.{SECONDS}
 
 -- a value that is chosen passes the test that each choice passes

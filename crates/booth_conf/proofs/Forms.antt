@@ -1,16 +1,15 @@
 -- The form of each key's value, both ways.
-use Rattle.std.proofs.Common.{◌≡◌, ◌≢◌, ◌≤◌, ◌<◌, ◌==◌, ℕ, Bool, true, false, ◌&&◌, ◌||◌, cond, nat_lt, nat_le, List, [], ◌∷◌, ◌++◌, Option, Some, None, length, refl, arith, ap, ◌∙◌, sym, subst, ◌⊎◌, inl, inr, append-nil, append_assoc, length-append}
-use Rattle.std.specs.Prelude.{option_and_then, option_map, codes, bytes_eq}
+use Rattle.std.proofs.Common.{◌≡◌, ◌≢◌, ◌≤◌, ◌==◌, ℕ, Bool, true, false, ◌&&◌, ◌||◌, cond, nat_lt, nat_le, List, [], ◌∷◌, ◌++◌, Option, Some, None, length, refl, arith, ap, ◌∙◌, sym, subst, ◌⊎◌, inl, inr, append-nil, append_assoc, length-append}
+use Rattle.std.specs.Prelude.{option_map, codes, bytes_eq}
 use Rattle.std.specs.List.{list_all, list_any, slice_split}
 use Rattle.std.proofs.lemmas.List.{length_push}
 use Rattle.std.proofs.lemmas.Bool.Decides.{nat_tests}
 use Rattle.std.proofs.lemmas.Slice.Eq.{bytes_eq-Decides}
-use Rattle.std.proofs.NetLemmas.Options.{cond_none, cond_some, and_then_some, map_some}
+use Rattle.std.proofs.NetLemmas.Options.{cond_some, and_then_some, map_some}
 use Rattle.booth_base.specs.Name.{is_name, is_value}
 use Rattle.booth_base.specs.Address.{Spells}
-use Rattle.booth_conf.specs.Values.{is_digit, worth, IsNumber, AreWords, IsText, IsCommand, IsTransport, IsMode, IsWeight, AreWeights, IsWeightList, IsKindWord, IsTestWord, IsPrereq, IsSetBy, IsTicketLine, HasValue, default_name, is_word_byte, member_at}
-use Rattle.booth_conf.specs.ValueReader.{number_in, number_within, when_within, text_in, command_in, transport_in, mode_in, address_in, name_in, value_in, ticket_in, weight_in, weight_added, weights_from, weights_in, one_word, four_words, kind_in, test_in, prereq_of, prereq_in, Words, setting_in, extra_in}
-use Rattle.booth_conf.specs.Keys.{number_of}
+use Rattle.booth_conf.specs.Values.{is_digit, worth, IsNumber, AreWords, IsText, IsCommand, IsTransport, IsMode, IsWeight, AreWeights, IsWeightList, IsKindWord, IsTestWord, IsPrereq, IsSetBy, IsTicketLine, HasValue, default_name, is_word_byte}
+use Rattle.booth_conf.specs.ValueReader.{number_in, number_within, when_within, text_in, command_in, transport_in, mode_in, address_in, name_in, value_in, ticket_in, weight_in, weight_added, weights_from, weights_in, one_word, four_words, kind_in, test_in, prereq_of, prereq_in, Words, setting_in}
 use Rattle.booth_conf.specs.declared.limits.TheConstants.{MEMBERS, SECONDS, WEIGHT}
 use Rattle.booth_conf.specs.declared.keys.Key.{Key}
 use Rattle.booth_conf.specs.declared.keys.Key.TheVariants as keys
@@ -19,10 +18,8 @@ use Rattle.booth_conf.specs.declared.tickets.GrantKind.TheVariants.{Auto, Manual
 use Rattle.booth_conf.specs.declared.tickets.Prereq.{Prereq as PrereqOf}
 use Rattle.booth_conf.specs.declared.settings.Transport.{Transport as TransportOf}
 use Rattle.booth_conf.specs.declared.settings.Transport.TheVariants.{Udp}
-use Rattle.booth_conf.specs.declared.settings.FileSetting.TheVariants.{Port, Transport, Authfile, Skew, Extra}
-use Rattle.booth_conf.specs.declared.settings.TicketSetting.TheVariants.{Expire, After, Timeout, Retries, Renewal, Weights, Handler, Prereq, Mode}
 use Rattle.booth_conf.specs.declared.settings.Setting.{Setting}
-use Rattle.booth_conf.specs.declared.settings.Setting.TheVariants.{File, Member, Ticket, Defaults, Of}
+use Rattle.booth_conf.specs.declared.settings.Setting.TheVariants.{Ticket, Defaults}
 use Rattle.booth_conf.proofs.WordLemmas.{one_found, one_only, four_found, four_only}
 use Rattle.booth_conf.proofs.AddressLemmas.{address_found, address_only}
 use Rattle.booth_base.specs.declared.text.TheConstants.{PATH_BYTES}

@@ -1,12 +1,10 @@
 -- One more key of the whole file, and one more key of a ticket.
-use Rattle.std.proofs.Common.{◌≡◌, ℕ, Bool, true, false, cond, List, [], ◌∷◌, ◌++◌, Option, Some, None, refl, ◌∙◌, append-nil, append_assoc}
-use Rattle.std.specs.List.{filter_map, list_any}
+use Rattle.std.proofs.Common.{◌≡◌, Bool, true, false, List, [], ◌∷◌, ◌++◌, Option, Some, None, refl, ◌∙◌, append-nil, append_assoc}
+use Rattle.std.specs.List.{filter_map}
 use Rattle.std.specs.Prelude.{is_some}
 use Rattle.std.proofs.lemmas.List.Elements.{filter_map-append}
-use Rattle.booth_conf.specs.Parts.{first, once, has_key, top_of, top_clash, part_of, part_clash, port_in, transport_in, authfile_in, skew_in, extra_in, expire_in, after_in, timeout_in, retries_in, renewal_in, weights_in, handler_in, prereq_in, mode_in}
+use Rattle.booth_conf.specs.Parts.{first, once, top_of, top_clash, part_of, part_clash, port_in, transport_in, authfile_in, skew_in, extra_in, expire_in, after_in, timeout_in, retries_in, renewal_in, weights_in, handler_in, prereq_in, mode_in}
 use Rattle.booth_conf.specs.Steps.{top_added, part_added}
-use Rattle.booth_conf.specs.declared.faults.LineFault.{LineFault}
-use Rattle.booth_conf.specs.declared.faults.LineFault.TheVariants.{Repeated}
 use Rattle.booth_conf.specs.declared.tickets.Prereq.{Prereq as PrereqOf}
 use Rattle.booth_conf.specs.declared.settings.FileSetting.{FileSetting}
 use Rattle.booth_conf.specs.declared.settings.FileSetting.TheVariants.{Port, Transport, Authfile, Skew, Extra}

@@ -1,5 +1,5 @@
 -- The part that a ticket's key goes to.
-use Rattle.std.proofs.Common.{◌≡◌, ℕ, Bool, false, ◌++◌, map, suc, ◌-◌, ◌<◌, List, [], ◌∷◌, length, get_or, set, Option, Some, None, Result, Ok, Err, true, nat_lt, ◌||◌, refl, arith, ap, ◌∙◌, sym}
+use Rattle.std.proofs.Common.{◌≡◌, ℕ, false, ◌++◌, map, suc, ◌-◌, ◌<◌, List, [], ◌∷◌, length, get_or, set, Option, Some, None, Result, Ok, Err, true, nat_lt, ◌||◌, refl, arith, ap, ◌∙◌, sym}
 use Rattle.std.proofs.lemmas.Bool.Decides.{nat_tests}
 use Rattle.std.proofs.lemmas.List.{set-get_or}
 use Rattle.std.proofs.lemmas.List.{map-append}

@@ -29,6 +29,8 @@ pub mod AddressAgain
 pub mod Runs
 pub mod SettingAgain
 pub mod ConfigRuns
+pub mod TimesLemmas
+pub mod RankLemmas
 pub mod Short
 pub mod Again
 pub mod OneAnswers

@@ -1,7 +1,7 @@
 -- A printed line is read as its key and its value.
-use Rattle.std.proofs.Common.{◌≡◌, ℕ, Bool, true, false, not, ◌&&◌, ◌||◌, cond, ◌==◌, List, [], ◌∷◌, ◌++◌, Option, Some, None, map, refl, arith, ap, ◌∙◌, sym, append_assoc, append-nil, inl, inr, ◌⊎◌}
+use Rattle.std.proofs.Common.{◌≡◌, ℕ, Bool, true, false, not, ◌&&◌, ◌||◌, cond, ◌==◌, List, [], ◌∷◌, ◌++◌, Some, refl, arith, ap, ◌∙◌, sym, append_assoc, append-nil, inl, inr}
 use Rattle.std.specs.Prelude.{codes}
-use Rattle.std.specs.List.{list_all, flat_map, onto_first}
+use Rattle.std.specs.List.{list_all, onto_first}
 use Rattle.std.proofs.lemmas.Bool.Decides.{nat_tests}
 use Rattle.std.proofs.lemmas.List.Splits.{slice_split-cons_no}
 use Rattle.booth_conf.specs.Grammar.{is_key_byte, is_value_byte, is_other, begins_bare, stays_bare, is_key, IsBare, IsWritten}
@@ -11,12 +11,11 @@ use Rattle.booth_conf.specs.Keys.{row_of}
 use Rattle.booth_conf.specs.ValueReader.{setting_in}
 use Rattle.booth_conf.specs.SaidReader.{said, said_of, said_by}
 use Rattle.booth_conf.specs.Reads.{lines_of}
-use Rattle.booth_conf.specs.Print.{written, pair_line, line_text, setting_name, setting_value, lines_text}
+use Rattle.booth_conf.specs.Print.{written, pair_line, line_text}
 use Rattle.booth_conf.specs.Sound.{is_sayable}
 use Rattle.booth_conf.specs.declared.keys.Key.{Key}
 use Rattle.booth_conf.specs.declared.keys.Key.TheVariants as keys
 use Rattle.booth_conf.specs.declared.settings.Setting.{Setting}
-use Rattle.booth_conf.specs.declared.readings.Said.{Said}
 use Rattle.booth_conf.specs.declared.readings.Said.TheVariants.{Pair}
 use Rattle.booth_conf.proofs.BothWays.{pair_only}
 use Rattle.booth_conf.proofs.FinishLemmas.{both_true}

@@ -1,10 +1,9 @@
 -- Lines put one behind the other.
-use Rattle.std.proofs.Common.{◌≡◌, ◌<◌, ◌+◌, ℕ, List, [], ◌∷◌, ◌++◌, Option, length, map, take, get_or, refl, ap, ◌∙◌, sym, append-nil, append_assoc}
+use Rattle.std.proofs.Common.{◌≡◌, ◌<◌, ◌+◌, ℕ, List, [], ◌∷◌, ◌++◌, Option, length, map, take, get_or, ap, ◌∙◌, sym, append-nil}
 use Rattle.std.specs.Prelude.{codes, decimal}
 use Rattle.std.specs.List.{flat_map}
 use Rattle.std.proofs.lemmas.List.{map_more, take_more}
 use Rattle.std.proofs.lemmas.Grind.{flat_map-append}
-use Rattle.booth_base.specs.declared.times.Times.{Times}
 use Rattle.booth_conf.specs.Keys.{row_of}
 use Rattle.booth_conf.specs.Print.{line_text, lines_text, setting_name, setting_value, times_settings, weights_settings, handler_settings, prereq_setting, kind_word, kind_of, ticket_settings, authfile_settings, extra_setting, top_settings, printed}
 use Rattle.booth_conf.specs.Config.{ConfigSays}
@@ -15,7 +14,7 @@ use Rattle.booth_conf.specs.declared.tickets.TicketConf.{TicketConf}
 use Rattle.booth_conf.specs.declared.settings.TicketSetting.TheVariants.{Mode}
 use Rattle.booth_conf.specs.declared.settings.Setting.{Setting}
 use Rattle.booth_conf.specs.declared.settings.Setting.TheVariants.{File, Member, Of}
-use Rattle.booth_conf.proofs.PushLemmas.{two_pushed, three_pushed, four_pushed, five_pushed}
+use Rattle.booth_conf.proofs.PushLemmas.{two_pushed}
 
 pub lines_append : (xs ys : List Setting) → lines_text (xs ++ ys) ≡ lines_text xs ++ lines_text ys
 lines_append xs ys = flat_map-append (λ s. line_text (setting_name s) (setting_value s)) xs ys

@@ -1,20 +1,19 @@
 -- One more setting, and one more line.
-use Rattle.std.proofs.Common.{◌≡◌, ℕ, Bool, true, false, not, ◌&&◌, cond, nat_lt, List, [], ◌∷◌, ◌++◌, length, map, Option, Some, None, refl, arith, ap, ◌∙◌, append-nil, append_assoc}
+use Rattle.std.proofs.Common.{◌≡◌, ℕ, Bool, true, false, cond, nat_lt, List, [], ◌∷◌, ◌++◌, length, map, Option, Some, None, refl, arith, ap, ◌∙◌, append-nil}
 use Rattle.std.proofs.lemmas.List.{map-append}
 use Rattle.std.specs.List.{filter_map, cons_option}
 use Rattle.std.specs.Prelude.{is_some, option_map}
 use Rattle.std.proofs.lemmas.Bool.Decides.{nat_tests}
 use Rattle.std.proofs.lemmas.List.Elements.{filter_map-append}
-use Rattle.booth_conf.specs.Parts.{PartSays, part_of, part_clash, top_of}
+use Rattle.booth_conf.specs.Parts.{PartSays, part_of, part_clash}
 use Rattle.booth_conf.specs.Rules.{OwnKeys, own, owns, default_own, file_in, member_in, prereqs_of, named_part, Summary, summary, open_part, placed_clash, clash, said_fault, setting_said, settings, line_fault, is_misplaced, value_fault}
-use Rattle.booth_conf.specs.Steps.{added, last_added, part_added, said_added}
+use Rattle.booth_conf.specs.Steps.{added, last_added, said_added}
 use Rattle.booth_conf.specs.declared.parts.NamedPart.{NamedPart}
 use Rattle.booth_conf.specs.declared.keys.Key.{Key}
 use Rattle.booth_conf.specs.declared.members.Member.{Member as MemberOf}
 use Rattle.booth_conf.specs.declared.tickets.Prereq.{Prereq as PrereqOf}
 use Rattle.booth_conf.specs.declared.readings.Said.{Said}
 use Rattle.booth_conf.specs.declared.readings.Said.TheVariants.{Empty, Broken, Unknown, Pair}
-use Rattle.booth_conf.specs.declared.faults.LineFault.{LineFault}
 use Rattle.booth_conf.specs.declared.faults.LineFault.TheVariants.{Misplaced, Repeated, DefaultLate}
 use Rattle.booth_conf.specs.declared.settings.FileSetting.{FileSetting}
 use Rattle.booth_conf.specs.declared.settings.TicketSetting.{TicketSetting}

@@ -1,8 +1,6 @@
 -- Each text says one configuration, or has one first fault.
-use Rattle.std.proofs.Common.{◌≡◌, ◌≤◌, ◌<◌, ◌+◌, ℕ, zero, suc, Bool, true, false, List, [], ◌∷◌, length, map, take, get_or, Option, Some, None, refl, arith, ap, ◌∙◌, sym, subst, inl, inr, ◌⊎◌, below_more}
-use Rattle.booth_conf.specs.Said.{AreSaid}
-use Rattle.booth_conf.specs.Rules.{summary, settings, line_fault, AreFine, IsFirstFault}
-use Rattle.booth_conf.specs.SaidReader.{said}
+use Rattle.std.proofs.Common.{◌≡◌, ◌≤◌, ◌<◌, ◌+◌, ℕ, zero, suc, List, length, take, get_or, Option, Some, None, refl, arith, ap, ◌∙◌, sym, subst, inl, inr, ◌⊎◌, below_more}
+use Rattle.booth_conf.specs.Rules.{line_fault, AreFine, IsFirstFault}
 use Rattle.booth_conf.specs.Reads.{lines_of, said_lines, fault_at}
 use Rattle.booth_conf.specs.Config.{ConfigSays, file_fault}
 use Rattle.booth_conf.specs.Says.{said_config, Says, HasLineFault, HasFileFault, IsFault, OneAnswer}

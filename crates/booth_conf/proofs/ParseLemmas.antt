@@ -1,17 +1,16 @@
 -- What reading and filling in answer is what the text says.
-use Rattle.std.proofs.Common.{◌≡◌, ◌≤◌, ◌+◌, ℕ, Bool, true, false, ◌&&◌, cond, List, [], ◌∷◌, ◌++◌, length, map, drop, Option, Some, None, Result, Ok, Err, refl, ap, ◌∙◌, sym, subst, inl, inr, ◌⊎◌}
+use Rattle.std.proofs.Common.{◌≡◌, ◌≤◌, ◌+◌, ℕ, Bool, true, false, cond, List, [], ◌∷◌, ◌++◌, length, drop, Option, Some, None, Result, Ok, Err, refl, ap, ◌∙◌, sym, subst, inl, inr}
 use Rattle.std.specs.Prelude.{option_map, position}
 use Rattle.std.specs.List.{list_all, list_any, filter_map, enumerate_from, cons_option}
 use Rattle.booth_conf.specs.Parts.{first}
-use Rattle.booth_conf.specs.Rules.{Summary, summary, settings, AreFine}
-use Rattle.booth_conf.specs.Reads.{lines_of, said_lines, ReadsLines, IsLineFault, fault_at}
+use Rattle.booth_conf.specs.Rules.{Summary}
+use Rattle.booth_conf.specs.Reads.{lines_of, said_lines, ReadsLines, fault_at}
 use Rattle.booth_conf.specs.Config.{ConfigSays, config_of, is_site, no_site, no_ticket, is_reserved, reserved_id, has_id, same_id, time_fault, file_faults, file_fault}
 use Rattle.booth_conf.specs.Finish.{Finishes}
-use Rattle.booth_conf.specs.Says.{said_config, Says, HasLineFault, HasFileFault, IsFault, Parses}
+use Rattle.booth_conf.specs.Says.{said_config, HasLineFault, HasFileFault, IsFault, Parses}
 use Rattle.booth_conf.specs.declared.limits.TheConstants.{TEXT_BYTES}
 use Rattle.booth_conf.specs.declared.members.Member.{Member}
 use Rattle.booth_conf.specs.declared.tickets.TicketConf.{TicketConf}
-use Rattle.booth_conf.specs.declared.readings.Said.{Said}
 use Rattle.booth_conf.specs.declared.faults.ConfFault.{ConfFault}
 use Rattle.booth_conf.specs.declared.faults.ConfFault.TheVariants.{TooLarge, Syntax, UnknownKey, Misplaced, BadValue, Repeated, DefaultLate, TooMany, NoSite, NoTicket, IdClash, Renewal, RetryTime, OutOfMemory}
 use Rattle.booth_conf.specs.declared.faults.LineFault.{LineFault}

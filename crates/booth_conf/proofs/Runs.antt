@@ -1,13 +1,9 @@
 -- Settings that are taken one after the other.
-use Rattle.std.proofs.Common.{◌≡◌, ℕ, zero, suc, ◌<◌, Bool, true, false, not, ◌&&◌, List, [], ◌∷◌, ◌++◌, length, take, get_or, Option, Some, None, arith, refl, ap, ◌∙◌, sym, append-nil, append_assoc, subst}
-use Rattle.std.specs.Prelude.{is_some}
-use Rattle.booth_conf.specs.Parts.{PartSays}
-use Rattle.booth_conf.specs.Rules.{Summary, summary, settings, open_part, clash, is_misplaced, is_of_ticket, line_fault, said_fault}
+use Rattle.std.proofs.Common.{◌≡◌, ℕ, zero, suc, ◌<◌, List, [], ◌∷◌, ◌++◌, length, take, get_or, None, arith, ap, ◌∙◌, sym, append-nil, append_assoc, subst}
+use Rattle.booth_conf.specs.Rules.{Summary, summary, settings, clash, line_fault, said_fault}
 use Rattle.booth_conf.specs.Steps.{added, said_added}
-use Rattle.booth_conf.specs.Keys.{row_of}
-use Rattle.booth_conf.specs.declared.keys.Key.{Key}
 use Rattle.booth_conf.specs.declared.readings.Said.{Said}
-use Rattle.booth_conf.specs.declared.readings.Said.TheVariants.{Empty, Pair}
+use Rattle.booth_conf.specs.declared.readings.Said.TheVariants.{Empty}
 use Rattle.booth_conf.specs.declared.settings.Setting.{Setting}
 use Rattle.booth_conf.proofs.More.{line_more}
 

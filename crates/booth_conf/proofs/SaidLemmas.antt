@@ -1,15 +1,13 @@
 -- What a line says, both ways.
 use Rattle.std.proofs.Common.{◌≡◌, ◌≢◌, ℕ, Bool, true, false, List, [], ◌∷◌, map, Option, Some, None, cond, refl, ap, ◌∙◌, sym, subst}
-use Rattle.std.specs.Prelude.{bytes_eq}
 use Rattle.std.specs.List.{find}
 use Rattle.std.proofs.lemmas.Slice.Eq.{bytes_eq-Decides}
-use Rattle.booth_conf.specs.Grammar.{IsEmptyLine, IsPair}
+use Rattle.booth_conf.specs.Grammar.{IsPair}
 use Rattle.booth_conf.specs.Keys.{row_of, all_keys, is_named, key_named}
-use Rattle.booth_conf.specs.Values.{HasValue}
 use Rattle.booth_conf.specs.LineReader.{Reading, line_read}
 use Rattle.booth_conf.specs.LineReader as reads
 use Rattle.booth_conf.specs.ValueReader.{setting_in}
-use Rattle.booth_conf.specs.Said.{IsSaid, AreSaid, SaysKey, SaysUnknown, IsBroken, MakesSetting}
+use Rattle.booth_conf.specs.Said.{IsSaid, AreSaid, SaysUnknown, IsBroken, MakesSetting}
 use Rattle.booth_conf.specs.SaidReader.{said, said_of, said_by}
 use Rattle.booth_conf.specs.declared.keys.Key.{Key}
 use Rattle.booth_conf.specs.declared.keys.Key.TheVariants as keys

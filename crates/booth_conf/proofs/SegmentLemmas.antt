@@ -1,5 +1,5 @@
 -- Sixteen octets and eight segments.
-use Rattle.std.proofs.Common.{◌≡◌, ◌<◌, ◌+◌, ◌*◌, ◌/◌, ◌%◌, ◌^◌, ℕ, zero, suc, Bool, true, false, List, [], ◌∷◌, length, get_or, refl, arith, ap, sym}
+use Rattle.std.proofs.Common.{◌≡◌, ◌<◌, ◌+◌, ◌*◌, ◌/◌, ◌%◌, ◌^◌, ℕ, zero, suc, Bool, true, false, List, [], ◌∷◌, length, get_or, refl, arith, ap}
 use Rattle.std.specs.Net.Addr.{segments_of, octets_of}
 use Rattle.std.proofs.NetLemmas.Arrays.{sixteen_items}
 

@@ -1,10 +1,8 @@
 -- The line of a setting is read as that setting.
-use Rattle.std.proofs.Common.{◌≡◌, ◌≤◌, ◌<◌, ◌+◌, ◌==◌, ◌∷◌, ℕ, Bool, true, false, not, ◌&&◌, List, [], ◌++◌, length, Option, Some, None, map, refl, arith, lit<, ap, ◌∙◌, sym, subst, inl, inr, ◌⊎◌}
+use Rattle.std.proofs.Common.{◌≡◌, ◌<◌, ◌==◌, ◌∷◌, ℕ, Bool, true, false, not, ◌&&◌, List, [], ◌++◌, length, Option, Some, None, refl, arith, lit<, ap, ◌∙◌, sym, subst, inl, inr, ◌⊎◌}
 use Rattle.std.specs.Prelude.{unwrap_or, is_some, option_map, decimal, codes}
-use Rattle.std.specs.List.{list_all}
 use Rattle.std.proofs.lemmas.Bool.Decides.{nat_tests}
-use Rattle.arrayvec.specs.ArrayVec.{ArrayVec}
-use Rattle.booth_conf.specs.Keys.{row_of, number_of, key_numbered, name_at}
+use Rattle.booth_conf.specs.Keys.{row_of, key_numbered, name_at}
 use Rattle.booth_conf.specs.Values.{member_at}
 use Rattle.booth_conf.specs.ValueReader.{setting_in, number_within}
 use Rattle.booth_conf.specs.SaidReader.{said}
@@ -12,7 +10,7 @@ use Rattle.booth_conf.specs.Parts.{PartSays}
 use Rattle.booth_conf.specs.Rules.{Summary, clash, placed_clash, open_part, said_fault, is_of_ticket}
 use Rattle.booth_base.specs.Address.{printed as address_text, id_of}
 use Rattle.booth_conf.specs.Print.{setting_name, setting_value, setting_line, written, role_name}
-use Rattle.booth_conf.specs.Sound.{is_within, is_sayable, is_text, is_extra, is_member, are_weights, is_address}
+use Rattle.booth_conf.specs.Sound.{is_within, is_sayable, is_text, is_member, are_weights, is_address}
 use Rattle.booth_conf.specs.declared.keys.KeyNo.{KeyNo}
 use Rattle.booth_conf.specs.declared.keys.Key.{Key}
 use Rattle.booth_conf.specs.declared.keys.Key.TheVariants as keys
@@ -27,7 +25,6 @@ use Rattle.booth_conf.specs.declared.settings.TicketSetting.TheVariants.{Expire,
 use Rattle.booth_conf.specs.declared.settings.Setting.{Setting}
 use Rattle.booth_conf.specs.declared.settings.Setting.TheVariants.{File, Member, Ticket, Defaults, Of}
 use Rattle.booth_conf.specs.declared.readings.Said.TheVariants.{Pair}
-use Rattle.booth_conf.specs.declared.faults.LineFault.TheVariants.{Misplaced}
 use Rattle.booth_conf.proofs.FinishLemmas.{both_true}
 use Rattle.booth_conf.proofs.SettingLemmas.{is_setting}
 use Rattle.booth_conf.proofs.LineAgain.{key_said}

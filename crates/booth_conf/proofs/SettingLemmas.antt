@@ -1,16 +1,15 @@
 -- Each setting of a line has the form of its key.
-use Rattle.std.proofs.Common.{◌≡◌, ◌≢◌, ◌≤◌, ◌<◌, ◌==◌, ◌^◌, ℕ, zero, suc, Bool, true, false, not, ◌&&◌, nat_lt, nat_le, List, [], ◌∷◌, length, get_or, Option, Some, None, refl, arith, ap, ◌∙◌, sym, subst, inl, inr, eqb, eq-eqb}
-use Rattle.std.specs.Prelude.{bytes_eq, codes}
+use Rattle.std.proofs.Common.{◌≡◌, ◌≢◌, ◌<◌, ◌==◌, ◌^◌, ℕ, suc, Bool, true, false, not, nat_lt, nat_le, List, [], ◌∷◌, length, get_or, Some, refl, arith, subst, inl, inr, eq-eqb}
+use Rattle.std.specs.Prelude.{bytes_eq}
 use Rattle.std.specs.List.{list_all, list_any, slice_split}
 use Rattle.std.specs.Net.Grammar.{IsDotted}
 use Rattle.std.proofs.lemmas.Bool.Decides.{nat_tests}
 use Rattle.std.proofs.lemmas.Slice.Eq.{bytes_eq-Decides}
-use Rattle.booth_base.specs.Name.{is_name}
 use Rattle.booth_base.specs.Address.{Spells, id_of}
 use Rattle.booth_base.specs.declared.address.Address.{Address}
 use Rattle.booth_base.specs.declared.address.Address.TheVariants.{V4, V6}
-use Rattle.booth_conf.specs.Values.{IsNumber, IsText, IsCommand, IsWeight, AreWeights, IsWeightList, IsSetBy, IsTicketLine, HasValue, default_name, member_at, is_word_byte}
-use Rattle.booth_conf.specs.Said.{MakesSetting, SaysKey, IsSaid}
+use Rattle.booth_conf.specs.Values.{IsNumber, IsText, IsCommand, AreWeights, IsWeightList, IsSetBy, IsTicketLine, HasValue, default_name, member_at, is_word_byte}
+use Rattle.booth_conf.specs.Said.{SaysKey, IsSaid}
 use Rattle.booth_conf.specs.SaidReader.{said}
 use Rattle.booth_conf.specs.Sound.{is_within, is_sayable, is_text, is_command, is_extra, is_byte, is_address, is_member, is_weight, are_weights, is_prereq, is_ticket_name}
 use Rattle.booth_conf.specs.SoundDraft.{are_some_weights}

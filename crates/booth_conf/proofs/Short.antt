@@ -1,5 +1,5 @@
 -- A printed configuration is no longer than a text may be.
-use Rattle.std.proofs.Common.{◌≡◌, ◌≤◌, ◌<◌, ◌+◌, ◌*◌, ◌/◌, ◌==◌, ℕ, Bool, true, false, not, ◌&&◌, ◌||◌, cond, nat_lt, nat_le, List, [], ◌∷◌, ◌++◌, length, map, Option, Some, None, refl, arith, ap, ◌∙◌, sym, subst, lit≤, lit<, append-nil, length-append, inl, inr, ◌⊎◌, decimal}
+use Rattle.std.proofs.Common.{◌≡◌, ◌≤◌, ◌<◌, ◌+◌, ◌*◌, ◌/◌, ◌==◌, ℕ, Bool, true, false, not, ◌||◌, cond, nat_le, List, [], ◌∷◌, ◌++◌, length, map, Option, Some, None, refl, arith, ap, ◌∙◌, sym, lit≤, lit<, length-append, inl, inr, ◌⊎◌, decimal}
 use Rattle.std.specs.Prelude.{codes, unwrap_or}
 use Rattle.std.specs.List.{list_all, list_any, flat_map}
 use Rattle.std.proofs.lemmas.Fmt.{length-decimal-le}
@@ -10,10 +10,9 @@ use Rattle.booth_base.specs.Address.{printed as address_text, id_of}
 use Rattle.booth_conf.specs.Grammar.{is_other}
 use Rattle.booth_conf.specs.Keys.{row_of, name_at}
 use Rattle.booth_conf.specs.Config.{ConfigSays}
-use Rattle.booth_conf.specs.Values.{default_name}
 use Rattle.booth_conf.specs.Print.{kind_word, test_word, prereq_text, weights_text, written, pair_line, line_text, lines_text, role_name, setting_name, setting_value, authfile_settings, extra_setting, renewal_settings, weights_settings, handler_settings, prereq_setting, kind_of, times_settings, ticket_settings, top_settings, settings_of, printed}
-use Rattle.booth_conf.specs.Sound.{is_within, is_sayable, is_text, is_command, is_extra, is_address, is_member, is_weight, are_weights, is_prereq, are_prereqs, is_ticket, is_ticket_name, are_new, same_key, IsSound}
-use Rattle.booth_conf.specs.declared.limits.TheConstants.{MEMBERS, PREREQS, SECONDS, TEXT_BYTES, TICKETS, WEIGHT}
+use Rattle.booth_conf.specs.Sound.{is_within, is_sayable, is_text, is_extra, is_address, is_weight, are_weights, is_prereq, is_ticket, are_new, same_key, IsSound}
+use Rattle.booth_conf.specs.declared.limits.TheConstants.{MEMBERS, PREREQS, SECONDS, TEXT_BYTES, WEIGHT}
 use Rattle.booth_conf.specs.declared.keys.KeyNo.{KeyNo}
 use Rattle.booth_conf.specs.declared.keys.Key.{Key}
 use Rattle.booth_conf.specs.declared.keys.Key.TheVariants as keys
@@ -32,7 +31,7 @@ use Rattle.booth_conf.specs.declared.settings.Setting.{Setting}
 use Rattle.booth_conf.specs.declared.settings.Setting.TheVariants.{File, Member, Ticket, Defaults, Of}
 use Rattle.booth_conf.proofs.FinishLemmas.{both_true}
 use Rattle.booth_conf.proofs.SettingLemmas.{is_setting}
-use Rattle.booth_conf.proofs.SettingAgain.{is_printed, extra_key, ExtraFacts, extra_facts}
+use Rattle.booth_conf.proofs.SettingAgain.{is_printed, extra_key, extra_facts}
 use Rattle.booth_conf.proofs.ValueAgain.{PrereqFacts, prereq_facts}
 use Rattle.booth_conf.proofs.AddressAgain.{address_short}
 use Rattle.booth_conf.proofs.ConfigRuns.{ticket_few}

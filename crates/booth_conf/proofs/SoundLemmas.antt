@@ -1,24 +1,21 @@
 -- What is read is sound: one more setting keeps it so.
-use Rattle.std.proofs.Common.{◌≡◌, ◌≤◌, ◌<◌, ◌+◌, ℕ, zero, suc, Bool, true, false, not, ◌&&◌, cond, nat_lt, nat_le, List, [], ◌∷◌, ◌++◌, length, map, take, get_or, Option, Some, None, Result, Ok, Err, refl, arith, ap, ◌∙◌, sym, subst, append-nil, append_assoc}
-use Rattle.std.specs.Prelude.{is_some, option_map, IfOk}
+use Rattle.std.proofs.Common.{◌≡◌, ◌≤◌, ◌<◌, ◌+◌, ℕ, zero, suc, Bool, true, false, not, ◌&&◌, nat_lt, nat_le, List, [], ◌∷◌, ◌++◌, length, map, take, get_or, Option, Some, None, Result, Ok, Err, refl, arith, ap, ◌∙◌, sym, subst, append-nil, append_assoc}
+use Rattle.std.specs.Prelude.{option_map, IfOk}
 use Rattle.std.specs.List.{list_all, list_any}
 use Rattle.std.proofs.lemmas.List.{length_push, length-map, get_or-map, take_all}
 use Rattle.std.proofs.lemmas.Bool.Decides.{nat_tests}
-use Rattle.booth_conf.specs.Parts.{PartSays, once, below, has_key, part_of, top_clash, part_clash}
-use Rattle.booth_conf.specs.Rules.{Summary, summary, settings, clash, or_below, open_part, placed_clash, prereqs_of, said_fault, line_fault, AreFine, is_at, has_name}
+use Rattle.booth_conf.specs.Parts.{PartSays, below, part_of, top_clash, part_clash}
+use Rattle.booth_conf.specs.Rules.{Summary, summary, settings, clash, or_below, open_part, placed_clash, prereqs_of, said_fault, AreFine, is_at, has_name}
 use Rattle.booth_conf.specs.Steps.{added, last_added, part_added, placed, said_added, begun}
 use Rattle.booth_conf.specs.SaidReader.{said}
 use Rattle.booth_conf.specs.Reads.{lines_of, said_lines, ReadsLines}
-use Rattle.booth_conf.specs.Sound.{is_within, each, is_command, is_prereq, are_prereqs, is_extra, is_member, is_ticket_name, are_new, same_key, same_member}
-use Rattle.booth_conf.specs.SoundDraft.{are_some_weights, is_part, is_named_part, same_part, IsSoundDraft}
+use Rattle.booth_conf.specs.Sound.{each, is_prereq, are_prereqs, is_extra, is_member, is_ticket_name, are_new, same_key, same_member}
+use Rattle.booth_conf.specs.SoundDraft.{is_part, is_named_part, same_part, IsSoundDraft}
 use Rattle.booth_conf.specs.declared.limits.TheConstants.{MEMBERS, TICKETS, PREREQS}
-use Rattle.booth_conf.specs.declared.keys.Key.{Key}
 use Rattle.booth_conf.specs.declared.members.Member.{Member as MemberOf}
 use Rattle.booth_conf.specs.declared.tickets.Prereq.{Prereq as PrereqOf}
 use Rattle.booth_conf.specs.declared.parts.NamedPart.{NamedPart}
 use Rattle.booth_conf.specs.declared.faults.ConfFault.{ConfFault}
-use Rattle.booth_conf.specs.declared.faults.LineFault.{LineFault}
-use Rattle.booth_conf.specs.declared.faults.LineFault.TheVariants.{Repeated, Misplaced}
 use Rattle.booth_conf.specs.declared.settings.FileSetting.{FileSetting}
 use Rattle.booth_conf.specs.declared.settings.FileSetting.TheVariants.{Port, Transport, Authfile, Skew, Extra}
 use Rattle.booth_conf.specs.declared.settings.TicketSetting.{TicketSetting}
@@ -30,7 +27,7 @@ use Rattle.booth_conf.specs.declared.readings.Said.TheVariants.{Empty, Broken, U
 use Rattle.booth_conf.proofs.KeyLemmas.{not_given}
 use Rattle.booth_conf.proofs.FinishLemmas.{both_true, PartFacts, part_facts}
 use Rattle.booth_conf.proofs.SettingLemmas.{is_setting, line_form}
-use Rattle.booth_conf.proofs.More.{pair_fine, line_more}
+use Rattle.booth_conf.proofs.More.{pair_fine}
 use Rattle.booth_conf.proofs.Turns.{AtLine, draft_more}
 
 -- LISTS
@@ -97,11 +94,6 @@ last_sound defaults (t ∷ []) s h l c w =
 last_sound defaults (t ∷ u ∷ us) s h l c w =
     let b = both_true (is_named_part t) (list_all is_named_part (u ∷ us)) h in
     rw b.0 (last_sound defaults (u ∷ us) s b.1 (omega arith) c w)
-
-last_any : (n : NamedPart) (ts : List NamedPart) (s : TicketSetting) → list_any (same_part n) (last_added ts s) ≡ list_any (same_part n) ts
-last_any n [] s = refl
-last_any n (t ∷ []) s = refl
-last_any n (t ∷ u ∷ us) s = rw (last_any n (u ∷ us) s) refl
 
 last_new : (before ts : List NamedPart) (s : TicketSetting) → are_new same_part before ts ≡ true → are_new same_part before (last_added ts s) ≡ true
 last_new before [] s h = refl

@@ -1,11 +1,11 @@
 -- One more line of a text.
 use Rattle.std.proofs.Common.{arith, ◌≡◌, ℕ, ◌+◌, ◌<◌, List, [], ◌∷◌, ◌++◌, length, take, map, get_or, Some, None, Err, ap, ◌∙◌, sym, refl, below_more, inl, inr}
-use Rattle.std.proofs.lemmas.List.{get_or_read, take_more, length-map, get_or-map}
+use Rattle.std.proofs.lemmas.List.{take_more, length-map, get_or-map}
 use Rattle.booth_conf.specs.Rules.{Summary, summary, settings, line_fault, said_fault, IsFirstFault}
 use Rattle.booth_conf.specs.Steps.{said_added}
 use Rattle.booth_conf.specs.SaidReader.{said}
 use Rattle.booth_conf.specs.Answers.{Answers}
-use Rattle.booth_conf.specs.Reads.{ReadsLines, IsLineFault, at_line}
+use Rattle.booth_conf.specs.Reads.{ReadsLines, at_line}
 use Rattle.booth_conf.specs.declared.readings.Said.{Said}
 use Rattle.booth_conf.specs.declared.readings.Said.TheVariants.{Empty}
 use Rattle.booth_conf.specs.declared.faults.LineFault.{LineFault}

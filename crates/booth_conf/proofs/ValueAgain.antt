@@ -1,33 +1,26 @@
 -- A printed value is read as the same.
-use Rattle.std.proofs.Common.{◌≡◌, ◌<◌, ◌≤◌, ◌+◌, ◌-◌, ◌*◌, ◌/◌, ◌%◌, ◌==◌, ℕ, zero, suc, Bool, true, false, not, ◌&&◌, ◌||◌, cond, nat_lt, nat_le, List, [], ◌∷◌, ◌++◌, length, get_or, Option, Some, None, All, refl, arith, ap, ◌∙◌, sym, subst, decimal, append-nil, append_assoc, eqb-true}
-use Rattle.std.specs.Prelude.{option_and_then, option_map, bytes_eq}
+use Rattle.std.proofs.Common.{◌≡◌, ◌<◌, ◌≤◌, ◌+◌, ◌-◌, ◌*◌, ◌/◌, ◌%◌, ◌==◌, ℕ, Bool, true, false, not, ◌&&◌, nat_lt, nat_le, List, [], ◌∷◌, ◌++◌, length, Some, refl, arith, ap, ◌∙◌, sym, subst, decimal, append-nil}
+use Rattle.std.specs.Prelude.{bytes_eq}
 use Rattle.std.specs.List.{list_all, list_any, flat_map, slice_split, onto_first}
-use Rattle.std.specs.Net.Addr.{segments_of}
 use Rattle.std.proofs.lemmas.Fmt.{decimal_by_steps, length-decimal-le, decimal_nonempty}
 use Rattle.std.proofs.lemmas.List.Sums.{fold-append}
 use Rattle.std.proofs.lemmas.List.Folds.{list_all-append}
 use Rattle.std.proofs.lemmas.List.Splits.{slice_split-cons_no}
 use Rattle.std.proofs.lemmas.Bool.Decides.{nat_tests}
 use Rattle.booth_base.specs.Name.{is_name, is_value, is_name_byte}
-use Rattle.booth_base.specs.Address.{IsAddress, printed as address_text, id_of}
-use Rattle.booth_base.specs.declared.address.Address.{Address}
-use Rattle.booth_base.specs.declared.address.Address.TheVariants.{V4, V6}
-use Rattle.booth_base.proofs.AddressLemmas.{printed_spells}
-use Rattle.booth_conf.specs.Grammar.{is_value_byte, is_other, begins_bare, stays_bare}
-use Rattle.booth_conf.specs.Values.{is_digit, worth, is_gap, is_word_byte, is_word, begins_gap, AreWords, IsNumber, IsWeight, AreWeights, IsWeightList, IsPrereq, IsKindWord, IsTestWord, member_at, default_name}
-use Rattle.booth_conf.specs.ValueReader.{number_in, number_within, text_in, command_in, address_in, weights_in, prereq_in, ticket_in, name_in}
+use Rattle.booth_conf.specs.Grammar.{is_value_byte, is_other}
+use Rattle.booth_conf.specs.Values.{is_digit, worth, is_word_byte, is_word, begins_gap, AreWords, IsWeight, AreWeights, IsKindWord, IsTestWord, default_name}
+use Rattle.booth_conf.specs.ValueReader.{number_in, number_within, text_in, command_in, weights_in, prereq_in, ticket_in}
 use Rattle.booth_conf.specs.Print.{kind_word, test_word, prereq_text, weights_text}
-use Rattle.booth_conf.specs.Sound.{is_within, is_sayable, is_text, is_command, is_byte, is_address, is_member, is_weight, are_weights, is_prereq, is_ticket_name}
+use Rattle.booth_conf.specs.Sound.{is_within, is_sayable, is_text, is_command, is_weight, are_weights, is_prereq, is_ticket_name}
 use Rattle.booth_conf.specs.declared.limits.TheConstants.{MEMBERS, WEIGHT}
-use Rattle.booth_conf.specs.declared.members.Member.{Member}
 use Rattle.booth_conf.specs.declared.tickets.GrantKind.{GrantKind}
 use Rattle.booth_conf.specs.declared.tickets.GrantKind.TheVariants.{Auto, Manual}
 use Rattle.booth_conf.specs.declared.tickets.Prereq.{Prereq}
 use Rattle.booth_conf.specs.declared.settings.Setting.TheVariants.{Ticket}
 use Rattle.booth_conf.proofs.FinishLemmas.{both_true}
-use Rattle.booth_conf.proofs.AddressLemmas.{address_only}
 use Rattle.booth_conf.proofs.Forms.{weights_only, prereq_only}
-use Rattle.booth_conf.proofs.SayLemmas.{is_formed, first_form, name_bytes, value_bytes}
+use Rattle.booth_conf.proofs.SayLemmas.{name_bytes}
 use Rattle.booth_base.specs.declared.text.TheConstants.{PATH_BYTES}
 
 -- NUMBERS

@@ -1,9 +1,9 @@
 -- The first fault of the whole file.
-use Rattle.std.proofs.Common.{◌≡◌, ◌<◌, ◌++◌, ℕ, true, List, [], ◌∷◌, Option, length, refl, arith, ap, ◌∙◌, sym}
+use Rattle.std.proofs.Common.{◌≡◌, ◌<◌, ◌++◌, true, List, [], ◌∷◌, Option, length, refl, arith, sym}
 use Rattle.std.specs.List.{list_any, filter_map, enumerate_from}
 use Rattle.std.specs.Option.{option_or}
 use Rattle.booth_conf.specs.Parts.{first}
-use Rattle.booth_conf.specs.Config.{is_site, no_site, no_ticket, reserved_id, same_id, time_fault, file_fault}
+use Rattle.booth_conf.specs.Config.{is_site, reserved_id, same_id, time_fault, file_fault}
 use Rattle.booth_conf.specs.declared.members.Member.{Member}
 use Rattle.booth_conf.specs.declared.tickets.TicketConf.{TicketConf}
 use Rattle.booth_conf.specs.declared.faults.ConfFault.{ConfFault}

@@ -1,9 +1,9 @@
 -- Words between gaps, both ways.
-use Rattle.std.proofs.Common.{◌≡◌, ℕ, Bool, true, false, List, [], ◌∷◌, ◌++◌, Option, Some, None, cond, refl, arith, ap, ◌∙◌, sym, subst, append-nil}
+use Rattle.std.proofs.Common.{◌≡◌, ℕ, true, false, List, [], ◌∷◌, ◌++◌, Option, Some, None, refl, arith, ap, ◌∙◌, sym, subst, append-nil}
 use Rattle.std.specs.Prelude.{is_some}
 use Rattle.std.specs.List.{list_all}
 use Rattle.std.proofs.lemmas.Bool.Decides.{nat_tests}
-use Rattle.std.proofs.NetLemmas.Options.{cond_none, cond_some}
+use Rattle.std.proofs.NetLemmas.Options.{cond_none}
 use Rattle.booth_conf.specs.Grammar.{past}
 use Rattle.booth_conf.specs.LineReader.{front}
 use Rattle.booth_conf.specs.Values.{is_gap, is_word_byte, is_word, begins_gap, AreWords}
@@ -28,10 +28,6 @@ stops_gap (b ∷ bs) h = grind (arith, nat_tests)
 gap_stops : (xs : List ℕ) → begins_gap xs ≡ true → stops is_word_byte xs ≡ true
 gap_stops [] h = refl
 gap_stops (b ∷ bs) h = grind (arith, nat_tests)
-
-word_all : (word : List ℕ) → is_word word ≡ true → list_all is_word_byte word ≡ true
-word_all [] h = cc
-word_all (b ∷ bs) h = h
 
 word_stops : (word rest : List ℕ) → is_word word ≡ true → stops is_gap (word ++ rest) ≡ true
 word_stops [] rest h = cc

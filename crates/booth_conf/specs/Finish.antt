@@ -1,5 +1,5 @@
 -- What filling in the defaults answers, and what a configuration's readers answer.
-use Rattle.std.specs.Prelude.{◌≡◌, ◌<◌, ℕ, Bool, ◌&&◌, ◌||◌, ◌==◌, nat_lt, List, length, count_by, Some, None, Result, Ok, Err, ◌⊎◌, slice_index, slice_get, bytes_eq, []}
+use Rattle.std.specs.Prelude.{◌≡◌, ℕ, Bool, ◌&&◌, ◌||◌, ◌==◌, nat_lt, List, count_by, Some, None, Result, Ok, Err, ◌⊎◌, slice_index, slice_get, bytes_eq, []}
 use Rattle.std.specs.List.{enumerate_from}
 use Rattle.std.specs.Option.{option_map_or}
 use Rattle.booth_conf.specs.Rules.{Summary}

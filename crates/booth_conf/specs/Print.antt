@@ -1,5 +1,5 @@
 -- The text of a configuration: one line a key, as `key = value`.
-use Rattle.std.specs.Prelude.{ℕ, Bool, true, false, ◌==◌, ◌/◌, List, [], ◌∷◌, ◌++◌, length, map, flat_map, Option, Some, None, unwrap_or, if◌then◌else◌, codes, decimal}
+use Rattle.std.specs.Prelude.{ℕ, Bool, true, false, ◌==◌, ◌/◌, List, [], ◌∷◌, ◌++◌, map, flat_map, Option, Some, None, unwrap_or, if◌then◌else◌, codes, decimal}
 use Rattle.std.specs.List.{list_all}
 use Rattle.booth_base.specs.Address.{printed as address_text}
 use Rattle.booth_base.specs.declared.times.Times.{Times}
@@ -9,7 +9,6 @@ use Rattle.booth_conf.specs.Values.{default_name}
 use Rattle.booth_conf.specs.Config.{ConfigSays}
 use Rattle.booth_conf.specs.declared.keys.KeyNo.{KeyNo}
 use Rattle.booth_conf.specs.declared.keys.Key.TheVariants as keys
-use Rattle.booth_conf.specs.declared.members.Member.{Member as MemberOf}
 use Rattle.booth_conf.specs.declared.tickets.GrantKind.{GrantKind}
 use Rattle.booth_conf.specs.declared.tickets.GrantKind.TheVariants.{Auto, Manual}
 use Rattle.booth_conf.specs.declared.tickets.Prereq.{Prereq as PrereqOf}

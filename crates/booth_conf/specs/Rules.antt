@@ -19,7 +19,7 @@ use Rattle.booth_conf.specs.declared.settings.Setting.TheVariants.{File, Member,
 use Rattle.booth_conf.specs.declared.readings.Said.{Said}
 use Rattle.booth_conf.specs.declared.readings.Said.TheVariants.{Empty, Broken, Unknown, Pair}
 use Rattle.booth_conf.specs.declared.faults.LineFault.{LineFault}
-use Rattle.booth_conf.specs.declared.faults.LineFault.TheVariants.{Syntax, UnknownKey, Misplaced, BadValue, Repeated, DefaultLate, TooMany}
+use Rattle.booth_conf.specs.declared.faults.LineFault.TheVariants.{Syntax, UnknownKey, Misplaced, BadValue, Repeated, DefaultLate}
 
 -- THE SETTINGS OF A TEXT
 

@@ -1,5 +1,5 @@
 -- The configuration that a text says, or the first fault of the text.
-use Rattle.std.specs.Prelude.{◌≡◌, ◌≤◌, ◌<◌, ◌+◌, ℕ, List, length, Option, Some, None, Result, Ok, Err, ◌⊎◌}
+use Rattle.std.specs.Prelude.{◌≡◌, ◌≤◌, ◌<◌, ◌+◌, ℕ, List, length, Some, None, Result, Ok, Err, ◌⊎◌}
 use Rattle.booth_conf.specs.Said.{AreSaid}
 use Rattle.booth_conf.specs.Rules.{summary, settings, AreFine, IsFirstFault}
 use Rattle.booth_conf.specs.Reads.{lines_of}

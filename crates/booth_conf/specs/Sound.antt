@@ -1,5 +1,5 @@
 -- What is true of each configuration that a text says.
-use Rattle.std.specs.Prelude.{◌≡◌, ◌≤◌, ◌<◌, ℕ, Bool, true, false, ◌&&◌, ◌||◌, not, nat_le, nat_lt, ◌==◌, ◌*◌, ◌/◌, List, [], ◌∷◌, ◌++◌, length, Option, Some, None, is_some, bytes_eq}
+use Rattle.std.specs.Prelude.{◌≡◌, ◌≤◌, ◌<◌, ℕ, Bool, true, false, ◌&&◌, ◌||◌, not, nat_le, nat_lt, ◌==◌, ◌+◌, ◌*◌, ◌/◌, List, [], ◌∷◌, ◌++◌, length, Option, Some, None, is_some, bytes_eq}
 use Rattle.std.specs.List.{list_all, list_any}
 use Rattle.booth_base.specs.Name.{is_name, is_value}
 use Rattle.booth_base.specs.Address.{id_of}
@@ -112,3 +112,13 @@ pub record IsSound (c : ConfigSays) : Type 0 where
   pub new_tickets : are_new same_ticket [] c.tickets ≡ true
   pub few_tickets : length c.tickets ≤ TICKETS
   pub no_fault : is_some (file_fault c.members c.tickets) ≡ false
+
+-- times in milliseconds that the rules of a ticket can count with
+pub record HasTimes (t : TicketConf) : Type 0 where
+  pub some : 0 < t.times.expire
+  pub expire : t.times.expire ≤ 1000 * SECONDS
+  pub after : t.times.after ≤ 1000 * SECONDS
+  pub timeout : t.times.timeout ≤ 1000 * SECONDS
+  pub retries : t.times.retries ≤ 100
+  pub renewal : t.times.renewal < t.times.expire
+  pub resends : t.times.timeout * (t.times.retries + 1) < t.times.renewal

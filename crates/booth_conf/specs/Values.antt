@@ -1,7 +1,6 @@
 -- The form of each key's value. There is no reader in it.
 use Rattle.std.specs.Prelude.{◌≡◌, ◌≢◌, ◌≤◌, ◌<◌, ℕ, Bool, true, false, ◌&&◌, ◌||◌, not, nat_le, ◌==◌, ◌+◌, ◌-◌, ◌*◌, List, [], ◌∷◌, ◌++◌, length, fold, codes, ◌⊎◌}
 use Rattle.std.specs.List.{list_all, list_any, slice_split}
-use Rattle.arrayvec.specs.ArrayVec.{ArrayVec}
 use Rattle.booth_base.specs.Name.{is_name, is_value}
 use Rattle.booth_base.specs.Address.{Spells, id_of}
 use Rattle.booth_base.specs.declared.address.Address.{Address}

@@ -1,12 +1,13 @@
 //! The configuration as a value.
 ghost use Rattle.std.specs.Prelude.{◌≡◌, ◌≤◌, ◌<◌, true, length, position, slice_get, IfOk, OnOk, IsTrue, IsSomeAnd, List, ℕ, [], unwrap_or};
+ghost use Rattle.std.specs.List.{All};
 ghost use Rattle.std.specs.Option.{option_copied};
 ghost use Rattle.booth_conf.specs.Config.{ConfigSays, has_id};
 ghost use Rattle.booth_conf.specs.Finish.{Finishes, is_called, rank_of, weights_at};
 ghost use Rattle.booth_conf.specs.Parts.{part_of};
 ghost use Rattle.booth_conf.specs.Print.{printed};
 ghost use Rattle.booth_conf.specs.Says.{Parses, Says};
-ghost use Rattle.booth_conf.specs.Sound.{IsSound};
+ghost use Rattle.booth_conf.specs.Sound.{HasTimes, IsSound};
 ghost use Rattle.booth_conf.specs.SoundDraft.{IsSoundDraft};
 
 use crate::drafts::{Draft, NamesAndParts};
@@ -169,6 +170,7 @@ impl Config {
     pub fn tickets(&self) -> &[TicketConf]
         ensures value { result.now ≡ self.now.tickets }
         ensures few { length result.now ≤ TICKETS }
+        ensures times { All HasTimes result.now }
     {
         &self.tickets
     }
@@ -192,7 +194,8 @@ impl Config {
     pub fn rank(&self, ticket: usize, member: usize) -> u32
         requires ticket { ticket < length self.now.tickets }
         requires site { IsSomeAnd (slice_get self.now.members member) (λ m. IsTrue m.site) }
-        ensures { result ≡ rank_of self.now.members (weights_at self.now.tickets ticket) member }
+        ensures exact { result ≡ rank_of self.now.members (weights_at self.now.tickets ticket) member }
+        ensures few { result < MEMBERS }
     {
         rank(&self.members, &self.tickets[ticket].weights, member)
     }

@@ -1,7 +1,5 @@
 use Rattle.std.proofs.Common.{◌≡◌, ◌++◌, map, take}
-use Rattle.std.specs.List.{flat_map}
-use Rattle.booth_conf.specs.Print.{lines_text, prereq_setting, ticket_settings}
-use Rattle.booth_conf.specs.declared.settings.Setting.TheVariants.{Member}
+use Rattle.booth_conf.specs.Print.{lines_text, prereq_setting}
 use Rattle.booth_conf.proofs.print_tickets.push_prereqs.Given as goal
 
 abbrev pub invariant-loop-prereq : goal.invariant-loop-prereq

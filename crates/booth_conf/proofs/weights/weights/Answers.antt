@@ -1,4 +1,4 @@
-use Rattle.std.proofs.Common.{rules, tests, arith, ◌≡◌, ◌+◌, ◌<◌, ◌≤◌, ℕ, List, Some, None, length, drop, get_or, eqb, ap, ◌∙◌, sym}
+use Rattle.std.proofs.Common.{rules, tests, arith, ◌≡◌, ◌+◌, ◌<◌, ◌≤◌, ℕ, List, length, drop, get_or, eqb, ap, ◌∙◌, sym}
 use Rattle.std.specs.List.{slice_split}
 use Rattle.std.specs.Prelude.{option_and_then}
 use Rattle.std.proofs.lemmas.List.{length_push}

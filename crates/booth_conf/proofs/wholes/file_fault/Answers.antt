@@ -1,4 +1,4 @@
-use Rattle.std.proofs.Common.{◌≡◌, ◌<◌, true, length, arith, rules, ap, ◌∙◌, sym}
+use Rattle.std.proofs.Common.{◌≡◌, ◌<◌, true, length, arith, rules, ap, ◌∙◌}
 use Rattle.std.specs.List.{list_any}
 use Rattle.std.specs.Option.{option_or}
 use Rattle.std.proofs.lemmas.Bool.Decides.{nat_tests}

@@ -1,4 +1,4 @@
-use Rattle.std.proofs.Common.{◌∙◌, sym, ap}
+use Rattle.std.proofs.Common.{◌∙◌, sym}
 use Rattle.booth_conf.proofs.LastLemmas.{names_kept}
 use Rattle.booth_conf.proofs.drafts.PartList.add.Goals as goal
 
