@@ -1,0 +1,4 @@
+pub mod KeyLemmas
+pub mod MacLemmas
+pub mod SealLemmas
+pub mod GateLemmas

@@ -1,0 +1,11 @@
+pub use Rattle.booth_conf.specs.Config
+pub use Rattle.booth_conf.specs.Finish
+pub use Rattle.booth_wire.specs.Letter
+pub use Rattle.booth_wire.specs.Layout
+pub use Rattle.booth_wire.specs.Reading
+pub use Rattle.booth_wire.specs.Spelling
+pub mod Key
+pub mod Mac
+pub mod Verdict
+pub mod Sealed
+pub mod Laws

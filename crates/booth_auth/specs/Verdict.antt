@@ -1,0 +1,128 @@
+-- The gate: which datagrams get in, and for which fault each of the others is dropped.
+use Rattle.std.specs.Prelude.{◌≡◌, ℕ, ◌+◌, ◌-◌, ◌/◌, Bool, false, not, ◌&&◌, ◌||◌, ◌==◌, nat_lt, if◌then◌else◌, List, [], ◌∷◌, length, position, is_some, Option, Some, None, Result, Ok, Err, bytes_eq}
+use Rattle.std.specs.List.{list_any}
+use Rattle.booth_base.specs.declared.address.MemberId.{MemberId}
+use Rattle.booth_base.specs.declared.address.TheConstants.{NO_ONE}
+use Rattle.booth_conf.specs.Config.{ConfigSays, has_id}
+use Rattle.booth_conf.specs.Finish.{is_called}
+use Rattle.booth_conf.specs.declared.members.Member.{Member}
+use Rattle.booth_wire.specs.declared.command.Cmd.{Cmd}
+use Rattle.booth_wire.specs.declared.command.Cmd.TheVariants as cmds
+use Rattle.booth_wire.specs.declared.command.Direction.{Direction}
+use Rattle.booth_wire.specs.declared.command.Direction.TheVariants.{ToDaemon, ToClient, BetweenMembers}
+use Rattle.booth_wire.specs.declared.message.FrameFault.{FrameFault}
+use Rattle.booth_wire.specs.declared.message.Head.{Head}
+use Rattle.booth_wire.specs.declared.message.Message.{Message}
+use Rattle.booth_wire.specs.declared.message.TicketPart.{TicketPart}
+use Rattle.booth_wire.specs.Command.{code_of, direction_of}
+use Rattle.booth_wire.specs.Letter.{Content, Bare, Ticket, Attr, Text, Letter, letter_of}
+use Rattle.booth_wire.specs.Layout.{field_at}
+use Rattle.booth_wire.specs.Reading.{decoded}
+use Rattle.booth_wire.specs.Spelling.{before_auth}
+use Rattle.booth_auth.specs.Mac.{mac}
+use Rattle.booth_auth.specs.declared.admission.DropFault.{DropFault}
+use Rattle.booth_auth.specs.declared.admission.DropFault.TheVariants as faults
+
+-- ---- the key
+
+-- there is a key, and the frame has no authentication part
+abbrev pub lacks_mac : Option (List ℕ) → Head → Bool
+lacks_mac None h = false
+lacks_mac (Some key) h = not h.auth
+
+-- The MAC of a frame is the first 20 of its hash bytes, which stand behind the hash id. It is right
+-- where it is that of all bytes before the authentication part.
+abbrev pub is_mac_right : List ℕ → List ℕ → Bool
+is_mac_right key bytes =
+    bytes_eq (field_at (length bytes - 24) 20 bytes) (mac key (before_auth bytes))
+
+abbrev pub has_wrong_mac : Option (List ℕ) → List ℕ → Bool
+has_wrong_mac None bytes = false
+has_wrong_mac (Some key) bytes = not (is_mac_right key bytes)
+
+-- there is a key, and the sender's clock is more than `skew` seconds behind this one, which reads
+-- `now` ms
+abbrev pub is_too_old : Option (List ℕ) → ℕ → ℕ → Head → Bool
+is_too_old None skew now h = false
+is_too_old (Some key) skew now h = nat_lt (h.secs + skew) (now / 1000)
+
+-- ---- the sender
+
+abbrev pub is_member : ConfigSays → MemberId → Bool
+is_member config id = is_some (position (has_id id) config.members)
+
+-- Clients are nobody, members are in the configuration, and daemons do not take their own answers.
+abbrev pub may_come_from : ConfigSays → Direction → MemberId → Bool
+may_come_from config ToDaemon from = from.0 == 0
+may_come_from config BetweenMembers from = is_member config from
+may_come_from config ToClient from = false
+
+abbrev pub is_stranger : ConfigSays → Head → Bool
+is_stranger config h = not (may_come_from config (direction_of h.cmd) h.from)
+
+-- ---- what members say of a ticket
+
+-- what a member command says of a ticket; a client's command says nothing here
+abbrev pub member_part : Direction → Content → Option TicketPart
+member_part BetweenMembers (Ticket part) = Some part
+member_part BetweenMembers Bare = None
+member_part BetweenMembers (Attr part) = None
+member_part BetweenMembers (Text text) = None
+member_part ToDaemon content = None
+member_part ToClient content = None
+
+abbrev pub part_of_member : Letter → Option TicketPart
+part_of_member l = member_part (direction_of l.head.cmd) l.content
+
+abbrev pub names_no_ticket : ConfigSays → Option TicketPart → Bool
+names_no_ticket config None = false
+names_no_ticket config (Some part) = not (is_some (position (is_called part.ticket) config.tickets))
+
+abbrev pub is_site_of : MemberId → Member → Bool
+is_site_of id m = m.site && has_id id m
+
+-- nobody, or a site: arbitrators hold no tickets
+abbrev pub may_lead : ConfigSays → MemberId → Bool
+may_lead config id = id.0 == NO_ONE.0 || list_any (is_site_of id) config.members
+
+-- the commands of a ticket's leader, or of a member that would be it
+abbrev pub leads : Cmd → Bool
+leads cmd = list_any (λ c. code_of c == code_of cmd) (cmds.RVot ∷ cmds.HrtB ∷ cmds.UpdE ∷ [])
+
+abbrev pub names_no_leader : ConfigSays → Head → Option TicketPart → Bool
+names_no_leader config h None = false
+names_no_leader config h (Some part) =
+    not (may_lead config part.leader) || (leads h.cmd && not (part.leader.0 == h.from.0))
+
+-- ---- the first fault
+
+-- Each fault under its condition, in the order in which they are told.
+abbrev pub admitted : ConfigSays → MemberId → Letter → Result Letter DropFault
+admitted config me l =
+    if is_stranger config l.head then Err faults.Stranger else
+    if l.head.from.0 == me.0 then Err faults.Own else
+    if names_no_ticket config (part_of_member l) then Err faults.Ticket else
+    if names_no_leader config l.head (part_of_member l) then Err faults.Leader else Ok l
+
+abbrev pub judged :
+    ConfigSays → Option (List ℕ) → MemberId → ℕ → List ℕ → Letter → Result Letter DropFault
+judged config key me now bytes l =
+    if lacks_mac key l.head then Err faults.NoMac else
+    if has_wrong_mac key bytes then Err faults.BadMac else
+    if is_too_old key config.skew now l.head then Err faults.TooOld else admitted config me l
+
+abbrev pub judged_if_read :
+    ConfigSays → Option (List ℕ) → MemberId → ℕ → List ℕ → Result Letter FrameFault →
+    Result Letter DropFault
+judged_if_read config key me now bytes (Err fault) = Err (faults.Frame fault)
+judged_if_read config key me now bytes (Ok l) = judged config key me now bytes l
+
+-- what a member that is `me` makes of these bytes, at a reading of its clock in ms: the letter, or the
+-- first of eight faults
+abbrev pub verdict : ConfigSays → Option (List ℕ) → MemberId → ℕ → List ℕ → Result Letter DropFault
+verdict config key me now bytes = judged_if_read config key me now bytes (decoded bytes)
+
+-- a message or a fault, against a verdict
+abbrev pub Passes : Result Message DropFault → Result Letter DropFault → Type 0
+Passes (Ok m) judged = judged ≡ Ok (letter_of m)
+Passes (Err fault) judged = judged ≡ Err fault

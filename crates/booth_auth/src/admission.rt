@@ -1,0 +1,183 @@
+//! The gate: it lets a datagram in, or drops it for its first fault.
+ghost use Rattle.std.specs.Prelude.{◌≡◌, ◌≤◌, not, length};
+ghost use Rattle.std.specs.List.{list_any};
+ghost use Rattle.std.specs.Option.{option_copied};
+ghost use Rattle.booth_wire.specs.Command.{direction_of};
+ghost use Rattle.booth_wire.specs.Letter.{letter_of, content_of};
+ghost use Rattle.booth_auth.specs.Verdict.{lacks_mac, is_mac_right, has_wrong_mac, is_too_old, is_member, is_stranger, member_part, part_of_member, names_no_ticket, is_site_of, may_lead, leads, names_no_leader, admitted, verdict, Passes};
+
+use crate::key::Key;
+use crate::mac::{AUTH_BYTES, ID_BYTES, MAC_BYTES, are_equal, hmac};
+use booth_base::{MemberId, NO_ONE};
+use booth_conf::{Config, Member};
+use booth_wire::{Body, Cmd, Direction, FrameFault, Head, Message, TicketPart, decode};
+use thiserror::Error;
+
+/// Why a datagram is dropped. The first that holds is told, in this order.
+#[derive(Clone, Copy, Debug, PartialEq, Eq, Drop, Error)]
+pub enum DropFault {
+    #[error("it is no frame: {0}")]
+    Frame(FrameFault),
+    #[error("there is a key, and no MAC")]
+    NoMac,
+    #[error("the MAC is wrong")]
+    BadMac,
+    #[error("the sender's clock is too far behind")]
+    TooOld,
+    #[error("nobody may send this command from there")]
+    Stranger,
+    #[error("it is this member's own")]
+    Own,
+    #[error("the ticket is not in the configuration")]
+    Ticket,
+    #[error("the leader may not be the leader")]
+    Leader,
+}
+
+fn lacks_mac(key: Option<&Key>, head: &Head) -> bool
+    ensures { result ≡ lacks_mac (option_copied key.entry) head.now }
+{
+    key.is_some() && !head.auth
+}
+
+fn is_mac_right(key: &Key, bytes: &[u8]) -> bool
+    requires { AUTH_BYTES ≤ length bytes.now }
+    ensures { result ≡ is_mac_right key.now bytes.now }
+{
+    let before = bytes.len() - AUTH_BYTES;
+    let shown = before + ID_BYTES;
+    are_equal(
+        &bytes[shown..shown + MAC_BYTES],
+        &hmac(key, &bytes[..before]),
+    )
+}
+
+fn has_wrong_mac(key: Option<&Key>, bytes: &[u8]) -> bool
+    requires { AUTH_BYTES ≤ length bytes.now }
+    ensures { result ≡ has_wrong_mac (option_copied key.entry) bytes.now }
+{
+    match key {
+        Some(key) => !is_mac_right(key, bytes),
+        None => false,
+    }
+}
+
+fn is_too_old(key: Option<&Key>, skew: u64, now: u64, head: &Head) -> bool
+    ensures { result ≡ is_too_old (option_copied key.entry) skew now head.now }
+{
+    key.is_some() && u64::from(head.secs).saturating_add(skew) < now / 1000
+}
+
+fn is_stranger(config: &Config, head: &Head) -> bool
+    ensures { result ≡ is_stranger config.now head.now }
+{
+    match head.cmd.direction() {
+        Direction::ToDaemon => head.from.0 != 0,
+        Direction::BetweenMembers => config.member(head.from).is_none(),
+        Direction::ToClient => true,
+    }
+}
+
+fn part_of_member<'m>(message: &'m Message<'_>) -> Option<&'m TicketPart>
+    ensures { option_copied result ≡ part_of_member (letter_of message.now) }
+{
+    match message.head.cmd.direction() {
+        Direction::BetweenMembers => match &message.body {
+            Body::Ticket(part) => Some(part),
+            Body::Bare | Body::Attr(_) | Body::Text(_) => None,
+        },
+        Direction::ToDaemon | Direction::ToClient => None,
+    }
+}
+
+fn is_site_of(id: MemberId, member: &Member) -> bool
+    ensures { result ≡ is_site_of id member.now }
+{
+    member.site && member.id.0 == id.0
+}
+
+fn is_site(config: &Config, id: MemberId) -> bool
+    ensures { result ≡ list_any (is_site_of id) config.now.members }
+{
+    config.members().iter().any(|member| is_site_of(id, member))
+}
+
+fn may_lead(config: &Config, id: MemberId) -> bool
+    ensures { result ≡ may_lead config.now id }
+{
+    id.0 == NO_ONE.0 || is_site(config, id)
+}
+
+fn leads(cmd: Cmd) -> bool
+    ensures { result ≡ leads cmd }
+{
+    matches!(cmd, Cmd::RVot | Cmd::HrtB | Cmd::UpdE)
+}
+
+fn names_no_ticket(config: &Config, part: Option<&TicketPart>) -> bool
+    ensures { result ≡ names_no_ticket config.now (option_copied part.entry) }
+{
+    match part {
+        Some(part) => config.ticket(&part.ticket).is_none(),
+        None => false,
+    }
+}
+
+fn names_no_leader(config: &Config, head: &Head, part: Option<&TicketPart>) -> bool
+    ensures { result ≡ names_no_leader config.now head.now (option_copied part.entry) }
+{
+    match part {
+        Some(part) => {
+            !may_lead(config, part.leader) || leads(head.cmd) && part.leader.0 != head.from.0
+        }
+        None => false,
+    }
+}
+
+fn admitted<'a>(
+    config: &Config,
+    me: MemberId,
+    message: Message<'a>,
+) -> Result<Message<'a>, DropFault>
+    ensures { Passes result (admitted config.now me (letter_of message.entry)) }
+{
+    if is_stranger(config, &message.head) {
+        return Err(DropFault::Stranger);
+    }
+    if message.head.from.0 == me.0 {
+        return Err(DropFault::Own);
+    }
+    if names_no_ticket(config, part_of_member(&message)) {
+        return Err(DropFault::Ticket);
+    }
+    if names_no_leader(config, &message.head, part_of_member(&message)) {
+        return Err(DropFault::Leader);
+    }
+    Ok(message)
+}
+
+/// The message of a datagram, or the first of its eight faults. `now` is this member's reading in ms.
+///
+/// With a key the frame has to show its MAC, and the sender's clock may not be further behind this one
+/// than the configuration allows. Without a key an authentication part is not looked at.
+pub fn gate<'a>(
+    config: &Config,
+    key: Option<&Key>,
+    me: MemberId,
+    now: u64,
+    bytes: &'a [u8],
+) -> Result<Message<'a>, DropFault>
+    ensures { Passes result (verdict config.now (option_copied key.entry) me now bytes.now) }
+{
+    let message = decode(bytes).map_err(DropFault::Frame)?;
+    if lacks_mac(key, &message.head) {
+        return Err(DropFault::NoMac);
+    }
+    if has_wrong_mac(key, bytes) {
+        return Err(DropFault::BadMac);
+    }
+    if is_too_old(key, config.skew(), now, &message.head) {
+        return Err(DropFault::TooOld);
+    }
+    admitted(config, me, message)
+}

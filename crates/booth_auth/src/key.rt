@@ -1,0 +1,148 @@
+//! The key that the members and their clients share.
+ghost use Rattle.std.specs.Prelude.{◌≡◌, ◌≤◌, ◌-◌, ◌++◌, length, replicate};
+ghost use Rattle.std.specs.List.{list_all, prefix_len, suffix_len};
+ghost use Rattle.booth_auth.specs.Key.{is_blank, is_plain, begun, ended, kept, key_read};
+ghost use Rattle.booth_auth.specs.Mac.{block};
+
+use std::marker::Model;
+use thiserror::Error;
+
+/// The fewest bytes of a key.
+pub const LEAST_BYTES: usize = 8;
+
+/// The most bytes of a key, which are those of a block of the hash.
+pub const BLOCK_BYTES: usize = 64;
+
+/// A key of 8 to 64 bytes. Contracts see its bytes.
+#[derive(Drop)]
+pub struct Key {
+    bytes: [u8; BLOCK_BYTES],
+    len: usize,
+}
+
+impl Model for Key {
+    ghost use Rattle.std.specs.Prelude.{List, ℕ, ◌≤◌, take};
+    ghost use Rattle.booth_auth.specs.declared.key.TheConstants.{LEAST_BYTES, BLOCK_BYTES};
+
+    ghost Value = { List ℕ };
+
+    ghost view = { λ k. take k.len k.bytes };
+
+    ghost invariant = { λ k. (LEAST_BYTES ≤ k.len) × (k.len ≤ BLOCK_BYTES) };
+}
+
+/// Why bytes are no key. It speaks of what is left of them without the blanks at both ends.
+#[derive(Clone, Copy, Debug, PartialEq, Eq, Drop, Error)]
+pub enum KeyFault {
+    #[error("the key has fewer than 8 bytes")]
+    TooShort,
+    #[error("the key has more than 64 bytes")]
+    TooLong,
+}
+
+fn is_blank(byte: u8) -> bool
+    ensures { result ≡ is_blank byte }
+{
+    matches!(byte, 0x09..=0x0D | 0x20)
+}
+
+fn are_plain(bytes: &[u8]) -> bool
+    ensures { result ≡ list_all is_plain bytes.now }
+{
+    bytes
+        .iter()
+        .all(|b| matches!(*b, 0x09..=0x0D | 0x20..=0x7E))
+}
+
+fn first_blanks(bytes: &[u8]) -> usize
+    ensures { result ≡ prefix_len is_blank bytes.now }
+{
+    bytes.iter().take_while(|b| is_blank(**b)).count()
+}
+
+#[tactic(auto, using(crate::proofs::KeyLemmas::cuts))]
+fn begun(bytes: &[u8]) -> &[u8]
+    ensures { result.now ≡ begun bytes.now }
+{
+    &bytes[first_blanks(bytes)..]
+}
+
+fn last_blanks(bytes: &[u8]) -> usize
+    ensures { result ≡ suffix_len is_blank bytes.now }
+{
+    bytes.iter().rev().take_while(|b| is_blank(**b)).count()
+}
+
+#[tactic(auto, using(crate::proofs::KeyLemmas::cuts))]
+fn ended(bytes: &[u8]) -> &[u8]
+    ensures { result.now ≡ ended bytes.now }
+{
+    &bytes[..bytes.len() - last_blanks(bytes)]
+}
+
+// A key of other bytes than text is kept as it is.
+fn kept(bytes: &[u8]) -> &[u8]
+    ensures { result.now ≡ kept bytes.now }
+{
+    if are_plain(bytes) {
+        ended(begun(bytes))
+    } else {
+        bytes
+    }
+}
+
+fn filled(bytes: &[u8]) -> [u8; BLOCK_BYTES]
+    requires { length bytes.now ≤ BLOCK_BYTES }
+    ensures { result ≡ bytes.now ++ replicate (BLOCK_BYTES - length bytes.now) 0 }
+{
+    let mut block = [0; BLOCK_BYTES];
+    block[..bytes.len()].copy_from_slice(bytes);
+    block
+}
+
+impl Key {
+    /// The key of a key file's bytes. Where each byte is from 0x09 to 0x0D or from 0x20 to 0x7E, the
+    /// blanks at both ends, 0x09 to 0x0D and 0x20, are no part of the key.
+    pub fn read(bytes: &[u8]) -> Result<Key, KeyFault>
+        ensures { result ≡ key_read bytes.now }
+    {
+        let key = kept(bytes);
+        if key.len() < LEAST_BYTES {
+            return Err(KeyFault::TooShort);
+        }
+        if key.len() > BLOCK_BYTES {
+            return Err(KeyFault::TooLong);
+        }
+        Ok(Key::of(key))
+    }
+
+    /// The key of exactly these bytes.
+    pub(crate) fn of(bytes: &[u8]) -> Key
+        requires enough { LEAST_BYTES ≤ length bytes.now }
+        requires fits { length bytes.now ≤ BLOCK_BYTES }
+        ensures { result ≡ bytes.now }
+    {
+        Key {
+            bytes: filled(bytes),
+            len: bytes.len(),
+        }
+    }
+
+    /// An equal key.
+    pub fn copy(&self) -> Key
+        ensures { result ≡ self.now }
+    {
+        Key {
+            bytes: self.bytes,
+            len: self.len,
+        }
+    }
+
+    /// The key's block: its bytes, then zeros.
+    #[tactic(auto, unfolding(crate::specs::Mac::block))]
+    pub(crate) fn block(&self) -> [u8; BLOCK_BYTES]
+        ensures { result ≡ block self.now }
+    {
+        filled(&self.bytes[..self.len])
+    }
+}

@@ -1,0 +1,15 @@
+//! What lets a datagram in: the key, its MAC, the gate, and the seal of what is sent.
+#![tactic(auto)]
+
+mod admission;
+mod key;
+pub mod laws;
+mod mac;
+mod sealing;
+#[cfg(test)]
+mod tests;
+
+pub use admission::{DropFault, gate};
+pub use key::{Key, KeyFault};
+pub use mac::{MAC_BYTES, hmac};
+pub use sealing::seal;
