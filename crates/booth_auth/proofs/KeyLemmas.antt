@@ -10,12 +10,15 @@ use Rattle.booth_auth.specs.Laws.{KeyTextIsKey}
 
 pub ruleset cuts = (take_rest, prefix_len-le-length, suffix_len-le-length)
 
-past_all : (p : ℕ → Bool) (xs ys : List ℕ) → list_all p xs ≡ true → prefix_len p (xs ++ ys) ≡ length xs + prefix_len p ys
+past_all :
+    (p : ℕ → Bool) (xs ys : List ℕ) → list_all p xs ≡ true →
+    prefix_len p (xs ++ ys) ≡ length xs + prefix_len p ys
 past_all p [] ys all = omega arith
 past_all p (x ∷ xs) ys all = grind (arith, nat_tests, past_all p xs ys)
 
 -- what begins with no blank does so with more behind it
-begins : (p : ℕ → Bool) (xs ys : List ℕ) → 0 < length xs → prefix_len p xs ≡ 0 → prefix_len p (xs ++ ys) ≡ 0
+begins :
+    (p : ℕ → Bool) (xs ys : List ℕ) → 0 < length xs → prefix_len p xs ≡ 0 → prefix_len p (xs ++ ys) ≡ 0
 begins p [] ys some none = absurd (omega arith)
 begins p (x ∷ xs) ys some none = grind (arith, nat_tests)
 
@@ -23,7 +26,9 @@ all_plain : (bytes : List ℕ) → list_all is_blank bytes ≡ true → list_all
 all_plain [] all = refl
 all_plain (b ∷ bytes) all = grind (arith, nat_tests, all_plain bytes)
 
-all_both : (p : ℕ → Bool) (xs ys : List ℕ) → list_all p xs ≡ true → list_all p ys ≡ true → list_all p (xs ++ ys) ≡ true
+all_both :
+    (p : ℕ → Bool) (xs ys : List ℕ) → list_all p xs ≡ true → list_all p ys ≡ true →
+    list_all p (xs ++ ys) ≡ true
 all_both p [] ys here later = later
 all_both p (x ∷ xs) ys here later = grind (arith, nat_tests, all_both p xs ys)
 
@@ -32,12 +37,18 @@ all_reversed p [] all = refl
 all_reversed p (x ∷ xs) all =
     let both = and_split (p x) (list_all p xs) all in
     let last : list_all p (x ∷ []) ≡ true = grind (arith, nat_tests, both.0) in
-    ap (list_all p) (reverse-append (x ∷ []) xs) ∙ all_both p (reverse xs) (x ∷ []) (all_reversed p xs both.1) last
+    ap (list_all p) (reverse-append (x ∷ []) xs)
+    ∙ all_both p (reverse xs) (x ∷ []) (all_reversed p xs both.1) last
 
-begun_of : (before rest : List ℕ) → list_all is_blank before ≡ true → prefix_len is_blank rest ≡ 0 → begun (before ++ rest) ≡ rest
-begun_of before rest blank none = drop_at before rest _ (omega (arith, past_all is_blank before rest blank, none))
+begun_of :
+    (before rest : List ℕ) → list_all is_blank before ≡ true → prefix_len is_blank rest ≡ 0 →
+    begun (before ++ rest) ≡ rest
+begun_of before rest blank none =
+    drop_at before rest _ (omega (arith, past_all is_blank before rest blank, none))
 
-ended_of : (key after : List ℕ) → list_all is_blank after ≡ true → suffix_len is_blank key ≡ 0 → ended (key ++ after) ≡ key
+ended_of :
+    (key after : List ℕ) → list_all is_blank after ≡ true → suffix_len is_blank key ≡ 0 →
+    ended (key ++ after) ≡ key
 ended_of key after blank none =
     let turned : suffix_len is_blank (key ++ after) ≡ length (reverse after) + suffix_len is_blank key =
     ap (prefix_len is_blank) (reverse-append key after) ∙ past_all is_blank (reverse after) (reverse key) (all_reversed is_blank after blank) in

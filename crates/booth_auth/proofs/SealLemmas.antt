@@ -31,13 +31,18 @@ len_mac key bytes = len_digest _ 5
 len_hash : (code : List ℕ) → length code ≡ 20 → length (word 2 ++ hash_of code) ≡ 28
 len_hash code len = omega (arith, length-append (word 2) (hash_of code), length-append code (replicate {A = ℕ} 4 0), len_word 2)
 
-pub sealed_read : (key : Option (List ℕ)) (l : Letter) → Fits l → l.head.auth ≡ is_some key → decoded (sealed key l) ≡ Ok l
+pub sealed_read :
+    (key : Option (List ℕ)) (l : Letter) → Fits l → l.head.auth ≡ is_some key →
+    decoded (sealed key l) ≡ Ok l
 sealed_read None l fits keyed = frame_read l [] fits (sym (ap auth_len keyed))
 sealed_read (Some key) l fits keyed =
-    frame_read l (word 2 ++ hash_of (mac key (vouched l))) fits (len_hash _ (len_mac key (vouched l)) ∙ sym (ap auth_len keyed))
+    frame_read l (word 2 ++ hash_of (mac key (vouched l))) fits
+    (len_hash _ (len_mac key (vouched l)) ∙ sym (ap auth_len keyed))
 
 -- what is signed is sealed
-pub signed_sealed : (key : List ℕ) (l : Letter) → l.head.auth ≡ true → signed (spelling l) 2 (hash_of (mac key (before_auth (spelling l)))) ≡ sealed (Some key) l
+pub signed_sealed :
+    (key : List ℕ) (l : Letter) → l.head.auth ≡ true →
+    signed (spelling l) 2 (hash_of (mac key (before_auth (spelling l)))) ≡ sealed (Some key) l
 signed_sealed key l keyed =
     let auth = blank_auth l.head.auth in
     let len : length auth ≡ 28 = len_blank l.head.auth ∙ ap auth_len keyed in
