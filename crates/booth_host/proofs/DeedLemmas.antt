@@ -1,6 +1,6 @@
 -- Deeds that were done, one after the other, over any host.
 use Rattle.std.specs.Prelude.{Option}
-use Rattle.std.proofs.Common.{Bool, List, [], ◌∷◌, ◌++◌}
+use Rattle.std.proofs.Common.{Bool, List, [], ◌∷◌}
 use Rattle.booth_base.specs.Tree.{Deeds, Ends, Does, Leads, next}
 use Rattle.booth_base.proofs.TreeLemmas.{leads_on, next_leads}
 use Rattle.booth_host.specs.declared.entry.Entry.{Entry}

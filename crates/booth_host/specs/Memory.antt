@@ -4,7 +4,7 @@ use Rattle.std.specs.Cmp.Lexicographic.{pointwise}
 use Rattle.booth_rec.specs.declared.record.Record.{Record}
 use Rattle.booth_host.specs.declared.entry.Entry.{Entry}
 use Rattle.booth_host.specs.declared.host.Arrival.{Arrival}
-use Rattle.booth_host.specs.declared.host.Arrival.TheVariants.{Stop}
+use Rattle.booth_host.specs.declared.host.Arrival.TheVariants.{Stop, Quiet}
 use Rattle.booth_host.specs.declared.host.Failed.{Failed}
 use Rattle.booth_host.specs.declared.memory.Step.{Step}
 use Rattle.booth_host.specs.declared.memory.MemoryHost.{MemoryHost}
@@ -49,9 +49,23 @@ abbrev pub IsBrought : Option Step → Result Arrival Failed → List ℕ → Ty
 IsBrought None answer bytes = (answer ≡ Ok Stop) × (bytes ≡ [])
 IsBrought (Some step) answer bytes = (answer ≡ step.arrival) × (bytes ≡ take (min (length step.bytes) 16461) step.bytes)
 
+-- an answer without failures: a failing step is Quiet
+abbrev pub quietly : Result Arrival Failed → Result Arrival Failed
+quietly (Ok arrival) = Ok arrival
+quietly (Err fault) = Ok Quiet
+
+-- what the next step brings to a quiet host: the same, without failures
+abbrev pub IsQuietlyBrought : Option Step → Result Arrival Failed → List ℕ → Type 0
+IsQuietlyBrought None answer bytes = (answer ≡ Ok Stop) × (bytes ≡ [])
+IsQuietlyBrought (Some step) answer bytes = (answer ≡ quietly step.arrival) × (bytes ≡ take (min (length step.bytes) 16461) step.bytes)
+
 -- the step that a next begins
 abbrev pub coming : MemoryHost → Option Step
 coming host = slice_get host.script.steps.items host.begun
+
+-- whether another holds each lock
+abbrev pub taken_in : MemoryHost → Bool
+taken_in host = host.script.taken
 
 -- the records that are kept, by their tickets' names
 abbrev pub records_of : MemoryHost → List (List ℕ × Record)

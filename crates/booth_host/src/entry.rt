@@ -35,6 +35,10 @@ pub enum Entry {
         path: ByteText,
         answer: Result<ByteText, ReadFault>,
     },
+    Lock {
+        path: ByteText,
+        answer: Result<bool, Failed>,
+    },
     /// The record that is kept of a ticket was read.
     Kept {
         ticket: ByteText,
@@ -120,6 +124,17 @@ pub(crate) fn read(
         Err(fault) => Err(*fault),
     };
     Ok(Entry::ReadFile { path, answer })
+}
+
+pub(crate) fn locked(
+    alloc: Global,
+    path: &str,
+    answer: Result<bool, Failed>,
+) -> Result<Entry, AllocError>
+    ensures { IfOk result (λ entry. entry ≡ Entry.Lock path.now answer) }
+{
+    let path = ByteText::new(alloc, path.as_bytes())?;
+    Ok(Entry::Lock { path, answer })
 }
 
 pub(crate) fn printed(

@@ -95,6 +95,11 @@ pub trait Host {
         ensures past { GrewBy (past self.old) (past self.new) (Entry.ReadFile path.now result ∷ []) }
         ensures cause { HasReadCause (faults self.old) (faults self.new) result };
 
+    /// Takes the lock of a file: true where this host now holds it, false where another does.
+    fn lock(&mut self, path: &str) -> Result<bool, Failed>
+        ensures past { GrewBy (past self.old) (past self.new) (Entry.Lock path.now result ∷ []) }
+        ensures cause { HasCause (faults self.old) (faults self.new) result };
+
     /// Writes to standard output.
     fn out(&mut self, bytes: &[u8]) -> Result<(), Failed>
         ensures past { GrewBy (past self.old) (past self.new) (Entry.Out bytes.now result ∷ []) }

@@ -1,10 +1,10 @@
 //! A host in memory, which runs a script and tells its calls.
-ghost use Rattle.std.specs.Prelude.{◌≡◌, ◌≤◌, [], ◌∷◌, Some, None, IfOk, OnOk, OnErr, IsSome, MatchResult, false, true, is_err, option_map, if◌then◌else◌};
+ghost use Rattle.std.specs.Prelude.{◌≡◌, ◌≤◌, [], ◌∷◌, ◌++◌, Some, None, IfOk, OnOk, OnErr, IsSome, MatchResult, false, true, not, is_err, option_map, if◌then◌else◌};
 ghost use Rattle.booth_host.specs.Past.{GrewBy};
 ghost use Rattle.booth_host.specs.Causes.{Rose, HasCause};
 ghost use Rattle.booth_host.specs.declared.entry.Entry.{Entry};
 
-use crate::entry::{came, complained, kept, opened, printed, read, sent, was_kept};
+use crate::entry::{came, complained, kept, locked, opened, printed, read, sent, was_kept};
 use crate::{Arrival, Datagram, Entry, Failed, Host, Place, ReadFault};
 use booth_base::{ByteText, Name, PathText, Peer};
 use booth_rec::Record;
@@ -29,7 +29,10 @@ pub struct Script {
     /// What the clock reads before the first step.
     pub first: u64,
     pub steps: Vec<Step>,
+    /// Whether another holds the lock of each file.
+    pub taken: bool,
     pub fail_open: bool,
+    pub fail_lock: bool,
     pub fail_kept: bool,
     pub fail_err: bool,
     /// Whether a send before the first step fails.
@@ -58,8 +61,18 @@ pub struct MemoryHost {
     faults: u64,
 }
 
+// Adds this entry where there is memory for it.
+fn add(entries: &mut Vec<Entry>, entry: Entry) -> Result<(), AllocError>
+    ensures { OnOk result (entries.new.items ≡ entries.old.items ++ entry ∷ []) }
+{
+    match entries.push(entry) {
+        Ok(()) => Ok(()),
+        Err(_) => Err(AllocError),
+    }
+}
+
 impl MemoryHost {
-    ghost use Rattle.booth_host.specs.Memory.{memory_past, records_of, place_of, record_of, stored, kept_after, running, coming, IsBrought};
+    ghost use Rattle.booth_host.specs.Memory.{memory_past, records_of, place_of, record_of, stored, kept_after, running, coming, IsBrought, taken_in};
 
     /// A host that runs this script, has these files and records, and tells at most `room` calls.
     pub fn new(
@@ -113,7 +126,7 @@ impl MemoryHost {
             self.tells = false;
             return;
         };
-        if self.entries.len() >= self.room as usize || self.entries.push(entry).is_err() {
+        if self.entries.len() >= self.room as usize || add(&mut self.entries, entry).is_err() {
             self.tells = false;
         }
     }
@@ -229,6 +242,13 @@ impl MemoryHost {
         }
     }
 
+    // Whether another holds each lock.
+    pub(crate) fn is_taken(&self) -> bool
+        ensures { result ≡ taken_in self.now }
+    {
+        self.script.taken
+    }
+
     // The bytes of a file, where there is one of this path.
     pub(crate) fn file(&self, path: &str) -> Option<&ByteText> {
         for (name, text) in &self.files {
@@ -241,7 +261,7 @@ impl MemoryHost {
 }
 
 impl Host for MemoryHost {
-    ghost use Rattle.booth_host.specs.Memory.{memory_past, records_of, record_of, kept_after, reading_of, sends_fail, keeps_fail, outs_fail, coming, IsBrought};
+    ghost use Rattle.booth_host.specs.Memory.{memory_past, records_of, record_of, kept_after, reading_of, sends_fail, keeps_fail, outs_fail, coming, IsBrought, taken_in};
 
     ghost past = { memory_past };
 
@@ -340,6 +360,24 @@ impl Host for MemoryHost {
             }
         };
         let entry = read(self.alloc, path, &answer);
+        self.note(entry);
+        answer
+    }
+
+    fn lock(&mut self, path: &str) -> Result<bool, Failed>
+        ensures past { GrewBy (memory_past self.old) (memory_past self.new) (Entry.Lock path.now result ∷ []) }
+        ensures cause { HasCause self.old.faults self.new.faults result }
+        ensures answer { MatchResult result
+            (λ held. (self.old.script.fail_lock ≡ false) × (held ≡ not (taken_in self.old)))
+            (λ _. self.old.script.fail_lock ≡ true) }
+        ensures records { records_of self.new ≡ records_of self.old }
+    {
+        let taken = self.is_taken();
+        let answer = match self.fail_if(self.script.fail_lock) {
+            Ok(()) => Ok(!taken),
+            Err(Failed) => Err(Failed),
+        };
+        let entry = locked(self.alloc, path, answer);
         self.note(entry);
         answer
     }

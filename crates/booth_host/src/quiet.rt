@@ -1,7 +1,10 @@
 //! A host in memory that never fails.
-ghost use Rattle.std.specs.Prelude.{◌≡◌, [], Some, IfOk, option_map};
+ghost use Rattle.std.specs.Prelude.{◌≡◌, [], ◌∷◌, Some, Ok, IfOk, IsSome, not, option_map};
+ghost use Rattle.booth_host.specs.Past.{GrewBy};
+ghost use Rattle.booth_host.specs.Causes.{HasCause};
+ghost use Rattle.booth_host.specs.declared.entry.Entry.{Entry};
 
-use crate::entry::{came, complained, kept, opened, printed, read, sent, was_kept};
+use crate::entry::{came, complained, kept, locked, opened, printed, read, sent, was_kept};
 use crate::{
     Arrival, Datagram, Entry, Failed, Files, Host, MemoryHost, Place, ReadFault, Records, Script,
 };
@@ -43,7 +46,7 @@ impl QuietHost {
 }
 
 impl Host for QuietHost {
-    ghost use Rattle.booth_host.specs.Memory.{quiet_past};
+    ghost use Rattle.booth_host.specs.Memory.{quiet_past, records_of, record_of, stored, reading_of, coming, IsQuietlyBrought, taken_in};
 
     ghost past = { quiet_past };
 
@@ -55,7 +58,11 @@ impl Host for QuietHost {
         Ok(())
     }
 
-    fn next(&mut self, wait_ms: u64, into: &mut Datagram) -> Result<Arrival, Failed> {
+    fn next(&mut self, wait_ms: u64, into: &mut Datagram) -> Result<Arrival, Failed>
+        ensures past { GrewBy (quiet_past self.old) (quiet_past self.new) (Entry.Next wait_ms result into.new ∷ []) }
+        ensures cause { HasCause 0 0 result }
+        ensures brought { IsQuietlyBrought (coming self.old.host) result into.new }
+    {
         let answer = match self.host.begin(into) {
             Ok(arrival) => Ok(arrival),
             Err(Failed) => Ok(Arrival::Quiet),
@@ -65,7 +72,10 @@ impl Host for QuietHost {
         answer
     }
 
-    fn now(&mut self) -> u64 {
+    fn now(&mut self) -> u64
+        ensures past { GrewBy (quiet_past self.old) (quiet_past self.new) (Entry.Now result ∷ []) }
+        ensures reading { result ≡ reading_of self.old.host }
+    {
         self.host.now()
     }
 
@@ -75,7 +85,12 @@ impl Host for QuietHost {
         Ok(())
     }
 
-    fn kept(&mut self, ticket: &Name) -> Result<Option<Record>, Failed> {
+    fn kept(&mut self, ticket: &Name) -> Result<Option<Record>, Failed>
+        ensures past { GrewBy (quiet_past self.old) (quiet_past self.new) (Entry.Kept ticket.now result ∷ []) }
+        ensures cause { HasCause 0 0 result }
+        ensures answer { result ≡ Ok (record_of (records_of self.old.host) ticket.now) }
+        ensures records { records_of self.new.host ≡ records_of self.old.host }
+    {
         let answer = Ok(self.host.record(ticket));
         let entry = was_kept(self.host.alloc, ticket, answer);
         self.host.note(entry);
@@ -83,7 +98,11 @@ impl Host for QuietHost {
     }
 
     #[tactic(auto, using(crate::proofs::PastLemmas::one_behind_none))]
-    fn keep(&mut self, ticket: &Name, rec: &Record) -> Result<(), Failed> {
+    fn keep(&mut self, ticket: &Name, rec: &Record) -> Result<(), Failed>
+        ensures past { GrewBy (quiet_past self.old) (quiet_past self.new) (Entry.Keep ticket.now rec.now result ∷ []) }
+        ensures cause { HasCause 0 0 result }
+        ensures records { IsSome (quiet_past self.new) → records_of self.new.host ≡ stored (records_of self.old.host) ticket.now rec.now }
+    {
         self.host.put(ticket, rec);
         let entry = kept(self.host.alloc, ticket, rec, Ok(()));
         self.host.note(entry);
@@ -100,6 +119,18 @@ impl Host for QuietHost {
             Err(_) => Err(ReadFault::NoMemory),
         };
         let entry = read(self.host.alloc, path, &answer);
+        self.host.note(entry);
+        answer
+    }
+
+    fn lock(&mut self, path: &str) -> Result<bool, Failed>
+        ensures past { GrewBy (quiet_past self.old) (quiet_past self.new) (Entry.Lock path.now result ∷ []) }
+        ensures cause { HasCause 0 0 result }
+        ensures answer { result ≡ Ok (not (taken_in self.old.host)) }
+        ensures records { records_of self.new.host ≡ records_of self.old.host }
+    {
+        let answer = Ok(!self.host.is_taken());
+        let entry = locked(self.host.alloc, path, answer);
         self.host.note(entry);
         answer
     }

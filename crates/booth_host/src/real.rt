@@ -7,6 +7,7 @@ ghost use Rattle.booth_host.specs.Causes.{Rose, HasCause};
 use crate::{Arrival, DATAGRAM_BYTES, Datagram, Failed, Host, Place, ReadFault};
 use booth_base::{Address, ByteText, Name, PathText, Peer};
 use booth_rec::Record;
+use lock::take_lock;
 use records::{read_record, write_record};
 use std::alloc::{AllocError, Global};
 use std::fs::File;
@@ -15,6 +16,7 @@ use std::io::{ErrorKind, Read, Write};
 use std::net::{IpAddr, Ipv4Addr, Ipv6Addr, SocketAddr, UdpSocket};
 use std::time::{Duration, SystemTime};
 
+mod lock;
 mod records;
 #[cfg(test)]
 mod tests;
@@ -32,6 +34,8 @@ pub struct RealHost {
     /// The wait that the socket is set to, in milliseconds.
     wait_ms: u64,
     buffer: Vec<u8>,
+    /// The file whose lock this host holds.
+    locked: Option<File>,
     faults: u64,
     ghost size: { vec_len buffer ≡ 16461 },
 }
@@ -105,6 +109,7 @@ impl RealHost {
             records: None,
             wait_ms: 0,
             buffer: vec![in alloc; 0; DATAGRAM_BYTES]?,
+            locked: None,
             faults: 0,
         })
     }
@@ -227,6 +232,14 @@ impl Host for RealHost {
                 Err(fault)
             }
         }
+    }
+
+    /// The lock goes with the process, so a file that is left behind is no lock. The file is made
+    /// where it is missing, and its directory is not. The lock that this host holds is given to it
+    /// again; beside it, the lock of another file is a failure.
+    fn lock(&mut self, path: &str) -> Result<bool, Failed> {
+        let answer = take_lock(&self.rt, &mut self.locked, path);
+        self.checked(answer)
     }
 
     fn out(&mut self, bytes: &[u8]) -> Result<(), Failed> {

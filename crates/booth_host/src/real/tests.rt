@@ -1,5 +1,5 @@
-//! The real devices: a datagram each way on loopback, files, the clock.
-use crate::{Arrival, Datagram, Host, Place, ReadFault, RealHost};
+//! The real devices: a datagram each way on loopback, files, the clock, a lock.
+use crate::{Arrival, Datagram, Failed, Host, Place, ReadFault, RealHost};
 use booth_base::{Address, Name, PathText, Peer};
 use booth_rec::{Lease, Record};
 use std::fs;
@@ -162,5 +162,36 @@ fn a_record_that_has_no_place_is_a_failure(rt: HostRuntime) -> Result<(), Fail> 
     );
     assert!(rt; host.faults == 1);
     fs::remove_file(&rt, "booth-host-file")?;
+    Ok(())
+}
+
+fn new_host(rt: &HostRuntime) -> Result<RealHost, Fail> {
+    Ok(RealHost::new(rt.clone()?, rt.alloc())?)
+}
+
+#[test]
+fn a_lock_is_held_by_one_host(rt: HostRuntime) -> Result<(), Fail> {
+    let path = "booth-host-test.lock";
+    let mut first = new_host(&rt)?;
+    let mut second = new_host(&rt)?;
+    assert!(rt; first.lock(path) == Ok(true));
+    assert!(rt; second.lock(path) == Ok(false));
+    assert!(rt; first.lock(path) == Ok(true), "it is asked again");
+    drop(first);
+    assert!(rt; second.lock(path) == Ok(true), "the file was left behind");
+    fs::remove_file(&rt, path)?;
+    Ok(())
+}
+
+#[test]
+fn a_lock_that_cannot_be_is_a_failure(rt: HostRuntime) -> Result<(), Fail> {
+    let (path, other) = ("booth-host-one.lock", "booth-host-other.lock");
+    let mut host = new_host(&rt)?;
+    assert!(rt; host.lock("booth-host-missing/booth.lock") == Err(Failed));
+    assert!(rt; host.lock(path) == Ok(true));
+    assert!(rt; host.lock(other) == Err(Failed), "one lock is held");
+    assert!(rt; host.faults == 2);
+    fs::remove_file(&rt, path)?;
+    fs::remove_file(&rt, other)?;
     Ok(())
 }

@@ -1,0 +1,33 @@
+//! The lock of a file, which is the kernel's, and lasts while the file is open.
+
+use std::fs::{File, TryLockError};
+use std::io;
+use std::io::ErrorKind;
+use std::os::unix::fs::MetadataExt;
+
+// Whether these are one file, by whatever path each was opened.
+fn is_same(one: &File, other: &File) -> io::Result<bool> {
+    let one = one.metadata()?;
+    let other = other.metadata()?;
+    Ok(one.dev() == other.dev() && one.ino() == other.ino())
+}
+
+/// Takes the lock of a file, which stays open in `held`; false where another holds it.
+pub(super) fn take_lock(rt: &HostRuntime, held: &mut Option<File>, path: &str) -> io::Result<bool> {
+    let file = File::options().write(true).create(true).open(rt, path)?;
+    if let Some(held) = held {
+        return if is_same(held, &file)? {
+            Ok(true)
+        } else {
+            Err(io::Error::from(ErrorKind::InvalidInput))
+        };
+    }
+    match file.try_lock() {
+        Ok(()) => {
+            *held = Some(file);
+            Ok(true)
+        }
+        Err(TryLockError::WouldBlock) => Ok(false),
+        Err(TryLockError::Error(error)) => Err(error),
+    }
+}
