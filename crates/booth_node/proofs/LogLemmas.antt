@@ -6,7 +6,8 @@ use Rattle.booth_host.specs.Past.{GrewSome}
 use Rattle.booth_host.proofs.PastLemmas.{some_of, some_joined, no_entry}
 use Rattle.booth_node.specs.declared.state.State.{State}
 use Rattle.booth_node.specs.declared.node.Turn.TheVariants.{Went, Stopped}
-use Rattle.booth_node.specs.Reaction.{Station, IsTurn}
+use Rattle.booth_node.specs.declared.station.Station.{Station}
+use Rattle.booth_node.specs.Reaction.{IsTurn}
 use Rattle.booth_node.specs.Log.{AreTurns, joined_turns, IsNodeLog, IsStoppedLog}
 
 joined_turns-append : (ts : List (List Entry)) (t : List Entry) → joined_turns (ts ++ t ∷ []) ≡ joined_turns ts ++ t

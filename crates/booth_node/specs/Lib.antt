@@ -1,6 +1,10 @@
 pub mod Clock
-pub mod Gate
+pub mod Counting
+pub mod Replies
 pub mod Reaction
+pub mod Demands
 pub mod Log
 pub mod View
 pub use Rattle.booth_base.specs.Tree
+pub use Rattle.booth_auth.specs.Verdict
+pub use Rattle.booth_auth.specs.Sealed

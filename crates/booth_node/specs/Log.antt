@@ -3,7 +3,8 @@ use Rattle.std.specs.Prelude.{◌≡◌, ◌++◌, ℕ, List, [], ◌∷◌, len
 use Rattle.booth_host.specs.declared.entry.Entry.{Entry}
 use Rattle.booth_node.specs.declared.state.State.{State}
 use Rattle.booth_node.specs.declared.node.Turn.TheVariants.{Went, Stopped}
-use Rattle.booth_node.specs.Reaction.{Station, IsTurn}
+use Rattle.booth_node.specs.declared.station.Station.{Station}
+use Rattle.booth_node.specs.Reaction.{IsTurn}
 
 -- each turn begins in the state that the turn before it left, and none of them stopped
 abbrev pub AreTurns : Station → State → List (List Entry) → State → Type 0

@@ -1,83 +1,87 @@
 -- What a node does with an arrival: the deeds of one turn, as a tree.
-use Rattle.std.specs.Prelude.{◌≡◌, ◌+◌, ◌-◌, ◌*◌, ◌/◌, ◌%◌, ◌^◌, ◌++◌, ℕ, min, max, Bool, false, List, ◌∷◌, Result, Ok, Err, is_ok, codes, slice_index, slice_set}
-use Rattle.std.specs.List.{flat_map}
+use Rattle.std.specs.Prelude.{◌≡◌, ◌-◌, ◌^◌, ℕ, min, max, Bool, List, ◌∷◌, Option, Some, None, Result, Ok, Err, is_ok}
+use Rattle.booth_base.specs.declared.address.MemberId.{MemberId}
 use Rattle.booth_base.specs.declared.address.Peer.{Peer}
 use Rattle.booth_base.specs.Tree.{Deeds, Ends, Does, Leads, next}
-use Rattle.booth_wire.specs.declared.command.Cmd.TheVariants.{RLst}
-use Rattle.booth_wire.specs.Letter.{Letter, Text}
-use Rattle.booth_wire.specs.Spelling.{Fits, spelling}
+use Rattle.booth_wire.specs.declared.command.Direction.{Direction}
+use Rattle.booth_wire.specs.declared.command.Direction.TheVariants.{ToDaemon, ToClient, BetweenMembers}
+use Rattle.booth_wire.specs.Command.{direction_of}
+use Rattle.booth_wire.specs.Letter.{Letter}
+use Rattle.booth_wire.specs.Spelling.{Fits}
+use Rattle.booth_auth.specs.declared.admission.DropFault.{DropFault}
+use Rattle.booth_auth.specs.Verdict.{verdict}
+use Rattle.booth_auth.specs.Sealed.{stamped, sealed}
 use Rattle.booth_host.specs.declared.host.Failed.{Failed}
 use Rattle.booth_host.specs.declared.host.Arrival.{Arrival}
 use Rattle.booth_host.specs.declared.host.Arrival.TheVariants as arrivals
 use Rattle.booth_host.specs.declared.entry.Entry.{Entry}
 use Rattle.booth_host.specs.declared.entry.Entry.TheVariants as calls
-use Rattle.booth_node.specs.declared.gate.DropFault.{DropFault}
 use Rattle.booth_node.specs.declared.state.State.{State}
 use Rattle.booth_node.specs.declared.node.Turn.{Turn}
 use Rattle.booth_node.specs.declared.node.Turn.TheVariants.{Went, Stopped}
-use Rattle.booth_node.specs.Gate.{verdict, request_of, place_of}
+use Rattle.booth_node.specs.declared.station.Station.{Station}
+use Rattle.booth_node.specs.Counting.{dropped, accepted}
+use Rattle.booth_node.specs.Replies.{reply_to}
 
--- What a node is set up with: the names of its tickets in file order, and its member's id.
-pub record Station : Type 0 where
-  pub tickets : List (List ℕ)
-  pub me : ℕ
-
--- What a turn asks of the host.
+-- What a turn asks of the host. A letter is as it is sent, with its time.
 pub data Ask : Type 0 where
   Send : Peer → Letter → Ask
 
--- this entry is what was asked, with this answer: a send has the letter's one spelling
-abbrev pub IsDone : Ask → Bool → Entry → Type 0
-IsDone (Send peer letter) ok (calls.Send to bytes answer) =
-    (to ≡ peer) × (bytes ≡ spelling letter) × Fits letter × (ok ≡ is_ok answer)
-IsDone (Send peer letter) ok (calls.Open local port records conf_path answer) = ⊥
-IsDone (Send peer letter) ok (calls.Next wait answer bytes) = ⊥
-IsDone (Send peer letter) ok (calls.Now reading) = ⊥
-IsDone (Send peer letter) ok (calls.ReadFile path answer) = ⊥
-IsDone (Send peer letter) ok (calls.Kept ticket answer) = ⊥
-IsDone (Send peer letter) ok (calls.Keep ticket rec answer) = ⊥
-IsDone (Send peer letter) ok (calls.Out bytes answer) = ⊥
-IsDone (Send peer letter) ok (calls.Err bytes answer) = ⊥
+-- This entry is what was asked, with this answer: the bytes of a send are the letter, sealed with the key where there is
+-- one.
+abbrev pub IsDone : Option (List ℕ) → Ask → Bool → Entry → Type 0
+IsDone key (Send peer letter) ok (calls.Send to bytes answer) =
+    (to ≡ peer) × (bytes ≡ sealed key letter) × Fits letter × (ok ≡ is_ok answer)
+IsDone key (Send peer letter) ok (calls.Open local port records conf_path answer) = ⊥
+IsDone key (Send peer letter) ok (calls.Next wait answer bytes) = ⊥
+IsDone key (Send peer letter) ok (calls.Now reading) = ⊥
+IsDone key (Send peer letter) ok (calls.ReadFile path answer) = ⊥
+IsDone key (Send peer letter) ok (calls.Lock path answer) = ⊥
+IsDone key (Send peer letter) ok (calls.Kept ticket answer) = ⊥
+IsDone key (Send peer letter) ok (calls.Keep ticket rec answer) = ⊥
+IsDone key (Send peer letter) ok (calls.Out bytes answer) = ⊥
+IsDone key (Send peer letter) ok (calls.Err bytes answer) = ⊥
 
--- a counter that stays at its greatest value
-abbrev pub more : ℕ → ℕ
-more count = min (count + 1) (2 ^ 64 - 1)
+-- What a datagram demands.
+pub data Demand : Type 0 where
+  -- it is dropped, for this fault
+  Drops : DropFault → Demand
+  -- a command of the member with this id was let in
+  Notes : MemberId → Demand
+  -- a client's request is answered with this letter
+  Answers : Letter → Demand
+  -- nothing
+  Rests : Demand
 
--- one more datagram was dropped for this fault
-abbrev pub dropped : State → DropFault → State
-dropped state fault =
-    let drops = state.common.drops in
-    record state { common = record { drops = slice_set drops (place_of fault) (more (slice_index drops (place_of fault))) } }
+-- a letter is sent with its time, and sealed
+abbrev pub answers : Option (List ℕ) → ℕ → Option Letter → Demand
+answers key moment (Some letter) = Answers (stamped key moment letter)
+answers key moment None = Rests
 
--- the line of a ticket that nobody holds
-abbrev pub list_line : List ℕ → List ℕ
-list_line name = name ++ codes " none 0\n"
+-- what a letter that was let in demands, by whom it is for
+abbrev pub routed : Station → ℕ → State → Letter → Direction → Demand
+routed station moment state letter ToDaemon = answers station.key moment (reply_to station state letter)
+routed station moment state letter BetweenMembers = Notes letter.head.from
+routed station moment state letter ToClient = Rests
 
--- the reply to a list request at this moment
-abbrev pub list_reply : Station → ℕ → ℕ → Letter
-list_reply station moment request = record {
-  head = record {
-    auth = false;
-    secs = min (moment / 1000) 0xFFFFFFFF;
-    usecs = moment % 1000 * 1000;
-    from = record { 0 = station.me };
-    cmd = RLst;
-    request = request;
-    options = 0;
-    reason = 0;
-    result = 0;
-  };
-  content = Text (flat_map list_line station.tickets);
-}
+abbrev pub demanded : Station → ℕ → State → Result Letter DropFault → Demand
+demanded station moment state (Err fault) = Drops fault
+demanded station moment state (Ok letter) = routed station moment state letter (direction_of letter.head.cmd)
 
--- a datagram: a dropped one changes one counter, and a list request has its one reply
-abbrev pub received : Station → ℕ → State → Peer → Result ℕ DropFault → Deeds Ask State
-received station moment state from (Err fault) = Ends (dropped state fault)
-received station moment state from (Ok request) = Does (Send from (list_reply station moment request)) (λ ok. Ends state)
+-- what these bytes demand, by the gate's verdict
+abbrev pub demand : Station → ℕ → State → List ℕ → Demand
+demand station moment state bytes = demanded station moment state (verdict station.config station.key station.me moment bytes)
+
+-- the deeds of a demand: a dropped datagram changes one counter, and a reply is the one send
+abbrev pub met : Station → ℕ → State → Peer → Demand → Deeds Ask State
+met station moment state from (Drops fault) = Ends (dropped state fault)
+met station moment state from (Notes member) = Ends (accepted station moment state member)
+met station moment state from (Answers letter) = Does (Send from letter) (λ ok. Ends state)
+met station moment state from Rests = Ends state
 
 -- the row of an arrival; a failed next counts as Quiet
 abbrev pub arrived : Station → ℕ → State → Result Arrival Failed → List ℕ → Deeds Ask State
-arrived station moment state (Ok (arrivals.Datagram from)) bytes = received station moment state from (request_of (verdict bytes))
+arrived station moment state (Ok (arrivals.Datagram from)) bytes = met station moment state from (demand station moment state bytes)
 arrived station moment state (Ok arrivals.Quiet) bytes = Ends state
 arrived station moment state (Ok arrivals.Stop) bytes = Ends state
 arrived station moment state (Err failed) bytes = Ends state
@@ -105,5 +109,5 @@ react station state moment arrival bytes =
 abbrev pub IsTurn : Station → State → Turn → List Entry → State → Type 0
 IsTurn station old turn (calls.Next wait answer bytes ∷ calls.Now reading ∷ entries) new =
     (wait ≡ 100) × (turn ≡ turn_end answer)
-    × Leads IsDone (react station old (used old.last reading) answer bytes) entries (Ends new)
+    × Leads (IsDone station.key) (react station old (used old.last reading) answer bytes) entries (Ends new)
 IsTurn station old turn entries new = ⊥

@@ -1,13 +1,16 @@
 //! The node: one turn of the daemon, from an arrival to the last deed that it demands.
 #![tactic(auto)]
 
-mod gate;
-mod listing;
+mod demand;
+mod desk;
 mod node;
+mod peers;
+mod replies;
 mod state;
+mod station;
 #[cfg(test)]
 mod tests;
 
-pub use gate::DropFault;
-pub use node::{Node, TICKETS, Turn};
-pub use state::{Common, State};
+pub use node::{Node, Turn};
+pub use state::{Common, Counters, State};
+pub use station::Station;

@@ -1,28 +1,25 @@
 //! A node, and its turn.
-ghost use Rattle.std.specs.Prelude.{◌≡◌, ◌≤◌, ◌<◌, ◌^◌, length, slice_index, IfOk};
+ghost use Rattle.std.specs.Prelude.{◌≡◌, ◌≤◌, ◌<◌, ◌^◌, length, slice_index, slice_index_or, IfOk};
 ghost use Rattle.booth_host.specs.Past.{GrewSome};
 ghost use Rattle.booth_base.specs.Tree.{Deeds, Leads};
-ghost use Rattle.booth_node.specs.Gate.{verdict, request_of};
-ghost use Rattle.booth_wire.specs.Spelling.{Fits, spelling};
+ghost use Rattle.booth_auth.specs.declared.admission.DropFault.{DropFault};
 ghost use Rattle.booth_node.specs.declared.state.State.{State};
-ghost use Rattle.booth_node.specs.Reaction.{IsDone, list_reply, dropped, received, arrived, turn_end, used, IsTurn};
+ghost use Rattle.booth_node.specs.Counting.{dropped, accepted, no_counts, opened_at};
+ghost use Rattle.booth_node.specs.Reaction.{IsDone, demand, met, arrived, turn_end, used, IsTurn};
+ghost use Rattle.booth_node.specs.Demands.{IsDemand};
 
-use crate::gate::request_in;
-use crate::listing::write_list;
-use crate::{Common, DropFault, State};
-use booth_base::{MemberId, Name, Peer, TextBuf};
+use crate::demand::Demand;
+use crate::desk::Desk;
+use crate::state::READINGS_END;
+use crate::{Counters, State, Station};
+use booth_auth::{DropFault, Key};
+use booth_base::{MemberId, Peer};
+use booth_conf::Config;
 use booth_host::{Arrival, Datagram, Failed, Host};
-use booth_wire::{Body, Cmd, Frame, Head, Message, encode};
 use std::alloc::{AllocError, Global};
-
-/// The most tickets of a node.
-pub const TICKETS: usize = 64;
 
 /// How long a turn waits for an arrival, in milliseconds.
 const WAIT_MS: u64 = 100;
-
-/// The least reading that is too late to be used, in milliseconds.
-const READINGS_END: u64 = 1 << 62;
 
 /// How a turn ended.
 #[derive(Clone, Copy, Debug, PartialEq, Eq)]
@@ -36,43 +33,34 @@ pub enum Turn {
 /// A node, with all the memory of its turns.
 #[derive(Drop)]
 pub struct Node {
-    tickets: Vec<Name>,
-    me: MemberId,
+    station: Station,
     state: State,
     datagram: Datagram,
-    frame: Frame,
-    text: TextBuf,
-    ghost few: { length tickets.items ≤ 64 },
+    desk: Desk,
     ghost early: { state.last < 2 ^ 62 },
 }
 
 impl Node {
-    ghost use Rattle.booth_node.specs.View.{station_of, state_of, opened_at};
+    ghost use Rattle.booth_node.specs.View.{station_of, state_of};
 
-    /// A node of these tickets, of which there are at most 64, at the member with this id.
+    /// A node of this configuration, with this key where there is one, at the member with this id.
     ///
     /// `now` is the reading of its start, in milliseconds since 1970.
     pub fn open(
         alloc: Global,
-        tickets: Vec<Name>,
+        config: Config,
+        key: Option<Key>,
         me: MemberId,
         now: u64,
     ) -> Result<Node, AllocError>
-        requires { length tickets.items ≤ 64 }
-        ensures station { IfOk result (λ node. station_of node ≡ record { tickets = tickets.items; me = me.0 }) }
+        ensures station { IfOk result (λ node. station_of node ≡ record { config = config; key = key; me = me }) }
         ensures state { IfOk result (λ node. state_of node ≡ opened_at now) }
     {
-        let state = State {
-            common: Common { drops: [0; 8] },
-            last: now.min(READINGS_END - 1),
-        };
         Ok(Node {
-            tickets,
-            me,
-            state,
+            station: Station { config, key, me },
+            state: State::opened(now),
             datagram: Datagram::new(alloc)?,
-            frame: Frame::new(alloc)?,
-            text: TextBuf::new(alloc)?,
+            desk: Desk::new(alloc)?,
         })
     }
 
@@ -84,37 +72,29 @@ impl Node {
         self.state.common.drops[kind as usize]
     }
 
-    // The number of the request that the datagram makes, or why it is dropped.
-    fn request(&self) -> Result<u32, DropFault>
-        ensures { result ≡ request_of (verdict self.now.datagram) }
+    /// What was counted of the member at this place.
+    pub fn counters(&self, member: usize) -> Counters
+        requires { member < length (station_of self.now).config.members }
+        ensures { result ≡ slice_index_or (state_of self.now).common.members member no_counts }
     {
-        request_in(self.datagram.bytes())
+        self.state
+            .common
+            .members
+            .get(member)
+            .copied()
+            .unwrap_or(Counters::NONE)
     }
 
-    // Puts the reply to a list request into the frame.
-    fn write_reply(&mut self, request: u32, now: u64)
-        ensures frame { self.new.frame ≡ spelling (list_reply (station_of self.old) now request) }
-        ensures fits { Fits (list_reply (station_of self.old) now request) }
+    // What the datagram demands at this reading. An answer stands in the frame.
+    fn demand(&mut self, now: u64) -> Demand
+        ensures demand { IsDemand (station_of self.old).key (demand (station_of self.old) now (state_of self.old) self.old.datagram) result self.new.desk.frame }
         ensures station { station_of self.new ≡ station_of self.old }
         ensures state { state_of self.new ≡ state_of self.old }
     {
-        let head = Head {
-            auth: false,
-            secs: (now / 1000).min(0xFFFF_FFFF) as u32,
-            usecs: (now % 1000 * 1000) as u32,
-            from: self.me,
-            cmd: Cmd::RLst,
-            request,
-            options: 0,
-            reason: 0,
-            result: 0,
-        };
-        write_list(&self.tickets, &mut self.text);
-        let reply = Message {
-            head,
-            body: Body::Text(self.text.bytes()),
-        };
-        encode(&reply, &mut self.frame);
+        match self.station.admit(now, self.datagram.bytes()) {
+            Ok(message) => self.desk.route(&self.station, &self.state, &message, now),
+            Err(fault) => Demand::Drop(fault),
+        }
     }
 
     // Counts a dropped datagram.
@@ -125,33 +105,37 @@ impl Node {
         self.state = self.state.with_drop(fault);
     }
 
-    // Answers a list request.
-    fn answer<H: Host>(&mut self, from: &Peer, request: u32, now: u64, host: &mut H)
-        ensures past { GrewSome (λ es. Leads {S = State} IsDone (received (station_of self.old) now (state_of self.old) from.now (Ok request))
-            es (Deeds.Ends (state_of self.new))) (H.past host.old) (H.past host.new) }
+    // Counts a datagram of a member.
+    fn note(&mut self, member: MemberId, now: u64)
+        ensures state { state_of self.new ≡ accepted (station_of self.old) now (state_of self.old) member }
         ensures station { station_of self.new ≡ station_of self.old }
-        ensures later { H.faults host.old ≤ H.faults host.new }
     {
-        self.write_reply(request, now);
-        let _ = host.send(from, self.frame.bytes());
+        let place = self.station.place(member);
+        self.state = self.state.with_accepted(place, now);
     }
 
     // Does what a datagram demands.
     fn receive<H: Host>(&mut self, from: &Peer, now: u64, host: &mut H)
-        ensures past { GrewSome (λ es. Leads {S = State} IsDone (received (station_of self.old) now (state_of self.old) from.now (request_of (verdict self.old.datagram)))
+        ensures past { GrewSome (λ es. Leads {S = State} (IsDone (station_of self.old).key)
+            (met (station_of self.old) now (state_of self.old) from.now (demand (station_of self.old) now (state_of self.old) self.old.datagram))
             es (Deeds.Ends (state_of self.new))) (H.past host.old) (H.past host.new) }
         ensures station { station_of self.new ≡ station_of self.old }
         ensures later { H.faults host.old ≤ H.faults host.new }
     {
-        match self.request() {
-            Ok(request) => self.answer(from, request, now, host),
-            Err(fault) => self.refuse(fault),
+        match self.demand(now) {
+            Demand::Drop(fault) => self.refuse(fault),
+            Demand::Note(member) => self.note(member, now),
+            Demand::Answer => {
+                let _ = host.send(from, self.desk.frame.bytes());
+            }
+            Demand::Rest => {}
         }
     }
 
     // Does what an arrival demands.
     fn arrive<H: Host>(&mut self, arrival: &Result<Arrival, Failed>, now: u64, host: &mut H)
-        ensures past { GrewSome (λ es. Leads {S = State} IsDone (arrived (station_of self.old) now (state_of self.old) arrival.now self.old.datagram)
+        ensures past { GrewSome (λ es. Leads {S = State} (IsDone (station_of self.old).key)
+            (arrived (station_of self.old) now (state_of self.old) arrival.now self.old.datagram)
             es (Deeds.Ends (state_of self.new))) (H.past host.old) (H.past host.new) }
         ensures station { station_of self.new ≡ station_of self.old }
         ensures later { H.faults host.old ≤ H.faults host.new }

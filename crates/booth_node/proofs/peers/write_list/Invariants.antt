@@ -1,10 +1,10 @@
 use Rattle.std.proofs.Common.{◌≡◌, ◌*◌, ◌≤◌, length, take}
 use Rattle.std.specs.List.{flat_map}
-use Rattle.booth_node.specs.Reaction.{list_line}
-use Rattle.booth_node.proofs.listing.write_list.Given as goal
+use Rattle.booth_node.specs.Replies.{list_line}
+use Rattle.booth_node.proofs.peers.write_list.Given as goal
 
 abbrev pub invariant-loop-ticket : goal.invariant-loop-ticket
 invariant-loop-ticket l = record {
-  bytes : l.text ≡ flat_map list_line (take l.ticket-index l.tickets);
+  bytes : l.text ≡ flat_map list_line (take l.ticket-index l.ticket-items);
   len : length l.text ≤ 71 * l.ticket-index;
 }

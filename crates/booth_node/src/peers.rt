@@ -1,0 +1,134 @@
+//! The texts of replies: the list of tickets, and the list of members.
+ghost use Rattle.std.specs.Prelude.{◌≡◌, ◌≤◌, ◌<◌, ◌+◌, ◌*◌, ◌++◌, ◌∷◌, [], length, codes, decimal};
+ghost use Rattle.std.specs.List.{flat_map, zip};
+ghost use Rattle.booth_base.specs.Address.{IsAddress, printed};
+ghost use Rattle.booth_node.specs.Replies.{list_line, list_text, spaced, drops_line, role_of, peer_line, other_line};
+
+use crate::{Common, Counters, Station};
+use booth_base::{Address, TextBuf};
+use booth_conf::{Member, TicketConf};
+use itoa::Buffer;
+
+// Appends the line of a ticket that nobody holds.
+#[tactic(auto, using(booth_base::proofs::TextLemmas::line_of_name))]
+fn put_ticket(ticket: &TicketConf, text: &mut TextBuf)
+    requires { length text.old + 71 ≤ 16384 }
+    ensures bytes { text.new ≡ text.old ++ list_line ticket.now }
+    ensures len { length text.new ≤ length text.old + 71 }
+{
+    text.put(ticket.name.bytes());
+    text.put(b" none 0\n");
+}
+
+/// Makes the text of a list in which nobody holds any of the tickets.
+pub(crate) fn write_list(station: &Station, text: &mut TextBuf)
+    ensures { text.new ≡ list_text station.now }
+{
+    text.clear();
+    for ticket in station.config.tickets() {
+        put_ticket(ticket, text);
+    }
+}
+
+// Appends a number behind a blank.
+fn put_number(number: u64, text: &mut TextBuf)
+    requires { length text.old + 21 ≤ 16384 }
+    ensures bytes { text.new ≡ text.old ++ spaced number }
+    ensures len { length text.new ≤ length text.old + 21 }
+{
+    let mut digits = Buffer::new();
+    text.put(b" ");
+    text.put(digits.format(number).as_bytes());
+}
+
+fn put_numbers(numbers: &[u64], text: &mut TextBuf)
+    requires { length text.old + 21 * length numbers.now ≤ 16384 }
+    ensures bytes { text.new ≡ text.old ++ flat_map spaced numbers.now }
+    ensures len { length text.new ≤ length text.old + 21 * length numbers.now }
+{
+    for number in numbers {
+        put_number(*number, text);
+    }
+}
+
+fn put_drops(drops: &[u64; 8], text: &mut TextBuf)
+    requires { length text.old + 176 ≤ 16384 }
+    ensures bytes { text.new ≡ text.old ++ drops_line drops.now }
+    ensures len { length text.new ≤ length text.old + 176 }
+{
+    text.put(b"dropped");
+    put_numbers(drops, text);
+    text.put(b"\n");
+}
+
+fn put_role(site: bool, text: &mut TextBuf)
+    requires { length text.old + 11 ≤ 16384 }
+    ensures bytes { text.new ≡ text.old ++ role_of site }
+    ensures len { length text.new ≤ length text.old + 11 }
+{
+    if site {
+        text.put(b"site ");
+    } else {
+        text.put(b"arbitrator ");
+    }
+}
+
+// An address has 4 or 16 bytes.
+fn is_whole(address: Address)
+    ensures { IsAddress address }
+{
+    match address {
+        Address::V4(_) | Address::V6(_) => {}
+    }
+}
+
+fn put_address(address: Address, text: &mut TextBuf)
+    requires { length text.old + 39 ≤ 16384 }
+    ensures bytes { text.new ≡ text.old ++ printed address }
+    ensures len { length text.new ≤ length text.old + 39 }
+{
+    is_whole(address);
+    text.put(address.print().as_bytes());
+}
+
+// Appends the line of a member.
+fn put_peer(member: &Member, counters: &Counters, text: &mut TextBuf)
+    requires { length text.old + 135 ≤ 16384 }
+    ensures bytes { text.new ≡ text.old ++ peer_line (member.now, counters.now) }
+    ensures len { length text.new ≤ length text.old + 135 }
+{
+    put_role(member.site, text);
+    put_address(member.address, text);
+    put_numbers(
+        &[
+            counters.last,
+            counters.accepted,
+            counters.sent,
+            counters.errors,
+        ],
+        text,
+    );
+    text.put(b"\n");
+}
+
+// Appends the line of a member that is another one.
+fn put_other(station: &Station, member: &Member, counters: &Counters, text: &mut TextBuf)
+    requires { length text.old + 135 ≤ 16384 }
+    ensures bytes { text.new ≡ text.old ++ other_line station.now (member.now, counters.now) }
+    ensures len { length text.new ≤ length text.old + 135 }
+{
+    if member.id.0 != station.me.0 {
+        put_peer(member, counters, text);
+    }
+}
+
+/// Makes the text of the drops and of the other members.
+pub(crate) fn write_peers(station: &Station, common: &Common, text: &mut TextBuf)
+    ensures { text.new ≡ drops_line common.now.drops ++ flat_map (other_line station.now) (zip station.now.config.members common.now.members) }
+{
+    text.clear();
+    put_drops(&common.drops, text);
+    for (member, counters) in station.config.members().iter().zip(&common.members) {
+        put_other(station, member, counters, text);
+    }
+}

@@ -1,0 +1,129 @@
+//! What a client is answered.
+ghost use Rattle.std.specs.Prelude.{◌≡◌, true, Option, option_map, IfSome};
+ghost use Rattle.booth_wire.specs.Command.{answer_of};
+ghost use Rattle.booth_wire.specs.Letter.{letter_of, content_of, has_text, Text};
+ghost use Rattle.booth_node.specs.Replies.{text_for, no_ticket, no_attribute, no_attribute_of, reply_with, reply_letter, answered, reply_to};
+ghost use Rattle.booth_node.specs.Demands.{HasForm, reply_of};
+
+use crate::peers::{write_list, write_peers};
+use crate::{State, Station};
+use booth_base::{MemberId, NO_ONE, TextBuf};
+use booth_wire::{AttrPart, Body, Cmd, Head, Message, TicketPart, results};
+
+/// The result and the body of a reply.
+#[derive(Drop)]
+pub(crate) struct Reply<'a> {
+    pub result: u32,
+    pub body: Body<'a>,
+}
+
+/// Makes the text of the reply to this command. Where it has none, it is empty.
+pub(crate) fn write_text(station: &Station, state: &State, cmd: Cmd, text: &mut TextBuf)
+    ensures { text.new ≡ text_for station.now state.now cmd }
+{
+    match cmd {
+        Cmd::CLst => write_list(station, text),
+        Cmd::Peer => write_peers(station, &state.common, text),
+        Cmd::CGnt | Cmd::CRvk | Cmd::ASet | Cmd::AGet | Cmd::ADel | Cmd::ALst => text.clear(),
+        Cmd::RLst | Cmd::RPer | Cmd::RALs | Cmd::RGnt | Cmd::RRvk | Cmd::RAtr => text.clear(),
+        Cmd::Stat | Cmd::MIdx | Cmd::RVot | Cmd::VtFr | Cmd::HrtB => text.clear(),
+        Cmd::Ack | Cmd::UpdE | Cmd::Revk | Cmd::Rjc => text.clear(),
+    }
+}
+
+// The ticket is unknown, as all are to whom asks for a grant.
+fn no_ticket<'a>(body: &Body<'_>) -> Option<Reply<'a>>
+    ensures { option_map reply_of result ≡ no_ticket (content_of body.now) }
+{
+    match body {
+        Body::Ticket(part) => Some(Reply {
+            result: results::IARG,
+            body: Body::Ticket(TicketPart {
+                ticket: part.ticket.copy(),
+                leader: NO_ONE,
+                term: 0,
+                valid_for: 0,
+            }),
+        }),
+        Body::Bare | Body::Attr(_) | Body::Text(_) => None,
+    }
+}
+
+// A request that sets, reads or deletes an attribute names it.
+fn no_attribute_of<'a>(part: &AttrPart) -> Option<Reply<'a>>
+    ensures { option_map reply_of result ≡ no_attribute_of part.now part.now.name }
+{
+    let name = part.name.as_ref()?;
+    Some(Reply {
+        result: results::IARG,
+        body: Body::Attr(AttrPart {
+            ticket: part.ticket.copy(),
+            name: Some(name.copy()),
+            value: part.value.copy(),
+        }),
+    })
+}
+
+fn no_attribute<'a>(body: &Body<'_>) -> Option<Reply<'a>>
+    ensures { option_map reply_of result ≡ no_attribute (content_of body.now) }
+{
+    match body {
+        Body::Attr(part) => no_attribute_of(part),
+        Body::Bare | Body::Ticket(_) | Body::Text(_) => None,
+    }
+}
+
+/// The reply to this message, which may carry the text.
+fn body_for<'a>(cmd: Cmd, body: &Body<'_>, text: &'a [u8]) -> Option<Reply<'a>>
+    requires { has_text (Text text.now) ≡ true }
+    ensures form { IfSome result (λ r. IfSome (answer_of cmd) (λ a. HasForm a (content_of r.body))) }
+    ensures reply { option_map reply_of result ≡ reply_with text.now cmd (content_of body.now) }
+{
+    match cmd {
+        Cmd::CLst | Cmd::Peer => Some(Reply {
+            result: results::SUCCESS,
+            body: Body::Text(text),
+        }),
+        Cmd::CGnt | Cmd::CRvk => no_ticket(body),
+        Cmd::ASet | Cmd::AGet | Cmd::ADel => no_attribute(body),
+        Cmd::ALst => Some(Reply {
+            result: results::IARG,
+            body: Body::Text(text),
+        }),
+        Cmd::RLst | Cmd::RPer | Cmd::RALs | Cmd::RGnt | Cmd::RRvk | Cmd::RAtr => None,
+        Cmd::Stat | Cmd::MIdx | Cmd::RVot | Cmd::VtFr | Cmd::HrtB => None,
+        Cmd::Ack | Cmd::UpdE | Cmd::Revk | Cmd::Rjc => None,
+    }
+}
+
+// The message of a reply to the request with this number.
+fn letter<'a>(me: MemberId, request: u32, cmd: Cmd, reply: Reply<'a>) -> Message<'a>
+    ensures { letter_of result ≡ reply_letter me request cmd (reply_of reply.entry) }
+{
+    Message {
+        head: Head {
+            auth: false,
+            secs: 0,
+            usecs: 0,
+            from: me,
+            cmd,
+            request,
+            options: 0,
+            reason: 0,
+            result: reply.result,
+        },
+        body: reply.body,
+    }
+}
+
+/// What a message is answered with, where this text was made for it.
+pub(crate) fn answer<'a>(me: MemberId, message: &Message<'_>, text: &'a [u8]) -> Option<Message<'a>>
+    requires { has_text (Text text.now) ≡ true }
+    ensures form { IfSome result (λ m. HasForm m.head.cmd (content_of m.body)) }
+    ensures letter { option_map letter_of result ≡ answered me message.now.head.request (answer_of message.now.head.cmd)
+        (reply_with text.now message.now.head.cmd (content_of message.now.body)) }
+{
+    let cmd = message.head.cmd.answer()?;
+    let reply = body_for(message.head.cmd, &message.body, text)?;
+    Some(letter(me, message.head.request, cmd, reply))
+}

@@ -1,0 +1,35 @@
+//! What a node is set up with.
+ghost use Rattle.std.specs.Prelude.{◌≡◌, ◌<◌, position, IfSome};
+ghost use Rattle.booth_conf.specs.Config.{has_id};
+ghost use Rattle.booth_auth.specs.Verdict.{verdict, Passes};
+
+use booth_auth::{DropFault, Key, gate};
+use booth_base::MemberId;
+use booth_conf::Config;
+use booth_wire::Message;
+
+/// A member: the configuration that it shares, its key where there is one, and its own id.
+#[derive(Drop)]
+pub struct Station {
+    pub config: Config,
+    pub key: Option<Key>,
+    pub me: MemberId,
+}
+
+impl Station {
+    /// The message of a datagram that is let in at this reading in ms, or why it is dropped.
+    pub(crate) fn admit<'a>(&self, now: u64, bytes: &'a [u8]) -> Result<Message<'a>, DropFault>
+        ensures { Passes result (verdict self.now.config self.now.key self.now.me now bytes.now) }
+    {
+        gate(&self.config, self.key.as_ref(), self.me, now, bytes)
+    }
+
+    /// The place of the member with this id, where there is one.
+    pub(crate) fn place(&self, member: MemberId) -> Option<usize>
+        ensures place { result ≡ position (has_id member) self.now.config.members }
+        ensures within { IfSome result (λ p. p < 16) }
+    {
+        let members = self.config.members();
+        members.iter().position(|other| other.id.0 == member.0)
+    }
+}
