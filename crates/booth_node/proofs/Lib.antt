@@ -1,3 +1,4 @@
 pub mod TurnLemmas
 pub mod LogLemmas
 pub mod PeerLemmas
+pub mod LawLemmas

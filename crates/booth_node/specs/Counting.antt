@@ -44,9 +44,11 @@ counted_at members moment (Some place) = slice_set members place (counted (slice
 -- a command of the member with this id was let in: its counters alone change
 abbrev pub accepted : Station → ℕ → State → MemberId → State
 accepted station moment state from =
-    record state { common = record state.common {
-      members = counted_at state.common.members moment (position (has_id from) station.config.members);
-    } }
+    record state {
+      common = record state.common {
+        members = counted_at state.common.members moment (position (has_id from) station.config.members);
+      };
+    }
 
 -- the state of a node that was opened at this reading
 abbrev pub opened_at : ℕ → State

@@ -3,6 +3,7 @@ pub mod Counting
 pub mod Replies
 pub mod Reaction
 pub mod Demands
+pub mod Laws
 pub mod Log
 pub mod View
 pub use Rattle.booth_base.specs.Tree

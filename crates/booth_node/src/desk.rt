@@ -31,7 +31,13 @@ impl Desk {
     }
 
     // Puts the answer to a client into the frame.
-    fn answer(&mut self, station: &Station, state: &State, message: &Message<'_>, now: u64) -> Demand
+    fn answer(
+        &mut self,
+        station: &Station,
+        state: &State,
+        message: &Message<'_>,
+        now: u64,
+    ) -> Demand
         ensures { IsDemand station.now.key (answers station.now.key now (reply_to station.now state.now (letter_of message.now))) result self.new.frame }
     {
         write_text(station, state, message.head.cmd, &mut self.text);
@@ -45,7 +51,13 @@ impl Desk {
     }
 
     /// What a message that was let in at this reading in ms demands.
-    pub fn route(&mut self, station: &Station, state: &State, message: &Message<'_>, now: u64) -> Demand
+    pub fn route(
+        &mut self,
+        station: &Station,
+        state: &State,
+        message: &Message<'_>,
+        now: u64,
+    ) -> Demand
         ensures { IsDemand station.now.key (routed station.now now state.now (letter_of message.now) (direction_of message.now.head.cmd)) result self.new.frame }
     {
         match message.head.cmd.direction() {

@@ -3,6 +3,7 @@
 
 mod demand;
 mod desk;
+pub mod laws;
 mod node;
 mod peers;
 mod replies;

@@ -1,9 +1,6 @@
-use Rattle.std.proofs.Common.{◌≡◌, ap, ◌∙◌}
-use Rattle.booth_node.specs.declared.demand.Demand.{Demand as Shown}
-use Rattle.booth_node.specs.declared.demand.Demand.TheVariants as shown
+use Rattle.std.proofs.Common.{ap, ◌∙◌}
 use Rattle.booth_node.specs.declared.state.State.{State}
-use Rattle.booth_node.specs.Counting.{dropped, accepted}
-use Rattle.booth_node.specs.Demands.{IsDemand}
+use Rattle.booth_node.specs.Counting.{dropped}
 use Rattle.booth_node.specs.Reaction.{demand}
 use Rattle.booth_node.specs.View.{station_of, state_of}
 use Rattle.booth_node.proofs.TurnLemmas.{dropped_so, noted_so, sent_so, rested_so}

@@ -1,0 +1,5 @@
+use Rattle.booth_node.proofs.LawLemmas.{rests_not}
+use Rattle.booth_node.proofs.laws.nothing_rests.Goals as goal
+
+pub returns : goal.returns
+returns c = rests_not

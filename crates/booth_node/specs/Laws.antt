@@ -1,0 +1,29 @@
+-- Laws of what a datagram demands, over every state and all bytes.
+use Rattle.std.specs.Prelude.{◌≡◌, ℕ, List, Some, Ok}
+use Rattle.booth_wire.specs.declared.command.Direction.TheVariants.{ToDaemon}
+use Rattle.booth_wire.specs.Command.{direction_of, answer_of}
+use Rattle.booth_wire.specs.Letter.{Letter}
+use Rattle.booth_auth.specs.Verdict.{verdict}
+use Rattle.booth_node.specs.declared.station.Station.{Station}
+use Rattle.booth_node.specs.declared.state.State.{State}
+use Rattle.booth_node.specs.Reaction.{Answers, Rests, demand}
+
+-- this reply answers the letter: its command's answer, with its number, from this member
+pub record Replies (station : Station) (letter reply : Letter) : Type 0 where
+  pub cmd : answer_of letter.head.cmd ≡ Some reply.head.cmd
+  pub request : reply.head.request ≡ letter.head.request
+  pub from : reply.head.from ≡ station.me
+
+-- Each request of a client that is let in is answered.
+abbrev pub ClientsAreAnswered : Type 0
+ClientsAreAnswered =
+    (station : Station) (moment : ℕ) (state : State) (bytes : List ℕ) (letter : Letter) →
+    verdict station.config station.key station.me moment bytes ≡ Ok letter →
+    direction_of letter.head.cmd ≡ ToDaemon →
+    (reply : Letter) × (demand station moment state bytes ≡ Answers reply) × Replies station letter reply
+
+-- No datagram demands nothing: each is dropped, counted for its member, or answered.
+abbrev pub NothingRests : Type 0
+NothingRests =
+    (station : Station) (moment : ℕ) (state : State) (bytes : List ℕ) →
+    demand station moment state bytes ≡ Rests → ⊥
