@@ -21,7 +21,7 @@ use Rattle.booth_node.specs.declared.station.Station.{Station}
 use Rattle.booth_node.specs.declared.state.State.{State}
 use Rattle.booth_node.specs.Replies.{Reply, text_for, no_ticket, no_attribute, reply_with, reply_letter, reply_to}
 use Rattle.booth_node.specs.Reaction.{Demand, Drops, Notes, Answers, Rests, answers, routed, demanded, demand}
-use Rattle.booth_node.specs.Laws.{Replies, ClientsAreAnswered, NothingRests}
+use Rattle.booth_node.specs.Laws.{IsReplyTo, ClientsAreAnswered, NothingRests}
 
 -- ---- what was read
 
@@ -127,14 +127,15 @@ let_in station moment bytes l is =
 
 answered_so : (station : Station) (moment : ℕ) (state : State) (l : Letter) →
     direction_of l.head.cmd ≡ ToDaemon → IsRead l.head.cmd l.content →
-    (reply : Letter) × (routed station moment state l (direction_of l.head.cmd) ≡ Answers reply) × Replies station l reply
+    (reply : Letter) × (routed station moment state l (direction_of l.head.cmd) ≡ Answers reply)
+    × IsReplyTo station l reply
 answered_so station moment state l to read =
     let found = has_answer (text_for station state l.head.cmd) l.head.cmd l.content to read in
     let reply : Letter = reply_letter station.me l.head.request found.0 found.2.0 in
     let is : reply_to station state l ≡ Some reply = rw (found.1, found.2.1) refl in (
       stamped station.key moment reply,
       ap (λ d. routed station moment state l d) to ∙ ap (λ r. answers station.key moment r) is,
-      record { cmd = found.1; request = refl; from = refl },
+      record { cmd = found.1; request = refl; options = refl; reason = refl; from = refl },
     )
 
 pub clients_answered : ClientsAreAnswered

@@ -27,7 +27,8 @@ place_of Leader = 7
 abbrev pub dropped : State → DropFault → State
 dropped state fault =
     let drops = state.common.drops in
-    record state { common = record state.common { drops = slice_set drops (place_of fault) (more (slice_index drops (place_of fault))) } }
+    let count = more (slice_index drops (place_of fault)) in
+    record state { common = record state.common { drops = slice_set drops (place_of fault) count } }
 
 -- the counters of a member of whom nothing came and to whom nothing went
 abbrev pub no_counts : Counters
@@ -39,7 +40,8 @@ counted counters moment = record counters { accepted = more counters.accepted; l
 
 abbrev pub counted_at : List Counters → ℕ → Option ℕ → List Counters
 counted_at members moment None = members
-counted_at members moment (Some place) = slice_set members place (counted (slice_index_or members place no_counts) moment)
+counted_at members moment (Some place) =
+    slice_set members place (counted (slice_index_or members place no_counts) moment)
 
 -- a command of the member with this id was let in: its counters alone change
 abbrev pub accepted : Station → ℕ → State → MemberId → State

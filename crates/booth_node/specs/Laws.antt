@@ -8,10 +8,13 @@ use Rattle.booth_node.specs.declared.station.Station.{Station}
 use Rattle.booth_node.specs.declared.state.State.{State}
 use Rattle.booth_node.specs.Reaction.{Answers, Rests, demand}
 
--- this reply answers the letter: its command's answer, with its number, from this member
-pub record Replies (station : Station) (letter reply : Letter) : Type 0 where
+-- This reply answers the letter: its command's answer, with its number and neither options nor a reason, from this
+-- member.
+pub record IsReplyTo (station : Station) (letter reply : Letter) : Type 0 where
   pub cmd : answer_of letter.head.cmd ≡ Some reply.head.cmd
   pub request : reply.head.request ≡ letter.head.request
+  pub options : reply.head.options ≡ 0
+  pub reason : reply.head.reason ≡ 0
   pub from : reply.head.from ≡ station.me
 
 -- Each request of a client that is let in is answered.
@@ -20,7 +23,7 @@ ClientsAreAnswered =
     (station : Station) (moment : ℕ) (state : State) (bytes : List ℕ) (letter : Letter) →
     verdict station.config station.key station.me moment bytes ≡ Ok letter →
     direction_of letter.head.cmd ≡ ToDaemon →
-    (reply : Letter) × (demand station moment state bytes ≡ Answers reply) × Replies station letter reply
+    (reply : Letter) × (demand station moment state bytes ≡ Answers reply) × IsReplyTo station letter reply
 
 -- No datagram demands nothing: each is dropped, counted for its member, or answered.
 abbrev pub NothingRests : Type 0

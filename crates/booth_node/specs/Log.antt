@@ -9,7 +9,8 @@ use Rattle.booth_node.specs.Reaction.{IsTurn}
 -- each turn begins in the state that the turn before it left, and none of them stopped
 abbrev pub AreTurns : Station → State → List (List Entry) → State → Type 0
 AreTurns station old [] new = new ≡ old
-AreTurns station old (entries ∷ turns) new = (mid : State) × IsTurn station old Went entries mid × AreTurns station mid turns new
+AreTurns station old (entries ∷ turns) new =
+    (mid : State) × IsTurn station old Went entries mid × AreTurns station mid turns new
 
 abbrev pub joined_turns : List (List Entry) → List Entry
 joined_turns [] = []

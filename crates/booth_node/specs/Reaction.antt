@@ -70,7 +70,8 @@ demanded station moment state (Ok letter) = routed station moment state letter (
 
 -- what these bytes demand, by the gate's verdict
 abbrev pub demand : Station → ℕ → State → List ℕ → Demand
-demand station moment state bytes = demanded station moment state (verdict station.config station.key station.me moment bytes)
+demand station moment state bytes =
+    demanded station moment state (verdict station.config station.key station.me moment bytes)
 
 -- the deeds of a demand: a dropped datagram changes one counter, and a reply is the one send
 abbrev pub met : Station → ℕ → State → Peer → Demand → Deeds Ask State
@@ -81,7 +82,8 @@ met station moment state from Rests = Ends state
 
 -- the row of an arrival; a failed next counts as Quiet
 abbrev pub arrived : Station → ℕ → State → Result Arrival Failed → List ℕ → Deeds Ask State
-arrived station moment state (Ok (arrivals.Datagram from)) bytes = met station moment state from (demand station moment state bytes)
+arrived station moment state (Ok (arrivals.Datagram from)) bytes =
+    met station moment state from (demand station moment state bytes)
 arrived station moment state (Ok arrivals.Quiet) bytes = Ends state
 arrived station moment state (Ok arrivals.Stop) bytes = Ends state
 arrived station moment state (Err failed) bytes = Ends state

@@ -88,7 +88,10 @@ pub record Reply : Type 0 where
 -- Nothing can be granted, revoked or set yet: such a request is answered as one for an unknown ticket.
 abbrev pub no_ticket : Content → Option Reply
 no_ticket (Ticket part) =
-    Some (record { result = IARG; content = Ticket (record { ticket = part.ticket; leader = NO_ONE; term = 0; valid_for = 0 }) })
+    Some (record {
+      result = IARG;
+      content = Ticket (record { ticket = part.ticket; leader = NO_ONE; term = 0; valid_for = 0 });
+    })
 no_ticket Bare = None
 no_ticket (Attr part) = None
 no_ticket (Text text) = None
@@ -156,4 +159,5 @@ answered me request None reply = None
 abbrev pub reply_to : Station → State → Letter → Option Letter
 reply_to station state letter =
     let cmd : Cmd = letter.head.cmd in
-    answered station.me letter.head.request (answer_of cmd) (reply_with (text_for station state cmd) cmd letter.content)
+    answered station.me letter.head.request (answer_of cmd)
+    (reply_with (text_for station state cmd) cmd letter.content)

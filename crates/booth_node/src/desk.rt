@@ -38,7 +38,9 @@ impl Desk {
         message: &Message<'_>,
         now: u64,
     ) -> Demand
-        ensures { IsDemand station.now.key (answers station.now.key now (reply_to station.now state.now (letter_of message.now))) result self.new.frame }
+        ensures { IsDemand station.now.key
+            (answers station.now.key now (reply_to station.now state.now (letter_of message.now)))
+            result self.new.frame }
     {
         write_text(station, state, message.head.cmd, &mut self.text);
         match answer(station.me, message, self.text.bytes()) {
@@ -58,7 +60,9 @@ impl Desk {
         message: &Message<'_>,
         now: u64,
     ) -> Demand
-        ensures { IsDemand station.now.key (routed station.now now state.now (letter_of message.now) (direction_of message.now.head.cmd)) result self.new.frame }
+        ensures { IsDemand station.now.key
+            (routed station.now now state.now (letter_of message.now) (direction_of message.now.head.cmd))
+            result self.new.frame }
     {
         match message.head.cmd.direction() {
             Direction::ToDaemon => self.answer(station, state, message, now),

@@ -53,7 +53,8 @@ impl Node {
         me: MemberId,
         now: u64,
     ) -> Result<Node, AllocError>
-        ensures station { IfOk result (λ node. station_of node ≡ record { config = config; key = key; me = me }) }
+        ensures station { IfOk result (λ node.
+            station_of node ≡ record { config = config; key = key; me = me }) }
         ensures state { IfOk result (λ node. state_of node ≡ opened_at now) }
     {
         Ok(Node {
@@ -87,7 +88,9 @@ impl Node {
 
     // What the datagram demands at this reading. An answer stands in the frame.
     fn demand(&mut self, now: u64) -> Demand
-        ensures demand { IsDemand (station_of self.old).key (demand (station_of self.old) now (state_of self.old) self.old.datagram) result self.new.desk.frame }
+        ensures demand { IsDemand (station_of self.old).key
+            (demand (station_of self.old) now (state_of self.old) self.old.datagram)
+            result self.new.desk.frame }
         ensures station { station_of self.new ≡ station_of self.old }
         ensures state { state_of self.new ≡ state_of self.old }
     {
@@ -117,7 +120,8 @@ impl Node {
     // Does what a datagram demands.
     fn receive<H: Host>(&mut self, from: &Peer, now: u64, host: &mut H)
         ensures past { GrewSome (λ es. Leads {S = State} (IsDone (station_of self.old).key)
-            (met (station_of self.old) now (state_of self.old) from.now (demand (station_of self.old) now (state_of self.old) self.old.datagram))
+            (met (station_of self.old) now (state_of self.old) from.now
+            (demand (station_of self.old) now (state_of self.old) self.old.datagram))
             es (Deeds.Ends (state_of self.new))) (H.past host.old) (H.past host.new) }
         ensures station { station_of self.new ≡ station_of self.old }
         ensures later { H.faults host.old ≤ H.faults host.new }
@@ -149,7 +153,8 @@ impl Node {
     // The reading that this turn uses, which is then the last one.
     fn clamp(&mut self, reading: u64) -> u64
         ensures value { result ≡ used (state_of self.old).last reading }
-        ensures state { state_of self.new ≡ record (state_of self.old) { last = used (state_of self.old).last reading } }
+        ensures state { state_of self.new ≡
+            record (state_of self.old) { last = used (state_of self.old).last reading } }
         ensures station { station_of self.new ≡ station_of self.old }
         ensures datagram { self.new.datagram ≡ self.old.datagram }
     {
@@ -159,7 +164,8 @@ impl Node {
 
     /// One arrival, one reading of the clock, and what they demand. It takes no memory.
     pub fn turn<H: Host>(&mut self, host: &mut H) -> Turn
-        ensures past { GrewSome (λ es. IsTurn (station_of self.old) (state_of self.old) result es (state_of self.new)) (H.past host.old) (H.past host.new) }
+        ensures past { GrewSome (λ es. IsTurn (station_of self.old) (state_of self.old) result es (state_of self.new))
+            (H.past host.old) (H.past host.new) }
         ensures station { station_of self.new ≡ station_of self.old }
         ensures later { H.faults host.old ≤ H.faults host.new }
     {

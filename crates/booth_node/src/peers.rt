@@ -124,7 +124,8 @@ fn put_other(station: &Station, member: &Member, counters: &Counters, text: &mut
 
 /// Makes the text of the drops and of the other members.
 pub(crate) fn write_peers(station: &Station, common: &Common, text: &mut TextBuf)
-    ensures { text.new ≡ drops_line common.now.drops ++ flat_map (other_line station.now) (zip station.now.config.members common.now.members) }
+    ensures { text.new ≡ drops_line common.now.drops
+        ++ flat_map (other_line station.now) (zip station.now.config.members common.now.members) }
 {
     text.clear();
     put_drops(&common.drops, text);

@@ -120,7 +120,8 @@ fn letter<'a>(me: MemberId, request: u32, cmd: Cmd, reply: Reply<'a>) -> Message
 pub(crate) fn answer<'a>(me: MemberId, message: &Message<'_>, text: &'a [u8]) -> Option<Message<'a>>
     requires { has_text (Text text.now) ≡ true }
     ensures form { IfSome result (λ m. HasForm m.head.cmd (content_of m.body)) }
-    ensures letter { option_map letter_of result ≡ answered me message.now.head.request (answer_of message.now.head.cmd)
+    ensures letter { option_map letter_of result ≡ answered me message.now.head.request
+        (answer_of message.now.head.cmd)
         (reply_with text.now message.now.head.cmd (content_of message.now.body)) }
 {
     let cmd = message.head.cmd.answer()?;

@@ -103,7 +103,9 @@ impl State {
     /// The state after a datagram of the member at this place was let in.
     pub(crate) fn with_accepted(&self, place: Option<usize>, now: u64) -> State
         requires { IfSome place (λ p. p < 16) }
-        ensures { result ≡ record self.now { common = record self.now.common { members = counted_at self.now.common.members now place } } }
+        ensures { result ≡ record self.now {
+          common = record self.now.common { members = counted_at self.now.common.members now place };
+        } }
     {
         let mut state = *self;
         if let Some(place) = place {
