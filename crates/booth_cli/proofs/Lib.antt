@@ -1,9 +1,5 @@
-pub mod ConfLines
-pub mod ConfQuotes
-pub mod ConfReading
-pub mod OneAnswerLemmas
-pub mod OneSetting
 pub mod WordLemmas
+pub mod TextLemmas
 pub mod ServeLemmas
 pub mod RunLemmas
 pub mod FaultlessLemmas

@@ -1,38 +1,64 @@
--- Runs in which the outside does not fail and the file says a configuration.
-use Rattle.std.specs.Prelude.{ℕ, List, Contains, Option, Ok, Err}
+-- Runs in which the outside does not fail and the files are as they must be.
+use Rattle.std.specs.Prelude.{◌≡◌, ℕ, true, List, Contains, Option, Some, Ok, Err, false}
 use Rattle.booth_base.specs.declared.address.Address.{Address}
+use Rattle.booth_conf.specs.Config.{ConfigSays}
+use Rattle.booth_conf.specs.Says.{Says}
+use Rattle.booth_auth.specs.Key.{key_read}
 use Rattle.booth_host.specs.declared.host.Failed.{Failed}
 use Rattle.booth_host.specs.declared.host.ReadFault.TheVariants as reads
 use Rattle.booth_host.specs.declared.entry.Entry.{Entry}
-use Rattle.booth_host.specs.declared.entry.Entry.TheVariants.{Open, ReadFile}
+use Rattle.booth_host.specs.declared.entry.Entry.TheVariants.{Open, ReadFile, Lock}
 use Rattle.booth_cli.specs.declared.outcome.Outcome.{Outcome}
-use Rattle.booth_cli.specs.declared.outcome.Outcome.TheVariants.{Done, Usage, ConfUnread, ConfBad, OpenFault, TurnsSpent, OutOfMemory}
-use Rattle.booth_cli.specs.Conf.{Says}
+use Rattle.booth_cli.specs.declared.outcome.Outcome.TheVariants.{Done, Usage, BadWord, ConfUnread, ConfBad, NotMember, Unbuilt, KeyUnread, KeyBad, LockFault, Running, OpenFault, TurnsSpent, OutOfMemory}
+use Rattle.booth_cli.specs.Opening.{has_member}
+use Rattle.booth_cli.specs.Words.{Asks}
 use Rattle.booth_cli.specs.Run.{AskSome, IsRun}
 
--- the text says a configuration
-pub record IsValid (text : List ℕ) : Type 0 where
-  pub sites : List Address
-  pub tickets : List (List ℕ)
-  pub says : Says text sites tickets
+-- the text says a configuration, which has a member at this address
+pub record IsValid (address : Address) (text : List ℕ) : Type 0 where
+  pub config : ConfigSays
+  pub says : Says text config
+  pub member : has_member config address ≡ true
 
--- no file and no socket failed, and each file that was read says a configuration
-pub record IsFaultless (entries : List Entry) : Type 0 where
-  pub read : (path : List ℕ) → Contains entries (ReadFile path (Err reads.Failed)) → ⊥
-  pub valid : (path text : List ℕ) → Contains entries (ReadFile path (Ok text)) → IsValid text
-  pub opened : (local : Option Address) (port : ℕ) (records path : List ℕ) (failed : Failed) → Contains entries (Open local port records path (Err failed)) → ⊥
+-- the text holds a key
+pub record IsKeyFile (text : List ℕ) : Type 0 where
+  pub key : List ℕ
+  pub reads : key_read text ≡ Ok key
+
+-- No file, no lock and no socket failed, and the lock was free; what was read at the path says a configuration with
+-- this member, and what was read at its `authfile` holds a key.
+pub record IsFaultless (path : List ℕ) (address : Address) (entries : List Entry) : Type 0 where
+  pub read : (file : List ℕ) → Contains entries (ReadFile file (Err reads.Failed)) → ⊥
+  pub valid : (text : List ℕ) → Contains entries (ReadFile path (Ok text)) → IsValid address text
+  pub keyed : (text file key_text : List ℕ) (config : ConfigSays) → Contains entries (ReadFile path (Ok text)) → Says text config →
+      config.authfile ≡ Some file → Contains entries (ReadFile file (Ok key_text)) → IsKeyFile key_text
+  pub locked : (lock : List ℕ) (failed : Failed) → Contains entries (Lock lock (Err failed)) → ⊥
+  pub free : (lock : List ℕ) → Contains entries (Lock lock (Ok false)) → ⊥
+  pub opened : (local : Option Address) (port : ℕ) (records conf : List ℕ) (failed : Failed) → Contains entries (Open local port records conf (Err failed)) → ⊥
 
 -- the outcomes that are no one's fault
 abbrev pub EndsWell : Outcome → Type 0
 EndsWell Done = Unit {0}
 EndsWell TurnsSpent = Unit {0}
 EndsWell OutOfMemory = Unit {0}
+EndsWell (Unbuilt key) = Unit {0}
 EndsWell (Usage kind) = ⊥
+EndsWell (BadWord word) = ⊥
 EndsWell ConfUnread = ⊥
 EndsWell (ConfBad fault) = ⊥
+EndsWell NotMember = ⊥
+EndsWell KeyUnread = ⊥
+EndsWell (KeyBad fault) = ⊥
+EndsWell LockFault = ⊥
+EndsWell Running = ⊥
 EndsWell OpenFault = ⊥
 
--- valid words, a valid file and an outside that does not fail give Done, TurnsSpent or OutOfMemory
+-- the same of what the words ask for
+abbrev pub AreFaultless : List (List ℕ) → List Entry → Type 0
+AreFaultless words entries = (path : List ℕ) (address : Address) → Asks words path address → IsFaultless path address entries
+
+-- Valid words, valid files, a free lock and an outside that does not fail give Done, TurnsSpent or OutOfMemory, or
+-- Unbuilt where the configuration asks for a part that is not built yet.
 abbrev pub FaultlessRuns : Type 0
 FaultlessRuns = (words : List (List ℕ)) (outcome : Outcome) (entries : List Entry) →
-    AskSome words → IsRun words outcome entries → IsFaultless entries → EndsWell outcome
+    AskSome words → IsRun words outcome entries → AreFaultless words entries → EndsWell outcome

@@ -1,9 +1,9 @@
-pub mod Conf
-pub mod Line
 pub mod Words
 pub mod Texts
 pub mod Ending
+pub mod Opening
 pub mod Serving
+pub mod Keys
 pub mod Run
 pub mod Faultless
 pub use Rattle.booth_host.specs.Past

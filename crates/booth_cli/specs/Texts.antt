@@ -1,32 +1,92 @@
 -- What the daemon says on standard error, and its exit status.
-use Rattle.std.specs.Prelude.{◌++◌, ℕ, List, [], codes, decimal}
-use Rattle.booth_cli.specs.declared.conf.ConfFault.{ConfFault}
-use Rattle.booth_cli.specs.declared.conf.ConfFault.TheVariants as faults
+use Rattle.std.specs.Prelude.{◌++◌, ℕ, List, [], Option, Some, None, codes, decimal, unwrap_or, slice_get}
+use Rattle.booth_base.specs.declared.address.Address.{Address}
+use Rattle.booth_base.specs.Address.{printed}
+use Rattle.booth_conf.specs.declared.keys.KeyNo.{KeyNo}
+use Rattle.booth_conf.specs.Keys.{name_at}
+use Rattle.booth_conf.specs.Names.{ticket_names}
+use Rattle.booth_conf.specs.declared.faults.ConfFault.{ConfFault}
+use Rattle.booth_conf.specs.declared.faults.ConfFault.TheVariants as confs
+use Rattle.booth_auth.specs.declared.key.KeyFault.{KeyFault}
+use Rattle.booth_auth.specs.declared.key.KeyFault.TheVariants as keys
+use Rattle.booth_cli.specs.declared.outcome.Word.{Word}
+use Rattle.booth_cli.specs.declared.outcome.Word.TheVariants as words
 use Rattle.booth_cli.specs.declared.outcome.Outcome.{Outcome}
-use Rattle.booth_cli.specs.declared.outcome.Outcome.TheVariants.{Done, Usage, ConfUnread, ConfBad, OpenFault, TurnsSpent, OutOfMemory}
+use Rattle.booth_cli.specs.declared.outcome.Outcome.TheVariants.{Done, Usage, BadWord, ConfUnread, ConfBad, NotMember, Unbuilt, KeyUnread, KeyBad, LockFault, Running, OpenFault, TurnsSpent, OutOfMemory}
 
-abbrev pub out_of_memory : List ℕ
-out_of_memory = codes "boothd: out of memory\n"
+-- a line that names the program
+abbrev pub line_of : List ℕ → List ℕ
+line_of text = codes "boothd: " ++ text ++ codes "\n"
 
-abbrev pub fault_text : List ℕ → ConfFault → List ℕ
-fault_text path (faults.Syntax line) = codes "boothd: " ++ path ++ codes ": line " ++ decimal line ++ codes ": syntax\n"
-fault_text path faults.OutOfMemory = out_of_memory
+abbrev pub usage_text : List ℕ
+usage_text = line_of (codes "usage: boothd daemon -c FILE -s ADDRESS")
 
--- the text of an outcome, for the configuration at this path
-abbrev pub text_of : List ℕ → Outcome → List ℕ
-text_of path Done = []
-text_of path (Usage kind) = codes "boothd: usage: boothd daemon -c FILE -s ADDRESS\n"
-text_of path ConfUnread = codes "boothd: cannot read " ++ path ++ codes "\n"
-text_of path (ConfBad fault) = fault_text path fault
-text_of path OpenFault = codes "boothd: cannot open\n"
-text_of path TurnsSpent = codes "boothd: turns spent\n"
-text_of path OutOfMemory = out_of_memory
+abbrev pub bad_word_text : Word → List ℕ
+bad_word_text words.Site = line_of (codes "bad site")
+bad_word_text words.Configuration = line_of (codes "bad configuration")
+
+abbrev pub unread_text : List ℕ → List ℕ
+unread_text path = line_of (codes "cannot read " ++ path)
+
+abbrev pub not_member_text : Address → List ℕ
+not_member_text address = line_of (printed address ++ codes " is not a member")
+
+-- the name of a key; those of the table have one
+abbrev pub key_name : KeyNo → List ℕ
+key_name key = unwrap_or (name_at key) []
+
+abbrev pub unbuilt_text : KeyNo → List ℕ
+unbuilt_text key = line_of (codes "not built: " ++ key_name key)
+
+abbrev pub key_fault_text : KeyFault → List ℕ
+key_fault_text keys.TooShort = line_of (codes "key too short")
+key_fault_text keys.TooLong = line_of (codes "key too long")
+
+abbrev pub out_of_memory_text : List ℕ
+out_of_memory_text = line_of (codes "out of memory")
+
+-- what is wrong with the file at this path
+abbrev pub file_text : List ℕ → List ℕ → List ℕ
+file_text path what = line_of (path ++ codes ": " ++ what)
+
+-- what is wrong with a line of it
+abbrev pub at_line : List ℕ → ℕ → List ℕ → List ℕ
+at_line path line what = file_text path (codes "line " ++ decimal line ++ codes ": " ++ what)
+
+-- what is wrong with a ticket of it: the one whose `ticket` line stands at this place
+abbrev pub at_ticket : List ℕ → List ℕ → ℕ → List ℕ → List ℕ
+at_ticket path text ticket what =
+    file_text path (codes "ticket " ++ unwrap_or (slice_get (ticket_names text) ticket) [] ++ codes ": " ++ what)
+
+-- the fault of a text, which stands in the file at this path
+abbrev pub fault_text : List ℕ → List ℕ → ConfFault → List ℕ
+fault_text path text confs.TooLarge = file_text path (codes "too large")
+fault_text path text (confs.Syntax line) = at_line path line (codes "syntax")
+fault_text path text (confs.UnknownKey line) = at_line path line (codes "unknown key")
+fault_text path text (confs.Misplaced line) = at_line path line (codes "misplaced key")
+fault_text path text (confs.BadValue line key) = at_line path line (codes "bad value for " ++ key_name key)
+fault_text path text (confs.Repeated line) = at_line path line (codes "repeated")
+fault_text path text (confs.DefaultLate line) = at_line path line (codes "__default__ must come first")
+fault_text path text (confs.TooMany line) = at_line path line (codes "too many")
+fault_text path text confs.NoSite = file_text path (codes "no site")
+fault_text path text confs.NoTicket = file_text path (codes "no ticket")
+fault_text path text (confs.IdClash first second) = file_text path (codes "member ids clash")
+fault_text path text (confs.Renewal ticket) = at_ticket path text ticket (codes "renewal-freq is not below expire")
+fault_text path text (confs.RetryTime ticket) = at_ticket path text ticket (codes "timeout and retries do not fit renewal-freq")
+fault_text path text confs.OutOfMemory = out_of_memory_text
 
 abbrev pub status_of : Outcome → ℕ
 status_of Done = 0
 status_of (Usage kind) = 1
+status_of (BadWord word) = 1
 status_of ConfUnread = 1
 status_of (ConfBad fault) = 1
+status_of NotMember = 1
+status_of (Unbuilt key) = 1
+status_of KeyUnread = 1
+status_of (KeyBad fault) = 1
+status_of LockFault = 1
+status_of Running = 1
 status_of OpenFault = 1
 status_of TurnsSpent = 1
 status_of OutOfMemory = 1

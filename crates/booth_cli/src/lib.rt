@@ -1,15 +1,17 @@
 //! The programs of Booth over any host: words in, calls on the host, texts and outcome out.
 #![tactic(auto)]
 
-mod conf;
+mod complaint;
 mod daemon;
+mod fitness;
+mod keyfile;
 pub mod laws;
 mod outcome;
 #[cfg(test)]
 mod tests;
+mod texts;
 mod top;
 mod words;
 
-pub use conf::{Conf, ConfFault, read_conf};
-pub use outcome::Outcome;
+pub use outcome::{Outcome, Word};
 pub use top::{boothd, quiet_boothd};

@@ -1,11 +1,20 @@
-//! How a run of the daemon ends: the outcome, its exit status and its text.
-ghost use Rattle.std.specs.Prelude.{◌≡◌, ◌≤◌, length};
-ghost use Rattle.booth_cli.specs.Texts.{fault_text, status_of, text_of};
+//! How a run of the daemon ends: the outcome and its exit status.
+ghost use Rattle.std.specs.Prelude.{◌≡◌};
+ghost use Rattle.booth_cli.specs.Texts.{status_of};
 
-use crate::ConfFault;
-use arrayvec::ArrayString;
+use crate::complaint::Complaint;
+use booth_auth::KeyFault;
+use booth_conf::{ConfFault, KeyNo};
 use clap::error::ErrorKind;
-use itoa::Buffer;
+
+/// A word that is refused.
+#[derive(Clone, Copy, Debug, PartialEq, Eq)]
+pub enum Word {
+    /// The address of the member.
+    Site,
+    /// The path of the configuration.
+    Configuration,
+}
 
 /// How a run ended.
 #[derive(Clone, Copy, Debug, PartialEq, Eq)]
@@ -14,10 +23,24 @@ pub enum Outcome {
     Done,
     /// The words are none that are taken. The kind is none where there is no command in them.
     Usage(Option<ErrorKind>),
+    /// This word is not of its form.
+    BadWord(Word),
     /// The configuration could not be read.
     ConfUnread,
     /// The configuration is faulty.
     ConfBad(ConfFault),
+    /// No member of the configuration has the address.
+    NotMember,
+    /// The configuration sets this key, and the part that it asks for is not built yet.
+    Unbuilt(KeyNo),
+    /// The key file could not be read.
+    KeyUnread,
+    /// The key file holds no key.
+    KeyBad(KeyFault),
+    /// The lock file could not be locked.
+    LockFault,
+    /// Another daemon holds the lock.
+    Running,
     /// The socket could not be opened.
     OpenFault,
     /// 2^62 turns were made.
@@ -26,9 +49,6 @@ pub enum Outcome {
     OutOfMemory,
 }
 
-/// A text for standard error.
-pub(crate) type Complaint = ArrayString<320>;
-
 impl Outcome {
     /// The exit status of the program.
     pub fn status(&self) -> u8
@@ -36,70 +56,18 @@ impl Outcome {
     {
         match self {
             Outcome::Done => 0,
-            Outcome::Usage(_)
-            | Outcome::ConfUnread
-            | Outcome::ConfBad(_)
-            | Outcome::OpenFault
-            | Outcome::TurnsSpent
-            | Outcome::OutOfMemory => 1,
+            Outcome::Usage(_) | Outcome::BadWord(_) => 1,
+            Outcome::ConfUnread | Outcome::ConfBad(_) | Outcome::NotMember => 1,
+            Outcome::Unbuilt(_) | Outcome::KeyUnread | Outcome::KeyBad(_) => 1,
+            Outcome::LockFault | Outcome::Running | Outcome::OpenFault => 1,
+            Outcome::TurnsSpent | Outcome::OutOfMemory => 1,
         }
     }
 }
 
-fn plain(text: &str) -> Complaint
-    requires { length text.now ≤ 320 }
-    ensures { result.bytes ≡ text.now }
-{
-    let mut complaint = Complaint::new();
-    complaint.push_str(text);
-    complaint
-}
-
-fn unread_text(path: &str) -> Complaint
-    requires { length path.now ≤ 255 }
-    ensures { result.bytes ≡ text_of path.now Outcome.ConfUnread }
-{
-    let mut complaint = plain("boothd: cannot read ");
-    complaint.push_str(path);
-    complaint.push_str("\n");
-    complaint
-}
-
-fn syntax_text(path: &str, line: u32) -> Complaint
-    requires { length path.now ≤ 255 }
-    ensures { result.bytes ≡ fault_text path.now (ConfFault.Syntax line) }
-{
-    let mut digits = Buffer::new();
-    let mut complaint = plain("boothd: ");
-    complaint.push_str(path);
-    complaint.push_str(": line ");
-    complaint.push_str(digits.format(line));
-    complaint.push_str(": syntax\n");
-    complaint
-}
-
-fn fault_text(path: &str, fault: ConfFault) -> Complaint
-    requires { length path.now ≤ 255 }
-    ensures { result.bytes ≡ fault_text path.now fault }
-{
-    match fault {
-        ConfFault::Syntax { line } => syntax_text(path, line),
-        ConfFault::OutOfMemory => plain("boothd: out of memory\n"),
-    }
-}
-
-/// What is said on standard error of this outcome, for the configuration at this path: nothing or one line.
-pub(crate) fn text(path: &str, outcome: &Outcome) -> Complaint
-    requires { length path.now ≤ 255 }
-    ensures { result.bytes ≡ text_of path.now outcome.now }
-{
-    match outcome {
-        Outcome::Done => Complaint::new(),
-        Outcome::Usage(_) => plain("boothd: usage: boothd daemon -c FILE -s ADDRESS\n"),
-        Outcome::ConfUnread => unread_text(path),
-        Outcome::ConfBad(fault) => fault_text(path, *fault),
-        Outcome::OpenFault => plain("boothd: cannot open\n"),
-        Outcome::TurnsSpent => plain("boothd: turns spent\n"),
-        Outcome::OutOfMemory => plain("boothd: out of memory\n"),
-    }
+/// An outcome, and what is said of it on standard error: nothing or one line.
+#[derive(Drop)]
+pub(crate) struct Ended {
+    pub outcome: Outcome,
+    pub said: Complaint,
 }

@@ -1,10 +1,11 @@
 //! The words of the daemon.
-ghost use Rattle.std.specs.Prelude.{◌≡◌, ◌==◌, ◌∷◌, [], List, ℕ, IsTrue, MatchOption, codes, map, string_bytes};
+ghost use Rattle.std.specs.Prelude.{◌≡◌, ◌==◌, ◌∷◌, [], List, ℕ, MatchOption, MatchResult, codes, map, string_bytes};
 ghost use Rattle.std.specs.List.{list_any};
 ghost use Rattle.booth_base.specs.declared.address.Address.{Address};
-ghost use Rattle.booth_cli.specs.Conf.{SpellsV4};
-ghost use Rattle.booth_cli.specs.Words.{Asks, AskNothing, IsPath};
+ghost use Rattle.booth_base.specs.Address.{Spells};
+ghost use Rattle.booth_cli.specs.Words.{AreFive, IsPath, ReadsWords};
 
+use crate::Word;
 use booth_base::{Address, PathText};
 
 /// What the words ask for: a daemon for this configuration, at the member with this address.
@@ -12,6 +13,15 @@ use booth_base::{Address, PathText};
 pub(crate) struct Asked {
     pub path: PathText,
     pub address: Address,
+}
+
+/// Why the words ask for nothing.
+#[derive(Clone, Copy, Debug, PartialEq, Eq)]
+pub(crate) enum Refusal {
+    /// They are not `daemon -c FILE -s ADDRESS`.
+    NoDaemon,
+    /// They are, and this is the first word that is not of its form.
+    Bad(Word),
 }
 
 // The two words that are free.
@@ -37,22 +47,18 @@ fn path_in(word: &str) -> Option<PathText>
     PathText::read(word).ok()
 }
 
-// The IPv4 address in this word.
+// The address in this word.
 fn address_in(word: &str) -> Option<Address>
-    ensures { MatchOption result ((address : Address) → SpellsV4 word.now address → ⊥) (λ address. SpellsV4 word.now address) }
+    ensures { MatchOption result ((address : Address) → Spells word.now address → ⊥) (λ address. Spells word.now address) }
 {
-    match Address::read(word.as_bytes()) {
-        Ok(Address::V4(octets)) => Some(Address::V4(octets)),
-        Ok(Address::V6(_)) => None,
-        Err(_) => None,
-    }
+    Address::read(word.as_bytes()).ok()
 }
 
 // The free words of five, where the others are as they must be.
 fn given_words(words: &[String]) -> Option<Given<'_>>
     ensures { MatchOption result
-        ((path site : List ℕ) → map string_bytes words.now ≡ codes "daemon" ∷ codes "-c" ∷ path ∷ codes "-s" ∷ site ∷ [] → ⊥)
-        (λ g. map string_bytes words.now ≡ codes "daemon" ∷ codes "-c" ∷ g.path.now ∷ codes "-s" ∷ g.site.now ∷ []) }
+        ((path site : List ℕ) → AreFive (map string_bytes words.now) path site → ⊥)
+        (λ g. AreFive (map string_bytes words.now) g.path.now g.site.now) }
 {
     let [command, conf, path, site, address] = words else {
         return None;
@@ -66,12 +72,18 @@ fn given_words(words: &[String]) -> Option<Given<'_>>
     })
 }
 
-/// What these words ask for, if they are `daemon -c PATH -s ADDRESS`.
-pub(crate) fn read_words(words: &[String]) -> Option<Asked>
-    ensures { MatchOption result (AskNothing (map string_bytes words.now)) (λ asked. Asks (map string_bytes words.now) asked.path asked.address) }
+/// What these words ask for, or why they ask for nothing: the address is looked at first.
+pub(crate) fn read_words(words: &[String]) -> Result<Asked, Refusal>
+    ensures { ReadsWords (map string_bytes words.now) result }
 {
-    let given = given_words(words)?;
-    let path = path_in(given.path)?;
-    let address = address_in(given.site)?;
-    Some(Asked { path, address })
+    let Some(given) = given_words(words) else {
+        return Err(Refusal::NoDaemon);
+    };
+    let Some(address) = address_in(given.site) else {
+        return Err(Refusal::Bad(Word::Site));
+    };
+    match path_in(given.path) {
+        Some(path) => Ok(Asked { path, address }),
+        None => Err(Refusal::Bad(Word::Configuration)),
+    }
 }

@@ -12,6 +12,7 @@ pub mod MemberLemmas
 pub mod LastLemmas
 pub mod KeyLemmas
 pub mod More
+pub mod NameLemmas
 pub mod Turns
 pub mod FirstLemmas
 pub mod WholeLemmas

@@ -10,6 +10,7 @@ pub mod SaidReader
 pub mod Steps
 pub mod Answers
 pub mod Reads
+pub mod Names
 pub mod Config
 pub mod Print
 pub mod Grows

@@ -1,5 +1,5 @@
 //! The table of keys: the number, the name and the scope of each.
-ghost use Rattle.std.specs.Prelude.{◌≡◌, ◌==◌, bytes_eq};
+ghost use Rattle.std.specs.Prelude.{◌≡◌, ◌≤◌, ◌==◌, bytes_eq, length, IfSome};
 ghost use Rattle.booth_conf.specs.Keys.{IsRow, has_number, row, is_named, key_named, key_numbered, name_at, number_of, row_of, Names};
 
 use std::fmt;
@@ -89,7 +89,8 @@ impl Key {
 
     /// The table.
     pub fn row(self) -> Row
-        ensures { IsRow result (row_of self) }
+        ensures row { IsRow result (row_of self) }
+        ensures short { length result.name.now ≤ 22 }
     {
         match self {
             Key::Port => Row::new(1, "port", Scope::File),
@@ -114,6 +115,13 @@ impl Key {
             Key::AttrPrereq => Row::new(20, "attr-prereq", Scope::Ticket),
             Key::Mode => Row::new(21, "mode", Scope::Ticket),
         }
+    }
+
+    /// The number of the key.
+    pub fn number(self) -> KeyNo
+        ensures { result ≡ number_of self }
+    {
+        self.row().number
     }
 
     fn is_named(self, name: &[u8]) -> bool
@@ -145,7 +153,8 @@ impl Key {
 impl KeyNo {
     /// The name of the key, as a text of a configuration writes it. None is told where no key has this number.
     pub fn name(self) -> Option<&'static str>
-        ensures { Names result (name_at self) }
+        ensures name { Names result (name_at self) }
+        ensures short { IfSome result (λ name. length name.now ≤ 22) }
     {
         match Key::numbered(self) {
             Some(key) => Some(key.row().name),

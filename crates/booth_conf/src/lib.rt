@@ -12,6 +12,7 @@ pub mod laws;
 mod limits;
 mod lines;
 mod members;
+mod names;
 mod parts;
 mod print_tickets;
 mod prints;
@@ -29,8 +30,9 @@ mod words;
 
 pub use configuration::Config;
 pub use faults::ConfFault;
-pub use keys::KeyNo;
+pub use keys::{Key, KeyNo};
 pub use limits::{MEMBERS, PREREQS, TEXT_BYTES, TICKETS};
 pub use members::Member;
+pub use names::ticket_name;
 pub use parts::Extra;
 pub use tickets::{GrantKind, Prereq, TicketConf};

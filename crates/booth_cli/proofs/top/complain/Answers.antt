@@ -1,10 +1,12 @@
-use Rattle.std.proofs.Common.{◌∙◌, ap, length, arith}
+use Rattle.std.proofs.Common.{◌≡◌, ◌==◌, ℕ, List, length, sym, ap, ◌∙◌}
 use Rattle.booth_cli.proofs.RunLemmas.{told}
 use Rattle.booth_cli.proofs.top.complain.Goals as goal
 
 pub returns-then-not-is_empty-clause-past : goal.returns-then-not-is_empty-clause-past
 returns-then-not-is_empty-clause-past g c =
-    told c.args.path.now c.args.outcome.now c.as_bytes.result.now c.err.result
-    (c.as_bytes.ensures.value ∙ c.deref.ensures.0 ∙ c.text-complaint.ensures)
-    (λ none. let len = ap length none in grind (arith, none, len))
-    c.err.ensures.past
+    told c.args.complaint.now c.err.result
+    (λ none.
+      let some = sym c.if-not-is_empty.true ∙ c.is_empty.ensures in
+      let over = ap (λ (bytes : List ℕ). length bytes == 0) (c.bytes.ensures ∙ none) in
+      cc)
+    (rw c.bytes-then-not-is_empty.ensures at c.err.ensures.past)

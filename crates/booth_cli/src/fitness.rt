@@ -1,0 +1,83 @@
+//! Whether a configuration can be served: it has this member, and asks for no part that is not built yet.
+ghost use Rattle.std.specs.Prelude.{◌≡◌, true, None, MatchOption};
+ghost use Rattle.std.specs.List.{list_any};
+ghost use Rattle.booth_conf.specs.Rules.{is_at, same_address};
+ghost use Rattle.booth_cli.specs.Opening.{has_member, is_manual, has_handler, has_prereqs, unbuilt};
+ghost use Rattle.booth_cli.specs.Serving.{IsUnserved};
+
+use crate::Outcome;
+use crate::outcome::Ended;
+use crate::texts;
+use booth_base::Address;
+use booth_conf::{Config, Key, KeyNo, Member, TicketConf};
+
+fn is_at(address: &Address, member: &Member) -> bool
+    ensures { result ≡ is_at address.now member.now }
+{
+    match (address, &member.address) {
+        (Address::V4(a), Address::V4(b)) => a == b,
+        (Address::V6(a), Address::V6(b)) => a == b,
+        (Address::V4(_), Address::V6(_)) | (Address::V6(_), Address::V4(_)) => false,
+    }
+}
+
+fn has_member(config: &Config, address: &Address) -> bool
+    ensures { result ≡ has_member config.now address.now }
+{
+    config.members().iter().any(|member| is_at(address, member))
+}
+
+fn any_manual(tickets: &[TicketConf]) -> bool
+    ensures { result ≡ list_any is_manual tickets.now }
+{
+    tickets.iter().any(|ticket| ticket.manual)
+}
+
+fn any_handler(tickets: &[TicketConf]) -> bool
+    ensures { result ≡ list_any has_handler tickets.now }
+{
+    tickets.iter().any(|ticket| ticket.handler.is_some())
+}
+
+fn any_prereqs(tickets: &[TicketConf]) -> bool
+    ensures { result ≡ list_any has_prereqs tickets.now }
+{
+    tickets.iter().any(|ticket| !ticket.prereqs.is_empty())
+}
+
+// The first key that asks for a part which is not built yet.
+fn unbuilt(tickets: &[TicketConf]) -> Option<KeyNo>
+    ensures { result ≡ unbuilt tickets.now }
+{
+    if any_manual(tickets) {
+        return Some(Key::Mode.number());
+    }
+    if any_handler(tickets) {
+        return Some(Key::BeforeAcquireHandler.number());
+    }
+    if any_prereqs(tickets) {
+        return Some(Key::AttrPrereq.number());
+    }
+    None
+}
+
+/// Why this configuration cannot be served at this address, if so.
+pub(crate) fn objection(config: &Config, address: &Address) -> Option<Ended>
+    ensures { MatchOption result
+        ((has_member config.now address.now ≡ true) × (unbuilt config.now.tickets ≡ None))
+        (λ ended. IsUnserved address.now config.now ended.outcome ended.said) }
+{
+    if !has_member(config, address) {
+        return Some(Ended {
+            outcome: Outcome::NotMember,
+            said: texts::not_member(address),
+        });
+    }
+    match unbuilt(config.tickets()) {
+        Some(key) => Some(Ended {
+            outcome: Outcome::Unbuilt(key),
+            said: texts::unbuilt(key),
+        }),
+        None => None,
+    }
+}

@@ -1,0 +1,37 @@
+//! The names of a text's tickets, also where the text says no configuration.
+ghost use Rattle.std.specs.Prelude.{◌≡◌, slice_get};
+ghost use Rattle.booth_conf.specs.Names.{name_said, ticket_names};
+ghost use Rattle.booth_conf.specs.SaidReader.{said};
+
+use crate::readings::{Said, read_line};
+use crate::settings::Setting;
+use booth_base::Name;
+
+// The name of the ticket whose line this is.
+fn name_in(line: &[u8]) -> Option<Name>
+    ensures { result ≡ name_said (said line.now) }
+{
+    match read_line(line) {
+        Said::Pair {
+            key: _,
+            setting: Some(Setting::Ticket(name)),
+        } => Some(name),
+        Said::Pair { .. } | Said::Empty | Said::Broken | Said::Unknown => None,
+    }
+}
+
+/// The name on the `ticket` line of this place, counted from 0 and without `__default__`: so a fault of a whole
+/// file can be told with its ticket's name.
+pub fn ticket_name(text: &[u8], place: usize) -> Option<Name>
+    ensures { result ≡ slice_get (ticket_names text.now) place }
+{
+    let mut left = place;
+    for line in text.split(|b| *b == b'\n') {
+        match name_in(line) {
+            Some(name) if left == 0 => return Some(name),
+            Some(_) => left -= 1,
+            None => {}
+        }
+    }
+    None
+}
