@@ -1,5 +1,5 @@
 -- Where the outside does not fail, a run ends well.
-use Rattle.std.specs.Prelude.{Contains, Some, None, Ok, Err, codes}
+use Rattle.std.specs.Prelude.{Contains, Some, Ok, Err, codes}
 use Rattle.std.proofs.Common.{◌≡◌, ℕ, false, true, List, [], ◌∷◌, ◌++◌, refl, sym, ap, ◌∙◌, subst, arith}
 use Rattle.std.proofs.lemmas.List.Elements.{Contains-append_left, Contains-append_right}
 use Rattle.booth_base.specs.declared.address.Address.{Address}
@@ -88,7 +88,7 @@ served path address (KeyBad fault) said body entries all made free =
     let call : Entry = ReadFile file (Ok text) in
     let calls : body ≡ conf_call ∷ call ∷ [] = made.whole ∙ ap (λ es. conf_call ∷ es) made.here.5 in
     let key = free.keyed made.text file text made.config (all conf_call (same_calls conf_call (conf_call ∷ call ∷ []) body (first_of conf_call (call ∷ [])) calls))
-        made.fit.says made.here.2 (all call (same_calls call (conf_call ∷ call ∷ []) body (second_of conf_call call []) calls)) in
+    made.fit.says made.here.2 (all call (same_calls call (conf_call ∷ call ∷ []) body (second_of conf_call call []) calls)) in
     let is = made.here.3 in
     let reads = key.reads in
     cc

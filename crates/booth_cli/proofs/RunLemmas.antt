@@ -1,12 +1,12 @@
 -- A whole run from its parts.
-use Rattle.std.specs.Prelude.{Option, Result, None}
-use Rattle.std.proofs.Common.{◌≡◌, ℕ, List, [], ◌∷◌, ◌++◌, refl}
+use Rattle.std.specs.Prelude.{Option, Result}
+use Rattle.std.proofs.Common.{◌≡◌, ℕ, List, [], ◌∷◌, refl}
 use Rattle.booth_base.specs.declared.address.Address.{Address}
 use Rattle.booth_host.specs.declared.host.Failed.{Failed}
 use Rattle.booth_host.specs.declared.entry.Entry.{Entry}
 use Rattle.booth_host.specs.declared.entry.Entry.TheVariants as calls
 use Rattle.booth_host.specs.Past.{GrewBy, GrewSome}
-use Rattle.booth_host.proofs.PastLemmas.{some_of, some_joined, some_weaker, no_entry}
+use Rattle.booth_host.proofs.PastLemmas.{some_of, some_joined, some_weaker}
 use Rattle.booth_cli.specs.declared.outcome.Outcome.{Outcome}
 use Rattle.booth_cli.specs.declared.outcome.Outcome.TheVariants.{Done, Usage, BadWord, ConfUnread, ConfBad, NotMember, Unbuilt, KeyUnread, KeyBad, LockFault, Running, OpenFault, TurnsSpent, OutOfMemory}
 use Rattle.booth_cli.specs.Words.{Asks}

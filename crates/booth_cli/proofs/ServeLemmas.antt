@@ -18,7 +18,7 @@ use Rattle.booth_cli.specs.declared.outcome.Ended.{Ended}
 use Rattle.booth_cli.specs.declared.outcome.Outcome.{Outcome}
 use Rattle.booth_cli.specs.declared.outcome.Outcome.TheVariants.{Done, Usage, BadWord, ConfUnread, ConfBad, NotMember, Unbuilt, KeyUnread, KeyBad, LockFault, Running, OpenFault, TurnsSpent, OutOfMemory}
 use Rattle.booth_cli.specs.Texts.{line_of, fault_text}
-use Rattle.booth_cli.specs.Opening.{has_member, unbuilt, IsFit, IsReady, key_calls, reads_of, lock_path, opened, station}
+use Rattle.booth_cli.specs.Opening.{has_member, unbuilt, IsFit, lock_path, opened, station}
 use Rattle.booth_cli.specs.Keys.{IsKeyRead}
 use Rattle.booth_cli.specs.Serving.{IsUnserved, IsKeyless, IsRunOf, IsServing, IsAdmitted, IsUnlocked, IsStarted, IsLocked, refusal}
 
@@ -130,8 +130,8 @@ module _ (address : Address) (path : List ℕ) where
   has_key config key outcome said read started =
       some_joined (IsKeyRead config.authfile (Ok key)) (IsStarted address path config key outcome said) (IsUnlocked address path config outcome said)
       (λ xs ys h go text fit.
-        let P : List Entry → Type 0 = λ zs. IsServing address path outcome said (ReadFile path (Ok text) ∷ (zs ++ ys)) in
-        subst P (sym h.2) (go (record { text = text; fit = fit; key_text = h.0; holds = h.1 }))) read started
+      let P : List Entry → Type 0 = λ zs. IsServing address path outcome said (ReadFile path (Ok text) ∷ (zs ++ ys)) in
+      subst P (sym h.2) (go (record { text = text; fit = fit; key_text = h.0; holds = h.1 }))) read started
 
   -- ---- the lock, the clock and the socket
 

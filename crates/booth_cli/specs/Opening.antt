@@ -1,5 +1,5 @@
 -- What a daemon finds out before its first turn, and the calls by which it does.
-use Rattle.std.specs.Prelude.{◌≡◌, ℕ, Bool, true, false, List, [], ◌∷◌, ◌++◌, Option, Some, None, is_some, nat_lt, length, Result, Ok, Err, codes, if◌then◌else◌}
+use Rattle.std.specs.Prelude.{◌≡◌, ℕ, Bool, true, List, [], ◌∷◌, Option, Some, None, is_some, nat_lt, length, Result, Ok, codes, if◌then◌else◌}
 use Rattle.std.specs.List.{list_any}
 use Rattle.booth_base.specs.declared.address.Address.{Address}
 use Rattle.booth_base.specs.Address.{id_of}

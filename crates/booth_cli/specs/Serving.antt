@@ -1,18 +1,16 @@
 -- The calls of a daemon that was asked for, up to where its outcome is decided, and what it then says.
-use Rattle.std.specs.Prelude.{◌≡◌, ◌^◌, ◌++◌, ◌⊎◌, ℕ, true, false, List, [], ◌∷◌, Option, Some, None, Result, Ok, Err, codes}
+use Rattle.std.specs.Prelude.{◌≡◌, ◌^◌, ◌++◌, ◌⊎◌, ℕ, true, false, List, [], ◌∷◌, Option, Some, Ok, Err, codes}
 use Rattle.booth_base.specs.declared.address.Address.{Address}
 use Rattle.booth_conf.specs.Config.{ConfigSays}
 use Rattle.booth_conf.specs.Says.{Says, IsFault}
-use Rattle.booth_conf.specs.declared.keys.KeyNo.{KeyNo}
 use Rattle.booth_conf.specs.declared.faults.ConfFault.{ConfFault}
 use Rattle.booth_conf.specs.declared.faults.ConfFault.TheVariants as confs
-use Rattle.booth_auth.specs.declared.key.KeyFault.{KeyFault}
 use Rattle.booth_auth.specs.Key.{key_read}
 use Rattle.booth_host.specs.Causes.{Rose}
 use Rattle.booth_host.specs.declared.host.Failed.{Failed}
 use Rattle.booth_host.specs.declared.host.ReadFault.TheVariants as reads
 use Rattle.booth_host.specs.declared.entry.Entry.{Entry}
-use Rattle.booth_host.specs.declared.entry.Entry.TheVariants.{Open, Now, ReadFile, Lock}
+use Rattle.booth_host.specs.declared.entry.Entry.TheVariants.{ReadFile, Lock}
 use Rattle.booth_node.specs.declared.station.Station.{Station}
 use Rattle.booth_node.specs.declared.state.State.{State}
 use Rattle.booth_node.specs.Counting.{opened_at}
@@ -141,9 +139,9 @@ IsServing address path OpenFault said entries =
 IsServing address path OutOfMemory said entries =
     (said ≡ out_of_memory_text)
     × ((entries ≡ ReadFile path (Err reads.NoMemory) ∷ [])
-      ⊎ ((text : List ℕ) × (entries ≡ ReadFile path (Ok text) ∷ []))
-      ⊎ IsUnkeyed address path OutOfMemory said entries
-      ⊎ IsStuck address path (λ config es. (reading : ℕ) × (es ≡ opened address path config reading (Ok tt))) entries)
+    ⊎ ((text : List ℕ) × (entries ≡ ReadFile path (Ok text) ∷ []))
+    ⊎ IsUnkeyed address path OutOfMemory said entries
+    ⊎ IsStuck address path (λ config es. (reading : ℕ) × (es ≡ opened address path config reading (Ok tt))) entries)
 IsServing address path (Usage kind) said entries = ⊥
 IsServing address path (BadWord word) said entries = ⊥
 

@@ -1,5 +1,5 @@
 -- What the daemon says on standard error, and its exit status.
-use Rattle.std.specs.Prelude.{◌++◌, ℕ, List, [], Option, Some, None, codes, decimal, unwrap_or, slice_get}
+use Rattle.std.specs.Prelude.{◌++◌, ℕ, List, [], codes, decimal, unwrap_or, slice_get}
 use Rattle.booth_base.specs.declared.address.Address.{Address}
 use Rattle.booth_base.specs.Address.{printed}
 use Rattle.booth_conf.specs.declared.keys.KeyNo.{KeyNo}

@@ -15,9 +15,8 @@ use crate::complaint::Complaint;
 use crate::fitness::objection;
 use crate::keyfile::read_key;
 use crate::outcome::Ended;
-use crate::texts;
 use crate::words::Asked;
-use crate::Outcome;
+use crate::{Outcome, texts};
 use booth_auth::Key;
 use booth_base::{ByteText, PathText};
 use booth_conf::{ConfFault, Config};
@@ -96,7 +95,13 @@ fn run<H: Host>(node: &mut Node, host: &mut H) -> Ended
 }
 
 // The calls of a daemon that holds the lock.
-fn start<H: Host>(alloc: Global, asked: &Asked, config: Config, key: Option<Key>, host: &mut H) -> Ended
+fn start<H: Host>(
+    alloc: Global,
+    asked: &Asked,
+    config: Config,
+    key: Option<Key>,
+    host: &mut H,
+) -> Ended
     ensures past { GrewSome (IsLocked asked.now.address asked.now.path config key result.outcome result.said) (H.past host.old) (H.past host.new) }
     ensures served { IsServed result.outcome }
     ensures blame { HasBlame result.outcome (H.faults host.old) (H.faults host.new) }
@@ -122,7 +127,13 @@ fn start<H: Host>(alloc: Global, asked: &Asked, config: Config, key: Option<Key>
 }
 
 // The calls of a daemon that has its key.
-fn lock<H: Host>(alloc: Global, asked: &Asked, config: Config, key: Option<Key>, host: &mut H) -> Ended
+fn lock<H: Host>(
+    alloc: Global,
+    asked: &Asked,
+    config: Config,
+    key: Option<Key>,
+    host: &mut H,
+) -> Ended
     ensures past { GrewSome (IsStarted asked.now.address asked.now.path config key result.outcome result.said) (H.past host.old) (H.past host.new) }
     ensures served { IsServed result.outcome }
     ensures blame { HasBlame result.outcome (H.faults host.old) (H.faults host.new) }

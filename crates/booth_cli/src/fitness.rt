@@ -5,9 +5,8 @@ ghost use Rattle.booth_conf.specs.Rules.{is_at, same_address};
 ghost use Rattle.booth_cli.specs.Opening.{has_member, is_manual, has_handler, has_prereqs, unbuilt};
 ghost use Rattle.booth_cli.specs.Serving.{IsUnserved};
 
-use crate::Outcome;
 use crate::outcome::Ended;
-use crate::texts;
+use crate::{Outcome, texts};
 use booth_base::Address;
 use booth_conf::{Config, Key, KeyNo, Member, TicketConf};
 

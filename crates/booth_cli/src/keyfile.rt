@@ -4,9 +4,8 @@ ghost use Rattle.booth_host.specs.Past.{GrewSome};
 ghost use Rattle.booth_cli.specs.Serving.{HasBlame, IsServed};
 ghost use Rattle.booth_cli.specs.Keys.{IsKeyRead, IsFileKey, IsFromFile};
 
-use crate::Outcome;
 use crate::outcome::Ended;
-use crate::texts;
+use crate::{Outcome, texts};
 use booth_auth::Key;
 use booth_base::PathText;
 use booth_conf::Config;

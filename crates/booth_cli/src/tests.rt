@@ -119,9 +119,10 @@ fn one_list_request_has_its_reply(rt: HostRuntime) -> Result<(), Fail> {
     assert_eq!(rt; outcome.status(), 0);
     assert_eq!(rt; kinds(alloc, &host)?.as_str(), "rlnoxnsxn");
     let past = host.past().ok_or("untold")?;
-    let (Some(Entry::Open { local, port, .. }), Some(Entry::Send { to, bytes, .. })) =
-        (past.get(3), past.get(6))
-    else {
+    let (Some(Entry::Open { local, port, .. }), Some(Entry::Send { to, bytes, .. })) = (
+        past.get(3),
+        past.get(6),
+    ) else {
         return Err(Fail::from("other calls"));
     };
     assert!(rt; *local == Some(Address::V4([192, 168, 201, 100])));
@@ -148,8 +149,16 @@ fn the_key_file_is_read_before_the_lock(rt: HostRuntime) -> Result<(), Fail> {
 fn each_fault_of_the_file_has_its_text(rt: HostRuntime) -> Result<(), Fail> {
     let alloc = rt.alloc();
     let table: [(&[u8], ConfFault, &[u8]); 11] = [
-        (b"port = \"1", ConfFault::Syntax { line: 5 }, b"line 5: syntax"),
-        (b"expires = 3", ConfFault::UnknownKey { line: 5 }, b"line 5: unknown key"),
+        (
+            b"port = \"1",
+            ConfFault::Syntax { line: 5 },
+            b"line 5: syntax",
+        ),
+        (
+            b"expires = 3",
+            ConfFault::UnknownKey { line: 5 },
+            b"line 5: unknown key",
+        ),
         (
             b"retries = 2",
             ConfFault::BadValue {
@@ -166,7 +175,11 @@ fn each_fault_of_the_file_has_its_text(rt: HostRuntime) -> Result<(), Fail> {
             },
             b"line 5: bad value for before-acquire-handler",
         ),
-        (b"ticket=\"ticket-db8\"", ConfFault::Repeated { line: 5 }, b"line 5: repeated"),
+        (
+            b"ticket=\"ticket-db8\"",
+            ConfFault::Repeated { line: 5 },
+            b"line 5: repeated",
+        ),
         (
             b"ticket = \"__default__\"",
             ConfFault::DefaultLate { line: 5 },
@@ -174,7 +187,10 @@ fn each_fault_of_the_file_has_its_text(rt: HostRuntime) -> Result<(), Fail> {
         ),
         (
             b"site=\"255.255.255.255\"",
-            ConfFault::IdClash { first: 3, second: 3 },
+            ConfFault::IdClash {
+                first: 3,
+                second: 3,
+            },
             b"member ids clash",
         ),
         (
@@ -204,10 +220,15 @@ fn each_fault_of_the_file_has_its_text(rt: HostRuntime) -> Result<(), Fail> {
     let words = strings(alloc, &WORDS)?;
     for (line, fault, said) in table {
         let mut host = host(alloc, script(alloc)?, [GOOD, line], b"")?;
-        assert!(rt; boothd(alloc, &words, &mut host) == Outcome::ConfBad(fault), "{fault}");
+        assert!(rt;
+            boothd(alloc, &words, &mut host) == Outcome::ConfBad(fault),
+            "{fault}"
+        );
         assert_eq!(rt; kinds(alloc, &host)?.as_str(), "re");
         let text = last_text(&host)?;
-        let text = text.strip_prefix(b"boothd: /etc/booth.conf: ").ok_or("another begin")?;
+        let text = text
+            .strip_prefix(b"boothd: /etc/booth.conf: ")
+            .ok_or("another begin")?;
         assert!(rt; text.strip_suffix(b"\n") == Some(said), "{fault}");
     }
     Ok(())
@@ -219,8 +240,14 @@ fn a_file_without_a_site_or_a_ticket_is_faulty(rt: HostRuntime) -> Result<(), Fa
     let alloc = rt.alloc();
     let table: [(&[u8], &[u8]); 3] = [
         (b"", b"boothd: /etc/booth.conf: no site\n"),
-        (b"ticket = T\nretries = 3\nexpire", b"boothd: /etc/booth.conf: line 3: syntax\n"),
-        (b"site = 192.168.201.100", b"boothd: /etc/booth.conf: no ticket\n"),
+        (
+            b"ticket = T\nretries = 3\nexpire",
+            b"boothd: /etc/booth.conf: line 3: syntax\n",
+        ),
+        (
+            b"site = 192.168.201.100",
+            b"boothd: /etc/booth.conf: no ticket\n",
+        ),
     ];
     let words = strings(alloc, &WORDS)?;
     for (text, said) in table {
@@ -236,7 +263,13 @@ fn a_file_without_a_site_or_a_ticket_is_faulty(rt: HostRuntime) -> Result<(), Fa
 fn each_refusal_has_its_calls_and_its_text(rt: HostRuntime) -> Result<(), Fail> {
     let alloc = rt.alloc();
     let table: [(&[u8], &[u8], Outcome, &str, &[u8]); 7] = [
-        (b"mode = manual", b"", Outcome::Unbuilt(KeyNo(21)), "re", b"boothd: not built: mode\n"),
+        (
+            b"mode = manual",
+            b"",
+            Outcome::Unbuilt(KeyNo(21)),
+            "re",
+            b"boothd: not built: mode\n",
+        ),
         (
             b"before-acquire-handler = /h",
             b"",
@@ -251,7 +284,13 @@ fn each_refusal_has_its_calls_and_its_text(rt: HostRuntime) -> Result<(), Fail> 
             "re",
             b"boothd: not built: attr-prereq\n",
         ),
-        (b"authfile = /n", b"", Outcome::KeyUnread, "rre", b"boothd: cannot read /n\n"),
+        (
+            b"authfile = /n",
+            b"",
+            Outcome::KeyUnread,
+            "rre",
+            b"boothd: cannot read /n\n",
+        ),
         (
             b"authfile = /k",
             b" 1234567\n",
@@ -289,7 +328,14 @@ fn each_refusal_has_its_calls_and_its_text(rt: HostRuntime) -> Result<(), Fail> 
 fn the_lock_and_the_socket_may_be_refused(rt: HostRuntime) -> Result<(), Fail> {
     let alloc = rt.alloc();
     let table: [(bool, bool, bool, Outcome, &str, &[u8]); 4] = [
-        (true, false, true, Outcome::Running, "rle", b"boothd: already running\n"),
+        (
+            true,
+            false,
+            true,
+            Outcome::Running,
+            "rle",
+            b"boothd: already running\n",
+        ),
         (
             false,
             true,
@@ -298,8 +344,22 @@ fn the_lock_and_the_socket_may_be_refused(rt: HostRuntime) -> Result<(), Fail> {
             "rle",
             b"boothd: cannot lock /var/run/booth.lock\n",
         ),
-        (true, true, true, Outcome::LockFault, "rle", b"boothd: cannot lock /var/run/booth.lock\n"),
-        (false, false, true, Outcome::OpenFault, "rlnoe", b"boothd: cannot open\n"),
+        (
+            true,
+            true,
+            true,
+            Outcome::LockFault,
+            "rle",
+            b"boothd: cannot lock /var/run/booth.lock\n",
+        ),
+        (
+            false,
+            false,
+            true,
+            Outcome::OpenFault,
+            "rlnoe",
+            b"boothd: cannot open\n",
+        ),
     ];
     let words = strings(alloc, &WORDS)?;
     for (taken, fail_lock, fail_open, outcome, calls, said) in table {
@@ -329,13 +389,43 @@ fn words_are_looked_at_before_the_outside(rt: HostRuntime) -> Result<(), Fail> {
     let table: [(&[&str], Outcome, &str, &[u8]); 14] = [
         (&[], Outcome::Usage(None), "e", usage),
         (&["daemon"], Outcome::Usage(None), "e", usage),
-        (&["status", "-c", "/c", "-s", "::1"], Outcome::Usage(None), "e", usage),
-        (&["daemon", "-s", "::1", "-c", "/c"], Outcome::Usage(None), "e", usage),
-        (&["daemon", "-c", "/c", "-l", "::1"], Outcome::Usage(None), "e", usage),
-        (&["daemon", "-c", "/c", "-s", "::1", "-s"], Outcome::Usage(None), "e", usage),
+        (
+            &["status", "-c", "/c", "-s", "::1"],
+            Outcome::Usage(None),
+            "e",
+            usage,
+        ),
+        (
+            &["daemon", "-s", "::1", "-c", "/c"],
+            Outcome::Usage(None),
+            "e",
+            usage,
+        ),
+        (
+            &["daemon", "-c", "/c", "-l", "::1"],
+            Outcome::Usage(None),
+            "e",
+            usage,
+        ),
+        (
+            &["daemon", "-c", "/c", "-s", "::1", "-s"],
+            Outcome::Usage(None),
+            "e",
+            usage,
+        ),
         (&["daemon", "-c", "/c", "-s", "::1%lo"], bad_site, "e", site),
-        (&["daemon", "-c", "booth", "-s", "1.2.3.04"], bad_site, "e", site),
-        (&["daemon", "-c", "booth", "-s", "1.2.3.4"], bad_conf, "e", conf),
+        (
+            &["daemon", "-c", "booth", "-s", "1.2.3.04"],
+            bad_site,
+            "e",
+            site,
+        ),
+        (
+            &["daemon", "-c", "booth", "-s", "1.2.3.4"],
+            bad_conf,
+            "e",
+            conf,
+        ),
         (&["daemon", "-c", "", "-s", "::"], bad_conf, "e", conf),
         (
             &["daemon", "-c", "/c", "-s", "::1"],
@@ -356,7 +446,13 @@ fn words_are_looked_at_before_the_outside(rt: HostRuntime) -> Result<(), Fail> {
             b"boothd: fe80::1 is not a member\n",
         ),
         (
-            &["daemon", "-c", "/etc/booth.conf", "-s", "::ffff:192.168.201.100"],
+            &[
+                "daemon",
+                "-c",
+                "/etc/booth.conf",
+                "-s",
+                "::ffff:192.168.201.100",
+            ],
             Outcome::NotMember,
             "re",
             b"boothd: ::ffff:c0a8:c964 is not a member\n",

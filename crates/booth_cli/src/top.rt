@@ -4,11 +4,10 @@ ghost use Rattle.booth_host.specs.Past.{GrewSome};
 ghost use Rattle.booth_cli.specs.Serving.{HasBlame, IsServed, IsBlameless};
 ghost use Rattle.booth_cli.specs.Run.{IsAskedRun, IsText, IsRun, FitsWords};
 
-use crate::Outcome;
 use crate::complaint::Complaint;
 use crate::daemon::serve;
-use crate::texts;
 use crate::words::{Asked, Refusal, read_words};
+use crate::{Outcome, texts};
 use booth_host::{Host, QuietHost};
 use std::alloc::Global;
 

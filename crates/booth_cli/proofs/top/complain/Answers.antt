@@ -1,4 +1,4 @@
-use Rattle.std.proofs.Common.{◌≡◌, ◌==◌, ℕ, List, length, sym, ap, ◌∙◌}
+use Rattle.std.proofs.Common.{◌==◌, ℕ, List, length, sym, ap, ◌∙◌}
 use Rattle.booth_cli.proofs.RunLemmas.{told}
 use Rattle.booth_cli.proofs.top.complain.Goals as goal
 
@@ -6,7 +6,7 @@ pub returns-then-not-is_empty-clause-past : goal.returns-then-not-is_empty-claus
 returns-then-not-is_empty-clause-past g c =
     told c.args.complaint.now c.err.result
     (λ none.
-      let some = sym c.if-not-is_empty.true ∙ c.is_empty.ensures in
-      let over = ap (λ (bytes : List ℕ). length bytes == 0) (c.bytes.ensures ∙ none) in
-      cc)
+    let some = sym c.if-not-is_empty.true ∙ c.is_empty.ensures in
+    let over = ap (λ (bytes : List ℕ). length bytes == 0) (c.bytes.ensures ∙ none) in
+    cc)
     (rw c.bytes-then-not-is_empty.ensures at c.err.ensures.past)
