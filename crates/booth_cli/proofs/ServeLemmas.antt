@@ -20,7 +20,8 @@ use Rattle.booth_cli.specs.declared.outcome.Outcome.TheVariants.{Done, Usage, Ba
 use Rattle.booth_cli.specs.Texts.{line_of, fault_text}
 use Rattle.booth_cli.specs.Opening.{has_member, unbuilt, IsFit, lock_path, opened, station}
 use Rattle.booth_cli.specs.Keys.{IsKeyRead}
-use Rattle.booth_cli.specs.Serving.{IsUnserved, IsKeyless, IsRunOf, IsServing, IsAdmitted, IsUnlocked, IsStarted, IsLocked, refusal}
+use Rattle.booth_cli.specs.Serving.{IsUnserved, IsKeyless, IsRunOf, IsServing}
+use Rattle.booth_cli.specs.Stages.{IsAdmitted, IsUnlocked, IsStarted, IsLocked, refusal}
 
 module _ (address : Address) (path : List ℕ) where
   -- ---- the configuration

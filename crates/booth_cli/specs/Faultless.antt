@@ -30,11 +30,13 @@ pub record IsKeyFile (text : List ℕ) : Type 0 where
 pub record IsFaultless (path : List ℕ) (address : Address) (entries : List Entry) : Type 0 where
   pub read : (file : List ℕ) → Contains entries (ReadFile file (Err reads.Failed)) → ⊥
   pub valid : (text : List ℕ) → Contains entries (ReadFile path (Ok text)) → IsValid address text
-  pub keyed : (text file key_text : List ℕ) (config : ConfigSays) → Contains entries (ReadFile path (Ok text)) → Says text config →
+  pub keyed : (text file key_text : List ℕ) (config : ConfigSays) → Contains entries
+      (ReadFile path (Ok text)) → Says text config →
       config.authfile ≡ Some file → Contains entries (ReadFile file (Ok key_text)) → IsKeyFile key_text
   pub locked : (lock : List ℕ) (failed : Failed) → Contains entries (Lock lock (Err failed)) → ⊥
   pub free : (lock : List ℕ) → Contains entries (Lock lock (Ok false)) → ⊥
-  pub opened : (local : Option Address) (port : ℕ) (records conf : List ℕ) (failed : Failed) → Contains entries (Open local port records conf (Err failed)) → ⊥
+  pub opened : (local : Option Address) (port : ℕ) (records conf : List ℕ) (failed : Failed) →
+      Contains entries (Open local port records conf (Err failed)) → ⊥
 
 -- the outcomes that are no one's fault
 abbrev pub EndsWell : Outcome → Type 0
@@ -55,7 +57,8 @@ EndsWell OpenFault = ⊥
 
 -- the same of what the words ask for
 abbrev pub AreFaultless : List (List ℕ) → List Entry → Type 0
-AreFaultless words entries = (path : List ℕ) (address : Address) → Asks words path address → IsFaultless path address entries
+AreFaultless words entries = (path : List ℕ) (address : Address) → Asks words path address →
+    IsFaultless path address entries
 
 -- Valid words, valid files, a free lock and an outside that does not fail give Done, TurnsSpent or OutOfMemory, or
 -- Unbuilt where the configuration asks for a part that is not built yet.

@@ -23,10 +23,12 @@ IsFileKey bytes (Err ended) = IsNoKey bytes ended
 
 -- the one read of this file, and what came of it
 abbrev pub IsFromFile : List ℕ → Result (List ℕ) Ended → List Entry → Type 0
-IsFromFile file (Ok key) entries = (text : List ℕ) × (key_read text ≡ Ok key) × (entries ≡ ReadFile file (Ok text) ∷ [])
+IsFromFile file (Ok key) entries = (text : List ℕ) × (key_read text ≡ Ok key)
+    × (entries ≡ ReadFile file (Ok text) ∷ [])
 IsFromFile file (Err ended) entries = IsKeyless (Some file) ended.outcome ended.said entries
 
 -- the read of the key file, where one is set, and what came of it
 abbrev pub IsKeyRead : Option (List ℕ) → Result (Option (List ℕ)) Ended → List Entry → Type 0
-IsKeyRead authfile (Ok key) entries = (text : List ℕ) × HasKey authfile text key × (entries ≡ key_calls authfile text)
+IsKeyRead authfile (Ok key) entries = (text : List ℕ) × HasKey authfile text key
+    × (entries ≡ key_calls authfile text)
 IsKeyRead authfile (Err ended) entries = IsKeyless authfile ended.outcome ended.said entries

@@ -3,6 +3,7 @@ pub mod Texts
 pub mod Ending
 pub mod Opening
 pub mod Serving
+pub mod Stages
 pub mod Keys
 pub mod Run
 pub mod Faultless

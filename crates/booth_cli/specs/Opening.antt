@@ -68,8 +68,10 @@ pub record IsReady (address : Address) (config : ConfigSays) (key : Option (List
   pub holds : HasKey config.authfile key_text key
 
 -- the calls up to the key
-abbrev pub reads_of : {address : Address} {config : ConfigSays} {key : Option (List ℕ)} → List ℕ → IsReady address config key → List Entry
-reads_of {address} {config} path ready = ReadFile path (Ok ready.text) ∷ key_calls config.authfile ready.key_text
+abbrev pub reads_of : {address : Address} {config : ConfigSays} {key : Option (List ℕ)} → List ℕ →
+    IsReady address config key → List Entry
+reads_of {address} {config} path ready = ReadFile path
+    (Ok ready.text) ∷ key_calls config.authfile ready.key_text
 
 abbrev pub lock_path : List ℕ
 lock_path = codes "/var/run/booth.lock"
@@ -77,7 +79,8 @@ lock_path = codes "/var/run/booth.lock"
 -- the calls behind the lock; the socket's answer is the last
 abbrev pub opened : Address → List ℕ → ConfigSays → ℕ → Result (Unit {0}) Failed → List Entry
 opened address path config reading answer =
-    Lock lock_path (Ok true) ∷ Now reading ∷ Open (Some address) config.port (codes "/var/lib/booth") path answer ∷ []
+    Lock lock_path (Ok true) ∷ Now reading ∷ Open (Some address) config.port
+    (codes "/var/lib/booth") path answer ∷ []
 
 -- the node of this member
 abbrev pub station : Address → ConfigSays → Option (List ℕ) → Station

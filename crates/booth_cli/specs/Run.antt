@@ -16,7 +16,8 @@ IsText [] entries = entries ≡ []
 IsText (b ∷ text) entries = (answer : Result (Unit {0}) Failed) × (entries ≡ calls.Err (b ∷ text) answer ∷ [])
 
 -- the calls of the daemon that was asked for, and then what it says
-pub record IsAskedRun (path : List ℕ) (address : Address) (outcome : Outcome) (entries : List Entry) : Type 0 where
+pub record IsAskedRun (path : List ℕ) (address : Address) (outcome : Outcome)
+    (entries : List Entry) : Type 0 where
   pub said : List ℕ
   pub body : List Entry
   pub complaint : List Entry

@@ -3,8 +3,6 @@ use Rattle.std.specs.Prelude.{◌≡◌, ◌^◌, ◌++◌, ◌⊎◌, ℕ, true
 use Rattle.booth_base.specs.declared.address.Address.{Address}
 use Rattle.booth_conf.specs.Config.{ConfigSays}
 use Rattle.booth_conf.specs.Says.{Says, IsFault}
-use Rattle.booth_conf.specs.declared.faults.ConfFault.{ConfFault}
-use Rattle.booth_conf.specs.declared.faults.ConfFault.TheVariants as confs
 use Rattle.booth_auth.specs.Key.{key_read}
 use Rattle.booth_host.specs.Causes.{Rose}
 use Rattle.booth_host.specs.declared.host.Failed.{Failed}
@@ -24,7 +22,8 @@ use Rattle.booth_cli.specs.Opening.{has_member, unbuilt, IsFit, IsReady, reads_o
 
 -- a configuration that was read, and that this daemon does not serve: its member is missing, or a part is not built
 abbrev pub IsUnserved : Address → ConfigSays → Outcome → List ℕ → Type 0
-IsUnserved address config NotMember said = (has_member config address ≡ false) × (said ≡ not_member_text address)
+IsUnserved address config NotMember said = (has_member config address ≡ false)
+    × (said ≡ not_member_text address)
 IsUnserved address config (Unbuilt key) said =
     (has_member config address ≡ true) × (unbuilt config.tickets ≡ Some key) × (said ≡ unbuilt_text key)
 IsUnserved address config Done said = ⊥
@@ -43,12 +42,15 @@ IsUnserved address config OutOfMemory said = ⊥
 -- no key came from the key file
 abbrev pub IsKeyless : Option (List ℕ) → Outcome → List ℕ → List Entry → Type 0
 IsKeyless authfile KeyUnread said entries =
-    (file : List ℕ) × (authfile ≡ Some file) × (said ≡ unread_text file) × (entries ≡ ReadFile file (Err reads.Failed) ∷ [])
+    (file : List ℕ) × (authfile ≡ Some file) × (said ≡ unread_text file)
+    × (entries ≡ ReadFile file (Err reads.Failed) ∷ [])
 IsKeyless authfile (KeyBad fault) said entries =
-    (file : List ℕ) × (text : List ℕ) × (authfile ≡ Some file) × (key_read text ≡ Err fault) × (said ≡ key_fault_text fault)
+    (file : List ℕ) × (text : List ℕ) × (authfile ≡ Some file) × (key_read text ≡ Err fault)
+    × (said ≡ key_fault_text fault)
     × (entries ≡ ReadFile file (Ok text) ∷ [])
 IsKeyless authfile OutOfMemory said entries =
-    (file : List ℕ) × (authfile ≡ Some file) × (said ≡ out_of_memory_text) × (entries ≡ ReadFile file (Err reads.NoMemory) ∷ [])
+    (file : List ℕ) × (authfile ≡ Some file) × (said ≡ out_of_memory_text)
+    × (entries ≡ ReadFile file (Err reads.NoMemory) ∷ [])
 IsKeyless authfile Done said entries = ⊥
 IsKeyless authfile (Usage kind) said entries = ⊥
 IsKeyless authfile (BadWord word) said entries = ⊥
@@ -64,7 +66,8 @@ IsKeyless authfile TurnsSpent said entries = ⊥
 -- the turns of a node, from one state to another, by the outcome that they lead to
 abbrev pub IsRunOf : Station → State → State → Outcome → List ℕ → List Entry → Type 0
 IsRunOf station old new Done said entries = (said ≡ []) × IsStoppedLog station old new entries
-IsRunOf station old new TurnsSpent said entries = (said ≡ line_of (codes "turns spent")) × IsNodeLog station old (2 ^ 62) new entries
+IsRunOf station old new TurnsSpent said entries = (said ≡ line_of (codes "turns spent"))
+    × IsNodeLog station old (2 ^ 62) new entries
 IsRunOf station old new (Usage kind) said entries = ⊥
 IsRunOf station old new (BadWord word) said entries = ⊥
 IsRunOf station old new ConfUnread said entries = ⊥
@@ -79,7 +82,8 @@ IsRunOf station old new OpenFault said entries = ⊥
 IsRunOf station old new OutOfMemory said entries = ⊥
 
 -- the opening calls, and then turns of this configuration, key and member
-pub record IsTurning (address : Address) (path : List ℕ) (outcome : Outcome) (said : List ℕ) (entries : List Entry) : Type 0 where
+pub record IsTurning (address : Address) (path : List ℕ) (outcome : Outcome) (said : List ℕ)
+    (entries : List Entry) : Type 0 where
   pub config : ConfigSays
   pub key : Option (List ℕ)
   pub ready : IsReady address config key
@@ -90,7 +94,8 @@ pub record IsTurning (address : Address) (path : List ℕ) (outcome : Outcome) (
   pub log : IsRunOf (station address config key) (opened_at reading) last outcome said turns
 
 -- the reads, and then these calls
-pub record IsStuck (address : Address) (path : List ℕ) (after : ConfigSays → List Entry → Type 0) (entries : List Entry) : Type 0 where
+pub record IsStuck (address : Address) (path : List ℕ) (after : ConfigSays → List Entry → Type 0)
+    (entries : List Entry) : Type 0 where
   pub config : ConfigSays
   pub key : Option (List ℕ)
   pub ready : IsReady address config key
@@ -99,7 +104,8 @@ pub record IsStuck (address : Address) (path : List ℕ) (after : ConfigSays →
   pub here : after config rest
 
 -- a fit configuration was read, and no key
-pub record IsUnkeyed (address : Address) (path : List ℕ) (outcome : Outcome) (said : List ℕ) (entries : List Entry) : Type 0 where
+pub record IsUnkeyed (address : Address) (path : List ℕ) (outcome : Outcome) (said : List ℕ)
+    (entries : List Entry) : Type 0 where
   pub text : List ℕ
   pub config : ConfigSays
   pub fit : IsFit address text config
@@ -108,7 +114,8 @@ pub record IsUnkeyed (address : Address) (path : List ℕ) (outcome : Outcome) (
   pub here : IsKeyless config.authfile outcome said rest
 
 -- a configuration was read that this daemon does not serve
-pub record IsRefused (address : Address) (path : List ℕ) (outcome : Outcome) (said : List ℕ) (entries : List Entry) : Type 0 where
+pub record IsRefused (address : Address) (path : List ℕ) (outcome : Outcome) (said : List ℕ)
+    (entries : List Entry) : Type 0 where
   pub text : List ℕ
   pub config : ConfigSays
   pub says : Says text config
@@ -121,9 +128,11 @@ pub record IsRefused (address : Address) (path : List ℕ) (outcome : Outcome) (
 abbrev pub IsServing : Address → List ℕ → Outcome → List ℕ → List Entry → Type 0
 IsServing address path Done said entries = IsTurning address path Done said entries
 IsServing address path TurnsSpent said entries = IsTurning address path TurnsSpent said entries
-IsServing address path ConfUnread said entries = (said ≡ unread_text path) × (entries ≡ ReadFile path (Err reads.Failed) ∷ [])
+IsServing address path ConfUnread said entries = (said ≡ unread_text path)
+    × (entries ≡ ReadFile path (Err reads.Failed) ∷ [])
 IsServing address path (ConfBad fault) said entries =
-    (text : List ℕ) × IsFault text fault × (said ≡ fault_text path text fault) × (entries ≡ ReadFile path (Ok text) ∷ [])
+    (text : List ℕ) × IsFault text fault × (said ≡ fault_text path text fault)
+    × (entries ≡ ReadFile path (Ok text) ∷ [])
 IsServing address path NotMember said entries = IsRefused address path NotMember said entries
 IsServing address path (Unbuilt key) said entries = IsRefused address path (Unbuilt key) said entries
 IsServing address path KeyUnread said entries = IsUnkeyed address path KeyUnread said entries
@@ -132,40 +141,21 @@ IsServing address path LockFault said entries =
     (said ≡ line_of (codes "cannot lock " ++ lock_path))
     × IsStuck address path (λ config es. (failed : Failed) × (es ≡ Lock lock_path (Err failed) ∷ [])) entries
 IsServing address path Running said entries =
-    (said ≡ line_of (codes "already running")) × IsStuck address path (λ config es. es ≡ Lock lock_path (Ok false) ∷ []) entries
+    (said ≡ line_of (codes "already running")) × IsStuck address path
+    (λ config es. es ≡ Lock lock_path (Ok false) ∷ []) entries
 IsServing address path OpenFault said entries =
     (said ≡ line_of (codes "cannot open"))
-    × IsStuck address path (λ config es. (reading : ℕ) × (failed : Failed) × (es ≡ opened address path config reading (Err failed))) entries
+    × IsStuck address path (λ config es. (reading : ℕ) × (failed : Failed)
+    × (es ≡ opened address path config reading (Err failed))) entries
 IsServing address path OutOfMemory said entries =
     (said ≡ out_of_memory_text)
     × ((entries ≡ ReadFile path (Err reads.NoMemory) ∷ [])
     ⊎ ((text : List ℕ) × (entries ≡ ReadFile path (Ok text) ∷ []))
     ⊎ IsUnkeyed address path OutOfMemory said entries
-    ⊎ IsStuck address path (λ config es. (reading : ℕ) × (es ≡ opened address path config reading (Ok tt))) entries)
+    ⊎ IsStuck address path (λ config es. (reading : ℕ)
+    × (es ≡ opened address path config reading (Ok tt))) entries)
 IsServing address path (Usage kind) said entries = ⊥
 IsServing address path (BadWord word) said entries = ⊥
-
--- ---- what the code's parts say
-
--- the calls behind the reading of a text, which says this configuration
-abbrev pub IsAdmitted : Address → List ℕ → ConfigSays → Outcome → List ℕ → List Entry → Type 0
-IsAdmitted address path config outcome said entries =
-    (text : List ℕ) → Says text config → IsServing address path outcome said (ReadFile path (Ok text) ∷ entries)
-
--- the calls behind the reading of a fit configuration
-abbrev pub IsUnlocked : Address → List ℕ → ConfigSays → Outcome → List ℕ → List Entry → Type 0
-IsUnlocked address path config outcome said entries =
-    (text : List ℕ) → IsFit address text config → IsServing address path outcome said (ReadFile path (Ok text) ∷ entries)
-
--- the calls behind the reads
-abbrev pub IsStarted : Address → List ℕ → ConfigSays → Option (List ℕ) → Outcome → List ℕ → List Entry → Type 0
-IsStarted address path config key outcome said entries =
-    (ready : IsReady address config key) → IsServing address path outcome said (reads_of path ready ++ entries)
-
--- the calls behind the lock
-abbrev pub IsLocked : Address → List ℕ → ConfigSays → Option (List ℕ) → Outcome → List ℕ → List Entry → Type 0
-IsLocked address path config key outcome said entries =
-    (ready : IsReady address config key) → IsServing address path outcome said (reads_of path ready ++ Lock lock_path (Ok true) ∷ entries)
 
 -- an outcome of a daemon that was asked for
 abbrev pub IsServed : Outcome → Type 0
@@ -200,23 +190,6 @@ HasBlame (Unbuilt key) before now = Unit {0}
 HasBlame (KeyBad fault) before now = Unit {0}
 HasBlame Running before now = Unit {0}
 HasBlame OutOfMemory before now = Unit {0}
-
--- the outcome of a text with this fault
-abbrev pub refusal : ConfFault → Outcome
-refusal confs.OutOfMemory = OutOfMemory
-refusal confs.TooLarge = ConfBad confs.TooLarge
-refusal (confs.Syntax line) = ConfBad (confs.Syntax line)
-refusal (confs.UnknownKey line) = ConfBad (confs.UnknownKey line)
-refusal (confs.Misplaced line) = ConfBad (confs.Misplaced line)
-refusal (confs.BadValue line key) = ConfBad (confs.BadValue line key)
-refusal (confs.Repeated line) = ConfBad (confs.Repeated line)
-refusal (confs.DefaultLate line) = ConfBad (confs.DefaultLate line)
-refusal (confs.TooMany line) = ConfBad (confs.TooMany line)
-refusal confs.NoSite = ConfBad confs.NoSite
-refusal confs.NoTicket = ConfBad confs.NoTicket
-refusal (confs.IdClash first second) = ConfBad (confs.IdClash first second)
-refusal (confs.Renewal ticket) = ConfBad (confs.Renewal ticket)
-refusal (confs.RetryTime ticket) = ConfBad (confs.RetryTime ticket)
 
 -- none of the outcomes that come only where the outside failed
 abbrev pub IsBlameless : Outcome → Type 0

@@ -56,7 +56,8 @@ at_line path line what = file_text path (codes "line " ++ decimal line ++ codes 
 -- what is wrong with a ticket of it: the one whose `ticket` line stands at this place
 abbrev pub at_ticket : List ℕ → List ℕ → ℕ → List ℕ → List ℕ
 at_ticket path text ticket what =
-    file_text path (codes "ticket " ++ unwrap_or (slice_get (ticket_names text) ticket) [] ++ codes ": " ++ what)
+    file_text path (codes "ticket " ++ unwrap_or (slice_get
+    (ticket_names text) ticket) [] ++ codes ": " ++ what)
 
 -- the fault of a text, which stands in the file at this path
 abbrev pub fault_text : List ℕ → List ℕ → ConfFault → List ℕ
@@ -71,8 +72,10 @@ fault_text path text (confs.TooMany line) = at_line path line (codes "too many")
 fault_text path text confs.NoSite = file_text path (codes "no site")
 fault_text path text confs.NoTicket = file_text path (codes "no ticket")
 fault_text path text (confs.IdClash first second) = file_text path (codes "member ids clash")
-fault_text path text (confs.Renewal ticket) = at_ticket path text ticket (codes "renewal-freq is not below expire")
-fault_text path text (confs.RetryTime ticket) = at_ticket path text ticket (codes "timeout and retries do not fit renewal-freq")
+fault_text path text (confs.Renewal ticket) = at_ticket path text ticket
+    (codes "renewal-freq is not below expire")
+fault_text path text (confs.RetryTime ticket) = at_ticket path text ticket
+    (codes "timeout and retries do not fit renewal-freq")
 fault_text path text confs.OutOfMemory = out_of_memory_text
 
 abbrev pub status_of : Outcome → ℕ

@@ -9,7 +9,8 @@ ghost use Rattle.booth_node.specs.Log.{IsNodeLog, IsStoppedLog};
 ghost use Rattle.booth_cli.specs.Texts.{fault_text};
 ghost use Rattle.booth_cli.specs.Ending.{MatchEnding};
 ghost use Rattle.booth_cli.specs.Opening.{lock_path};
-ghost use Rattle.booth_cli.specs.Serving.{HasBlame, IsAdmitted, IsLocked, IsRunOf, IsServed, IsServing, IsStarted, IsUnlocked, refusal};
+ghost use Rattle.booth_cli.specs.Serving.{HasBlame, IsRunOf, IsServed, IsServing};
+ghost use Rattle.booth_cli.specs.Stages.{IsAdmitted, IsLocked, IsStarted, IsUnlocked, refusal};
 
 use crate::complaint::Complaint;
 use crate::fitness::objection;
@@ -44,8 +45,10 @@ enum Ending {
 // So many turns, or those up to the first that stops.
 fn make_turns<H: Host>(node: &mut Node, count: u64, host: &mut H) -> Ending
     ensures past { MatchEnding result
-        (GrewSome (λ es. IsStoppedLog (station_of node.old) (state_of node.old) (state_of node.new) es) (H.past host.old) (H.past host.new))
-        (GrewSome (λ es. IsNodeLog (station_of node.old) (state_of node.old) count (state_of node.new) es) (H.past host.old) (H.past host.new)) }
+        (GrewSome (λ es. IsStoppedLog (station_of node.old) (state_of node.old) (state_of node.new) es)
+        (H.past host.old) (H.past host.new))
+        (GrewSome (λ es. IsNodeLog (station_of node.old) (state_of node.old) count
+        (state_of node.new) es) (H.past host.old) (H.past host.new)) }
     ensures later { H.faults host.old ≤ H.faults host.new }
 {
     for _turn in 0..count {
@@ -77,7 +80,8 @@ fn open<H: Host>(asked: &Asked, port: u16, host: &mut H) -> Result<(), Failed>
 
 // The turns of a node, and how the daemon ends with them.
 fn run<H: Host>(node: &mut Node, host: &mut H) -> Ended
-    ensures past { GrewSome (IsRunOf (station_of node.old) (state_of node.old) (state_of node.new) result.outcome result.said) (H.past host.old) (H.past host.new) }
+    ensures past { GrewSome (IsRunOf (station_of node.old) (state_of node.old)
+        (state_of node.new) result.outcome result.said) (H.past host.old) (H.past host.new) }
     ensures served { IsServed result.outcome }
     ensures blame { (before after : ℕ) → HasBlame result.outcome before after }
     ensures later { H.faults host.old ≤ H.faults host.new }
@@ -102,7 +106,8 @@ fn start<H: Host>(
     key: Option<Key>,
     host: &mut H,
 ) -> Ended
-    ensures past { GrewSome (IsLocked asked.now.address asked.now.path config key result.outcome result.said) (H.past host.old) (H.past host.new) }
+    ensures past { GrewSome (IsLocked asked.now.address asked.now.path config key result.outcome result.said)
+        (H.past host.old) (H.past host.new) }
     ensures served { IsServed result.outcome }
     ensures blame { HasBlame result.outcome (H.faults host.old) (H.faults host.new) }
     ensures later { H.faults host.old ≤ H.faults host.new }
@@ -134,7 +139,8 @@ fn lock<H: Host>(
     key: Option<Key>,
     host: &mut H,
 ) -> Ended
-    ensures past { GrewSome (IsStarted asked.now.address asked.now.path config key result.outcome result.said) (H.past host.old) (H.past host.new) }
+    ensures past { GrewSome (IsStarted asked.now.address asked.now.path config key result.outcome result.said)
+        (H.past host.old) (H.past host.new) }
     ensures served { IsServed result.outcome }
     ensures blame { HasBlame result.outcome (H.faults host.old) (H.faults host.new) }
     ensures later { H.faults host.old ≤ H.faults host.new }
@@ -154,7 +160,8 @@ fn lock<H: Host>(
 
 // The calls of a daemon whose configuration it can serve.
 fn unlock<H: Host>(alloc: Global, asked: &Asked, config: Config, host: &mut H) -> Ended
-    ensures past { GrewSome (IsUnlocked asked.now.address asked.now.path config result.outcome result.said) (H.past host.old) (H.past host.new) }
+    ensures past { GrewSome (IsUnlocked asked.now.address asked.now.path config result.outcome result.said)
+        (H.past host.old) (H.past host.new) }
     ensures served { IsServed result.outcome }
     ensures blame { HasBlame result.outcome (H.faults host.old) (H.faults host.new) }
     ensures later { H.faults host.old ≤ H.faults host.new }
@@ -167,7 +174,8 @@ fn unlock<H: Host>(alloc: Global, asked: &Asked, config: Config, host: &mut H) -
 
 // The calls of a daemon whose configuration was read.
 fn admit<H: Host>(alloc: Global, asked: &Asked, config: Config, host: &mut H) -> Ended
-    ensures past { GrewSome (IsAdmitted asked.now.address asked.now.path config result.outcome result.said) (H.past host.old) (H.past host.new) }
+    ensures past { GrewSome (IsAdmitted asked.now.address asked.now.path config result.outcome result.said)
+        (H.past host.old) (H.past host.new) }
     ensures served { IsServed result.outcome }
     ensures blame { HasBlame result.outcome (H.faults host.old) (H.faults host.new) }
     ensures later { H.faults host.old ≤ H.faults host.new }
@@ -196,7 +204,8 @@ fn refuse(path: &PathText, text: &[u8], fault: ConfFault) -> Ended
 
 // The calls of a daemon whose configuration has this text.
 fn parse<H: Host>(alloc: Global, asked: &Asked, text: &ByteText, host: &mut H) -> Ended
-    ensures past { GrewSome (λ es. IsServing asked.now.address asked.now.path result.outcome result.said (Entry.ReadFile asked.now.path (Ok text.now) ∷ es)) (H.past host.old) (H.past host.new) }
+    ensures past { GrewSome (λ es. IsServing asked.now.address asked.now.path result.outcome result.said
+        (Entry.ReadFile asked.now.path (Ok text.now) ∷ es)) (H.past host.old) (H.past host.new) }
     ensures served { IsServed result.outcome }
     ensures blame { HasBlame result.outcome (H.faults host.old) (H.faults host.new) }
     ensures later { H.faults host.old ≤ H.faults host.new }
@@ -209,7 +218,8 @@ fn parse<H: Host>(alloc: Global, asked: &Asked, text: &ByteText, host: &mut H) -
 
 /// The calls of the daemon that was asked for, up to where its outcome is decided.
 pub(crate) fn serve<H: Host>(alloc: Global, asked: &Asked, host: &mut H) -> Ended
-    ensures past { GrewSome (IsServing asked.now.address asked.now.path result.outcome result.said) (H.past host.old) (H.past host.new) }
+    ensures past { GrewSome (IsServing asked.now.address asked.now.path result.outcome result.said)
+        (H.past host.old) (H.past host.new) }
     ensures served { IsServed result.outcome }
     ensures blame { HasBlame result.outcome (H.faults host.old) (H.faults host.new) }
     ensures later { H.faults host.old ≤ H.faults host.new }

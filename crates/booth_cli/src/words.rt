@@ -49,7 +49,8 @@ fn path_in(word: &str) -> Option<PathText>
 
 // The address in this word.
 fn address_in(word: &str) -> Option<Address>
-    ensures { MatchOption result ((address : Address) → Spells word.now address → ⊥) (λ address. Spells word.now address) }
+    ensures { MatchOption result ((address : Address) → Spells word.now address → ⊥)
+        (λ address. Spells word.now address) }
 {
     Address::read(word.as_bytes()).ok()
 }
