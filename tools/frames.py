@@ -4,18 +4,22 @@ It is imported by the programs in tools/ and tests/, and not run by itself. It s
 crates/, so that a slip there is not repeated here.
 """
 
-import socket
+import hmac
+import ipaddress
 import struct
 import time
 import zlib
 from typing import NamedTuple
 
 PORT = 9929
+NO_ONE = 0xFFFFFFFF
 MAGIC = 0x5F1BA08C
 VERSION = 0x00010003
 HEAD_BYTES = 48
 FRAME_BYTES = 16_460
 AUTH_BYTES = 28
+MAC_BYTES = 20
+KEY_BYTES = range(8, 65)
 
 # the bits of opts
 AUTH = 1
@@ -34,6 +38,13 @@ BODY_OF = {
     **dict.fromkeys(["UpdE", "Revk", "RJC!"], TICKET),
 }
 
+# which command answers a client's
+ANSWER_TO = {
+    **{"CLst": "RLst", "Peer": "RPer", "CGnt": "RGnt", "CRvk": "RRvk", "ALst": "RALs"},
+    **dict.fromkeys(["ASet", "AGet", "ADel"], "RAtr"),
+}
+MEMBERS_SAY = ["Stat", "MIdx", "RVot", "VtFr", "HrtB", "Ack.", "UpdE", "Revk", "RJC!"]
+
 LAYOUT = struct.Struct(">12I")
 
 
@@ -43,12 +54,11 @@ def code(letters):
 
 
 LIST = code("CLst")
-LIST_REPLY = code("RLst")
 
 
 def member_id(address):
-    """The id of the member at this V4 address: the CRC-32 of its four bytes."""
-    return zlib.crc32(socket.inet_aton(address))
+    """The id of the member at this address: the CRC-32 of its 4 or 16 bytes."""
+    return zlib.crc32(ipaddress.ip_address(address).packed)
 
 
 class Head(NamedTuple):
@@ -108,19 +118,41 @@ def frame(letters, body=b"", auth=b"", **fields):
     return Head(opts=opts, length=length, cmd=code(letters), **fields).spelled() + body + auth
 
 
-def list_request(request):
-    """The frame that asks for the list of tickets now."""
-    secs, millis = divmod(time.time_ns() // 1_000_000, 1000)
-    return Head(secs=secs, usecs=millis * 1000, request=request).spelled()
+def key_in(text):
+    """The key of a key file's bytes: without the blanks at its ends, where it is all text."""
+    if all(byte in range(0x09, 0x0E) or byte in range(0x20, 0x7F) for byte in text):
+        text = text.strip(b"\t\n\v\f\r ")
+    if len(text) not in KEY_BYTES:
+        raise ValueError(f"a key of {len(text)} bytes, and not of 8 to 64")
+    return text
 
 
-def reply_head(request, address, clock, text_bytes):
-    """The head that answers this request at this address, with the clock of another head."""
-    return Head(
-        secs=clock.secs,
-        usecs=clock.usecs,
-        sender=member_id(address),
-        length=HEAD_BYTES + text_bytes,
-        cmd=LIST_REPLY,
-        request=request,
-    )
+def auth_part(key, before):
+    """The authentication part behind these bytes: the hash id, the MAC, and four zeros."""
+    return numbers(2) + hmac.digest(key, before, "sha1") + bytes(4)
+
+
+def sealed(key, letters, body=b"", **fields):
+    """The frame of this command, with its MAC where there is a key."""
+    if key is None:
+        return frame(letters, body, **fields)
+    before = frame(letters, body, bytes(AUTH_BYTES), **fields)[:-AUTH_BYTES]
+    return before + auth_part(key, before)
+
+
+def clock_fields(millis=None):
+    """The fields of a head for this moment, in milliseconds since 1970, or else for now."""
+    secs, rest = divmod(time.time_ns() // 1_000_000 if millis is None else millis, 1000)
+    return {"secs": secs, "usecs": rest * 1000}
+
+
+def request_now(letters, request, body=b"", key=None, **fields):
+    """The frame with which a client asks this now."""
+    return sealed(key, letters, body, request=request, **{**clock_fields(), **fields})
+
+
+def reply_due(letters, request, address, body=b"", key=None, result=0, *, clock):
+    """The answer of the member at this address to a request of this command, with the clock of
+    another head."""
+    fields = {"secs": clock.secs, "usecs": clock.usecs, "sender": member_id(address)}
+    return sealed(key, ANSWER_TO[letters], body, request=request, result=result, **fields)

@@ -1,13 +1,17 @@
 """Starts boothd, waits until it answers, and ends it whatever comes, for the Python programs here.
 
-It is imported by tools/demo.py, tests/loopback.py and bench/run.py, and not run by itself.
+It is imported by tools/demo.py, tests/loopback.py and bench/run.py, and not run by itself. One
+boothd runs on a machine at a time, since it locks a file: so these programs take turns.
 """
 
+import contextlib
+import fcntl
 import os
 import signal
 import socket
 import subprocess
 import sys
+import tempfile
 import time
 
 import frames
@@ -18,6 +22,16 @@ TOP = os.path.dirname(os.path.dirname(os.path.abspath(__file__)))
 # where make build leaves the proved program, and where rt does
 PROGRAMS = [f"{TOP}/out/boothd", f"{TOP}/crates/boothd/out/boothd"]
 
+# what boothd locks while it runs
+LOCK = "/var/run/booth.lock"
+
+# what may help, by what boothd said
+HINTS = {
+    "already running": f"another boothd of this machine holds {LOCK}: end it first",
+    f"cannot lock {LOCK}": "boothd writes that file, so run it as a user who may, as root",
+    "cannot open": "its port is in use, or the address is none of this machine",
+}
+
 
 def built_program():
     """The path of the proved program that was built last, or None where none is."""
@@ -26,9 +40,9 @@ def built_program():
 
 
 def own_addresses():
-    """Loopback addresses that no other run on this machine is likely to have.
+    """Loopback addresses at which no other program is likely to have the port.
 
-    The port is fixed, and all of 127.0.0.0/8 is loopback: so each server has an address of its own.
+    All of 127.0.0.0/8 is loopback: so each server has an address of its own.
     """
     high, low = divmod(os.getpid() % 65_536, 256)
     return (f"127.{high}.{low}.{last}" for last in range(2, 255))
@@ -40,20 +54,53 @@ def end_by_signals():
         signal.signal(number, lambda *_: sys.exit(1))
 
 
+@contextlib.contextmanager
+def turn(name):
+    """A `with` block that only one of these programs is in at a time. The others wait."""
+    # (the folder's own lock: it leaves no file behind, and boothd does not look at it)
+    folder = os.open(os.path.dirname(LOCK), os.O_RDONLY)
+    try:
+        try:
+            fcntl.flock(folder, fcntl.LOCK_EX | fcntl.LOCK_NB)
+        except BlockingIOError:
+            print(f"{name}: waits for another run that starts boothd here", flush=True)
+            fcntl.flock(folder, fcntl.LOCK_EX)
+        yield
+    finally:
+        os.close(folder)
+
+
+def lock_trouble():
+    """Why boothd cannot take its lock here now, with a hint, or None where it can."""
+    try:
+        with open(LOCK, "ab") as file:
+            fcntl.flock(file, fcntl.LOCK_EX | fcntl.LOCK_NB)
+    except BlockingIOError:
+        return HINTS["already running"]
+    except OSError as error:
+        return f"{LOCK}: {error.strerror}: {HINTS[f'cannot lock {LOCK}']}"
+    return None
+
+
 class NotServing(Exception):
     """The program ended by itself, or did not answer in time."""
 
 
 class Server:
-    """A program that answers at this address, in a `with` block, from its first answer on."""
+    """A program that answers at this address and port, in a `with` block, from its first answer on.
 
-    def __init__(self, words, address, output=None):
+    `key` is what its requests are sealed with.
+    """
+
+    def __init__(self, words, address, port=frames.PORT, key=None):
         self.words = words
         self.address = address
-        self.output = output
+        self.port = port
+        self.key = key
 
     def __enter__(self):
-        streams = {"stdin": subprocess.DEVNULL, "stdout": self.output, "stderr": self.output}
+        self.printed = tempfile.TemporaryFile()
+        streams = {"stdin": subprocess.DEVNULL, "stdout": self.printed, "stderr": self.printed}
         self.process = subprocess.Popen(self.words, **streams)
         try:
             self.await_answer()
@@ -67,21 +114,33 @@ class Server:
         self.end()
         # (an answer may have come from another program that has the port)
         if fault is None and status not in (None, -signal.SIGTERM):
-            raise NotServing(f"the program ended by itself with status {status}")
+            raise self.ended_by_itself(status)
 
     def end(self):
         """Ends the program at once, where it has not ended."""
         self.process.kill()
         self.process.wait()
 
+    def said(self):
+        """What the program has printed, on either stream."""
+        self.printed.seek(0)
+        return self.printed.read()
+
+    def ended_by_itself(self, status):
+        said = self.said().decode(errors="replace").strip()
+        hint = next((hint for text, hint in HINTS.items() if said.endswith(f": {text}")), None)
+        story = f"the program ended by itself with status {status}"
+        return NotServing(story + (f"\n{said}" if said else "") + (f"\n({hint})" if hint else ""))
+
     def await_answer(self):
         started = time.monotonic()
-        with socket.socket(socket.AF_INET, socket.SOCK_DGRAM) as asker:
+        family = socket.AF_INET6 if ":" in self.address else socket.AF_INET
+        with socket.socket(family, socket.SOCK_DGRAM) as asker:
             asker.settimeout(0.05)
-            asker.connect((self.address, frames.PORT))
+            asker.connect((self.address, self.port))
             while time.monotonic() < started + SECONDS_TO_START:
                 try:
-                    asker.send(frames.list_request(0))
+                    asker.send(frames.request_now("CLst", 0, key=self.key))
                     asker.recv(frames.FRAME_BYTES)
                     return
                 except ConnectionRefusedError:
@@ -91,10 +150,10 @@ class Server:
                     pass
                 status = self.process.poll()
                 if status is not None:
-                    raise NotServing(f"the program ended by itself with status {status}")
+                    raise self.ended_by_itself(status)
         raise NotServing(f"the program gave no answer in {SECONDS_TO_START} seconds")
 
 
-def boothd(program, path, address, output=None):
-    """The daemon with this configuration file at this address. It prints into the file `output`."""
-    return Server([program, "daemon", "-c", path, "-s", address], address, output)
+def boothd(program, path, address, port=frames.PORT, key=None):
+    """The daemon with this configuration file at this address."""
+    return Server([program, "daemon", "-c", path, "-s", address], address, port, key)
