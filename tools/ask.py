@@ -40,11 +40,11 @@ def ask(where, request):
 
 def text_of(reply, letters, request, address, key):
     """The text of the reply, where the rest of it is as it has to be."""
-    most = frames.HEAD_BYTES + (frames.AUTH_BYTES if key else 0)
-    if len(reply) < most:
-        raise BadReply(f"it has {len(reply)} bytes, fewer than the {most} of a reply without a text")
+    least = frames.HEAD_BYTES + (frames.AUTH_BYTES if key else 0)
+    if len(reply) < least:
+        raise BadReply(f"it has {len(reply)} bytes, fewer than {least}, those without a text")
     head = frames.Head.read(reply)
-    text = reply[frames.HEAD_BYTES : len(reply) - most + frames.HEAD_BYTES]
+    text = reply[frames.HEAD_BYTES : len(reply) - least + frames.HEAD_BYTES]
     due = frames.reply_due(letters, request, address, text, key, clock=head)
     for field, found, wanted in zip(head._fields, head, frames.Head.read(due)):
         if found != wanted:

@@ -1,0 +1,117 @@
+"""What docs/PROTOCOL.md says of a datagram at a member: dropped for its first fault, or let in.
+
+It is imported by the programs in tests/, and not run by itself. It shares nothing with crates/, and
+stands beside the tables written by hand: for datagrams that nobody has read.
+"""
+
+import hmac
+import re
+from typing import NamedTuple, Optional
+
+import frames
+from frames import AUTH, AUTH_BYTES, BODY_OF, HEAD_BYTES, MAC_BYTES, Head, member_id
+
+# the eight faults, in the order of the counters
+FRAME, NOMAC, BADMAC, OLD, STRANGER, SELF, TICKET, LEADER = range(8)
+
+LETTERS = {frames.code(letters): letters for letters in BODY_OF}
+LEADERS_ALONE = ["RVot", "HrtB", "UpdE"]
+
+NAME = re.compile(rb"[!-~]{1,63}\0+")
+NO_NAME = re.compile(rb"\0{64}")
+VALUE = re.compile(rb"[ -~]{0,127}\0+")
+TEXT = re.compile(rb"[ -~\n]{0,16384}")
+
+
+class Station(NamedTuple):
+    """A daemon: its address, the others in the file's order as (role, address), and so on."""
+
+    address: str
+    others: tuple = (("site", "192.168.202.100"), ("arbitrator", "192.168.203.100"))
+    tickets: tuple = (b"ticket-db8",)
+    key: Optional[bytes] = None
+    skew: int = 600
+    port: int = frames.PORT
+
+    def sites(self):
+        return [self.address, *(address for role, address in self.others if role == "site")]
+
+    def member(self, number):
+        """The address of the member with this id, or None."""
+        members = [self.address, *(address for _, address in self.others)]
+        return next((address for address in members if member_id(address) == number), None)
+
+
+class Parts(NamedTuple):
+    """A frame that was read."""
+
+    letters: str
+    head: Head
+    body: bytes
+
+
+def split(datagram):
+    """The parts of a frame, or None where the datagram is none."""
+    if not HEAD_BYTES <= len(datagram) <= frames.FRAME_BYTES:
+        return None
+    head = Head.read(datagram)
+    letters = LETTERS.get(head.cmd)
+    if (head.magic, head.version) != (frames.MAGIC, frames.VERSION) or letters is None:
+        return None
+    is_attribute = BODY_OF[letters] == frames.ATTRIBUTE
+    auth_bytes = AUTH_BYTES if head.opts & AUTH else 0
+    if head.length != len(datagram) or len(datagram) < HEAD_BYTES + auth_bytes:
+        return None
+    if head.opts & ~AUTH != (frames.ATTR if is_attribute else 0):
+        return None
+    body = datagram[HEAD_BYTES : len(datagram) - auth_bytes]
+    return Parts(letters, head, body) if has_form(letters, body) else None
+
+
+def has_form(letters, body):
+    """Whether the bytes are a body of this command."""
+    kind = BODY_OF[letters]
+    if kind == frames.BARE:
+        return not body
+    if kind == frames.TEXT:
+        return bool(TEXT.fullmatch(body))
+    if len(body) != (76 if kind == frames.TICKET else 256) or not NAME.fullmatch(body[:64]):
+        return False
+    if kind == frames.TICKET:
+        return True
+    attribute = NO_NAME if letters == "ALst" else NAME
+    return bool(attribute.fullmatch(body[64:128]) and VALUE.fullmatch(body[128:]))
+
+
+def verdict(station, datagram, seconds):
+    """The number of the datagram's first fault, or its parts where it is let in.
+
+    `seconds` is the daemon's clock.
+    """
+    parts = split(datagram)
+    if parts is None:
+        return FRAME
+    letters, head, body = parts
+    if station.key is not None:
+        if not head.opts & AUTH:
+            return NOMAC
+        before, shown = datagram[:-AUTH_BYTES], datagram[-AUTH_BYTES + 4 :][:MAC_BYTES]
+        if hmac.digest(station.key, before, "sha1") != shown:
+            return BADMAC
+        if head.secs + station.skew < seconds:
+            return OLD
+    if letters in frames.ANSWER_TO:
+        return STRANGER if head.sender else parts
+    sender = station.member(head.sender)
+    if letters not in frames.MEMBERS_SAY or sender is None:
+        return STRANGER
+    if sender == station.address:
+        return SELF
+    if body[:64].rstrip(b"\0") not in station.tickets:
+        return TICKET
+    leader = int.from_bytes(body[64:68], "big")
+    if leader != frames.NO_ONE and leader not in map(member_id, station.sites()):
+        return LEADER
+    if letters in LEADERS_ALONE and leader != head.sender:
+        return LEADER
+    return parts

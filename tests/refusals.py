@@ -1,0 +1,346 @@
+"""Checks of what a daemon takes as words, files and key, and of how it refuses.
+
+It is imported by tests/loopback.py, and not run by itself.
+"""
+
+import socket
+
+import frames
+from room import Asker, check, require
+from serving import TOP
+
+# a file that is served, line by line, with this machine's address as @
+FILE = b"""site = "@"
+site = "192.168.202.100"
+arbitrator = "192.168.203.100"
+ticket = "ticket-db8"
+"""
+SITE = b"site = 10.0.0.1\n"
+TICKET = b"ticket = t\n"
+LEAST = SITE + TICKET
+
+MOST_BYTES = 1_048_576
+
+# the CRC-32 of these two is the same
+CLASHING = "192.168.202.100", "2001:db8::a283:e2c0"
+
+SYNTAX = [
+    *(b"x", b"=", b"= 1", b"port", b"port =", b"port 1", b"port: 1", b"a b = 1", b'"port" = 1'),
+    *(b'port = "1', b"port = '1", b"port = \"1'", b'port = "1" x', b'port = "1"x', b'port = "1""'),
+    *(b"port = #", b"port = # 1", b"port = 1\0", b"port = \x7f", b"port = 1\x0b", b"po\xe9rt = 1"),
+    *(b'port = "\xe9"', b"port\0 = 1", b"\xef\xbb\xbfport = 1", b"p.ort = 1", b"port = \r"),
+]
+UNKNOWN = [b"expires = 3", b"Site = 10.0.0.2", b"tickets = x", b"sit = 10.0.0.2", b"- = 1"]
+TICKETS_ALONE = b"""expire acquire-after timeout retries renewal-freq weights before-acquire-handler
+    attr-prereq mode""".split()
+BAD = {
+    b"port": [b"0", b"65536", b"00000000001", b"+1", b"-1", b"1.0", b"0x1", b"1 2", b"1#", b'""'],
+    b"transport": [b"TCP", b"Udp", b"sctp", b'""'],
+    b"authfile": [b'""', b"/" * 256],
+    b"maxtimeskew": [b"0", b"10000001", b"600s"],
+    b"debug": [b"x" * 256],
+    b"site-user": [b"x" * 256],
+    b"site": [b"localhost", b"10.0.0", b"10.0.0.1.1", b"010.0.0.2", b"10.0.0.256", b"10.0.0.2:9929",
+              b"fe80::1%lo", b"[::1]", b":::", b"1::2::3", b"12345::", b'""', b'"10.0.0.2 "'],
+    b"arbitrator": [b"10.0.0.300", b"::10.0.0", b"1:2:3:4:5:6:7:8:9", b"1:2:3:4:5:6:7::8"],
+    b"ticket": [b"a b", b"x" * 64, b'""', b"a\tb"],
+    b"expire": [b"0", b"10000001", b"600s", b"x", b"600000000000"],
+    b"acquire-after": [b"10000001", b"-1"],
+    b"timeout": [b"0", b"10000001"],
+    b"retries": [b"2", b"101"],
+    b"renewal-freq": [b"0", b"10000001"],
+    b"weights": [b"1,,2", b",1", b"1,", b"1 2", b"1000000001", b"-1", b",".join([b"1"] * 17)],
+    b"before-acquire-handler": [b'""', b'"  "', b"x" * 256],
+    b"attr-prereq": [b"auto a eq", b"auto a eq b c", b"both a eq b", b"auto a lt b", b'""',
+                     b"auto a eq " + b"x" * 128, b"auto " + b"x" * 64 + b" eq b"],
+    b"mode": [b"Manual", b"both", b'""'],
+}
+REPEATED = [
+    *(b"site = 192.168.202.100", b"site = 192.168.203.100", b"arbitrator = '192.168.202.100'"),
+    *(b"ticket = ticket-db8", b"port = 1\nport = 1", b"debug = 1\ndebug = 2"),
+    *(b"expire = 9\nexpire = 9", b"mode = auto\nmode = auto", b"weights = 1\nweights = 1"),
+    b"site = ::1\nsite = 0:0:0:0:0:0:0:1",
+]
+
+# files without a faulty line, and what is said of the whole
+WHOLE = [
+    (b"", b"no site"),
+    (b"\n# nothing\n", b"no site"),
+    (b"arbitrator = 10.0.0.1\nticket = t\n", b"no site"),
+    (SITE, b"no ticket"),
+    (SITE + b"ticket = __default__\nexpire = 9\n", b"no ticket"),
+    (LEAST + b"site = 255.255.255.255\n", b"member ids clash"),
+    (TICKET + b"".join(b"site = %s\n" % who.encode() for who in CLASHING), b"member ids clash"),
+    (LEAST + b"expire = 9\nrenewal-freq = 9\n", b"ticket t: renewal-freq is not below expire"),
+    (LEAST + b"renewal-freq = 600\n", b"ticket t: renewal-freq is not below expire"),
+    (LEAST + b"timeout = 28\n", b"ticket t: timeout and retries do not fit renewal-freq"),
+    (SITE + b"ticket = __default__\ntimeout = 28\nticket = a\ntimeout = 27\nticket = b\n",
+     b"ticket b: timeout and retries do not fit renewal-freq"),
+    (SITE + b"ticket = a\ntimeout = 28\nticket = b\nrenewal-freq = 600\n",
+     b"ticket a: timeout and retries do not fit renewal-freq"),
+]
+
+# a file that says much, in each of the ways to say it
+RICH = b"""\r
+   # a comment of any bytes: \x00\x01\xff "'=\r
+transport\t=\t'udp'\r
+debug = "it's # no comment"   # but this is one
+site-user=""
+site-group = a#b #c
+maxtimeskew = 0000000700
+site = @ # this machine
+\x20\tsite\t\x20=\t\x20"192.168.202.100"\t\x20
+ticket = '__default__'
+  expire = "600"
+\ttimeout=9
+  retries = 5
+  renewal-freq = 60 # above timeout * (retries + 1)
+# renewal-freq = 1
+arbitrator = "2001:DB8::192.168.203.100" ##
+ticket = "ticket-db8"
+  weights = 1 , 2,3 ,\t4
+  mode = auto
+  acquire-after = 0
+port = 9929
+ticket = t#2
+  mode = AUTO
+  renewal-freq = 55
+  expire = 61
+ticket = 'the"last'"""
+
+
+def here(room, text):
+    return text.replace(b"@", room.address.encode())
+
+
+def is_faulty(room, text, what, shown=None):
+    """The daemon with this file says this of it, whoever it is to be."""
+    path = room.file(here(room, text))
+    said = b"%s: %s" % (path.encode(), what)
+    room.refuses(room.words(path), said, what=f"the file {shown or text}")
+
+
+def is_read(room, text, shown=None):
+    """The file has no fault: the next thing that is looked at is whether this is a member."""
+    words = room.words(room.file(here(room, text)), "10.9.9.9")
+    room.refuses(words, b"10.9.9.9 is not a member", what=f"the file {shown or text}")
+
+
+@check
+def usage(room):
+    """words that are no daemon's have a usage error and status 1"""
+    good = room.words(room.file(LEAST))
+    _, _, path, _, address = good
+    wrong = [
+        *(good[:count] for count in range(len(good))),
+        [*good, "more"],
+        ["daemon", "-s", address, "-c", path],
+        ["status", *good[1:]],
+        ["Daemon", *good[1:]],
+        ["daemon", "--conf", *good[2:]],
+        [*good[:3], "--site", address],
+        ["--help"],
+        # words that are no UTF-8
+        [b"\xff"],
+        [*good[:2], b"/\xff", *good[3:]],
+    ]
+    for words in wrong:
+        room.refuses(words, b"usage: boothd daemon -c FILE -s ADDRESS")
+
+
+@check
+def bad_words(room):
+    """an address or a path that is none is told, the address first"""
+    path = room.file(LEAST)
+    no_address = ("", "localhost", "127.0.0", "127.0.0.256", "127.0.0.01", "127.0.0.1 ", "::1%lo")
+    no_path = ("", "booth.conf", "./" + "x" * 254)
+    for address in (*no_address, "[::1]", "::1::", "1:2:3:4:5:6:7"):
+        for each in (path, *no_path):
+            room.refuses(["daemon", "-c", each, "-s", address], b"bad site")
+    for each in no_path:
+        for address in ("127.0.0.1", "::1"):
+            room.refuses(["daemon", "-c", each, "-s", address], b"bad configuration")
+
+
+@check
+def unread_file(room):
+    """a file that cannot be read is named, with status 1"""
+    for path in (f"{room.folder}/missing", room.folder, "./" + "x" * 253, "/"):
+        room.refuses(room.words(path), b"cannot read %s" % path.encode())
+
+
+@check
+def faulty_lines(room):
+    """the first faulty line of a file is told with its number and its fault"""
+    default_late = b"__default__ must come first"
+    prereqs = b"".join(b"attr-prereq = auto a eq %d\n" % number for number in range(9))
+    sites = b"".join(b"site = 10.0.0.%d\n" % number for number in range(17))
+    tickets = b"".join(b"ticket = t%d\n" % number for number in range(65))
+    # one behind the file of four lines: its number in that, and what is said
+    behind = [
+        *((line, 5, b"syntax") for line in SYNTAX),
+        *((line, 5, b"unknown key") for line in UNKNOWN),
+        *((line, 5 + line.count(b"\n"), b"repeated") for line in REPEATED),
+        (b"ticket = __default__", 5, default_late),
+        (prereqs, 13, b"too many"),
+        # the earliest line, and in a line what comes first
+        (b"\n\nx\nexpires = 3\nport = 0", 7, b"syntax"),
+        (b"\n\nexpires = 3\nport = 0\nx", 7, b"unknown key"),
+        (b"# x\nport = 0\nticket = ticket-db8", 6, b"bad value for port"),
+    ]
+    for lines, number, what in behind:
+        is_faulty(room, FILE + lines, b"line %d: %s" % (number, what))
+    for key, values in BAD.items():
+        for value in values:
+            line = b"%s = %s\n" % (key, value)
+            is_faulty(room, FILE + line, b"line 5: bad value for " + key)
+    alone = [
+        *((key + b" = 1\n" + FILE, 1, b"misplaced key") for key in TICKETS_ALONE),
+        (sites, 17, b"too many"),
+        (SITE + tickets, 66, b"too many"),
+        (SITE + b"ticket = __default__\n" + prereqs, 11, b"too many"),
+        (SITE + b"ticket = __default__\nticket = __default__\n", 3, b"repeated"),
+        (SITE + b"ticket = __default__\nexpire = 9\nexpire = 9\n", 4, b"repeated"),
+        (FILE + b"ticket = __default__\nticket = __default__\n", 5, default_late),
+        (FILE.replace(b"\n", b"\r\n") + b"\r\n\r\nx\r\n", 7, b"syntax"),
+        (b"\n" * 99_999 + b"x", 100_000, b"syntax"),
+    ]
+    for text, number, what in alone:
+        is_faulty(room, text, b"line %d: %s" % (number, what), text[:200])
+
+
+@check
+def faulty_files(room):
+    """a fault of the whole file is told when no line has one, with the ticket's name"""
+    require(len(set(map(frames.member_id, CLASHING))) == 1, "the test's two ids differ")
+    for text, what in WHOLE:
+        is_faulty(room, text, what)
+        is_faulty(room, text + b"x", b"line %d: syntax" % (text.count(b"\n") + 1))
+    is_faulty(room, b"#".ljust(MOST_BYTES + 1, b"#"), b"too large", "of # alone")
+    is_faulty(room, b"x".ljust(MOST_BYTES + 1, b"\n"), b"too large", "of line ends")
+
+
+@check
+def most_files(room):
+    """files at their limits are read: bytes, members, tickets, names, digits, prerequisites"""
+    sites = b"".join(b"site = 10.0.0.%d\n" % number for number in range(16))
+    tickets = b"".join(b"ticket = t%d\n" % number for number in range(64))
+    prereqs = b"".join(b"attr-prereq = auto a eq %s\n" % (b"x" * 127) for _ in range(8))
+    many = sites + b"ticket = __default__\n" + prereqs + tickets + b"weights = " + b"1," * 15 + b"1"
+    is_read(room, many.ljust(MOST_BYTES, b"\n"), "of 16 members and 64 tickets")
+    for line in (
+        *(b"port = 65535", b"port = 0000000001", b"maxtimeskew = 0010000000"),
+        *(b"debug = " + b"x" * 255, b"before-acquire-handler = " + b"x" * 255),
+        *(b"ticket = " + b"x" * 63, b"expire = 10000000\nretries = 100\ntimeout = 49504"),
+        *(b"timeout = 27", b"weights = 1000000000", b"mode = MANUAL"),
+        *(b"attr-prereq = ' auto  a\tne b '", b"site = 116.101.115.116", b"site = ::"),
+        *(b"site = ::ffff:10.0.0.1", b"arbitrator = 1:2:3:4:5:6:7::"),
+    ):
+        is_read(room, LEAST + line)
+
+
+@check
+def rich_file(room):
+    """comments, blanks, quotes, bare values, CR, tabs, defaults and all keys are read as meant"""
+    others = (("site", "192.168.202.100"), ("arbitrator", "2001:db8::c0a8:cb64"))
+    tickets = (b"ticket-db8", b"t#2", b'the"last')
+    station = room.station(others=others, tickets=tickets, skew=700)
+    with room.serving(station, here(room, RICH)) as daemon, Asker(daemon) as asker:
+        asker.asks("CLst")
+        asker.asks("Peer")
+
+
+@check
+def not_a_member(room):
+    """an address that is no member's is told as one writes it, before what is not built"""
+    path = room.file(LEAST + b"mode = manual\nauthfile = /missing")
+    for word, written in (
+        ("10.0.0.2", "10.0.0.2"),
+        ("FE80:0::01", "fe80::1"),
+        ("::ffff:10.0.0.1", "::ffff:a00:1"),
+        ("0:0:0:0:0:0:0:0", "::"),
+        ("1:0:0:2:0:0:0:3", "1:0:0:2::3"),
+        ("2001:db8:0:1:1:1:1:1", "2001:db8:0:1:1:1:1:1"),
+    ):
+        room.refuses(room.words(path, word), b"%s is not a member" % written.encode())
+
+
+@check
+def not_built(room):
+    """a ticket that needs what is not built is told by its first key, before the key file"""
+    mode, handler, prereq = b"mode", b"before-acquire-handler", b"attr-prereq"
+    values = {mode: b"manual", handler: b"/bin/true", prereq: b"auto a eq b"}
+    lines = {key: b"%s = %s\n" % (key, value) for key, value in values.items()}
+    default = b"ticket = __default__\n"
+    for key, text in (
+        *((key, FILE + lines[key]) for key in lines),
+        (mode, FILE + lines[prereq] + lines[handler] + b"ticket = t\n" + lines[mode]),
+        (handler, FILE + lines[prereq] + b"ticket = t\n" + lines[handler]),
+        *((key, default + lines[key] + FILE) for key in lines),
+    ):
+        path = room.file(here(room, text) + b"authfile = /missing\n")
+        room.refuses(room.words(path), b"not built: " + key, what=f"the file {text}")
+    # one's own value comes before the default's
+    station = room.station()
+    text = default + lines[mode] + FILE + b"mode = auto\n"
+    with room.serving(station, here(room, text)) as daemon, Asker(daemon) as asker:
+        asker.asks("CLst")
+    example = f"{TOP}/examples/booth.conf"
+    room.refuses(room.words(example, "147.4.215.19"), b"not built: mode")
+
+
+def with_key(room, path):
+    return room.file(here(room, FILE) + b"authfile = '%s'\n" % path.encode())
+
+
+@check
+def bad_keys(room):
+    """a key that cannot be read, or is too short or too long, is told"""
+    for text, what in (
+        (b"", b"key too short"),
+        (b"1234567", b"key too short"),
+        (b"   1234567   \n\n", b"key too short"),
+        (b"\x0b" * 20, b"key too short"),
+        (b"\xff" * 7, b"key too short"),
+        (b"k" * 65, b"key too long"),
+        (b"\xff" * 60 + b"     ", b"key too long"),
+        (b"k" * 100_000, b"key too long"),
+    ):
+        path = with_key(room, room.file(text, "key"))
+        room.refuses(room.words(path), what, what=f"the key {text[:80]}")
+    for path in (f"{room.folder}/missing", room.folder):
+        words = room.words(with_key(room, path))
+        room.refuses(words, b"cannot read %s" % path.encode())
+
+
+@check
+def already_running(room):
+    """one daemon runs on a machine, and a second one is told so, after its own files were read"""
+    with room.serving() as daemon, Asker(daemon) as asker:
+        words = daemon.server.words[1:]
+        room.refuses(words, b"already running")
+        # at another address too
+        other = room.file(LEAST.replace(b"10.0.0.1", b"127.0.0.1"), "other.conf")
+        room.refuses(room.words(other, "127.0.0.1"), b"already running")
+        missing = f"{room.folder}/missing"
+        room.refuses(room.words(missing), b"cannot read %s" % missing.encode())
+        room.refuses(room.words(other, "10.0.0.1"), b"10.0.0.1 is not a member")
+        short = with_key(room, room.file(b"x", "key"))
+        room.refuses(room.words(short), b"key too short")
+        asker.asks("CLst")
+        asker.asks("Peer")
+    # (the file is left behind, and no lock any more)
+    with room.serving() as daemon, Asker(daemon) as asker:
+        asker.asks("CLst")
+
+
+@check
+def port_in_use(room):
+    """a port in use, and an address of another machine, cannot be opened"""
+    path = room.file(here(room, FILE) + SITE)
+    with socket.socket(socket.AF_INET, socket.SOCK_DGRAM) as holder:
+        holder.bind((room.address, frames.PORT))
+        room.refuses(room.words(path), b"cannot open")
+    room.refuses(room.words(path, "10.0.0.1"), b"cannot open")
+    with room.serving() as daemon, Asker(daemon) as asker:
+        asker.asks("CLst")

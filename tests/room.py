@@ -1,0 +1,260 @@
+"""What the checks of tests/loopback.py stand on: the program, its daemons, and those who ask them.
+
+It is imported by the programs in tests/, and not run by itself.
+"""
+
+import contextlib
+import copy
+import itertools
+import os
+import socket
+import subprocess
+import time
+
+import frames
+import gate
+from frames import Head, request_now
+from gate import Station
+from serving import NotServing, boothd, own_addresses
+
+SECONDS_TO_ANSWER = 2
+MOST_UDP_BYTES = 65_507
+
+KEY = b"secret-key"
+# the result of each request for a ticket
+NOT_HERE = frames.code("IArg")
+
+checks = []
+
+
+class Wrong(Exception):
+    """What the program did is not what the protocol says."""
+
+
+def check(function):
+    """Takes a function, whose docstring is the sentence that it checks, into the list."""
+    checks.append(function)
+    return function
+
+
+def require(holds, why):
+    if not holds:
+        raise Wrong(why)
+
+
+def shown(datagram):
+    return datagram.hex(" ", -4)
+
+
+class Counts:
+    """What a daemon is to have counted so far."""
+
+    def __init__(self, station):
+        self.others = station.others
+        self.drops = [0] * 8
+        # by address: how many frames were let in, and between which seconds the last was
+        self.accepted = {address: 0 for _, address in self.others}
+        self.seen = {address: (0, 0) for _, address in self.others}
+
+    def copy(self):
+        other = copy.copy(self)
+        other.drops, other.accepted = [*self.drops], {**self.accepted}
+        other.seen = {**self.seen}
+        return other
+
+    def let_in(self, address, since):
+        """One more frame of this member, which the daemon reads no earlier than this second."""
+        self.accepted[address] += 1
+        self.seen[address] = (since, since + SECONDS_TO_ANSWER)
+
+    def peers_due(self, text):
+        """The text of the list of members, with the seconds that stand in another text."""
+        lines = ["dropped " + " ".join(map(str, self.drops))]
+        told = [line.split()[2:3] for line in text.decode(errors="replace").split("\n")[1:]]
+        for (role, address), words in itertools.zip_longest(self.others, told[: len(self.others)]):
+            first, last = self.seen[address]
+            is_near = words and words[0].isdecimal() and first <= int(words[0]) <= last
+            seconds = words[0] if is_near else first
+            lines.append(f"{role} {address} {seconds} {self.accepted[address]} 0 0")
+        return "".join(line + "\n" for line in lines).encode()
+
+
+class Served:
+    """A daemon that serves."""
+
+    def __init__(self, server, station):
+        self.server = server
+        self.station = station
+        self.counts = Counts(station)
+
+    def lists_due(self):
+        return b"".join(ticket + b" none 0\n" for ticket in self.station.tickets)
+
+    def answer(self, letters, body):
+        """The result and the body, as Asker.takes has it, that answer a request of this command."""
+        if letters == "CLst":
+            return 0, self.lists_due()
+        if letters == "Peer":
+            return 0, self.counts.copy().peers_due
+        if letters == "ALst":
+            return NOT_HERE, b""
+        if letters in ("CGnt", "CRvk"):
+            return NOT_HERE, body[:64] + frames.numbers(frames.NO_ONE, 0, 0)
+        return NOT_HERE, body
+
+
+class Room:
+    """The program, a folder for its files, and addresses for its daemons."""
+
+    def __init__(self, program, folder):
+        self.program = program
+        self.folder = folder
+        self.addresses = own_addresses()
+        self.address = next(self.addresses)
+
+    def file(self, text, name="booth.conf"):
+        path = os.path.join(self.folder, name)
+        with open(path, "wb") as file:
+            file.write(text)
+        return path
+
+    def station(self, **fields):
+        """The daemon that most checks ask."""
+        return Station(self.address, **fields)
+
+    def configuration(self, station):
+        """A text that says this."""
+        lines = [b'ticket = "%s"' % ticket for ticket in station.tickets]
+        others = (b'%s = "%s"' % (role.encode(), who.encode()) for role, who in station.others)
+        lines[:0] = [b'site = "%s"' % station.address.encode(), *others]
+        if station.port != frames.PORT:
+            lines.append(b"port = %d" % station.port)
+        if station.key is not None:
+            lines.append(b"authfile = " + self.file(station.key, "key").encode())
+        return b"\n".join(lines)
+
+    @contextlib.contextmanager
+    def serving(self, station=None, text=None):
+        """A daemon with this file, which prints nothing while it serves."""
+        station = station or self.station()
+        path = self.file(self.configuration(station) if text is None else text)
+        server = boothd(self.program, path, station.address, station.port, station.key)
+        try:
+            with server:
+                yield Served(server, station)
+        except NotServing as why:
+            raise Wrong(why) from None
+        said = server.said()
+        require(not said, f"a daemon that was to serve printed {said}")
+
+    def words(self, path, address=None):
+        return ["daemon", "-c", path, "-s", address or self.address]
+
+    def ended(self, words):
+        """The status, standard output and standard error of a run that ends by itself."""
+        how = {"stdin": subprocess.DEVNULL, "capture_output": True, "timeout": 5}
+        try:
+            ran = subprocess.run([self.program, *words], **how)
+        except subprocess.TimeoutExpired:
+            raise Wrong(f"a run with {words} did not end") from None
+        return ran.returncode, ran.stdout, ran.stderr
+
+    def refuses(self, words, said, what=None):
+        """A run with these words has status 1, and says this alone, on standard error."""
+        came, due = self.ended(words), (1, b"", b"boothd: " + said + b"\n")
+        require(came == due, f"{what or words} gave {came}, and not {due}")
+
+
+class Asker:
+    """A client's socket, for one daemon."""
+
+    def __init__(self, daemon, address=None):
+        station = daemon.station
+        self.daemon, self.station, self.key = daemon, station, station.key
+        is_v6 = ":" in station.address
+        self.socket = socket.socket(socket.AF_INET6 if is_v6 else socket.AF_INET, socket.SOCK_DGRAM)
+        self.socket.bind((address or ("::1" if is_v6 else "127.0.0.1"), 0))
+        self.numbers = itertools.count(1_000_000)
+
+    def __enter__(self):
+        return self
+
+    def __exit__(self, *_):
+        self.socket.close()
+
+    def send(self, datagram):
+        self.socket.sendto(datagram, (self.station.address, self.station.port))
+
+    def receive(self, seconds=SECONDS_TO_ANSWER):
+        """The next datagram, or None where none comes in time."""
+        self.socket.settimeout(seconds)
+        try:
+            came, sender = self.socket.recvfrom(MOST_UDP_BYTES)
+        except socket.timeout:
+            return None
+        who = (self.station.address, self.station.port)
+        require(sender[:2] == who, f"a datagram came from {sender}")
+        return came
+
+    def takes(self, letters, request, body=b"", result=0, what="a request"):
+        """The next datagram answers this request of this command with this body, or with that
+        which a function says of the text that came. Returns the daemon's clock in it, in ms."""
+        came = self.receive()
+        require(came is not None, f"{what} has no reply")
+        require(len(came) >= frames.HEAD_BYTES, f"{what} is answered by {shown(came)}")
+        clock = Head.read(came)
+        if callable(body):
+            end = len(came) - (frames.AUTH_BYTES if self.key else 0)
+            body = body(came[frames.HEAD_BYTES : end])
+        address = self.station.address
+        due = frames.reply_due(letters, request, address, body, self.key, result, clock=clock)
+        require(came == due, f"{what} is answered by {shown(came)}, and not {shown(due)}")
+        is_whole = clock.usecs < 1_000_000 and clock.usecs % 1000 == 0
+        require(is_whole, f"{what} is answered with usecs {clock.usecs}")
+        return clock.millis()
+
+    def asks(self, letters, body=b"", what=None, request=None, **fields):
+        """A request has the answer that is due, with the daemon's clock of this moment."""
+        what = what or letters
+        request = next(self.numbers) if request is None else request
+        before = time.time_ns() // 1_000_000
+        self.send(request_now(letters, request, body, self.key, **fields))
+        result, due = self.daemon.answer(letters, body)
+        clock = self.takes(letters, request, due, result, what)
+        after = time.time_ns() // 1_000_000
+        is_now = before <= clock <= after
+        require(is_now, f"{what} is answered at {clock}, outside {before} to {after}")
+
+    def is_dropped(self, datagram, kind, what):
+        """This datagram has no reply, and raises this counter alone, by one."""
+        self.send(datagram)
+        self.daemon.counts.drops[kind] += 1
+        self.asks("Peer", what=f"Peer after {what}")
+
+    def is_counted(self, datagram, address, what):
+        """This datagram has no reply, and is counted as one of the member at this address."""
+        since = int(time.time())
+        self.send(datagram)
+        self.daemon.counts.let_in(address, since)
+        self.asks("Peer", what=f"Peer after {what}")
+
+    def meets(self, datagrams):
+        """Each of these is dropped, counted or answered as tests/gate.py says."""
+        since, counts, answers = int(time.time()), self.daemon.counts, []
+        for datagram in datagrams:
+            self.send(datagram)
+            found = gate.verdict(self.station, datagram, since)
+            if isinstance(found, int):
+                counts.drops[found] += 1
+            elif found.letters in frames.ANSWER_TO:
+                answer = self.daemon.answer(found.letters, found.body)
+                answers.append((found, answer, shown(datagram)))
+            else:
+                counts.let_in(self.station.member(found.head.sender), since)
+        for found, (result, due), what in answers:
+            self.takes(found.letters, found.head.request, due, result, what)
+        self.asks("Peer", what="Peer after " + ", ".join(map(shown, datagrams)))
+
+    def is_quiet(self):
+        came = self.receive(seconds=0.05)
+        require(came is None, f"a datagram came unasked: {came}")
