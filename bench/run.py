@@ -1,14 +1,17 @@
 #!/usr/bin/env python3
-"""Measures the proved boothd on loopback, beside a bare echo in C, and prints one table.
+"""Measures the proved boothd on loopback, beside a bare echo and a counter of lines in C.
 
 Run it as `python3 bench/run.py [--quick] [PROGRAM]`, PROGRAM being what `make build` leaves where
-it is left out. It builds its two helpers with cc, needs Linux's /proc, and takes half a minute;
---quick takes some seconds. Where the machine does other work too, the lowest start tells more than
-the median.
+it is left out. It prints one table, and has the status 1 where a mark is missed by more than a
+tenth. It builds its four helpers with cc, needs Linux's /proc and the right to write what boothd
+locks, and takes a minute; --quick takes some seconds. Where the machine does other work too, the
+lowest start tells more than the median.
 """
 
+import hmac
 import itertools
 import os
+import socket
 import statistics
 import subprocess
 import sys
@@ -19,11 +22,18 @@ from typing import NamedTuple, Optional
 HERE = os.path.dirname(os.path.abspath(__file__))
 sys.path.insert(0, f"{HERE}/../tools")
 
-from serving import NotServing, Server, boothd, built_program, end_by_signals, own_addresses
+import frames
+from frames import MEMBERS_SAY, NO_ONE, member_id, request_now
+from serving import NotServing, Server, boothd, built_program, end_by_signals, lock_trouble
+from serving import own_addresses, turn
+from texts import long_text, many_tickets, one_ticket
 
-ONE_TICKET = b'site="192.168.201.100"\nsite="192.168.202.100"\nticket="ticket-db8"\n'
-# the longest names, so the longest reply
-MOST_TICKETS = b"".join(b'ticket="%02d%s"\n' % (number, b"-" * 61) for number in range(64))
+KEY = b"k" * 32
+SITE, VOTER, STRANGER = "192.168.202.100", "192.168.203.100", "192.168.204.100"
+SEED = 9929
+NO_MEMBER = "10.0.0.1"
+
+LARGE, SMALL = 1_048_576, 131_072
 
 # how often the process waited
 WAKES = "voluntary_ctxt_switches"
@@ -35,18 +45,35 @@ class Effort(NamedTuple):
     rounds: int
     lists_a_round: int
     starts: int
+    members: int
+    hostile: int
+    parses: int
     idle_seconds: int
 
 
-WHOLE = Effort(rounds=15, lists_a_round=20_000, starts=20, idle_seconds=10)
-QUICK = Effort(rounds=3, lists_a_round=5_000, starts=5, idle_seconds=1)
+WHOLE = Effort(15, 20_000, 20, 500_000, 1_000_000, 15, 10)
+QUICK = Effort(3, 5_000, 5, 50_000, 50_000, 5, 1)
 
 
 class Row(NamedTuple):
     name: str
     value: str
     mark: str = ""
-    is_met: Optional[bool] = None
+    # the value over the mark, or the mark over the value where it is to be reached: at most 1
+    part: Optional[float] = None
+
+    def met(self):
+        if self.part is None:
+            return ""
+        return "yes" if self.part <= 1 else "nearly" if self.part <= 1.1 else "NO"
+
+
+def at_least(name, value, shown, mark):
+    return Row(name, shown, f"at least {mark}", mark / value)
+
+
+def below(name, value, shown, mark, unit):
+    return Row(name, shown, f"below {mark} {unit}".rstrip(), value / mark)
 
 
 class Bench:
@@ -57,34 +84,56 @@ class Bench:
         self.folder = folder
         self.effort = effort
         self.address, self.echo_address = itertools.islice(own_addresses(), 2)
-        self.asker = self.built("asker")
-        self.echo = self.built("echo")
+        self.asker, self.echo, self.flood, self.lines = map(self.built, "asker echo flood lines".split())
+        self.key_file = self.file("key", KEY)
 
     def built(self, name):
         made = f"{self.folder}/{name}"
         subprocess.run(["cc", "-O2", "-o", made, f"{HERE}/{name}.c"], check=True)
         return made
 
-    def daemon(self, text):
-        path = f"{self.folder}/booth.conf"
+    def file(self, name, content):
+        path = f"{self.folder}/{name}"
         with open(path, "wb") as file:
-            file.write(text)
-        return boothd(self.program, path, self.address)
+            file.write(content)
+        return path
 
-    def asked(self, *words):
-        """The seconds that the asker says it took."""
-        ran = subprocess.run([self.asker, *words], stdout=subprocess.PIPE, check=True)
-        return int(ran.stdout) / 1e9
+    def daemon(self, text, key=None):
+        text = text.replace(b"@", self.address.encode())
+        if key:
+            text += b"authfile = %s\n" % self.key_file.encode()
+        return boothd(self.program, self.file("booth.conf", text), self.address, key=key)
 
-    def lists(self, address):
+    def said(self, *words):
+        """The numbers that a helper prints, the first of them as seconds."""
+        ran = subprocess.run(words, stdout=subprocess.PIPE, check=True)
+        took, *others = map(int, ran.stdout.split())
+        return [took / 1e9, *others]
+
+    def requests(self, key):
+        return self.file("requests", b"".join(request_now("CLst", n, key=key) for n in range(1000)))
+
+    def lists(self, address, key=None):
         """The seconds of one list."""
-        count = self.effort.lists_a_round
-        return self.asked("lists", address, str(count)) / count
+        count, path = self.effort.lists_a_round, self.requests(key)
+        return self.said(self.asker, "lists", address, path, str(count))[0] / count
 
     def starts(self, text):
         """The seconds from the start to the first answer, of each try."""
-        words = self.daemon(text).words
-        return [self.asked("start", self.address, *words) for _ in range(self.effort.starts)]
+        words, path = self.daemon(text).words, self.requests(None)
+        start = [self.asker, "start", self.address, path, *words]
+        return [self.said(*start)[0] for _ in range(self.effort.starts)]
+
+    def peers(self, key):
+        """The eight counters and all frames let in, as the daemon tells them."""
+        with socket.socket(socket.AF_INET, socket.SOCK_DGRAM) as asker:
+            asker.settimeout(5)
+            asker.connect((self.address, frames.PORT))
+            asker.send(request_now("Peer", 1, key=key))
+            reply = asker.recv(frames.FRAME_BYTES)
+        text = reply[frames.HEAD_BYTES : len(reply) - (frames.AUTH_BYTES if key else 0)]
+        first, *others = text.decode("ascii").splitlines()
+        return list(map(int, first.split()[1:])), sum(int(line.split()[3]) for line in others)
 
 
 def cpu_seconds(process):
@@ -98,64 +147,201 @@ def status_field(process, name):
         return next(int(line.split()[1]) for line in file if line.startswith(f"{name}:"))
 
 
+def lost_datagrams(address):
+    """How many datagrams the kernel had no room for at this address's socket."""
+    place = "%08X:%04X" % (int.from_bytes(socket.inet_aton(address), "little"), frames.PORT)
+    with open("/proc/net/udp") as file:
+        return next(int(line.split()[-1]) for line in file if line.split()[1] == place)
+
+
+class Speeds:
+    """The rounds of one server."""
+
+    def __init__(self):
+        self.seconds = []
+        self.cpu = 0
+
+    def round(self, bench, server, address, key=None):
+        before = cpu_seconds(server.process)
+        self.seconds.append(bench.lists(address, key))
+        self.cpu += cpu_seconds(server.process) - before
+
+    def lists_a_second(self):
+        return 1 / statistics.median(self.seconds)
+
+    def micros(self, bench):
+        return self.cpu / len(self.seconds) / bench.effort.lists_a_round * 1e6
+
+    def ratio_to(self, other):
+        return statistics.median(there / here for here, there in zip(self.seconds, other.seconds))
+
+
 def speed_rows(bench):
-    """The echo and the daemon in turns, so that the machine's other work falls on both."""
-    ratios, speeds, echo_speeds = [], [], []
-    echo = Server([bench.echo, bench.echo_address], bench.echo_address)
-    with bench.daemon(ONE_TICKET) as daemon, echo:
-        before, echo_before = cpu_seconds(daemon.process), cpu_seconds(echo.process)
+    """The echo and the daemons in turns, so that the machine's other work falls on all."""
+    echoed, plain, keyed = Speeds(), Speeds(), Speeds()
+    with Server([bench.echo, bench.echo_address], bench.echo_address) as echo:
         for _ in range(bench.effort.rounds):
-            echo_seconds, seconds = bench.lists(bench.echo_address), bench.lists(bench.address)
-            ratios.append(echo_seconds / seconds)
-            speeds.append(1 / seconds)
-            echo_speeds.append(1 / echo_seconds)
-        count = bench.effort.rounds * bench.effort.lists_a_round
-        cpu = (cpu_seconds(daemon.process) - before) / count
-        echo_cpu = (cpu_seconds(echo.process) - echo_before) / count
-    ratio = statistics.median(ratios)
-    speed, echo_speed = statistics.median(speeds), statistics.median(echo_speeds)
+            echoed.round(bench, echo, bench.echo_address)
+            with bench.daemon(one_ticket()) as daemon:
+                plain.round(bench, daemon, bench.address)
+            with bench.daemon(one_ticket(), KEY) as daemon:
+                keyed.round(bench, daemon, bench.address, KEY)
+    speed, echo_speed = plain.lists_a_second(), echoed.lists_a_second()
     yield Row("lists a second, one asker", f"{speed:,.0f} (echo: {echo_speed:,.0f})")
-    yield Row("the same as a ratio to the echo", f"{ratio:.2f}", "at least 0.8", ratio >= 0.8)
-    micros, echo_micros = cpu * 1e6, echo_cpu * 1e6
-    value = f"{micros:.1f} µs (echo: {echo_micros:.1f} µs)"
-    yield Row("CPU a list", value, "below 12 µs", micros < 12)
+    ratio = plain.ratio_to(echoed)
+    yield at_least("the same as a ratio to the echo", ratio, f"{ratio:.2f}", 0.8)
+    yield Row("lists a second, with a key", f"{keyed.lists_a_second():,.0f}")
+    ratio = keyed.ratio_to(plain)
+    yield at_least("the same as a ratio to those without", ratio, f"{ratio:.2f}", 0.75)
+    micros = plain.micros(bench)
+    shown = f"{micros:.1f} µs (echo: {echoed.micros(bench):.1f} µs)"
+    yield below("daemon CPU a list", micros, shown, 12, "µs")
+    yield Row("daemon CPU a list, with a key", f"{keyed.micros(bench):.1f} µs")
 
 
 def full_rows(bench):
-    with bench.daemon(MOST_TICKETS) as daemon:
-        before = cpu_seconds(daemon.process)
-        bench.lists(bench.address)
-        cpu = (cpu_seconds(daemon.process) - before) / bench.effort.lists_a_round
+    with bench.daemon(many_tickets()) as daemon:
+        full = Speeds()
+        full.round(bench, daemon, bench.address)
         resident, peak = (status_field(daemon.process, name) for name in ("VmRSS", "VmHWM"))
-    yield Row("CPU a list, 64 tickets", f"{cpu * 1e6:.1f} µs")
-    for name, kilobytes in (("resident memory (VmRSS)", resident), ("its peak (VmHWM)", peak)):
-        is_met = kilobytes * 1024 < 4_000_000
-        yield Row(f"{name}, 64 tickets", f"{kilobytes:,} kB", "below 4 MB", is_met)
+    yield Row("daemon CPU a list, 64 tickets", f"{full.micros(bench):.1f} µs")
+    for name, kilobytes in (("resident memory", resident), ("its peak", peak)):
+        shown, part = f"{kilobytes:,} kB", kilobytes * 1024 / 4_000_000
+        yield Row(f"{name}, 64 tickets", shown, "below 4 MB", part)
 
 
 def start_rows(bench):
-    for name, text in (("1 ticket", ONE_TICKET), ("64 tickets", MOST_TICKETS)):
+    for name, text in (("1 ticket", one_ticket()), ("64 tickets", many_tickets())):
         took = bench.starts(text)
-        median = statistics.median(took)
-        value = f"{median * 1e3:.1f} ms (lowest: {min(took) * 1e3:.1f} ms)"
-        yield Row(f"start to first answer, {name}", value, "below 5 ms", median < 5e-3)
+        millis, lowest = statistics.median(took) * 1e3, min(took) * 1e3
+        shown = f"{millis:.1f} ms (lowest: {lowest:.1f} ms)"
+        yield below(f"start to first answer, {name}", millis, shown, 5, "ms")
+
+
+def said(letters, sender, key, ticket=b"ticket-db8", leader=NO_ONE, **fields):
+    """A frame of the member with this address."""
+    leader = member_id(sender) if letters in ("RVot", "HrtB", "UpdE") else leader
+    body = frames.ticket_body(ticket, leader, 7, 600)
+    return request_now(letters, 0, body, key, sender=member_id(sender), **fields)
+
+
+def python_macs_a_second(frame):
+    """How many MACs of this frame Python's hmac makes in a second, over OpenSSL."""
+    before, count = frame[: -frames.AUTH_BYTES], 100_000
+    started = time.perf_counter()
+    for _ in range(count):
+        hmac.digest(KEY, before, "sha1")
+    return count / (time.perf_counter() - started)
+
+
+def member_rows(bench):
+    """Sealed frames of members, which the daemon counts and does not answer."""
+    count, sent = bench.effort.members, [said(letters, SITE, KEY) for letters in MEMBERS_SAY]
+    question = request_now("Peer", NO_ONE, key=KEY)
+    path = bench.file("frames", question + b"".join(sent))
+    with bench.daemon(one_ticket(), KEY) as daemon:
+        before = cpu_seconds(daemon.process)
+        seconds, _ = bench.said(bench.flood, "members", bench.address, path, str(count))
+        cpu = cpu_seconds(daemon.process) - before
+        drops, accepted = bench.peers(KEY)
+    if (sum(drops), accepted) != (0, count):
+        raise NotServing(f"of {count} sealed frames {accepted} were counted, and dropped {drops}")
+    beside = f"{python_macs_a_second(sent[0]):,.0f}"
+    shown = f"{count / seconds:,.0f} (Python's hmac: {beside} of their MACs alone)"
+    yield Row("sealed member frames a second, counted", shown)
+    yield Row("daemon CPU a sealed member frame", f"{cpu / count * 1e6:.1f} µs")
+
+
+def seeds_of_hostility():
+    """Frames of each kind that the gate tells apart. The rest is made of them in bench/flood.c."""
+    for letters in MEMBERS_SAY:
+        yield said(letters, SITE, KEY)
+        yield said(letters, SITE, None)
+        yield said(letters, SITE, KEY, secs=1_000_000)
+        yield said(letters, STRANGER, KEY)
+        yield said(letters, SITE, KEY, ticket=b"another")
+    yield said("Stat", SITE, KEY, leader=member_id(VOTER))
+    yield said("HrtB", VOTER, KEY)
+    for letters in ("CLst", "Peer"):
+        yield request_now(letters, 7, key=KEY)
+        yield request_now(letters, 7)
+    yield request_now("ASet", 7, frames.attribute_body(b"ticket-db8", b"color", b"red"), KEY)
+    yield request_now("CGnt", 7, frames.ticket_body(b"ticket-db8", NO_ONE, 0, 0), KEY)
+    yield request_now("RLst", 7, b"ticket-db8 none 0\n" * 20, KEY)
+
+
+def hostile_rows(bench):
+    count = bench.effort.hostile
+    own = [said(letters, bench.address, KEY) for letters in MEMBERS_SAY]
+    question = request_now("Peer", NO_ONE, key=KEY)
+    path = bench.file("frames", question + b"".join([*own, *seeds_of_hostility()]))
+    words = [bench.flood, "hostile", bench.address, path]
+    with bench.daemon(one_ticket(), KEY) as daemon:
+        # (so that it has seen each kind before its memory is looked at)
+        _, first_answers = bench.said(*words, "10000", "1")
+        drops, accepted = bench.peers(KEY)
+        first, resident = sum(drops) + accepted, status_field(daemon.process, "VmRSS")
+        before = cpu_seconds(daemon.process)
+        seconds, answers = bench.said(*words, str(count), str(SEED))
+        cpu = cpu_seconds(daemon.process) - before
+        lost = lost_datagrams(bench.address)
+        drops, accepted = bench.peers(KEY)
+        grown = status_field(daemon.process, "VmRSS") - resident
+    counted = sum(drops) + accepted - first + answers
+    shown = f"{counted:,} (dropped {', '.join(f'{drop:,}' for drop in drops)}; {accepted:,} let in)"
+    is_whole = first + first_answers == 10_000 and counted == count - lost
+    due = f"all {count - lost:,}"
+    yield Row("hostile frames that are counted or answered", shown, due, 0 if is_whole else 2)
+    least = min(drops)
+    yield Row("the least of the eight counters", f"{least:,}", "above 0", 0 if least else 2)
+    yield Row("resident memory after them", f"{grown:+} kB", "as before", 2 if grown > 0 else 0)
+    yield Row("daemon CPU a hostile frame", f"{cpu / count * 1e6:.1f} µs ({count / seconds:,.0f} a second)")
+
+
+def own_cpu(words):
+    """The seconds of CPU that a program which ends by itself takes."""
+    process = subprocess.Popen(words, stdout=subprocess.DEVNULL, stderr=subprocess.PIPE)
+    said = process.stderr.read()
+    _, status, usage = os.wait4(process.pid, 0)
+    process.returncode = os.waitstatus_to_exitcode(status)
+    if said not in (b"", b"boothd: %s is not a member\n" % NO_MEMBER.encode()):
+        raise NotServing(said.decode())
+    return usage.ru_utime + usage.ru_stime
+
+
+def parse_rows(bench):
+    """Runs that end once the text is parsed, less those with a text of two lines."""
+    texts = {size: bench.file(f"{size}.conf", long_text(size)) for size in (SMALL, LARGE)}
+    texts[0] = bench.file("0.conf", b"site = 10.0.0.2\nticket = t\n")
+    parsed, counted = ({size: [] for size in texts} for _ in range(2))
+    for _ in range(bench.effort.parses):
+        for size, path in texts.items():
+            parsed[size].append(own_cpu([bench.program, "daemon", "-c", path, "-s", NO_MEMBER]))
+            counted[size].append(own_cpu([bench.lines, path]))
+    large, small = (min(parsed[size]) - min(parsed[0]) for size in (LARGE, SMALL))
+    lines = min(counted[LARGE]) - min(counted[0])
+    shown = f"{large * 1e3:.2f} ms (C: {lines * 1e3:.2f} ms)"
+    yield Row("parse of 1,048,576 bytes, 64 tickets, CPU", shown)
+    ratio = large / lines
+    yield below("the same as a ratio to counting its lines in C", ratio, f"{ratio:.1f}", 30, "")
+    growth = large / small / (LARGE / SMALL)
+    mark = "at most 1.3 times linear"
+    yield Row("its growth from 131,072 bytes", f"{growth:.2f} times linear", mark, growth / 1.3)
 
 
 def idle_rows(bench):
     seconds = bench.effort.idle_seconds
-    with bench.daemon(ONE_TICKET) as daemon:
+    with bench.daemon(one_ticket()) as daemon:
         cpu, wakes = cpu_seconds(daemon.process), status_field(daemon.process, WAKES)
         time.sleep(seconds)
         cpu = cpu_seconds(daemon.process) - cpu
         wakes = status_field(daemon.process, WAKES) - wakes
-    yield Row(f"CPU in {seconds} s without requests", f"{cpu * 1e3:.1f} ms")
-    yield Row(f"wake-ups in {seconds} s without requests", f"{wakes}")
+    yield Row(f"CPU and wake-ups in {seconds} s without requests", f"{cpu * 1e3:.1f} ms, {wakes}")
 
 
 def print_table(rows):
-    met = {None: "", True: "yes", False: "NO"}
     lines = [("What", "Value", "Mark", "Met")]
-    lines += [(row.name, row.value, row.mark, met[row.is_met]) for row in rows]
+    lines += [(row.name, row.value, row.mark, row.met()) for row in rows]
     widths = [max(map(len, column)) for column in zip(*lines)]
     lines.insert(1, tuple("-" * width for width in widths))
     for line in lines:
@@ -169,17 +355,23 @@ def main(words):
     program = words[0] if words else built_program()
     if program is None:
         sys.exit("run.py: boothd is not built: run make build")
-    load = os.getloadavg()[0]
-    print(f"{time.strftime('%Y-%m-%d')}, {os.cpu_count()} processors with a load of {load:.1f}")
-    print(f"{effort.rounds} rounds of {effort.lists_a_round:,} lists, {effort.starts} starts\n")
-    with tempfile.TemporaryDirectory(prefix="booth-bench-") as folder:
+    parts = (speed_rows, full_rows, start_rows, idle_rows, member_rows, hostile_rows, parse_rows)
+    with turn("run.py"), tempfile.TemporaryDirectory(prefix="booth-bench-") as folder:
+        trouble = lock_trouble()
+        if trouble:
+            sys.exit(f"run.py: {trouble}")
+        load = os.getloadavg()[0]
         try:
             bench = Bench(os.path.abspath(program), folder, effort)
-            parts = (speed_rows, full_rows, start_rows, idle_rows)
-            print_table([row for part in parts for row in part(bench)])
+            rows = [row for part in parts for row in part(bench)]
         except (NotServing, OSError, subprocess.CalledProcessError) as why:
             sys.exit(f"run.py: {why}")
+        loads = f"a load of {load:.1f} before and {os.getloadavg()[0]:.1f} after"
+        print(f"{time.strftime('%Y-%m-%d')}, {os.cpu_count()} processors with {loads}")
+        print(f"{effort.rounds} rounds of {effort.lists_a_round:,} lists, {effort.starts} starts\n")
+        print_table(rows)
+    return 1 if any(row.met() == "NO" for row in rows) else 0
 
 
 if __name__ == "__main__":
-    main(sys.argv[1:])
+    sys.exit(main(sys.argv[1:]))

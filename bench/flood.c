@@ -1,0 +1,122 @@
+/* The flood of bench/run.py, which builds and runs it: many datagrams that have no answer.
+ *
+ *   cc -O2 -o flood bench/flood.c
+ *   ./flood members ADDRESS FILE COUNT        sends the frames in FILE in turns, COUNT in all
+ *   ./flood hostile ADDRESS FILE COUNT SEED   sends what a seeded generator makes of them
+ *
+ * The first frame of FILE is none of these: it is a request, which is sent after each burst, and
+ * whose answer is waited for. So the daemon's socket never has more than a burst to hold, and no
+ * datagram is lost. Both print the nanoseconds that it took, and how many other answers came.
+ */
+#include "client.h"
+
+enum { BURST_FRAMES = 100, BURST_BYTES = 50000, LONGEST = 20000, COMMAND_AT = 28, MAC_AT = 24 };
+
+static uint64_t seed;
+
+/* The next number of a xorshift generator (64 bits, multiplied). */
+static uint64_t chance(void)
+{
+    seed ^= seed >> 12;
+    seed ^= seed << 25;
+    seed ^= seed >> 27;
+    return seed * UINT64_C(0x2545F4914F6CDD1D);
+}
+
+static size_t below(size_t end)
+{
+    return (chance() >> 33) % end;
+}
+
+static void scramble(uint8_t *bytes, size_t length)
+{
+    for (size_t i = 0; i < length; i++)
+        bytes[i] = chance() >> 56;
+}
+
+/* Makes a datagram from one of the frames, and returns its length. */
+static size_t make(const struct frames *frames, uint8_t *into)
+{
+    struct frame frame = frames->at[1 + below(frames->count - 1)];
+    size_t length = frame.length;
+    memcpy(into, frame.bytes, length);
+    switch (below(16)) {
+    case 0: /* random bytes, few of them long */
+        length = below(64) == 0 ? below(LONGEST) : below(600);
+        scramble(into, length);
+        break;
+    case 1: /* a head with random bytes behind it */
+        length = HEAD_BYTES + below(600);
+        scramble(into + HEAD_BYTES, length - HEAD_BYTES);
+        break;
+    case 2: case 3: /* cut off */
+        length = below(length);
+        break;
+    case 4: case 5: case 6: case 7: /* one bit to four turned over */
+        for (size_t flips = 1 + below(4); flips > 0; flips--)
+            into[below(length)] ^= 1 << below(8);
+        break;
+    case 8: /* a wrong length */
+        scramble(into + LENGTH_AT + 2 * below(2), 2);
+        break;
+    case 9: /* bytes too many, told or not */
+        if (below(2) == 0)
+            into[LENGTH_AT + 3] += 28;
+        memset(into + length, 0, 28);
+        length += 28;
+        break;
+    case 10: /* an unknown command */
+        scramble(into + COMMAND_AT, 4);
+        break;
+    case 11: case 12: /* a wrong MAC */
+        scramble(into + length - MAC_AT, 20);
+        break;
+    default: /* as it is */
+        break;
+    }
+    return length;
+}
+
+/* Asks, and reads up to the answer. Returns how many other datagrams came before it. */
+static uint64_t wait_for_answer(int client, struct frame request)
+{
+    static uint8_t answer[MOST_BYTES];
+    if (send(client, request.bytes, request.length, 0) != (ssize_t)request.length)
+        fail("cannot send");
+    for (uint64_t others = 0;; others++) {
+        if (recv(client, answer, sizeof answer, 0) < HEAD_BYTES)
+            fail("no answer after a burst");
+        if (memcmp(answer + REQUEST_AT, request.bytes + REQUEST_AT, NUMBER_BYTES) == 0)
+            return others;
+    }
+}
+
+int main(int count, char **words)
+{
+    static struct frames frames;
+    static uint8_t made[LONGEST + MOST_BYTES];
+    int is_hostile = count == 6 && strcmp(words[1], "hostile") == 0;
+    if (!is_hostile && !(count == 5 && strcmp(words[1], "members") == 0))
+        fail("usage: flood members ADDRESS FILE COUNT, or flood hostile ADDRESS FILE COUNT SEED");
+    int client = connected(words[2]);
+    frames = frames_in(words[3]);
+    uint64_t left = strtoull(words[4], NULL, 10), others = 0, next = 0;
+    seed = is_hostile ? strtoull(words[5], NULL, 10) : 0;
+    if (frames.count < 2 || (is_hostile && seed == 0))
+        fail("no frames, or a seed of 0");
+    int64_t started = nanoseconds();
+    while (left > 0) {
+        size_t bytes = 0;
+        for (int burst = 0; burst < BURST_FRAMES && bytes < BURST_BYTES && left > 0; burst++, left--) {
+            struct frame frame = frames.at[1 + next++ % (frames.count - 1)];
+            if (is_hostile)
+                frame = (struct frame){made, make(&frames, made)};
+            if (send(client, frame.bytes, frame.length, 0) != (ssize_t)frame.length)
+                fail("cannot send");
+            bytes += frame.length;
+        }
+        others += wait_for_answer(client, frames.at[0]);
+    }
+    printf("%lld %llu\n", (long long)(nanoseconds() - started), (unsigned long long)others);
+    return 0;
+}

@@ -1,0 +1,62 @@
+"""The configurations that bench/run.py measures with. @ stands for the daemon's address.
+
+It is imported by bench/run.py, and not run by itself.
+"""
+
+MEMBERS = b"""site = "@"
+site = "192.168.202.100"
+arbitrator = "192.168.203.100"
+"""
+TICKETS = 64
+COMMENT = b"# the text is as long as this line stands in it often, and no value is read from it\n"
+
+TOP = b"""# a text with each key
+port = 9929
+transport = udp
+authfile = /etc/booth/authkey
+maxtimeskew = 600
+debug = 0
+site-user = "booth"
+site-group = "booth"
+arbitrator-user = 'nobody'
+arbitrator-group = 'nobody'
+"""
+
+
+def one_ticket():
+    return MEMBERS + b'ticket = "ticket-db8"\n'
+
+
+def many_tickets():
+    """As many as there may be, with the longest names, so the longest reply."""
+    return MEMBERS + b"".join(b'ticket = "%02d%s"\n' % (n, b"-" * 61) for n in range(TICKETS))
+
+
+def ticket(number):
+    """A ticket with all of its keys, a handler and prerequisites as long as they may be."""
+    prereqs = b"".join(
+        b"  attr-prereq = auto %s eq %s\n" % (b"%d" % place * 63, b"v" * 127) for place in range(8)
+    )
+    return b"""
+ticket = "ticket-%02d"   # the number %d
+  expire = 600
+  acquire-after = 60
+  timeout = '10'
+  retries = 5
+  renewal-freq = 61
+  weights = 3, 2, 1
+  mode = auto
+  before-acquire-handler = "/usr/share/booth/%s"
+%s""" % (number, number, b"h" * 200, prereqs)
+
+
+def long_text(size):
+    """A text of this size, of which each 64th of a mebibyte has a ticket, and comments the rest."""
+    piece = 1_048_576 // TICKETS
+    made = bytearray()
+    for number in range(size // piece):
+        made += (TOP + MEMBERS.replace(b"@", b"192.168.201.100") if not number else b"") + ticket(number)
+        room = (number + 1) * piece - len(made)
+        made += COMMENT * (room // len(COMMENT))
+        made += b"#".ljust(room % len(COMMENT), b"-")[:-1] + b"\n" if room % len(COMMENT) else b""
+    return bytes(made)
