@@ -107,13 +107,14 @@ int main(int count, char **words)
     int64_t started = nanoseconds();
     while (left > 0) {
         size_t bytes = 0;
-        for (int burst = 0; burst < BURST_FRAMES && bytes < BURST_BYTES && left > 0; burst++, left--) {
+        for (int burst = 0; burst < BURST_FRAMES && bytes < BURST_BYTES && left > 0; burst++) {
             struct frame frame = frames.at[1 + next++ % (frames.count - 1)];
             if (is_hostile)
                 frame = (struct frame){made, make(&frames, made)};
             if (send(client, frame.bytes, frame.length, 0) != (ssize_t)frame.length)
                 fail("cannot send");
             bytes += frame.length;
+            left--;
         }
         others += wait_for_answer(client, frames.at[0]);
     }

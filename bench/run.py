@@ -4,7 +4,7 @@
 Run it as `python3 bench/run.py [--quick] [PROGRAM]`, PROGRAM being what `make build` leaves where
 it is left out. It prints one table, and has the status 1 where a mark is missed by more than a
 tenth. It builds its four helpers with cc, needs Linux's /proc and the right to write what boothd
-locks, and takes a minute; --quick takes some seconds. Where the machine does other work too, the
+locks, and takes half a minute; --quick takes some seconds. Where the machine does other work too, the
 lowest start tells more than the median.
 """
 
@@ -45,14 +45,14 @@ class Effort(NamedTuple):
     rounds: int
     lists_a_round: int
     starts: int
-    members: int
+    members_a_round: int
     hostile: int
     parses: int
     idle_seconds: int
 
 
-WHOLE = Effort(15, 20_000, 20, 500_000, 1_000_000, 15, 10)
-QUICK = Effort(3, 5_000, 5, 50_000, 50_000, 5, 1)
+WHOLE = Effort(15, 20_000, 40, 30_000, 1_000_000, 20, 10)
+QUICK = Effort(3, 5_000, 5, 20_000, 50_000, 5, 1)
 
 
 class Row(NamedTuple):
@@ -77,14 +77,15 @@ def below(name, value, shown, mark, unit):
 
 
 class Bench:
-    """The programs, a folder for files, and an address for each of the two servers."""
+    """The programs, a folder for files, and an address for each of daemon and echo."""
 
     def __init__(self, program, folder, effort):
         self.program = program
         self.folder = folder
         self.effort = effort
         self.address, self.echo_address = itertools.islice(own_addresses(), 2)
-        self.asker, self.echo, self.flood, self.lines = map(self.built, "asker echo flood lines".split())
+        self.asker, self.echo = self.built("asker"), self.built("echo")
+        self.flood, self.lines = self.built("flood"), self.built("lines")
         self.key_file = self.file("key", KEY)
 
     def built(self, name):
@@ -225,35 +226,46 @@ def said(letters, sender, key, ticket=b"ticket-db8", leader=NO_ONE, **fields):
     return request_now(letters, 0, body, key, sender=member_id(sender), **fields)
 
 
-def python_macs_a_second(frame):
-    """How many MACs of this frame Python's hmac makes in a second, over OpenSSL."""
-    before, count = frame[: -frames.AUTH_BYTES], 100_000
-    started = time.perf_counter()
+def python_macs(frame, count):
+    """The seconds that Python's hmac takes for this frame's MAC so often, over OpenSSL, and those
+    of the processor in them."""
+    before = frame[: -frames.AUTH_BYTES]
+    started, cpu = time.perf_counter(), time.process_time()
     for _ in range(count):
         hmac.digest(KEY, before, "sha1")
-    return count / (time.perf_counter() - started)
+    return time.perf_counter() - started, time.process_time() - cpu
 
 
 def member_rows(bench):
-    """Sealed frames of members, which the daemon counts and does not answer."""
-    count, sent = bench.effort.members, [said(letters, SITE, KEY) for letters in MEMBERS_SAY]
+    """Sealed frames of members, which the daemon counts and does not answer, and Python's MACs of
+    such frames in turns."""
+    rounds, each = bench.effort.rounds, bench.effort.members_a_round
+    sent = [said(letters, SITE, KEY) for letters in MEMBERS_SAY]
     question = request_now("Peer", NO_ONE, key=KEY)
     path = bench.file("frames", question + b"".join(sent))
+    took, beside, beside_cpu = [], [], 0
     with bench.daemon(one_ticket(), KEY) as daemon:
         before = cpu_seconds(daemon.process)
-        seconds, _ = bench.said(bench.flood, "members", bench.address, path, str(count))
+        for _ in range(rounds):
+            took.append(bench.said(bench.flood, "members", bench.address, path, str(each))[0])
+            seconds, cpu = python_macs(sent[0], each)
+            beside.append(seconds)
+            beside_cpu += cpu
         cpu = cpu_seconds(daemon.process) - before
         drops, accepted = bench.peers(KEY)
+    count = rounds * each
     if (sum(drops), accepted) != (0, count):
         raise NotServing(f"of {count} sealed frames {accepted} were counted, and dropped {drops}")
-    beside = f"{python_macs_a_second(sent[0]):,.0f}"
-    shown = f"{count / seconds:,.0f} (Python's hmac: {beside} of their MACs alone)"
+    speed, beside = (each / statistics.median(seconds) for seconds in (took, beside))
+    shown = f"{speed:,.0f} (Python's hmac: {beside:,.0f} of their MACs alone)"
     yield Row("sealed member frames a second, counted", shown)
-    yield Row("daemon CPU a sealed member frame", f"{cpu / count * 1e6:.1f} µs")
+    micros, beside = (seconds / count * 1e6 for seconds in (cpu, beside_cpu))
+    shown = f"{micros:.1f} µs (Python's hmac: {beside:.1f} µs)"
+    yield Row("daemon CPU a sealed member frame", shown)
 
 
 def seeds_of_hostility():
-    """Frames of each kind that the gate tells apart. The rest is made of them in bench/flood.c."""
+    """Frames of the kinds that the gate tells apart. The rest is made of them in bench/flood.c."""
     for letters in MEMBERS_SAY:
         yield said(letters, SITE, KEY)
         yield said(letters, SITE, None)
@@ -295,7 +307,8 @@ def hostile_rows(bench):
     least = min(drops)
     yield Row("the least of the eight counters", f"{least:,}", "above 0", 0 if least else 2)
     yield Row("resident memory after them", f"{grown:+} kB", "as before", 2 if grown > 0 else 0)
-    yield Row("daemon CPU a hostile frame", f"{cpu / count * 1e6:.1f} µs ({count / seconds:,.0f} a second)")
+    shown = f"{cpu / count * 1e6:.1f} µs ({count / seconds:,.0f} a second)"
+    yield Row("daemon CPU a hostile frame", shown)
 
 
 def own_cpu(words):

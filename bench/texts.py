@@ -51,12 +51,11 @@ ticket = "ticket-%02d"   # the number %d
 
 
 def long_text(size):
-    """A text of this size, of which each 64th of a mebibyte has a ticket, and comments the rest."""
+    """A text of this size. Each 64th of a mebibyte in it has one ticket, and the rest is comments."""
     piece = 1_048_576 // TICKETS
-    made = bytearray()
+    made = bytearray(TOP + MEMBERS.replace(b"@", b"192.168.201.100"))
     for number in range(size // piece):
-        made += (TOP + MEMBERS.replace(b"@", b"192.168.201.100") if not number else b"") + ticket(number)
-        room = (number + 1) * piece - len(made)
-        made += COMMENT * (room // len(COMMENT))
-        made += b"#".ljust(room % len(COMMENT), b"-")[:-1] + b"\n" if room % len(COMMENT) else b""
+        made += ticket(number)
+        often, rest = divmod((number + 1) * piece - len(made), len(COMMENT))
+        made += COMMENT * often + b"\n" * rest
     return bytes(made)
