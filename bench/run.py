@@ -4,8 +4,9 @@
 Run it as `python3 bench/run.py [--quick] [PROGRAM]`, PROGRAM being what `make build` leaves where
 it is left out. It prints one table, and has the status 1 where a mark is missed by more than a
 tenth. It builds its four helpers with cc, needs Linux's /proc and the right to write what boothd
-locks, and takes half a minute; --quick takes some seconds. Where the machine does other work too, the
-lowest start tells more than the median.
+locks, and takes half a minute; --quick takes some seconds. A speed is that of the best of many
+short rounds, since other work on the machine spoils some of them; for the same reason the lowest
+start may tell more than the median.
 """
 
 import hmac
@@ -51,8 +52,8 @@ class Effort(NamedTuple):
     idle_seconds: int
 
 
-WHOLE = Effort(15, 20_000, 40, 30_000, 1_000_000, 20, 10)
-QUICK = Effort(3, 5_000, 5, 20_000, 50_000, 5, 1)
+WHOLE = Effort(60, 5_000, 40, 10_000, 1_000_000, 20, 10)
+QUICK = Effort(5, 5_000, 5, 10_000, 50_000, 5, 1)
 
 
 class Row(NamedTuple):
@@ -168,13 +169,13 @@ class Speeds:
         self.cpu += cpu_seconds(server.process) - before
 
     def lists_a_second(self):
-        return 1 / statistics.median(self.seconds)
+        return 1 / min(self.seconds)
 
     def micros(self, bench):
         return self.cpu / len(self.seconds) / bench.effort.lists_a_round * 1e6
 
     def ratio_to(self, other):
-        return statistics.median(there / here for here, there in zip(self.seconds, other.seconds))
+        return self.lists_a_second() / other.lists_a_second()
 
 
 def speed_rows(bench):
@@ -256,7 +257,7 @@ def member_rows(bench):
     count = rounds * each
     if (sum(drops), accepted) != (0, count):
         raise NotServing(f"of {count} sealed frames {accepted} were counted, and dropped {drops}")
-    speed, beside = (each / statistics.median(seconds) for seconds in (took, beside))
+    speed, beside = (each / min(seconds) for seconds in (took, beside))
     shown = f"{speed:,.0f} (Python's hmac: {beside:,.0f} of their MACs alone)"
     yield Row("sealed member frames a second, counted", shown)
     micros, beside = (seconds / count * 1e6 for seconds in (cpu, beside_cpu))
