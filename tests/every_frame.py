@@ -14,6 +14,7 @@ import sys
 sys.path.insert(0, os.path.join(os.path.dirname(os.path.abspath(__file__)), "../tools"))
 
 import frames
+from constants import HEAD_LINES, print_constant
 
 HEAD = {
     "secs": 0x01020304,
@@ -37,35 +38,17 @@ NOT_SIGNED = frames.numbers(2) + bytes(24)
 SIGNED = frames.numbers(0x292A2B2C) + bytes(range(0xA0, 0xB8))
 WITH_AUTH = ["Peer", "HrtB", "ALst", "RPer"]
 
-# where the lines of a header begin; those of a body have 32 bytes
-HEAD_LINES = [0, 16, 28, 32]
-
 
 def frame(letters, auth=b""):
     body = ALL_ATTRIBUTES if letters == "ALst" else BODIES[frames.BODY_OF[letters]]
     return frames.frame(letters, body, auth, **HEAD)
 
 
-def rendered(line):
-    """A line of a Rust byte string. One that begins with a letter is a text, and else numbers."""
-    is_text = line[:1].isalpha()
-    return "".join(
-        "\\0" if byte == 0
-        else "\\n" if is_text and byte == 0x0A
-        else chr(byte) if is_text
-        else f"\\x{byte:02x}"
-        for byte in line
-    )
-
-
-def print_constant(name, about, datagram, auth_bytes=0):
+def print_frame(name, about, datagram, auth_bytes=0):
     body_end = len(datagram) - auth_bytes
     starts = [*HEAD_LINES, *range(frames.HEAD_BYTES, body_end, 32)]
     starts += [body_end, body_end + 4, len(datagram)] if auth_bytes else [body_end]
-    lines = [datagram[a:b] for a, b in zip(starts, starts[1:])]
-    print(f"\n/// {about}")
-    print(f'pub const {name}: &[u8] = b"\\')
-    print("\\\n".join("    " + rendered(line) for line in lines) + '";')
+    print_constant(f"pub const {name}", about, datagram, starts)
 
 
 def name_of(letters):
@@ -74,10 +57,10 @@ def name_of(letters):
 
 print("//! Frames of every command: the output of tests/every_frame.py.")
 for command in frames.BODY_OF:
-    print_constant(name_of(command), f"`{command}`.", frame(command))
+    print_frame(name_of(command), f"`{command}`.", frame(command))
 for command in WITH_AUTH:
     about = f"`{command}` with an authentication part that is not signed."
     name = name_of(command) + "_WITH_AUTH"
-    print_constant(name, about, frame(command, NOT_SIGNED), frames.AUTH_BYTES)
+    print_frame(name, about, frame(command, NOT_SIGNED), frames.AUTH_BYTES)
 about = "`HrtB` with another authentication part."
-print_constant("HRTB_SIGNED", about, frame("HrtB", SIGNED), frames.AUTH_BYTES)
+print_frame("HRTB_SIGNED", about, frame("HrtB", SIGNED), frames.AUTH_BYTES)

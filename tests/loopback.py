@@ -4,7 +4,7 @@
 Run it as `python3 tests/loopback.py [PROGRAM [WORD]]`, PROGRAM being what `make build` leaves where
 it is left out; with WORD only the checks with it in their sentences run. It prints a line for each
 check, ends all that it started, and has the status 1 where a check failed. Where boothd is not
-built, or this user may not write what it locks, it checks nothing, with status 0.
+built, or this user may not open what it locks, it checks nothing, with status 0.
 
 The checks stand in replies.py and refusals.py. What they expect is written by hand or computed by
 Python's standard library, and never the program's own output.
@@ -56,8 +56,9 @@ def main(words):
         return 0
     if not os.access(program, os.X_OK):
         sys.exit(f"loopback.py: cannot run {program}")
-    if not os.access(LOCK if os.path.exists(LOCK) else os.path.dirname(LOCK), os.W_OK):
-        print(f"loopback: skipped, since this user may not write {LOCK}, as boothd does")
+    is_there = os.path.exists(LOCK)
+    if not (os.access(LOCK, os.R_OK) if is_there else os.access(os.path.dirname(LOCK), os.W_OK)):
+        print(f"loopback: skipped, since this user may not open {LOCK}, as boothd does")
         return 0
     with turn("loopback"):
         trouble = lock_trouble()

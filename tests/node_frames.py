@@ -15,6 +15,7 @@ import sys
 sys.path.insert(0, os.path.join(os.path.dirname(os.path.abspath(__file__)), "../tools"))
 
 import frames
+from constants import HEAD_LINES, print_constant
 
 KEY = b"secret-key"
 # the sites at 192.168.201.100 and 192.168.202.100
@@ -29,9 +30,6 @@ TICKET = b"ticket-db8"
 LIST = b"ticket-db8 none 0\n"
 NO_DROPS = "0 0 0 0 0 0 0 0"
 REFUSED = frames.code("IArg")
-
-# where the lines of a header begin; those of a body have 32 bytes, or are a text's own
-HEAD_LINES = [0, 16, 28, 32]
 
 
 def plain(letters, body=b"", **fields):
@@ -60,18 +58,6 @@ def heartbeat(sender, leader=None, ticket=TICKET):
     return at(SENT, signed, "HrtB", body, sender=sender, options=3)
 
 
-def rendered(line):
-    """A line of a Rust byte string. One that begins with a letter may be a text."""
-    is_text = line[:1].isalpha() and all(b in (0, 10) or 32 <= b < 127 for b in line)
-    return "".join(
-        "\\0" if byte == 0
-        else "\\n" if is_text and byte == 0x0A
-        else chr(byte) if is_text
-        else f"\\x{byte:02x}"
-        for byte in line
-    )
-
-
 def line_starts(datagram, body_end):
     if len(datagram) < frames.HEAD_BYTES:
         return [*HEAD_LINES, len(datagram)]
@@ -82,21 +68,18 @@ def line_starts(datagram, body_end):
     return [*HEAD_LINES, *range(frames.HEAD_BYTES, body_end, 32)]
 
 
-def print_constant(name, about, datagram, auth_bytes=0):
+def print_datagram(name, about, datagram, auth_bytes=0):
     body_end = len(datagram) - auth_bytes
     starts = line_starts(datagram, body_end)
     if starts[-1] != body_end:
         starts.append(body_end)
     if auth_bytes:
         starts += [body_end + 4, len(datagram)]
-    lines = [datagram[a:b] for a, b in zip(starts, starts[1:])]
-    print(f"\n/// {about}")
-    print(f'pub(super) const {name}: &[u8] = b"\\')
-    print("\\\n".join("    " + rendered(line) for line in lines) + '";')
+    print_constant(f"pub(super) const {name}", about, datagram, starts)
 
 
 def print_signed(name, about, datagram):
-    print_constant(name, about, datagram, frames.AUTH_BYTES)
+    print_datagram(name, about, datagram, frames.AUTH_BYTES)
 
 
 def print_requests():
@@ -119,10 +102,10 @@ def print_requests():
     ]
     for number, (command, body, answer, answer_body, result) in enumerate(table, 1):
         request = at(SENT, plain, command, body, request=number, **said)
-        print_constant(command.upper(), f"`{command}`, and its reply.", request)
+        print_datagram(command.upper(), f"`{command}`, and its reply.", request)
         fields = {"sender": S1, "request": number, "result": result}
         reply = at(NOW, plain, answer, answer_body, **fields)
-        print_constant(f"{command.upper()}_REPLY", f"`{answer}`.", reply)
+        print_datagram(f"{command.upper()}_REPLY", f"`{answer}`.", reply)
 
 
 def print_signed_requests():
@@ -146,12 +129,12 @@ def print_signed_requests():
         ("AFTER_FAULTS", "one frame with each fault", peers("1 1 1 1 1 1 1 1")),
     ]:
         reply = at(NOW, signed, "RPer", text, sender=S1, request=13)
-        print_constant(name, f"Its reply after {after}.", reply, frames.AUTH_BYTES)
+        print_datagram(name, f"Its reply after {after}.", reply, frames.AUTH_BYTES)
 
 
 def print_faults():
     print_signed("HRTB", "`HrtB` of S2, with its MAC.", heartbeat(S2))
-    print_constant("NO_FRAME", "47 bytes.", at(SENT, plain, "CLst")[:47])
+    print_datagram("NO_FRAME", "47 bytes.", at(SENT, plain, "CLst")[:47])
     wrong = bytearray(at(SENT, signed, "CLst", request=11))
     wrong[frames.HEAD_BYTES + 4] ^= 1
     print_signed("BAD_MAC", "`CLst` with one bit of its MAC turned.", bytes(wrong))
@@ -168,7 +151,7 @@ def print_moments():
     print("\n// Replies to `CLst` at other moments.")
     for name, millis in [("LATE", 4_294_967_296_005), ("LAST", 2**62 - 1)]:
         about = f"At {millis:_} ms."
-        print_constant(f"CLST_{name}", about, at(millis, plain, "RLst", LIST, sender=S1, request=1))
+        print_datagram(f"CLST_{name}", about, at(millis, plain, "RLst", LIST, sender=S1, request=1))
 
 
 print("//! Datagrams and replies, as tools/frames.py spells them and Python's `hmac` signs them with")

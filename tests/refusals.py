@@ -3,11 +3,13 @@
 It is imported by tests/loopback.py, and not run by itself.
 """
 
+import os
 import socket
+import subprocess
 
 import frames
 from room import Asker, check, require
-from serving import TOP
+from serving import LOCK, TOP
 
 # a file that is served, line by line, with this machine's address as @
 FILE = b"""site = "@"
@@ -344,3 +346,17 @@ def port_in_use(room):
     room.refuses(room.words(path, "10.0.0.1"), b"cannot open")
     with room.serving() as daemon, Asker(daemon) as asker:
         asker.asks("CLst")
+
+
+@check
+def closed_standard_error(room):
+    """where standard error is closed, what is said goes nowhere, and not into the lock file"""
+    path = room.file(here(room, FILE) + SITE)
+    before = os.path.getsize(LOCK) if os.path.exists(LOCK) else 0
+    streams = {"stdin": subprocess.DEVNULL, "stdout": subprocess.DEVNULL, "timeout": 5}
+    with socket.socket(socket.AF_INET, socket.SOCK_DGRAM) as holder:
+        holder.bind((room.address, frames.PORT))
+        words = [room.program, *room.words(path)]
+        ran = subprocess.run(words, preexec_fn=lambda: os.close(2), **streams)
+    require(ran.returncode == 1, f"the run had status {ran.returncode}")
+    require(os.path.getsize(LOCK) == before, "something was written into the lock file")

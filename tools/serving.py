@@ -28,7 +28,7 @@ LOCK = "/var/run/booth.lock"
 # what may help, by what boothd said
 HINTS = {
     "already running": f"another boothd of this machine holds {LOCK}: end it first",
-    f"cannot lock {LOCK}": "boothd writes that file, so run it as a user who may, as root",
+    f"cannot lock {LOCK}": "boothd makes or opens that file, so run it as a user who may, as root",
     "cannot open": "its port is in use, or the address is none of this machine",
 }
 
@@ -73,7 +73,7 @@ def turn(name):
 def lock_trouble():
     """Why boothd cannot take its lock here now, with a hint, or None where it can."""
     try:
-        with open(LOCK, "ab") as file:
+        with open(LOCK, "rb" if os.path.exists(LOCK) else "ab") as file:
             fcntl.flock(file, fcntl.LOCK_EX | fcntl.LOCK_NB)
     except BlockingIOError:
         return HINTS["already running"]

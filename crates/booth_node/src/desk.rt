@@ -1,5 +1,5 @@
 //! Where replies are made: a text and a frame, whose memory is taken once.
-ghost use Rattle.std.specs.Prelude.{◌≡◌};
+ghost use Rattle.std.specs.Prelude.{◌≡◌, [], IfOk};
 ghost use Rattle.booth_wire.specs.Command.{direction_of};
 ghost use Rattle.booth_wire.specs.Letter.{letter_of};
 ghost use Rattle.booth_node.specs.Replies.{reply_to};
@@ -23,7 +23,9 @@ pub(crate) struct Desk {
 
 impl Desk {
     /// An empty desk, with all the memory that it will have.
-    pub fn new(alloc: Global) -> Result<Desk, AllocError> {
+    pub fn new(alloc: Global) -> Result<Desk, AllocError>
+        ensures { IfOk result (λ desk. (desk.text ≡ []) × (desk.frame ≡ [])) }
+    {
         Ok(Desk {
             text: TextBuf::new(alloc)?,
             frame: Frame::new(alloc)?,

@@ -12,9 +12,20 @@ fn is_same(one: &File, other: &File) -> io::Result<bool> {
     Ok(one.dev() == other.dev() && one.ino() == other.ino())
 }
 
+// The file, which is made where it is missing. It is open for reading alone: where a standard stream was closed, the file
+// may get its number, and what is then said goes nowhere.
+fn open_or_make(rt: &HostRuntime, path: &str) -> io::Result<File> {
+    match File::open(rt, path) {
+        Err(error) if error.kind() == ErrorKind::NotFound => {}
+        opened => return opened,
+    }
+    File::options().write(true).create(true).open(rt, path)?;
+    File::open(rt, path)
+}
+
 /// Takes the lock of a file, which stays open in `held`; false where another holds it.
 pub(super) fn take_lock(rt: &HostRuntime, held: &mut Option<File>, path: &str) -> io::Result<bool> {
-    let file = File::options().write(true).create(true).open(rt, path)?;
+    let file = open_or_make(rt, path)?;
     if let Some(held) = held {
         return if is_same(held, &file)? {
             Ok(true)

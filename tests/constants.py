@@ -1,0 +1,27 @@
+"""How tests/every_frame.py and tests/node_frames.py print bytes: as constants of byte strings.
+
+It is imported by these two, and not run by itself.
+"""
+
+# where the lines of a header begin
+HEAD_LINES = [0, 16, 28, 32]
+
+
+def rendered(line):
+    """A line of a byte string. One that is all text and begins with a letter is a text, else numbers."""
+    is_text = line[:1].isalpha() and all(b in (0, 10) or 32 <= b < 127 for b in line)
+    return "".join(
+        "\\0" if byte == 0
+        else "\\n" if is_text and byte == 0x0A
+        else chr(byte) if is_text
+        else f"\\x{byte:02x}"
+        for byte in line
+    )
+
+
+def print_constant(declared, about, datagram, starts):
+    """A constant whose lines begin at these places; the last place is the end."""
+    lines = [datagram[a:b] for a, b in zip(starts, starts[1:])]
+    print(f"\n/// {about}")
+    print(f'{declared}: &[u8] = b"\\')
+    print("\\\n".join("    " + rendered(line) for line in lines) + '";')
