@@ -1,0 +1,61 @@
+-- What the rule of a deadline wants may follow it.
+use Rattle.std.proofs.Common.{◌≡◌, ℕ, ◌+◌, ◌*◌, Bool, true, false, ◌&&◌, refl, sym, ap, subst}
+use Rattle.std.specs.Prelude.{Option, Some, None, nat_lt, nat_le, not, ◌==◌, IsTrue}
+use Rattle.booth_wire.specs.declared.message.Setup.{Setup}
+use Rattle.booth_wire.specs.declared.codes.reasons.TheConstants.{LOCF}
+use Rattle.booth_raft.specs.declared.deed.Told.TheVariants as tells
+use Rattle.booth_raft.specs.declared.deed.Want.TheVariants as wants
+use Rattle.booth_raft.specs.declared.view.Role.{Role}
+use Rattle.booth_raft.specs.declared.view.Role.TheVariants.{Follower, Working, Candidate, Leader}
+use Rattle.booth_raft.specs.declared.view.Round.{Round}
+use Rattle.booth_raft.specs.declared.view.View.{View}
+use Rattle.booth_raft.specs.Deadlines.{due_now, is_tried, repeats, waits_or_acquires, follower_due, leader_due, leader_works, resends_or_renews, candidate_due}
+use Rattle.booth_raft.specs.GainReleaseLost.{own_end}
+use Rattle.booth_raft.specs.Members.{is_promised_elsewhere, is_follower, is_leader}
+use Rattle.booth_raft.specs.Messages.{shown_end}
+use Rattle.booth_raft.specs.Outcome.{Outcome, quiet}
+use Rattle.booth_raft.proofs.FactsLemmas.{on_cond, on_test}
+use Rattle.booth_ticket.specs.Automatic.{MayFollow}
+
+abbrev Fits : Setup → Outcome → Type 0
+Fits setup outcome = MayFollow setup outcome.view outcome.deed.want
+
+both_true : (a b : Bool) → a && b ≡ true → a ≡ true
+both_true true b e = refl
+both_true false b e = absurd (cc)
+
+acquires : (setup : Setup) (view : View) (now : ℕ) → view.waiting ≡ None → IsTrue (is_follower view.role)
+    → IsTrue setup.site → Fits setup (waits_or_acquires setup view now)
+acquires setup view now idle follows site =
+    on_cond (Fits setup) (nat_lt now (shown_end view.shown)) _ _ tt
+    (on_cond (Fits setup) (is_promised_elsewhere view.promise setup.me now) _ _ tt (site, follows, idle))
+
+follower_fits : (setup : Setup) (view : View) (now : ℕ) → view.waiting ≡ None → IsTrue (is_follower view.role)
+    → Fits setup (follower_due setup view now)
+follower_fits setup view now idle follows =
+    on_cond (Fits setup) (nat_lt 0 view.repeat) _ _ tt
+    (on_test (Fits setup) (setup.site && view.managed) (waits_or_acquires setup view now) (quiet (record view { due = None }))
+      (λ e. acquires setup view now idle follows (both_true setup.site view.managed e)) (λ e. tt))
+
+candidate_fits : (setup : Setup) (view : View) (round : Option Round) (now : ℕ) → Fits setup (candidate_due setup view round now)
+candidate_fits setup view None now = tt
+candidate_fits setup view (Some round) now = on_cond (Fits setup) (is_tried setup round now) _ _ tt tt
+
+renews : (setup : Setup) (view : View) (round : Option Round) (now : ℕ) → view.waiting ≡ None → IsTrue (is_leader view.role)
+    → Fits setup (resends_or_renews setup view round now)
+renews setup view None now idle leads = (leads, idle)
+renews setup view (Some round) now idle leads =
+    on_cond (Fits setup) (not round.won && is_tried setup round now) _ _ tt (leads, idle)
+
+works : (setup : Setup) (view : View) (job : Option ℕ) (now : ℕ) → view.waiting ≡ None → IsTrue (is_leader view.role)
+    → Fits setup (leader_works setup view job now)
+works setup view None now idle leads = renews setup view view.round now idle leads
+works setup view (Some job) now idle leads = tt
+
+pub may_follow : (setup : Setup) (view : View) (now : ℕ) (role : Role) → view.waiting ≡ None → view.role ≡ role
+    → MayFollow setup (due_now setup view now role).view (due_now setup view now role).deed.want
+may_follow setup view now Follower idle is = follower_fits setup view now idle (ap is_follower is)
+may_follow setup view now Working idle is = tt
+may_follow setup view now Candidate idle is = candidate_fits setup view view.round now
+may_follow setup view now Leader idle is =
+    on_cond (Fits setup) (nat_le (own_end view) now) _ _ tt (works setup view view.job now idle (ap is_leader is))

@@ -1,0 +1,60 @@
+-- What an automatic ticket finish in each call, with neither handlers nor clients that wait.
+use Rattle.std.specs.Prelude.{◌≡◌, ℕ, Option, Some, None, IsTrue, if◌then◌else◌}
+use Rattle.booth_base.specs.Tree.{Deeds, Ends}
+use Rattle.booth_wire.specs.declared.message.Head.{Head}
+use Rattle.booth_wire.specs.declared.message.TicketPart.{TicketPart}
+use Rattle.booth_wire.specs.declared.message.Setup.{Setup}
+use Rattle.booth_wire.specs.declared.codes.reasons.TheConstants.{TLST}
+use Rattle.booth_raft.specs.declared.deed.Told.TheVariants as tells
+use Rattle.booth_raft.specs.declared.deed.Want.{Want}
+use Rattle.booth_raft.specs.declared.deed.Want.TheVariants as wants
+use Rattle.booth_raft.specs.declared.view.View.{View}
+use Rattle.booth_raft.specs.AskAndRenew.{acquisition_failed, are_terms_spent, ask, renewed}
+use Rattle.booth_raft.specs.Deadlines.{due_now, greeted, hello}
+use Rattle.booth_raft.specs.Members.{is_follower, is_leader, is_working}
+use Rattle.booth_raft.specs.Notes.{handler_failed}
+use Rattle.booth_raft.specs.OtherMessages.{heard}
+use Rattle.booth_raft.specs.Outcome.{Outcome, quiet, telling}
+use Rattle.booth_ticket.specs.Acts.{Ask}
+use Rattle.booth_ticket.specs.Keeping.{finish}
+use Rattle.booth_ticket.specs.Saying.{say}
+
+-- What a call leaves.
+pub record Left : Type 0 where
+  pub view : View
+
+abbrev pub ends : Outcome → Deeds Ask Left
+ends outcome = Ends (record { view = outcome.view })
+
+-- a member's message is heard
+abbrev pub hear : Setup → View → ℕ → Head → TicketPart → ℕ → Deeds Ask Left
+hear setup view from head part now =
+    finish setup (Some from) now (heard setup view from head part now head.cmd) ends
+
+-- The ticket is acquired: a new term is asked for. Where the terms are spent, the acquisition fails.
+abbrev pub acquire : Setup → View → ℕ → ℕ → Outcome
+acquire setup view reason now =
+    if are_terms_spent view then telling (acquisition_failed setup view now) tells.AskFailed else ask view reason now
+
+-- what the rule of a deadline wants to follow
+abbrev pub follow : Setup → Outcome → Want → ℕ → Outcome
+follow setup outcome wants.Nothing now = outcome
+follow setup outcome wants.Renew now = renewed setup outcome.view outcome.view.round now
+follow setup outcome wants.Acquire now = acquire setup outcome.view TLST now
+
+-- what may follow: a leader renews, and a site that follows acquires; nothing waits then
+abbrev pub MayFollow : Setup → View → Want → Type 0
+MayFollow setup view wants.Renew = IsTrue (is_leader view.role) × (view.waiting ≡ None)
+MayFollow setup view wants.Acquire = IsTrue setup.site × IsTrue (is_follower view.role) × (view.waiting ≡ None)
+MayFollow setup view want = Unit {0}
+
+-- the rule of the role at its deadline: a handler that still works has failed
+abbrev pub role_due : Setup → View → ℕ → Outcome
+role_due setup view now =
+    if is_working view.role then quiet (handler_failed setup view now) else
+    follow setup (due_now setup view now view.role) (due_now setup view now view.role).deed.want now
+
+-- the deadline has come: hello, and then the rule of the role
+abbrev pub tick : Setup → View → ℕ → Deeds Ask Left
+tick setup view now =
+    say setup None (hello setup view now) (finish setup None now (role_due setup (greeted view) now) ends)

@@ -1,0 +1,61 @@
+-- A ticket between two calls, and what it finish in each.
+use Rattle.std.specs.Prelude.{◌≤◌, ℕ, ◌/◌, nat_lt, Option, Some, None, IsSomeAnd, if◌then◌else◌}
+use Rattle.booth_base.specs.Tree.{Deeds, Ends, next}
+use Rattle.booth_rec.specs.declared.record.Record.{Record}
+use Rattle.booth_wire.specs.declared.message.Head.{Head}
+use Rattle.booth_wire.specs.declared.message.TicketPart.{TicketPart}
+use Rattle.booth_wire.specs.declared.message.Setup.{Setup}
+use Rattle.booth_raft.specs.declared.view.Shown.{Shown}
+use Rattle.booth_raft.specs.declared.view.View.{View}
+use Rattle.booth_raft.specs.StartAndLearn.{started}
+use Rattle.booth_ticket.specs.declared.ticket.Owner.{Owner}
+use Rattle.booth_ticket.specs.declared.request.Request.{Request}
+use Rattle.booth_ticket.specs.Acts.{Ask}
+use Rattle.booth_ticket.specs.Automatic.{Left, hear, tick}
+use Rattle.booth_ticket.specs.Requests.{wish}
+
+-- What the rules of a ticket know of it, by its kind.
+pub data Known : Type 0 where
+  Automatic : View → Known
+
+-- A ticket: its setup, and what its rules know.
+pub record TicketState : Type 0 where
+  pub setup : Setup
+  pub known : Known
+
+-- a ticket starts, from the record that was kept
+abbrev pub opened : Setup → Record → ℕ → TicketState
+opened setup rec now = record { setup = setup; known = Automatic (started setup rec now) }
+
+-- the deeds of an automatic ticket are those of its rules, which change the view alone
+abbrev pub by_rules : Setup → Deeds Ask Left → Deeds Ask TicketState
+by_rules setup deeds = next deeds (λ left. Ends (record { setup = setup; known = Automatic left.view }))
+
+-- the message of the member at a place is heard
+abbrev pub ticket_heard : Setup → Known → ℕ → Head → TicketPart → ℕ → Deeds Ask TicketState
+ticket_heard setup (Automatic view) from head part now = by_rules setup (hear setup view from head part now)
+
+-- a client's request is followed
+abbrev pub ticket_asked : Setup → Known → Request → ℕ → Deeds Ask TicketState
+ticket_asked setup (Automatic view) request now = by_rules setup (wish setup view request request.wish now)
+
+-- the deadline has come
+abbrev pub ticket_due : Setup → Known → ℕ → Deeds Ask TicketState
+ticket_due setup (Automatic view) now = by_rules setup (tick setup view now)
+
+-- when the ticket is next to be looked at
+abbrev pub deadline : Known → Option ℕ
+deadline (Automatic view) = view.due
+
+-- the deadline has come
+abbrev pub IsDue : Known → ℕ → Type 0
+IsDue known now = IsSomeAnd (deadline known) (λ due. due ≤ now)
+
+-- the site that is shown as the owner now, and the end of its lease in whole seconds
+abbrev pub shown_owner : Option Shown → ℕ → Option Owner
+shown_owner None now = None
+shown_owner (Some shown) now =
+    if nat_lt now shown.until then Some (record { site = shown.owner; until_secs = shown.until / 1000 }) else None
+
+abbrev pub owner : Known → ℕ → Option Owner
+owner (Automatic view) now = shown_owner view.shown now

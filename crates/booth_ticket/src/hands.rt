@@ -1,0 +1,32 @@
+//! The hands by which a ticket acts.
+ghost use Rattle.booth_ticket.specs.Acts.{Act, Dids, kept, said, said_to_each};
+
+use booth_base::Peer;
+use booth_rec::Record;
+use booth_wire::{Head, TicketPart};
+
+/// Whom a message goes to.
+#[derive(Clone, Copy, Debug, PartialEq, Eq)]
+pub enum To {
+    /// The member at this place of the configuration.
+    Member(u32),
+    Client(Peer),
+}
+
+/// The hands of one ticket in a turn.
+pub trait Hands {
+    /// The hands before an act, the act with its answer, and the hands after it.
+    ghost did: { Self → Act → Self → Type 0 };
+
+    /// Keeps the record of the ticket: true where it is kept.
+    fn keep(&mut self, rec: &Record) -> bool
+        ensures did { did self.old (kept rec.now result) self.new };
+
+    /// Says a message. Whether it comes through is not told.
+    fn say(&mut self, to: To, head: &Head, part: &TicketPart)
+        ensures did { did self.old (said to head.now part.now) self.new };
+
+    /// Says the same message to the members at these places, one after the other.
+    fn say_each(&mut self, places: &[u32], head: &Head, part: &TicketPart)
+        ensures did { Dids did self.old (said_to_each places.now head.now part.now) self.new };
+}

@@ -1,0 +1,58 @@
+//! The deeds of an outcome of the lease rules: what is kept, and then what is said.
+ghost use Rattle.std.specs.Prelude.{◌≡◌, ◌<◌, ◌^◌, None};
+ghost use Rattle.std.specs.Option.{ForSome};
+ghost use Rattle.booth_base.specs.Tree.{Deeds, Leads};
+ghost use Rattle.booth_raft.specs.Facts.{KeepWaits};
+ghost use Rattle.booth_raft.specs.Outcome.{Outcome};
+ghost use Rattle.booth_raft.specs.declared.view.Rule.TheVariants as rules;
+ghost use Rattle.booth_ticket.specs.Acts.{Ask, DidSome, IsAct};
+ghost use Rattle.booth_ticket.specs.Automatic.{Left};
+ghost use Rattle.booth_ticket.specs.Keeping.{keep_once, finish};
+
+use crate::hands::Hands;
+use crate::saying::say;
+use booth_raft::{Core, Deed};
+
+// Keeps the record of a deed, where it has one, and gives the deed that follows. After the answer of a gain no other
+// keep follows; after another answer a gain's may.
+fn keep_once<W: Hands>(core: &mut Core, now: u64, deed: Deed, hands: &mut W) -> Deed
+    requires early { now < 2 ^ 62 }
+    requires waits { KeepWaits deed.keep core.old.view.waiting now }
+    ensures did { DidSome W.did (λ acts. (rest : Outcome → Deeds Ask Left) → Leads IsAct
+        (keep_once core.old.setup now (record { view = core.old.view; deed = deed }) rest) acts
+        (rest (record { view = core.new.view; deed = result }))) hands.old hands.new }
+    ensures setup { core.new.setup ≡ core.old.setup }
+    ensures waits { KeepWaits result.keep core.new.view.waiting now }
+    ensures gains { ForSome core.new.view.waiting (λ waits. waits.rule ≡ rules.Gain) }
+    ensures last { ForSome core.old.view.waiting (λ waits. waits.rule ≡ rules.Gain)
+        → core.new.view.waiting ≡ None }
+{
+    let Some(rec) = &deed.keep else {
+        return deed;
+    };
+    let ok = hands.keep(rec);
+    core.kept(now, ok)
+}
+
+/// Does an outcome: its keeps, and then what it says, where the message of the member at the place `from` was heard
+/// or none was. The last deed says what clients are told.
+pub(crate) fn finish<W: Hands>(
+    core: &mut Core,
+    from: Option<u32>,
+    now: u64,
+    deed: Deed,
+    hands: &mut W,
+) -> Deed
+    requires early { now < 2 ^ 62 }
+    requires waits { KeepWaits deed.keep core.old.view.waiting now }
+    ensures did { DidSome W.did (λ acts. (rest : Outcome → Deeds Ask Left) → Leads IsAct
+        (finish core.old.setup from now (record { view = core.old.view; deed = deed }) rest) acts
+        (rest (record { view = core.new.view; deed = result }))) hands.old hands.new }
+    ensures setup { core.new.setup ≡ core.old.setup }
+    ensures idle { core.new.view.waiting ≡ None }
+{
+    let first = keep_once(core, now, deed, hands);
+    let last = keep_once(core, now, first, hands);
+    say(core.setup(), from, &last.say, hands);
+    last
+}

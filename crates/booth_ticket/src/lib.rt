@@ -1,0 +1,16 @@
+//! One ticket: its rules, done by hands. It knows no frames, no files and no other ticket.
+#![tactic(auto)]
+
+mod automatic;
+mod fake;
+mod hands;
+mod keeping;
+mod request;
+mod requests;
+mod saying;
+mod ticket;
+
+pub use fake::FakeHands;
+pub use hands::{Hands, To};
+pub use request::{Request, Wish};
+pub use ticket::{Owner, Ticket};

@@ -1,0 +1,81 @@
+//! What the rules say, to members and to clients.
+ghost use Rattle.std.specs.Prelude.{◌≡◌, ◌==◌, ◌<◌, ◌++◌, ◌∷◌, [], cond};
+ghost use Rattle.std.specs.Int.{bit_at};
+ghost use Rattle.arrayvec.specs.ArrayVec.{array_vec_len};
+ghost use Rattle.booth_base.specs.Tree.{Deeds, Leads};
+ghost use Rattle.booth_raft.specs.Sound.{IsSound};
+ghost use Rattle.booth_raft.specs.declared.view.TheConstants.{MOST_MEMBERS};
+ghost use Rattle.booth_ticket.specs.Acts.{Ask, DidSome, IsAct};
+ghost use Rattle.booth_ticket.specs.Automatic.{Left};
+ghost use Rattle.booth_ticket.specs.Saying.{others, places_in, say, say_back};
+
+use crate::hands::{Hands, To};
+use arrayvec::ArrayVec;
+use booth_raft::MOST_MEMBERS;
+use booth_wire::{Head, Say, Setup, TicketPart};
+
+type Places = ArrayVec<u32, MOST_MEMBERS>;
+
+// A place joins the others where it is one of those looked for.
+fn add_where(places: &mut Places, place: u32, looked_for: bool)
+    requires room { array_vec_len places.old < MOST_MEMBERS }
+    ensures { places.new.items ≡ places.old.items ++ cond looked_for (place ∷ []) [] }
+{
+    if looked_for {
+        places.push(place);
+    }
+}
+
+// The places of the other members.
+fn others(setup: &Setup) -> Places
+    requires sound { IsSound setup.now }
+    ensures { result.items ≡ others setup.now }
+{
+    let mut places = ArrayVec::new();
+    for place in 0..setup.members {
+        add_where(&mut places, place, place != setup.place);
+    }
+    places
+}
+
+fn is_set(bits: u16, place: u32) -> bool
+    requires { place < 16 }
+    ensures { result ≡ (bit_at bits place == 1) }
+{
+    (bits >> place) & 1 == 1
+}
+
+// The places whose bits are set.
+fn places_in(bits: u16) -> Places
+    ensures { result.items ≡ places_in bits }
+{
+    let mut places = ArrayVec::new();
+    for place in 0..MOST_MEMBERS as u32 {
+        add_where(&mut places, place, is_set(bits, place));
+    }
+    places
+}
+
+// Answers the member whose message was heard.
+fn say_back<W: Hands>(from: Option<u32>, head: &Head, part: &TicketPart, hands: &mut W)
+    ensures did { DidSome W.did (λ acts. (rest : Deeds Ask Left) →
+        Leads IsAct (say_back from head.now part.now rest) acts rest) hands.old hands.new }
+{
+    if let Some(from) = from {
+        hands.say(To::Member(from), head, part);
+    }
+}
+
+/// Says what a rule says, where the message of the member at the place `from` was heard or none was.
+pub(crate) fn say<W: Hands>(setup: &Setup, from: Option<u32>, words: &Say, hands: &mut W)
+    requires sound { IsSound setup.now }
+    ensures did { DidSome W.did (λ acts. (rest : Deeds Ask Left) →
+        Leads IsAct (say setup.now from words.now rest) acts rest) hands.old hands.new }
+{
+    match words {
+        Say::Nothing => {}
+        Say::Reply(head, part) => say_back(from, head, part, hands),
+        Say::All(head, part) => hands.say_each(&others(setup), head, part),
+        Say::Unanswered(head, part, bits) => hands.say_each(&places_in(*bits), head, part),
+    }
+}
