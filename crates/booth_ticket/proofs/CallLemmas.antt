@@ -13,7 +13,7 @@ use Rattle.booth_raft.specs.Outcome.{Outcome}
 use Rattle.booth_ticket.specs.declared.hands.To.{To}
 use Rattle.booth_ticket.specs.Acts.{Ask, Say, Act, IsAct, DidSome, said}
 use Rattle.booth_ticket.specs.Automatic.{Left, ends}
-use Rattle.booth_ticket.specs.Keeping.{finish}
+use Rattle.booth_ticket.specs.Keeping.{carry_out}
 use Rattle.booth_ticket.specs.Saying.{say}
 use Rattle.booth_ticket.specs.Ticket.{TicketState, Known, Automatic, by_rules}
 use Rattle.booth_ticket.proofs.DidLemmas.{did_one, did_joined, did_weaker}
@@ -31,29 +31,29 @@ module _ {X : Type 0} {did : X → Act → X → Type 0} where
   -- the outcome that the code made is that of the rule
   pub as_ruled : {a b : X} (setup setup' : Setup) (from : Option ℕ) (now : ℕ) (o last : Outcome) (view : View) (deed : Deed)
       → setup' ≡ setup → view ≡ o.view → deed ≡ o.deed
-      → DidSome did (FromTo {S = Left} (finish setup' from now (outcome_of view deed)) last) a b
-      → DidSome did (FromTo {S = Left} (finish setup from now o) last) a b
+      → DidSome did (FromTo {S = Left} (carry_out setup' from now (outcome_of view deed)) last) a b
+      → DidSome did (FromTo {S = Left} (carry_out setup from now o) last) a b
   as_ruled {a} {b} setup setup' from now o last view deed same_setup same_view same_deed done =
-      subst (λ (p : Outcome). DidSome did (FromTo {S = Left} (finish setup from now p) last) a b)
+      subst (λ (p : Outcome). DidSome did (FromTo {S = Left} (carry_out setup from now p) last) a b)
       (same_outcome o view deed same_view same_deed)
-      (subst (λ (s : Setup). DidSome did (FromTo {S = Left} (finish s from now (outcome_of view deed)) last) a b) same_setup done)
+      (subst (λ (s : Setup). DidSome did (FromTo {S = Left} (carry_out s from now (outcome_of view deed)) last) a b) same_setup done)
 
   -- nothing follows
   pub ended : {a b : X} (setup : Setup) (from : Option ℕ) (now : ℕ) (o last : Outcome)
-      → DidSome did (FromTo {S = Left} (finish setup from now o) last) a b
-      → DidSome did (Whole (finish setup from now o ends) last.view) a b
+      → DidSome did (FromTo {S = Left} (carry_out setup from now o) last) a b
+      → DidSome did (Whole (carry_out setup from now o ends) last.view) a b
   ended setup from now o last done =
-      did_weaker (FromTo {S = Left} (finish setup from now o) last) (Whole (finish setup from now o ends) last.view)
+      did_weaker (FromTo {S = Left} (carry_out setup from now o) last) (Whole (carry_out setup from now o ends) last.view)
       (λ xs leads. leads ends) done
 
   -- what follows is done too
   pub then_rest : {a b c : X} (setup : Setup) (from : Option ℕ) (now : ℕ) (o last : Outcome) (rest : Outcome → Deeds Ask Left)
-      (view : View) → DidSome did (FromTo {S = Left} (finish setup from now o) last) a b
-      → DidSome did (Whole (rest last) view) b c → DidSome did (Whole (finish setup from now o rest) view) a c
+      (view : View) → DidSome did (FromTo {S = Left} (carry_out setup from now o) last) a b
+      → DidSome did (Whole (rest last) view) b c → DidSome did (Whole (carry_out setup from now o rest) view) a c
   then_rest setup from now o last rest view first later =
-      did_joined (FromTo {S = Left} (finish setup from now o) last) (Whole (rest last) view)
-      (Whole (finish setup from now o rest) view)
-      (λ xs ys p q. leads_on IsAct (finish setup from now o rest) (rest last) (Ends (record { view = view })) xs ys (p rest) q)
+      did_joined (FromTo {S = Left} (carry_out setup from now o) last) (Whole (rest last) view)
+      (Whole (carry_out setup from now o rest) view)
+      (λ xs ys p q. leads_on IsAct (carry_out setup from now o rest) (rest last) (Ends (record { view = view })) xs ys (p rest) q)
       first later
 
   -- words, and then a tree

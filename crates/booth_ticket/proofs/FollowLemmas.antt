@@ -1,6 +1,6 @@
 -- What the rule of a deadline wants may follow it.
 use Rattle.std.proofs.Common.{◌≡◌, ℕ, ◌+◌, ◌*◌, Bool, true, false, ◌&&◌, refl, sym, ap, subst}
-use Rattle.std.specs.Prelude.{Option, Some, None, nat_lt, nat_le, not, ◌==◌, IsTrue}
+use Rattle.std.specs.Prelude.{Option, Some, None, nat_lt, nat_le, not, ◌==◌, IsTrue, is_some}
 use Rattle.booth_wire.specs.declared.message.Setup.{Setup}
 use Rattle.booth_wire.specs.declared.codes.reasons.TheConstants.{LOCF}
 use Rattle.booth_raft.specs.declared.deed.Told.TheVariants as tells
@@ -9,12 +9,12 @@ use Rattle.booth_raft.specs.declared.view.Role.{Role}
 use Rattle.booth_raft.specs.declared.view.Role.TheVariants.{Follower, Working, Candidate, Leader}
 use Rattle.booth_raft.specs.declared.view.Round.{Round}
 use Rattle.booth_raft.specs.declared.view.View.{View}
-use Rattle.booth_raft.specs.Deadlines.{due_now, is_tried, repeats, waits_or_acquires, follower_due, leader_due, leader_works, resends_or_renews, candidate_due}
+use Rattle.booth_raft.specs.Deadlines.{due_now, is_tried, repeats, waits_or_acquires, follower_due, leader_due, resends_or_renews, candidate_due}
 use Rattle.booth_raft.specs.GainReleaseLost.{own_end}
 use Rattle.booth_raft.specs.Members.{is_promised_elsewhere, is_follower, is_leader}
 use Rattle.booth_raft.specs.Messages.{shown_end}
 use Rattle.booth_raft.specs.Outcome.{Outcome, quiet}
-use Rattle.booth_raft.proofs.FactsLemmas.{on_cond, on_test}
+use Rattle.booth_raft.proofs.FactsLemmas.{on_cond, on_option, on_test}
 use Rattle.booth_ticket.specs.Automatic.{MayFollow}
 
 abbrev Fits : Setup → Outcome → Type 0
@@ -37,25 +37,35 @@ follower_fits setup view now idle follows =
     (on_test (Fits setup) (setup.site && view.managed) (waits_or_acquires setup view now) (quiet (record view { due = None }))
       (λ e. acquires setup view now idle follows (both_true setup.site view.managed e)) (λ e. tt))
 
-candidate_fits : (setup : Setup) (view : View) (round : Option Round) (now : ℕ) → Fits setup (candidate_due setup view round now)
-candidate_fits setup view None now = tt
-candidate_fits setup view (Some round) now = on_cond (Fits setup) (is_tried setup round now) _ _ tt tt
+candidate_fits : (setup : Setup) (view : View) (now : ℕ) → Fits setup (candidate_due setup view now)
+candidate_fits setup view now =
+    on_option (Fits setup) view.round _ _ (λ none. tt)
+    (λ round is. on_cond (Fits setup) (is_tried setup round now) _ _ tt tt)
 
-renews : (setup : Setup) (view : View) (round : Option Round) (now : ℕ) → view.waiting ≡ None → IsTrue (is_leader view.role)
-    → Fits setup (resends_or_renews setup view round now)
-renews setup view None now idle leads = (leads, idle)
-renews setup view (Some round) now idle leads =
-    on_cond (Fits setup) (not round.won && is_tried setup round now) _ _ tt (leads, idle)
+renews : (setup : Setup) (view : View) (now : ℕ) → view.waiting ≡ None → IsTrue (is_leader view.role)
+    → Fits setup (resends_or_renews setup view now)
+renews setup view now idle leads =
+    on_option (Fits setup) view.round _ _ (λ none. (leads, idle))
+    (λ round is. on_cond (Fits setup) (not round.won && is_tried setup round now) _ _ tt (leads, idle))
 
-works : (setup : Setup) (view : View) (job : Option ℕ) (now : ℕ) → view.waiting ≡ None → IsTrue (is_leader view.role)
-    → Fits setup (leader_works setup view job now)
-works setup view None now idle leads = renews setup view view.round now idle leads
-works setup view (Some job) now idle leads = tt
+leader_fits : (setup : Setup) (view : View) (now : ℕ) → view.waiting ≡ None → IsTrue (is_leader view.role)
+    → Fits setup (leader_due setup view now)
+leader_fits setup view now idle leads =
+    on_cond (Fits setup) (nat_le (own_end view) now) _ _ tt
+    (on_cond (Fits setup) (is_some view.job) _ _ tt (renews setup view now idle leads))
 
-pub may_follow : (setup : Setup) (view : View) (now : ℕ) (role : Role) → view.waiting ≡ None → view.role ≡ role
-    → MayFollow setup (due_now setup view now role).view (due_now setup view now role).deed.want
-may_follow setup view now Follower idle is = follower_fits setup view now idle (ap is_follower is)
-may_follow setup view now Working idle is = tt
-may_follow setup view now Candidate idle is = candidate_fits setup view view.round now
-may_follow setup view now Leader idle is =
-    on_cond (Fits setup) (nat_le (own_end view) now) _ _ tt (works setup view view.job now idle (ap is_leader is))
+by_role : (setup : Setup) (view : View) (now : ℕ) (role : Role) → view.waiting ≡ None → view.role ≡ role
+    → Fits setup (elim role [
+      | Follower ↦ follower_due setup view now
+      | Working ↦ quiet view
+      | Candidate ↦ candidate_due setup view now
+      | Leader ↦ leader_due setup view now
+    ])
+by_role setup view now Follower idle is = follower_fits setup view now idle (ap is_follower is)
+by_role setup view now Working idle is = tt
+by_role setup view now Candidate idle is = candidate_fits setup view now
+by_role setup view now Leader idle is = leader_fits setup view now idle (ap is_leader is)
+
+pub may_follow : (setup : Setup) (view : View) (now : ℕ) → view.waiting ≡ None
+    → MayFollow setup (due_now setup view now).view (due_now setup view now).deed.want
+may_follow setup view now idle = by_role setup view now view.role idle refl

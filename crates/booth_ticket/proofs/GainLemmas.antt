@@ -12,12 +12,12 @@ use Rattle.booth_raft.specs.declared.view.Rule.{Rule}
 use Rattle.booth_raft.specs.declared.view.Rule.TheVariants as rules
 use Rattle.booth_raft.specs.declared.view.View.{View}
 use Rattle.booth_raft.specs.declared.view.Waiting.{Waiting}
-use Rattle.booth_raft.specs.AskAndRenew.{keep_answered, goes_on, opened, asking_all, promised_itself, answers_itself, own_answer, new_round, with_round}
+use Rattle.booth_raft.specs.AskAndRenew.{finish, goes_on, begin_round, asked_all, promised_itself, answers_itself, own_answer, new_round, with_round}
 use Rattle.booth_raft.specs.GainReleaseLost.{gain, lease_record, retry_at}
 use Rattle.booth_raft.specs.Members.{is_leader, is_majority}
 use Rattle.booth_raft.specs.Messages.{asks_all}
-use Rattle.booth_raft.specs.Outcome.{Outcome, saying}
-use Rattle.booth_raft.proofs.FactsLemmas.{on_cond, not_some}
+use Rattle.booth_raft.specs.Outcome.{Outcome, quiet, saying}
+use Rattle.booth_raft.proofs.FactsLemmas.{on_cond, on_option, not_some}
 
 -- where a keep waits, it is a gain's
 abbrev pub IsGainAtMost : Option Waiting → Type 0
@@ -30,12 +30,12 @@ pub none_waits : (waiting : Option Waiting) → waiting ≡ None → IsGainAtMos
 none_waits waiting none w some = absurd (not_some (sym none ∙ some))
 
 opened_gains : (s : Setup) (view : View) (number now : ℕ) → view.waiting ≡ None
-    → IsGainAtMost (opened s view number now).view.waiting
+    → IsGainAtMost (begin_round s view number now).view.waiting
 opened_gains s view number now none =
     let open_view = with_round s view number now in
     on_cond (λ (o : Outcome). IsGainAtMost o.view.waiting) (is_majority s (own_answer s view now))
     (gain s open_view (new_round s view number now) now)
-    (saying (asking_all s open_view now) (asks_all s open_view number now) tells.Nothing)
+    (saying (asked_all s open_view now) (asks_all s open_view number now) tells.Nothing)
     (λ w e. ap (λ (w : Waiting). w.rule) (sym (some_same (record { rule = rules.Gain; tried = lease_record s open_view.term (new_round s view number now); now = now }) e)))
     (on_cond (λ (v : View). IsGainAtMost v.waiting) (is_leader open_view.role)
     (record open_view { due = Some (retry_at s open_view now) })
@@ -67,20 +67,25 @@ rule_gains s view (rules.Release reason) tried now false none =
 rule_gains s view rules.EndRound tried now true none = none_waits view.waiting none
 rule_gains s view rules.EndRound tried now false none = none_waits view.waiting none
 
-pub gains_at_most : (s : Setup) (view : View) (waiting : Option Waiting) (now : ℕ) (ok : Bool) → view.waiting ≡ waiting
-    → IsGainAtMost (keep_answered s view waiting now ok).view.waiting
-gains_at_most s view None now ok e = none_waits view.waiting e
-gains_at_most s view (Some w) now ok e = rule_gains s (record view { waiting = None }) w.rule w.tried now ok refl
+pub gains_at_most : (s : Setup) (view : View) (now : ℕ) (ok : Bool) → IsGainAtMost (finish s view now ok).view.waiting
+gains_at_most s view now ok =
+    on_option (λ (o : Outcome). IsGainAtMost o.view.waiting) view.waiting (quiet view)
+    (λ waits. goes_on s (record view { waiting = None }) waits.rule waits.tried now ok)
+    (λ none. none_waits view.waiting none)
+    (λ waits is. rule_gains s (record view { waiting = None }) waits.rule waits.tried now ok refl)
 
-pub nothing_waits : (s : Setup) (view : View) (waiting : Option Waiting) (now : ℕ) (ok : Bool) → view.waiting ≡ waiting
-    → IsGainAtMost waiting → (keep_answered s view waiting now ok).view.waiting ≡ None
-nothing_waits s view None now ok e gain = e
-nothing_waits s view (Some w) now ok e gain = by_rule w.rule ok (gain w refl)
+pub nothing_waits : (s : Setup) (view : View) (now : ℕ) (ok : Bool)
+    → IsGainAtMost view.waiting → (finish s view now ok).view.waiting ≡ None
+nothing_waits s view now ok gain =
+    on_option (λ (o : Outcome). o.view.waiting ≡ None) view.waiting (quiet view)
+    (λ waits. goes_on s (record view { waiting = None }) waits.rule waits.tried now ok)
+    (λ none. none)
+    (λ waits is. by_rule waits.tried waits.rule ok (gain waits is))
   where
-    by_rule : (rule : Rule) (ok : Bool) → rule ≡ rules.Gain
-        → (goes_on s (record view { waiting = None }) rule w.tried now ok).view.waiting ≡ None
-    by_rule rules.Gain true e = refl
-    by_rule rules.Gain false e = refl
-    by_rule (rules.Ask reason) ok e = absurd (cc)
-    by_rule (rules.Release reason) ok e = absurd (cc)
-    by_rule rules.EndRound ok e = absurd (cc)
+    by_rule : (tried : Record) (rule : Rule) (ok : Bool) → rule ≡ rules.Gain
+        → (goes_on s (record view { waiting = None }) rule tried now ok).view.waiting ≡ None
+    by_rule tried rules.Gain true e = refl
+    by_rule tried rules.Gain false e = refl
+    by_rule tried (rules.Ask reason) ok e = absurd (cc)
+    by_rule tried (rules.Release reason) ok e = absurd (cc)
+    by_rule tried rules.EndRound ok e = absurd (cc)

@@ -7,10 +7,10 @@ use Rattle.booth_rec.specs.declared.record.Record.{Record}
 use Rattle.booth_wire.specs.declared.message.Setup.{Setup}
 use Rattle.booth_raft.specs.declared.deed.Deed.{Deed}
 use Rattle.booth_raft.specs.declared.view.View.{View}
-use Rattle.booth_raft.specs.AskAndRenew.{keep_answered}
+use Rattle.booth_raft.specs.AskAndRenew.{finish}
 use Rattle.booth_raft.specs.Outcome.{Outcome}
 use Rattle.booth_ticket.specs.Acts.{Ask, Act, IsAct, DidSome, kept}
-use Rattle.booth_ticket.specs.Keeping.{keep_of, keep_once, say_last, finish}
+use Rattle.booth_ticket.specs.Keeping.{keep_of, keep_once, say_last, carry_out}
 use Rattle.booth_ticket.specs.Saying.{say}
 use Rattle.booth_ticket.proofs.DidLemmas.{did_none, did_one, did_joined, did_weaker}
 use Rattle.booth_ticket.proofs.SayLemmas.{First}
@@ -34,27 +34,27 @@ module _ {X S : Type 0} {did : X → Act → X → Type 0} where
 
   pub kept_one : {a b : X} (setup : Setup) (now : ℕ) (view : View) (deed : Deed) (tried : Record) (ok : Bool)
       (view' : View) (deed' : Deed) → deed.keep ≡ Some tried
-      → view' ≡ (keep_answered setup view view.waiting now ok).view → deed' ≡ (keep_answered setup view view.waiting now ok).deed
+      → view' ≡ (finish setup view now ok).view → deed' ≡ (finish setup view now ok).deed
       → did a (kept tried ok) b
       → DidSome did (FromTo {S = S} (keep_once setup now (outcome_of view deed)) (outcome_of view' deed')) a b
   kept_one setup now view deed tried ok view' deed' asked same_view same_deed done =
       did_one (FromTo {S = S} (keep_once setup now (outcome_of view deed)) (outcome_of view' deed')) (kept tried ok) done
       (λ rest.
         subst (λ (keep : Option Record). Leads IsAct (keep_of setup now keep (outcome_of view deed) rest) (kept tried ok ∷ []) (rest (outcome_of view' deed'))) (sym asked)
-        (ok, refl, ap rest (same_outcome (keep_answered setup view view.waiting now ok) view' deed' same_view same_deed)))
+        (ok, refl, ap rest (same_outcome (finish setup view now ok) view' deed' same_view same_deed)))
 
   -- two keeps at most, and then what is said
   pub finished : {a b c d : X} (setup : Setup) (from : Option ℕ) (now : ℕ) (o first last : Outcome)
       → DidSome did (FromTo {S = S} (keep_once setup now o) first) a b
       → DidSome did (FromTo {S = S} (keep_once setup now first) last) b c
       → DidSome did (First {S = S} (say setup from last.deed.say)) c d
-      → DidSome did (FromTo {S = S} (finish setup from now o) last) a d
+      → DidSome did (FromTo {S = S} (carry_out setup from now o) last) a d
   finished setup from now o first last one two said =
       did_joined (FromTo {S = S} (keep_once setup now o) first)
       (λ acts. (rest : Outcome → Deeds Ask S) → Leads IsAct (keep_once setup now first (say_last setup from rest)) acts (rest last))
-      (FromTo {S = S} (finish setup from now o) last)
+      (FromTo {S = S} (carry_out setup from now o) last)
       (λ xs ys p q rest.
-        leads_on IsAct (finish setup from now o rest) (keep_once setup now first (say_last setup from rest)) (rest last) xs ys
+        leads_on IsAct (carry_out setup from now o rest) (keep_once setup now first (say_last setup from rest)) (rest last) xs ys
         (p (λ next. keep_once setup now next (say_last setup from rest))) (q rest))
       one
       (did_joined (FromTo {S = S} (keep_once setup now first) last) (First {S = S} (say setup from last.deed.say))
@@ -70,7 +70,7 @@ module _ {X S : Type 0} {did : X → Act → X → Type 0} where
       → DidSome did (FromTo {S = S} (keep_once setup now o) first) a b
       → DidSome did (FromTo {S = S} (keep_once setup1 now first) last) b c
       → DidSome did (First {S = S} (say setup2 from last.deed.say)) c d
-      → DidSome did (FromTo {S = S} (finish setup from now o) last) a d
+      → DidSome did (FromTo {S = S} (carry_out setup from now o) last) a d
   finished_as {b = b} {c = c} {d = d} setup setup1 setup2 from now o first last same1 same2 one two said =
       finished setup from now o first last one
       (subst (λ (s : Setup). DidSome did (FromTo {S = S} (keep_once s now first) last) b c) same1 two)

@@ -1,4 +1,4 @@
--- What an automatic ticket finish in each call, with neither handlers nor clients that wait.
+-- What an automatic ticket carry_out in each call, with neither handlers nor clients that wait.
 use Rattle.std.specs.Prelude.{◌≡◌, ℕ, Option, Some, None, IsTrue, if◌then◌else◌}
 use Rattle.booth_base.specs.Tree.{Deeds, Ends}
 use Rattle.booth_wire.specs.declared.message.Head.{Head}
@@ -9,14 +9,14 @@ use Rattle.booth_raft.specs.declared.deed.Told.TheVariants as tells
 use Rattle.booth_raft.specs.declared.deed.Want.{Want}
 use Rattle.booth_raft.specs.declared.deed.Want.TheVariants as wants
 use Rattle.booth_raft.specs.declared.view.View.{View}
-use Rattle.booth_raft.specs.AskAndRenew.{acquisition_failed, are_terms_spent, ask, renewed}
+use Rattle.booth_raft.specs.AskAndRenew.{acquisition_failed, are_terms_spent, ask, renew}
 use Rattle.booth_raft.specs.Deadlines.{due_now, greeted, hello}
 use Rattle.booth_raft.specs.Members.{is_follower, is_leader, is_working}
 use Rattle.booth_raft.specs.Notes.{handler_failed}
-use Rattle.booth_raft.specs.OtherMessages.{heard}
+use Rattle.booth_raft.specs.OtherMessages.{hear}
 use Rattle.booth_raft.specs.Outcome.{Outcome, quiet, telling}
 use Rattle.booth_ticket.specs.Acts.{Ask}
-use Rattle.booth_ticket.specs.Keeping.{finish}
+use Rattle.booth_ticket.specs.Keeping.{carry_out}
 use Rattle.booth_ticket.specs.Saying.{say}
 
 -- What a call leaves.
@@ -27,9 +27,9 @@ abbrev pub ends : Outcome → Deeds Ask Left
 ends outcome = Ends (record { view = outcome.view })
 
 -- a member's message is heard
-abbrev pub hear : Setup → View → ℕ → Head → TicketPart → ℕ → Deeds Ask Left
-hear setup view from head part now =
-    finish setup (Some from) now (heard setup view from head part now head.cmd) ends
+abbrev pub hear_message : Setup → View → ℕ → Head → TicketPart → ℕ → Deeds Ask Left
+hear_message setup view from head part now =
+    carry_out setup (Some from) now (hear setup view from head part now head.cmd) ends
 
 -- The ticket is acquired: a new term is asked for. Where the terms are spent, the acquisition fails.
 abbrev pub acquire : Setup → View → ℕ → ℕ → Outcome
@@ -39,7 +39,7 @@ acquire setup view reason now =
 -- what the rule of a deadline wants to follow
 abbrev pub follow : Setup → Outcome → Want → ℕ → Outcome
 follow setup outcome wants.Nothing now = outcome
-follow setup outcome wants.Renew now = renewed setup outcome.view outcome.view.round now
+follow setup outcome wants.Renew now = renew setup outcome.view now
 follow setup outcome wants.Acquire now = acquire setup outcome.view TLST now
 
 -- what may follow: a leader renews, and a site that follows acquires; nothing waits then
@@ -48,13 +48,16 @@ MayFollow setup view wants.Renew = IsTrue (is_leader view.role) × (view.waiting
 MayFollow setup view wants.Acquire = IsTrue setup.site × IsTrue (is_follower view.role) × (view.waiting ≡ None)
 MayFollow setup view want = Unit {0}
 
+-- the rule of the role, and what it wants to follow
+abbrev pub rule_due : Setup → View → ℕ → Outcome
+rule_due setup view now = follow setup (due_now setup view now) (due_now setup view now).deed.want now
+
 -- the rule of the role at its deadline: a handler that still works has failed
 abbrev pub role_due : Setup → View → ℕ → Outcome
 role_due setup view now =
-    if is_working view.role then quiet (handler_failed setup view now) else
-    follow setup (due_now setup view now view.role) (due_now setup view now view.role).deed.want now
+    if is_working view.role then quiet (handler_failed setup view now) else rule_due setup view now
 
 -- the deadline has come: hello, and then the rule of the role
 abbrev pub tick : Setup → View → ℕ → Deeds Ask Left
 tick setup view now =
-    say setup None (hello setup view now) (finish setup None now (role_due setup (greeted view) now) ends)
+    say setup None (hello setup view now) (carry_out setup None now (role_due setup (greeted view) now) ends)

@@ -3,7 +3,7 @@ use Rattle.std.specs.Prelude.{ℕ, Option, Some, None}
 use Rattle.booth_base.specs.Tree.{Deeds, Does}
 use Rattle.booth_rec.specs.declared.record.Record.{Record}
 use Rattle.booth_wire.specs.declared.message.Setup.{Setup}
-use Rattle.booth_raft.specs.AskAndRenew.{keep_answered}
+use Rattle.booth_raft.specs.AskAndRenew.{finish}
 use Rattle.booth_raft.specs.Outcome.{Outcome}
 use Rattle.booth_ticket.specs.Acts.{Ask, Keep}
 use Rattle.booth_ticket.specs.Saying.{say}
@@ -12,7 +12,7 @@ use Rattle.booth_ticket.specs.Saying.{say}
 abbrev pub keep_of : {S : Type 0} → Setup → ℕ → Option Record → Outcome → (Outcome → Deeds Ask S) → Deeds Ask S
 keep_of setup now None outcome rest = rest outcome
 keep_of setup now (Some tried) outcome rest =
-    Does (Keep tried) (λ ok. rest (keep_answered setup outcome.view outcome.view.waiting now ok))
+    Does (Keep tried) (λ ok. rest (finish setup outcome.view now ok))
 
 abbrev pub keep_once : {S : Type 0} → Setup → ℕ → Outcome → (Outcome → Deeds Ask S) → Deeds Ask S
 keep_once setup now outcome rest = keep_of setup now outcome.deed.keep outcome rest
@@ -23,6 +23,6 @@ say_last setup from rest outcome = say setup from outcome.deed.say (rest outcome
 
 -- An outcome is done: its keep, then that of a gain where the answer gave a lease, then what is said; and then the
 -- rest, by the last outcome.
-abbrev pub finish : {S : Type 0} → Setup → Option ℕ → ℕ → Outcome → (Outcome → Deeds Ask S) → Deeds Ask S
-finish setup from now outcome rest =
+abbrev pub carry_out : {S : Type 0} → Setup → Option ℕ → ℕ → Outcome → (Outcome → Deeds Ask S) → Deeds Ask S
+carry_out setup from now outcome rest =
     keep_once setup now outcome (λ first. keep_once setup now first (say_last setup from rest))

@@ -25,7 +25,7 @@ use Rattle.booth_ticket.specs.declared.request.Wish.{Wish}
 use Rattle.booth_ticket.specs.declared.request.Wish.TheVariants.{Grant, Revoke}
 use Rattle.booth_ticket.specs.Acts.{Ask, Say}
 use Rattle.booth_ticket.specs.Automatic.{Left, acquire}
-use Rattle.booth_ticket.specs.Keeping.{finish}
+use Rattle.booth_ticket.specs.Keeping.{carry_out}
 
 -- this site leads, and its lease is not over
 abbrev pub is_holder : Setup → View → ℕ → Bool
@@ -63,7 +63,7 @@ grant_result told = FAIL
 abbrev pub grant : Setup → View → Request → Option ℕ → ℕ → Deeds Ask Left
 grant setup view request (Some result) now = reply setup request RGnt result view now
 grant setup view request None now =
-    finish setup None now (acquire setup (noted setup view now Asked) ADMN now)
+    carry_out setup None now (acquire setup (noted setup view now Asked) ADMN now)
     (λ outcome. reply setup request RGnt (grant_result outcome.deed.told) outcome.view now)
 
 -- ---- a revoke
@@ -85,7 +85,7 @@ revoke_result told = FAIL
 abbrev pub revoke : Setup → View → Request → Option ℕ → ℕ → Deeds Ask Left
 revoke setup view request (Some result) now = reply setup request RRvk result view now
 revoke setup view request None now =
-    finish setup None now (release view ADMN now)
+    carry_out setup None now (release view ADMN now)
     (λ outcome. reply setup request RRvk (revoke_result outcome.deed.told) outcome.view now)
 
 -- ---- by what is wished

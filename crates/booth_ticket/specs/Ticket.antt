@@ -1,4 +1,4 @@
--- A ticket between two calls, and what it finish in each.
+-- A ticket between two calls, and what it carry_out in each.
 use Rattle.std.specs.Prelude.{◌≤◌, ℕ, ◌/◌, nat_lt, Option, Some, None, IsSomeAnd, if◌then◌else◌}
 use Rattle.booth_base.specs.Tree.{Deeds, Ends, next}
 use Rattle.booth_rec.specs.declared.record.Record.{Record}
@@ -11,7 +11,7 @@ use Rattle.booth_raft.specs.StartAndLearn.{started}
 use Rattle.booth_ticket.specs.declared.ticket.Owner.{Owner}
 use Rattle.booth_ticket.specs.declared.request.Request.{Request}
 use Rattle.booth_ticket.specs.Acts.{Ask}
-use Rattle.booth_ticket.specs.Automatic.{Left, hear, tick}
+use Rattle.booth_ticket.specs.Automatic.{Left, hear_message, tick}
 use Rattle.booth_ticket.specs.Requests.{wish}
 
 -- What the rules of a ticket know of it, by its kind.
@@ -33,7 +33,7 @@ by_rules setup deeds = next deeds (λ left. Ends (record { setup = setup; known 
 
 -- the message of the member at a place is heard
 abbrev pub ticket_heard : Setup → Known → ℕ → Head → TicketPart → ℕ → Deeds Ask TicketState
-ticket_heard setup (Automatic view) from head part now = by_rules setup (hear setup view from head part now)
+ticket_heard setup (Automatic view) from head part now = by_rules setup (hear_message setup view from head part now)
 
 -- a client's request is followed
 abbrev pub ticket_asked : Setup → Known → Request → ℕ → Deeds Ask TicketState

@@ -2,21 +2,21 @@
 ghost use Rattle.std.specs.Prelude.{◌≡◌, ◌≢◌, ◌<◌, ◌^◌, None, IsTrue, false};
 ghost use Rattle.booth_base.specs.Tree.{Deeds, Leads};
 ghost use Rattle.booth_raft.specs.Facts.{KeepWaits};
-ghost use Rattle.booth_raft.specs.Members.{is_follower};
+ghost use Rattle.booth_raft.specs.Members.{is_follower, is_working};
 ghost use Rattle.booth_raft.specs.Outcome.{Outcome};
 ghost use Rattle.booth_raft.specs.State.{IsDue};
 ghost use Rattle.booth_ticket.specs.Acts.{Ask, DidSome, IsAct};
-ghost use Rattle.booth_ticket.specs.Automatic.{Left, hear, acquire, follow, MayFollow, role_due, tick};
+ghost use Rattle.booth_ticket.specs.Automatic.{Left, hear_message, acquire, follow, MayFollow, rule_due, role_due, tick};
 
 use crate::hands::Hands;
-use crate::keeping::finish;
+use crate::keeping::carry_out;
 use crate::saying::say;
 use booth_raft::{Core, Deed, Note, Role, Told, Want};
 use booth_wire::reasons::TLST;
 use booth_wire::{Head, Say, TicketPart};
 
 /// The message of the member at the place `from` is heard.
-pub(crate) fn hear<W: Hands>(
+pub(crate) fn hear_message<W: Hands>(
     core: &mut Core,
     from: u32,
     head: &Head,
@@ -29,13 +29,13 @@ pub(crate) fn hear<W: Hands>(
     requires place { from < core.old.setup.members }
     requires other { from ≢ core.old.setup.place }
     ensures did { DidSome W.did (λ acts. Leads IsAct
-        (hear core.old.setup core.old.view from head.now part.now now) acts
+        (hear_message core.old.setup core.old.view from head.now part.now now) acts
         (Deeds.Ends (record { view = core.new.view }))) hands.old hands.new }
     ensures setup { core.new.setup ≡ core.old.setup }
     ensures idle { core.new.view.waiting ≡ None }
 {
     let deed = core.hear(now, from, head, part);
-    finish(core, Some(from), now, deed, hands);
+    carry_out(core, Some(from), now, deed, hands);
 }
 
 // A deed in which clients alone are told.
@@ -87,7 +87,23 @@ fn follow(core: &mut Core, deed: Deed, now: u64) -> Deed
     }
 }
 
-// The rule of the role at its deadline.
+// The rule of the role, and what it wants to follow.
+fn rule_due(core: &mut Core, now: u64) -> Deed
+    requires early { now < 2 ^ 62 }
+    requires idle { core.old.view.waiting ≡ None }
+    requires due { IsDue core.old.view now }
+    requires greeted { core.old.view.hello ≡ false }
+    requires role { is_working core.old.view.role ≡ false }
+    ensures view { core.new.view ≡ (rule_due core.old.setup core.old.view now).view }
+    ensures deed { result ≡ (rule_due core.old.setup core.old.view now).deed }
+    ensures setup { core.new.setup ≡ core.old.setup }
+    ensures waits { KeepWaits result.keep core.new.view.waiting now }
+{
+    let deed = core.tick(now);
+    follow(core, deed, now)
+}
+
+// The rule of the role at its deadline: a handler that still works has failed.
 fn role_due(core: &mut Core, now: u64) -> Deed
     requires early { now < 2 ^ 62 }
     requires idle { core.old.view.waiting ≡ None }
@@ -102,8 +118,7 @@ fn role_due(core: &mut Core, now: u64) -> Deed
         core.note(now, Note::HandlerFailed);
         return telling(Told::Nothing);
     }
-    let deed = core.tick(now);
-    follow(core, deed, now)
+    rule_due(core, now)
 }
 
 /// The deadline has come.
@@ -119,5 +134,5 @@ pub(crate) fn tick<W: Hands>(core: &mut Core, now: u64, hands: &mut W)
     let words = core.hello(now);
     say(core.setup(), None, &words, hands);
     let deed = role_due(core, now);
-    finish(core, None, now, deed, hands);
+    carry_out(core, None, now, deed, hands);
 }

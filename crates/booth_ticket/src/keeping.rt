@@ -7,7 +7,7 @@ ghost use Rattle.booth_raft.specs.Outcome.{Outcome};
 ghost use Rattle.booth_raft.specs.declared.view.Rule.TheVariants as rules;
 ghost use Rattle.booth_ticket.specs.Acts.{Ask, DidSome, IsAct};
 ghost use Rattle.booth_ticket.specs.Automatic.{Left};
-ghost use Rattle.booth_ticket.specs.Keeping.{keep_once, finish};
+ghost use Rattle.booth_ticket.specs.Keeping.{keep_once, carry_out};
 
 use crate::hands::Hands;
 use crate::saying::say;
@@ -36,7 +36,7 @@ fn keep_once<W: Hands>(core: &mut Core, now: u64, deed: Deed, hands: &mut W) -> 
 
 /// Does an outcome: its keeps, and then what it says, where the message of the member at the place `from` was heard
 /// or none was. The last deed says what clients are told.
-pub(crate) fn finish<W: Hands>(
+pub(crate) fn carry_out<W: Hands>(
     core: &mut Core,
     from: Option<u32>,
     now: u64,
@@ -46,7 +46,7 @@ pub(crate) fn finish<W: Hands>(
     requires early { now < 2 ^ 62 }
     requires waits { KeepWaits deed.keep core.old.view.waiting now }
     ensures did { DidSome W.did (λ acts. (rest : Outcome → Deeds Ask Left) → Leads IsAct
-        (finish core.old.setup from now (record { view = core.old.view; deed = deed }) rest) acts
+        (carry_out core.old.setup from now (record { view = core.old.view; deed = deed }) rest) acts
         (rest (record { view = core.new.view; deed = result }))) hands.old hands.new }
     ensures setup { core.new.setup ≡ core.old.setup }
     ensures idle { core.new.view.waiting ≡ None }

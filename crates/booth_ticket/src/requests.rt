@@ -8,7 +8,7 @@ ghost use Rattle.booth_ticket.specs.Requests.{is_holder, is_shown_elsewhere, rep
 
 use crate::automatic::acquire;
 use crate::hands::{Hands, To};
-use crate::keeping::finish;
+use crate::keeping::carry_out;
 use crate::request::{Request, Wish};
 use booth_base::MemberId;
 use booth_raft::{Core, Note, Role, Shown, Told, View, are_terms_spent, is_promised_elsewhere, own_end, owner_now, seconds_left, shown_end};
@@ -116,7 +116,7 @@ fn acquire_for<W: Hands>(core: &mut Core, request: &Request, now: u64, hands: &m
 {
     core.note(now, Note::Asked);
     let deed = acquire(core, ADMN, now);
-    let last = finish(core, None, now, deed, hands);
+    let last = carry_out(core, None, now, deed, hands);
     reply(core, request, Cmd::RGnt, grant_result(last.told), now, hands);
 }
 
@@ -179,7 +179,7 @@ fn release_for<W: Hands>(core: &mut Core, request: &Request, now: u64, hands: &m
     ensures idle { core.new.view.waiting ≡ None }
 {
     let deed = core.release(now, ADMN);
-    let last = finish(core, None, now, deed, hands);
+    let last = carry_out(core, None, now, deed, hands);
     reply(core, request, Cmd::RRvk, revoke_result(last.told), now, hands);
 }
 

@@ -87,7 +87,7 @@ impl Ticket {
             (Deeds.Ends self.new)) hands.old hands.new }
         ensures setup { self.new.setup ≡ self.old.setup }
     {
-        automatic::hear(&mut self.core, from, head, part, now, hands)
+        automatic::hear_message(&mut self.core, from, head, part, now, hands)
     }
 
     /// A client's request is followed. The reply is the last deed.

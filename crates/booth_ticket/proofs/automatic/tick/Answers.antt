@@ -3,7 +3,7 @@ use Rattle.std.specs.Prelude.{None}
 use Rattle.booth_raft.specs.Deadlines.{greeted, hello}
 use Rattle.booth_raft.specs.State.{State}
 use Rattle.booth_ticket.specs.Automatic.{ends, role_due}
-use Rattle.booth_ticket.specs.Keeping.{finish}
+use Rattle.booth_ticket.specs.Keeping.{carry_out}
 use Rattle.booth_ticket.proofs.CallLemmas.{as_ruled, ended, said_as, said_then}
 use Rattle.booth_ticket.proofs.KeepLemmas.{outcome_of}
 use Rattle.booth_ticket.proofs.automatic.tick.Goals as goal
@@ -14,9 +14,9 @@ returns-clause-did g c =
     let view = c.args.core.now.view in
     let now = c.args.now in
     let o = role_due setup (greeted view) now in
-    let last = outcome_of c.finish.new.core.view c.finish.result in
+    let last = outcome_of c.carry_out.new.core.view c.carry_out.result in
     let greets = c.hello-words.ensures.view in
-    said_then setup None (hello setup view now) (finish setup None now o ends) c.finish.new.core.view
+    said_then setup None (hello setup view now) (carry_out setup None now o ends) c.carry_out.new.core.view
     (said_as setup c.setup.result.now None (hello setup view now) c.hello-words.result
       (c.setup.ensures.value ∙ ap (λ (s : State). s.setup) greets) c.hello-words.ensures.say c.say.ensures.did)
     (ended setup None now o last
@@ -24,4 +24,4 @@ returns-clause-did g c =
         (c.role_due-deed.ensures.setup ∙ ap (λ (s : State). s.setup) greets)
         (c.role_due-deed.ensures.view ∙ ap (λ (s : State). (role_due s.setup s.view now).view) greets)
         (c.role_due-deed.ensures.deed ∙ ap (λ (s : State). (role_due s.setup s.view now).deed) greets)
-        c.finish.ensures.did))
+        c.carry_out.ensures.did))

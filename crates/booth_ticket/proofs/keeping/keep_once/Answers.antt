@@ -15,4 +15,4 @@ returns-clause-did g c =
 pub returns-clause-gains : goal.returns-clause-gains
 returns-clause-gains g c =
     subst (λ (s : State). IsGainAtMost s.view.waiting) (sym c.kept.ensures.view)
-    (gains_at_most c.args.core.now.setup c.args.core.now.view c.args.core.now.view.waiting c.args.now c.keep-ok.result refl)
+    (gains_at_most c.args.core.now.setup c.args.core.now.view c.args.now c.keep-ok.result)

@@ -18,15 +18,15 @@ returns-clause-did g c =
     let now = c.args.now in
     let request = c.args.request.now in
     let o = acquire setup (noted setup view now Asked) ADMN now in
-    let last = outcome_of c.finish-last.new.core.view c.finish-last.result in
+    let last = outcome_of c.carry_out-last.new.core.view c.carry_out-last.result in
     then_rest setup None now o last (λ outcome. reply setup request RGnt (grant_result outcome.deed.told) outcome.view now)
-    c.finish-last.new.core.view
+    c.carry_out-last.new.core.view
     (as_ruled setup c.acquire-deed.new.core.setup None now o last c.acquire-deed.new.core.view c.acquire-deed.result
       (c.acquire-deed.ensures.setup ∙ ap (λ (s : State). s.setup) c.note.ensures)
       (c.acquire-deed.ensures.view ∙ ap (λ (s : State). (acquire s.setup s.view ADMN now).view) c.note.ensures)
       (c.acquire-deed.ensures.deed ∙ ap (λ (s : State). (acquire s.setup s.view ADMN now).deed) c.note.ensures)
-      c.finish-last.ensures.did)
-    (reply_as (λ s answer. reply s request RGnt answer c.finish-last.new.core.view now) setup c.finish-last.new.core.setup
-      (grant_result c.finish-last.result.told) c.grant_result.result c.finish-last.new.core.view
-      (c.finish-last.ensures.setup ∙ c.acquire-deed.ensures.setup ∙ ap (λ (s : State). s.setup) c.note.ensures) c.grant_result.ensures
+      c.carry_out-last.ensures.did)
+    (reply_as (λ s answer. reply s request RGnt answer c.carry_out-last.new.core.view now) setup c.carry_out-last.new.core.setup
+      (grant_result c.carry_out-last.result.told) c.grant_result.result c.carry_out-last.new.core.view
+      (c.carry_out-last.ensures.setup ∙ c.acquire-deed.ensures.setup ∙ ap (λ (s : State). s.setup) c.note.ensures) c.grant_result.ensures
       c.reply.ensures.did)

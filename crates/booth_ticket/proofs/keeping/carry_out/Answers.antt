@@ -1,5 +1,5 @@
 use Rattle.booth_ticket.proofs.KeepLemmas.{finished_as}
-use Rattle.booth_ticket.proofs.keeping.finish.Goals as goal
+use Rattle.booth_ticket.proofs.keeping.carry_out.Goals as goal
 use Rattle.std.proofs.Common.{◌∙◌}
 
 pub returns-clause-did : goal.returns-clause-did

@@ -4,13 +4,13 @@ use Rattle.booth_raft.specs.Deadlines.{due_now}
 use Rattle.booth_raft.specs.State.{State}
 use Rattle.booth_ticket.specs.Automatic.{MayFollow}
 use Rattle.booth_ticket.proofs.FollowLemmas.{may_follow}
-use Rattle.booth_ticket.proofs.automatic.role_due.Goals as goal
+use Rattle.booth_ticket.proofs.automatic.rule_due.Goals as goal
 
 pub follow-requires-clause-wants : goal.follow-requires-clause-wants
 follow-requires-clause-wants c =
     let setup = c.args.core.now.setup in
     let view = c.args.core.now.view in
-    let o = due_now setup view c.args.now view.role in
+    let o = due_now setup view c.args.now in
     subst (λ (d : Deed). MayFollow c.tick-deed.new.self.setup c.tick-deed.new.self.view d.want) (sym c.tick-deed.ensures.deed)
     (subst (λ (s : State). MayFollow s.setup s.view o.deed.want) (sym c.tick-deed.ensures.view)
-      (may_follow setup view c.args.now view.role c.requires.idle refl))
+      (may_follow setup view c.args.now c.requires.idle))
