@@ -4,6 +4,7 @@ ghost use Rattle.booth_base.specs.Tree.{Deeds, Leads};
 ghost use Rattle.booth_raft.specs.Facts.{KeepWaits};
 ghost use Rattle.booth_raft.specs.Members.{is_follower, is_working};
 ghost use Rattle.booth_raft.specs.Outcome.{Outcome};
+ghost use Rattle.booth_raft.specs.Speech.{IsSpeech};
 ghost use Rattle.booth_raft.specs.State.{IsDue};
 ghost use Rattle.booth_ticket.specs.Acts.{Ask, DidSome, IsAct};
 ghost use Rattle.booth_ticket.specs.Automatic.{Left, hear_message, acquire, follow, MayFollow, rule_due, role_due, tick};
@@ -60,6 +61,7 @@ pub(crate) fn acquire(core: &mut Core, reason: u32, now: u64) -> Deed
     ensures deed { result ≡ (acquire core.old.setup core.old.view reason now).deed }
     ensures setup { core.new.setup ≡ core.old.setup }
     ensures waits { KeepWaits result.keep core.new.view.waiting now }
+    ensures speech { IsSpeech core.new.setup result.say }
 {
     match core.ask(now, reason) {
         Ok(deed) => deed,
@@ -75,10 +77,12 @@ fn follow(core: &mut Core, deed: Deed, now: u64) -> Deed
     requires early { now < 2 ^ 62 }
     requires waits { KeepWaits deed.keep core.old.view.waiting now }
     requires wants { MayFollow core.old.setup core.old.view deed.want }
+    requires speech { IsSpeech core.old.setup deed.say }
     ensures view { core.new.view ≡ (follow core.old.setup (record { view = core.old.view; deed = deed }) deed.want now).view }
     ensures deed { result ≡ (follow core.old.setup (record { view = core.old.view; deed = deed }) deed.want now).deed }
     ensures setup { core.new.setup ≡ core.old.setup }
     ensures waits { KeepWaits result.keep core.new.view.waiting now }
+    ensures speech { IsSpeech core.new.setup result.say }
 {
     match deed.want {
         Want::Nothing => deed,
@@ -98,6 +102,7 @@ fn rule_due(core: &mut Core, now: u64) -> Deed
     ensures deed { result ≡ (rule_due core.old.setup core.old.view now).deed }
     ensures setup { core.new.setup ≡ core.old.setup }
     ensures waits { KeepWaits result.keep core.new.view.waiting now }
+    ensures speech { IsSpeech core.new.setup result.say }
 {
     let deed = core.tick(now);
     follow(core, deed, now)
@@ -113,6 +118,7 @@ fn role_due(core: &mut Core, now: u64) -> Deed
     ensures deed { result ≡ (role_due core.old.setup core.old.view now).deed }
     ensures setup { core.new.setup ≡ core.old.setup }
     ensures waits { KeepWaits result.keep core.new.view.waiting now }
+    ensures speech { IsSpeech core.new.setup result.say }
 {
     if core.view().role == Role::Working {
         core.note(now, Note::HandlerFailed);

@@ -1,4 +1,7 @@
 //! The hands by which a ticket acts.
+ghost use Rattle.std.specs.Prelude.{◌≡◌};
+ghost use Rattle.booth_wire.specs.Command.{kind_of};
+ghost use Rattle.booth_wire.specs.declared.command.Kind.{Kind};
 ghost use Rattle.booth_ticket.specs.Acts.{Act, Dids, kept, said, said_to_each};
 
 use booth_base::Peer;
@@ -22,11 +25,13 @@ pub trait Hands {
     fn keep(&mut self, rec: &Record) -> bool
         ensures did { did self.old (kept rec.now result) self.new };
 
-    /// Says a message. Whether it comes through is not told.
+    /// Says a message about the ticket. Whether it comes through is not told.
     fn say(&mut self, to: To, head: &Head, part: &TicketPart)
+        requires kind { kind_of head.now.cmd ≡ Kind.Ticket }
         ensures did { did self.old (said to head.now part.now) self.new };
 
     /// Says the same message to the members at these places, one after the other.
     fn say_each(&mut self, places: &[u32], head: &Head, part: &TicketPart)
+        requires kind { kind_of head.now.cmd ≡ Kind.Ticket }
         ensures did { Dids did self.old (said_to_each places.now head.now part.now) self.new };
 }

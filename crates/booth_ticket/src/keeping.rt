@@ -4,6 +4,7 @@ ghost use Rattle.std.specs.Option.{ForSome};
 ghost use Rattle.booth_base.specs.Tree.{Deeds, Leads};
 ghost use Rattle.booth_raft.specs.Facts.{KeepWaits};
 ghost use Rattle.booth_raft.specs.Outcome.{Outcome};
+ghost use Rattle.booth_raft.specs.Speech.{IsSpeech};
 ghost use Rattle.booth_raft.specs.declared.view.Rule.TheVariants as rules;
 ghost use Rattle.booth_ticket.specs.Acts.{Ask, DidSome, IsAct};
 ghost use Rattle.booth_ticket.specs.Automatic.{Left};
@@ -18,11 +19,13 @@ use booth_raft::{Core, Deed};
 fn keep_once<W: Hands>(core: &mut Core, now: u64, deed: Deed, hands: &mut W) -> Deed
     requires early { now < 2 ^ 62 }
     requires waits { KeepWaits deed.keep core.old.view.waiting now }
+    requires speech { IsSpeech core.old.setup deed.say }
     ensures did { DidSome W.did (λ acts. (rest : Outcome → Deeds Ask Left) → Leads IsAct
         (keep_once core.old.setup now (record { view = core.old.view; deed = deed }) rest) acts
         (rest (record { view = core.new.view; deed = result }))) hands.old hands.new }
     ensures setup { core.new.setup ≡ core.old.setup }
     ensures waits { KeepWaits result.keep core.new.view.waiting now }
+    ensures speech { IsSpeech core.new.setup result.say }
     ensures gains { ForSome core.new.view.waiting (λ waits. waits.rule ≡ rules.Gain) }
     ensures last { ForSome core.old.view.waiting (λ waits. waits.rule ≡ rules.Gain)
         → core.new.view.waiting ≡ None }
@@ -45,6 +48,7 @@ pub(crate) fn carry_out<W: Hands>(
 ) -> Deed
     requires early { now < 2 ^ 62 }
     requires waits { KeepWaits deed.keep core.old.view.waiting now }
+    requires speech { IsSpeech core.old.setup deed.say }
     ensures did { DidSome W.did (λ acts. (rest : Outcome → Deeds Ask Left) → Leads IsAct
         (carry_out core.old.setup from now (record { view = core.old.view; deed = deed }) rest) acts
         (rest (record { view = core.new.view; deed = result }))) hands.old hands.new }

@@ -1,6 +1,8 @@
 //! What a client asks of an automatic ticket.
 ghost use Rattle.std.specs.Prelude.{◌≡◌, ◌<◌, ◌^◌, None, IsTrue};
 ghost use Rattle.booth_base.specs.Tree.{Deeds, Leads};
+ghost use Rattle.booth_wire.specs.Command.{kind_of};
+ghost use Rattle.booth_wire.specs.declared.command.Kind.{Kind};
 ghost use Rattle.booth_raft.specs.Messages.{head_of, state_part};
 ghost use Rattle.booth_ticket.specs.Acts.{Ask, DidSome, IsAct};
 ghost use Rattle.booth_ticket.specs.Automatic.{Left};
@@ -60,6 +62,7 @@ fn reply_part(setup: &Setup, view: &View, now: u64) -> TicketPart
 
 // Replies to a request, with the state of the ticket.
 fn reply<W: Hands>(core: &Core, request: &Request, cmd: Cmd, answer: u32, now: u64, hands: &mut W)
+    requires kind { kind_of cmd ≡ Kind.Ticket }
     ensures did { DidSome W.did (λ acts. Leads IsAct
         (reply core.now.setup request.now cmd answer core.now.view now) acts
         (Deeds.Ends (record { view = core.now.view }))) hands.old hands.new }

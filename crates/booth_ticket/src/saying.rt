@@ -3,7 +3,10 @@ ghost use Rattle.std.specs.Prelude.{◌≡◌, ◌==◌, ◌<◌, ◌++◌, ◌�
 ghost use Rattle.std.specs.Int.{bit_at};
 ghost use Rattle.arrayvec.specs.ArrayVec.{array_vec_len};
 ghost use Rattle.booth_base.specs.Tree.{Deeds, Leads};
+ghost use Rattle.booth_wire.specs.Command.{kind_of};
+ghost use Rattle.booth_wire.specs.declared.command.Kind.{Kind};
 ghost use Rattle.booth_raft.specs.Sound.{IsSound};
+ghost use Rattle.booth_raft.specs.Speech.{IsSpeech};
 ghost use Rattle.booth_raft.specs.declared.view.TheConstants.{MOST_MEMBERS};
 ghost use Rattle.booth_ticket.specs.Acts.{Ask, DidSome, IsAct};
 ghost use Rattle.booth_ticket.specs.Automatic.{Left};
@@ -58,6 +61,7 @@ fn places_in(bits: u16) -> Places
 
 // Answers the member whose message was heard.
 fn say_back<W: Hands>(from: Option<u32>, head: &Head, part: &TicketPart, hands: &mut W)
+    requires kind { kind_of head.now.cmd ≡ Kind.Ticket }
     ensures did { DidSome W.did (λ acts. (rest : Deeds Ask Left) →
         Leads IsAct (say_back from head.now part.now rest) acts rest) hands.old hands.new }
 {
@@ -69,6 +73,7 @@ fn say_back<W: Hands>(from: Option<u32>, head: &Head, part: &TicketPart, hands: 
 /// Says what a rule says, where the message of the member at the place `from` was heard or none was.
 pub(crate) fn say<W: Hands>(setup: &Setup, from: Option<u32>, words: &Say, hands: &mut W)
     requires sound { IsSound setup.now }
+    requires speech { IsSpeech setup.now words.now }
     ensures did { DidSome W.did (λ acts. (rest : Deeds Ask Left) →
         Leads IsAct (say setup.now from words.now rest) acts rest) hands.old hands.new }
 {

@@ -1,6 +1,9 @@
 use Rattle.std.proofs.Common.{◌≡◌, ◌∙◌, sym, ap, subst, refl}
 use Rattle.std.specs.Option.{ForSome}
+use Rattle.booth_raft.specs.AskAndRenew.{finish}
 use Rattle.booth_raft.specs.State.{State}
+use Rattle.booth_raft.proofs.SpeechLemmas.{rules_speak}
+use Rattle.booth_ticket.proofs.SpeechLemmas.{speech_as}
 use Rattle.booth_ticket.proofs.GainLemmas.{IsGainAtMost}
 use Rattle.booth_ticket.proofs.GainLemmas.{gains_at_most, nothing_waits}
 use Rattle.booth_ticket.proofs.KeepLemmas.{kept_one}
@@ -16,3 +19,11 @@ pub returns-clause-gains : goal.returns-clause-gains
 returns-clause-gains g c =
     subst (λ (s : State). IsGainAtMost s.view.waiting) (sym c.kept.ensures.view)
     (gains_at_most c.args.core.now.setup c.args.core.now.view c.args.now c.keep-ok.result)
+
+pub returns-clause-speech : goal.returns-clause-speech
+returns-clause-speech g c =
+    let setup = c.args.core.now.setup in
+    let view = c.args.core.now.view in
+    speech_as setup c.kept.new.self.setup (finish setup view c.args.now c.keep-ok.result).deed c.kept.result
+    (ap (λ (s : State). s.setup) c.kept.ensures.view) c.kept.ensures.deed
+    (rules_speak.answered setup view c.args.now c.keep-ok.result)
