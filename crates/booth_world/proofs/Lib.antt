@@ -23,4 +23,4 @@ pub mod OpenSteps
 pub mod KeptSteps
 pub mod DueSteps
 pub mod CallSteps
-pub mod StandingLemmas
+pub mod StabilityLemmas

@@ -1,19 +1,31 @@
 -- When a site holds the ticket, and what lies between two holders.
 use Rattle.std.specs.Prelude.{◌≡◌, ℕ, ◌*◌, ◌-◌, ◌<◌, ◌≤◌}
-use Rattle.booth_rec.specs.declared.record.Record.{Record}
-use Rattle.booth_rec.specs.Record.{IsInForce}
+use Rattle.std.specs.Option.{ForSome}
+use Rattle.booth_rec.specs.Record.{plain, IsInForce}
 use Rattle.booth_node.specs.Clock.{Cluster, reads}
 use Rattle.booth_world.specs.Facts.{Has, Release}
-use Rattle.booth_world.specs.States.{WorldState}
+use Rattle.booth_world.specs.States.{KeptRecord, WorldState}
 
--- a member holds the ticket where some record that it may have kept is in force at what its clock reads now
+-- A member holds the ticket by a record that it may have kept, while that is in force at what its
+-- clock reads now.
+pub record IsHeldBy (c : Cluster) (w : WorldState) (s : ℕ) (k : KeptRecord) : Type 0 where
+  pub below : s < c.members
+  pub may : Has (w.member s).may k
+  pub in_force : IsInForce (plain k.term k.lease) (reads c s w.now)
+
 abbrev pub Held : Cluster → WorldState → ℕ → Type 0
-Held c w s = (s < c.members) × ((k : Record) × Has (w.member s).may k × IsInForce k (reads c s w.now))
+Held c w s = (k : KeptRecord) × IsHeldBy c w s k
 
--- the site released the ticket between the two
-abbrev pub ReleasedBetween : WorldState → WorldState → ℕ → Type 0
-ReleasedBetween early late s =
-    (r : Release) × (Has late.facts.releases r) × (r.site ≡ s) × (early.now ≤ r.at) × (r.at ≤ late.now)
+-- The site gave the lease of a record back between the two: by a release that is new, and of a term
+-- at least the lease's.
+pub record ReleasedBetween (early late : WorldState) (s : ℕ) (k : KeptRecord) : Type 0 where
+  pub release : Release
+  pub fact : Has late.facts.releases release
+  pub fresh : Has early.facts.releases release → ⊥
+  pub site : release.site ≡ s
+  pub covers : ForSome k.lease (λ lease. lease.term ≤ release.term)
+  pub since : early.now ≤ release.at
+  pub until : release.at ≤ late.now
 
 -- more true time than acquire-after lies between the two, as the fastest clock counts it
 abbrev pub IsApart : Cluster → WorldState → WorldState → Type 0
@@ -21,4 +33,4 @@ IsApart c early late = 1000000 * c.times.after < 1001000 * (late.now - early.now
 
 -- each record that the member may have kept is of at least this term
 abbrev pub IsAtLeast : WorldState → ℕ → ℕ → Type 0
-IsAtLeast w s term = (k : Record) → Has (w.member s).may k → term ≤ k.term
+IsAtLeast w s term = (k : KeptRecord) → Has (w.member s).may k → term ≤ k.term

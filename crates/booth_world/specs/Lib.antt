@@ -6,10 +6,12 @@ pub mod Leases
 pub mod Lives
 pub mod Steps
 pub mod Held
-pub mod Doings
+pub mod MemberRuns
 pub mod Messages
 pub mod Agreement
+pub mod Rules
+pub mod Gives
 pub mod Calls
-pub mod Standing
+pub mod Stability
 pub mod Laws
 pub mod Examples

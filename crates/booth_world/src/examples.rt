@@ -1,11 +1,9 @@
 //! Small runs, each the contract of a function that does nothing: the laws speak of something.
 ghost use Rattle.std.specs.Prelude.{◌++◌};
 ghost use Rattle.booth_base.specs.declared.name.Name.{Name};
-ghost use Rattle.booth_raft.specs.StartAndLearn.{started};
-ghost use Rattle.booth_rec.specs.Record.{no_record};
 ghost use Rattle.booth_world.specs.Calls.{IsMember};
 ghost use Rattle.booth_node.specs.Clock.{HasClocks};
-ghost use Rattle.booth_world.specs.Examples.{three, granted, renewed, released, granted_elsewhere, crashed_and_started, start, id_of_place, first_setup};
+ghost use Rattle.booth_world.specs.Examples.{three, granted, renewed, released, granted_elsewhere, crashed_and_started, start, first_caller};
 ghost use Rattle.booth_world.specs.Held.{Held};
 ghost use Rattle.booth_world.specs.States.{opening};
 ghost use Rattle.booth_world.specs.Steps.{IsRun, world_of};
@@ -28,5 +26,5 @@ pub fn holder_restarts()
 
 /// A member that has started is one of whose calls the law speaks.
 pub fn started_view_agrees()
-    ensures { (ticket : Name) → IsMember three id_of_place (world_of three start) 0 (first_setup ticket) (started (first_setup ticket) no_record 0) }
+    ensures { (ticket : Name) → IsMember three (world_of three start) (first_caller ticket) }
 {}

@@ -1,15 +1,16 @@
 //! The laws of a ticket's world, each the contract of a function that does nothing.
 ghost use Rattle.booth_world.specs.Calls.{CallsAreSteps, PromisesWhereItMayAnswer, StepsOfOneAreSteps};
-ghost use Rattle.booth_world.specs.Standing.{AgreementStays, CallsLeadOn};
 ghost use Rattle.booth_world.specs.Laws.{HasOneHolder, HoldersAreApart, KeptTermsNeverFall};
+ghost use Rattle.booth_world.specs.Rules.{lease_rules};
+ghost use Rattle.booth_world.specs.Stability.{AgreementStays, CallsLeadOn, MembersStay, RunsAppend};
 
 /// At no moment is the ticket held at two sites.
 pub fn one_holder()
     ensures { HasOneHolder }
 {}
 
-/// Two sites that hold, the one after the other, have acquire-after between them, or the first
-/// released the ticket between the two.
+/// Two sites that hold, the one after the other, have acquire-after between them, or the first gave
+/// the lease that it held by back between the two.
 pub fn apart()
     ensures { HoldersAreApart }
 {}
@@ -35,10 +36,11 @@ pub fn promises_where_it_may_answer()
     ensures { PromisesWhereItMayAnswer }
 {}
 
-/// Each call of `Core`, and each answer of a keep, is a list of steps of its member in the world:
-/// they lead to a state that agrees with the view, and what is said is a fact.
+/// Each start, each call of `Core` and each answer of a keep is a list of steps of its member. They
+/// lead to a state that agrees with the view, and to a known list of records that may be kept; what
+/// is said is a fact, and no other facts are added.
 pub fn calls_are_steps()
-    ensures { CallsAreSteps }
+    ensures { CallsAreSteps lease_rules }
 {}
 
 /// Steps that one member may do are steps of the world.
@@ -55,4 +57,15 @@ pub fn agreement_stays()
 /// what agreed of others agrees.
 pub fn calls_lead_on()
     ensures { CallsLeadOn }
+{}
+
+/// Runs append, and split again.
+pub fn runs_append()
+    ensures { RunsAppend }
+{}
+
+/// While others step and time passes, a member stays as it is, and one that agrees still does; so
+/// does one that reads its clock.
+pub fn members_stay()
+    ensures { MembersStay }
 {}
