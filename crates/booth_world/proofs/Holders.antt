@@ -132,8 +132,7 @@ two_hold c clocks w z s t gw gz later other k hs ht =
     (λ (new : w.now ≤ (f.0).at). inr (record {
       release = f.0;
       fact = f.1;
-      site = f.2;
-      covers = λ l e. subst (λ (l : Lease). l.term ≤ (f.0).term) (some_same k_lease.0 l (sym k_lease.1 ∙ e)) f.3;
+      gives_back = (f.2, λ l e. subst (λ (l : Lease). l.term ≤ (f.0).term) (some_same k_lease.0 l (sym k_lease.1 ∙ e)) f.3);
       fresh = λ old. let l = ls.above f.0 old f.2 in let m = f.3 in omega arith;
       since = new;
       until = gz.facts.releases f.0 f.1;

@@ -24,3 +24,9 @@ pub mod KeptSteps
 pub mod DueSteps
 pub mod CallSteps
 pub mod StabilityLemmas
+pub mod CoreSteps
+pub mod CoreRuns
+pub mod TurnKeeps
+pub mod TurnPlaces
+pub mod HostSteps
+pub mod LoneRuns

@@ -100,6 +100,12 @@ kept_of id_of (z ∷ may) k h = ⊎_elim
     (λ (e : record_in id_of z ≡ k). (z, inl refl, e))
     (λ (i : Has (records_in id_of may) k). let q = kept_of id_of may k i in (q.0, inr q.1, q.2)) h
 
+pub record_has : (id_of : ℕ → MemberId) (may : List KeptRecord) (z : KeptRecord) → Has may z → Has (records_in id_of may) (record_in id_of z)
+record_has id_of [] z h = h
+record_has id_of (y ∷ may) z h = ⊎_elim
+    (λ (e : y ≡ z). inl (ap (λ (y : KeptRecord). record_in id_of y) e))
+    (λ (i : Has may z). inr (record_has id_of may z i)) h
+
 -- what is asked of a view stays with other facts and another state
 pub asked_on : (f f' : Facts) (x x' : MemberState) (view : View) (rule : Rule) → IsAsked f x view rule → IsAsked f' x' view rule
 asked_on f f' x x' view rules.Gain a = a

@@ -18,7 +18,7 @@ use Rattle.booth_world.specs.MemberRuns.{IsMemberRun, member_after_all, facts_af
 use Rattle.booth_world.specs.Agreement.{AreIds, IsSeated, records_in, Agrees}
 use Rattle.booth_world.specs.Messages.{IsFact}
 use Rattle.booth_world.specs.Gives.{may_answered, Mark, mark_of, releases_answered, Given, given_by, LeadsTo}
-use Rattle.booth_world.specs.Rules.{Letter, CoreCall, Asks, Hears, RenewsLease, GivesBack, Rules}
+use Rattle.booth_world.specs.Rules.{MemberLetter, CoreCall, Asks, Hears, RenewsLease, GivesBack, Rules}
 
 -- ---- may answer
 
@@ -94,7 +94,8 @@ given_by_start rules w m setup kept = record {
 -- ---- the calls
 
 -- a message is heard at the true time of the reading, from a member, and is a fact of it
-pub record IsHeard (c : Cluster) (w : WorldState) (member : Caller) (letter : Letter) : Type 0 where
+pub record IsHeard (c : Cluster) (w : WorldState) (member : Caller) (letter : MemberLetter)
+    : Type 0 where
   pub timely : (state_of w member).at ≡ w.now
   pub below : letter.sender < c.members
   pub from : letter.head.from ≡ member.id_of letter.sender

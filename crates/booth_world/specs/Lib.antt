@@ -13,5 +13,11 @@ pub mod Rules
 pub mod Gives
 pub mod Calls
 pub mod Stability
+pub mod Cores
+pub mod CoreLaws
+pub mod Turns
+pub mod Hosts
+pub mod HostLaws
 pub mod Laws
 pub mod Examples
+pub mod LoneExamples

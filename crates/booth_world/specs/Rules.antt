@@ -16,8 +16,8 @@ use Rattle.booth_raft.specs.OtherMessages.{heard}
 use Rattle.booth_raft.specs.Outcome.{Outcome, quiet, saying}
 use Rattle.booth_raft.specs.StartAndLearn.{started}
 
--- A message, and the place of the member that said it.
-pub record Letter : Type 0 where
+-- A letter of a member: the place of the member that said it, and what it said.
+pub record MemberLetter : Type 0 where
   pub sender : ℕ
   pub head : Head
   pub part : TicketPart
@@ -26,7 +26,7 @@ pub record Letter : Type 0 where
 -- greeted, the deadline is met, a note is made, the lease is renewed, or the ticket is given back.
 pub data CoreCall : Type 0 where
   Asks : (reason : ℕ) → CoreCall
-  Hears : (letter : Letter) → CoreCall
+  Hears : (letter : MemberLetter) → CoreCall
   Greets : CoreCall
   MeetsDeadline : CoreCall
   MakesNote : (note : Note) → CoreCall

@@ -1,5 +1,7 @@
 //! The laws of a ticket's world, each the contract of a function that does nothing.
 ghost use Rattle.booth_world.specs.Calls.{CallsAreSteps, PromisesWhereItMayAnswer, StepsOfOneAreSteps};
+ghost use Rattle.booth_world.specs.CoreLaws.{CoreTermsNeverFall, CoresAreApart, CoresHoldOne};
+ghost use Rattle.booth_world.specs.HostLaws.{HostTermsNeverFall, HostsAreApart, HostsHoldOne};
 ghost use Rattle.booth_world.specs.Laws.{HasOneHolder, HoldersAreApart, KeptTermsNeverFall};
 ghost use Rattle.booth_world.specs.Rules.{lease_rules};
 ghost use Rattle.booth_world.specs.Stability.{AgreementStays, CallsLeadOn, MembersStay, RunsAppend};
@@ -69,3 +71,49 @@ pub fn runs_append()
 pub fn members_stay()
     ensures { MembersStay }
 {}
+
+/// Entries of the lease cores of a ticket, at all members, with stops at any of them, make a run of
+/// the world: at no moment after them is the ticket held at two sites.
+pub fn cores_hold_one()
+    ensures { CoresHoldOne }
+{}
+
+/// Where one site holds after some entries of the cores and another later, acquire-after lies
+/// between, or an entry between gave the lease back.
+pub fn cores_are_apart()
+    ensures { CoresAreApart }
+{}
+
+/// The terms of the records that a member may have kept never fall over entries of the cores.
+pub fn core_terms()
+    ensures { CoreTermsNeverFall }
+{}
+
+/// Entries of the hosts of a ticket, whose turns may be cut anywhere by a stop, make entries of its
+/// cores: at no moment after them is the ticket held at two sites.
+pub fn hosts_hold_one()
+    ensures { HostsHoldOne }
+{}
+
+/// Where one site holds after some entries of the hosts and another later, acquire-after lies
+/// between, or a keep between the two gave the lease back.
+pub fn hosts_are_apart()
+    ensures { HostsAreApart }
+{}
+
+/// The terms of the records that a member's keeps may have left never fall over entries of the
+/// hosts.
+pub fn host_terms()
+    ensures { HostTermsNeverFall }
+{}
+
+/// The three laws over entries of the hosts at once, as a program takes them: by their calls.
+pub fn all_over_hosts()
+    ensures one_holder { HostsHoldOne }
+    ensures apart { HostsAreApart }
+    ensures terms { HostTermsNeverFall }
+{
+    hosts_hold_one();
+    hosts_are_apart();
+    host_terms();
+}
