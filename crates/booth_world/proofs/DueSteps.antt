@@ -3,7 +3,6 @@ use Rattle.std.proofs.Common.{◌≡◌, ℕ, ◌+◌, ◌<◌, List, [], ◌∷
 use Rattle.std.specs.Prelude.{Option, Some, None, not, ◌==◌, nat_lt, nat_le, IsTrue}
 use Rattle.std.proofs.lemmas.Bool.Decides.{nat_tests}
 use Rattle.booth_base.specs.declared.address.MemberId.{MemberId}
-use Rattle.booth_rec.specs.declared.record.Record.{Record}
 use Rattle.booth_wire.specs.declared.message.Setup.{Setup}
 use Rattle.booth_wire.specs.declared.message.Say.{Say}
 use Rattle.booth_wire.specs.declared.message.Say.TheVariants as says
@@ -17,16 +16,16 @@ use Rattle.booth_raft.specs.Members.{is_candidate, is_leader, is_promised_elsewh
 use Rattle.booth_raft.specs.Outcome.{Outcome}
 use Rattle.booth_node.specs.Clock.{Cluster, HasClocks}
 use Rattle.booth_world.specs.Facts.{Has, Facts}
-use Rattle.booth_world.specs.States.{MemberState}
+use Rattle.booth_world.specs.States.{KeptRecord, MemberState}
 use Rattle.booth_world.specs.Rounds.{new_round}
 use Rattle.booth_world.specs.Steps.{MemberStep, Renews, Starts}
-use Rattle.booth_world.specs.Doings.{DoesAll, member_after_all, facts_after_all}
-use Rattle.booth_world.specs.Agreement.{AreIds, seat, IsOpen, Agrees}
+use Rattle.booth_world.specs.MemberRuns.{IsMemberRun, member_after_all, facts_after_all}
+use Rattle.booth_world.specs.Agreement.{seat, record_in, IsOpen, Agrees}
 use Rattle.booth_world.specs.Messages.{IsSaid}
-use Rattle.booth_world.specs.Calls.{LeadsTo}
+use Rattle.booth_world.specs.Gives.{LeadsTo, mark_of}
 use Rattle.booth_world.proofs.Lists.{none_is}
 use Rattle.booth_world.proofs.Invariant.{MemberGood, FactsGood}
-use Rattle.booth_world.proofs.Views.{on_cond, on_test, SameParts, nothing_waits, agrees_same, rests, leads_on}
+use Rattle.booth_world.proofs.Views.{on_cond, on_test, SameParts, nothing_waits, agrees_same, rests, leads_on, IsPlaced, adds_none, adds_round, unkept}
 use Rattle.booth_wire.specs.declared.codes.reasons.TheConstants.{RACQ}
 use Rattle.booth_raft.specs.declared.deed.Note.{Note}
 use Rattle.booth_raft.specs.declared.deed.Note.TheVariants as notes
@@ -37,7 +36,7 @@ use Rattle.booth_raft.specs.Members.{is_some_member}
 use Rattle.booth_raft.specs.Messages.{asks_again, kind_of, round_head, round_part, shown_end}
 use Rattle.booth_raft.specs.Notes.{noted}
 use Rattle.booth_raft.specs.StartAndLearn.{holds_at_start, started}
-use Rattle.booth_world.proofs.HearSteps.{Leads, untrue, unchanged}
+use Rattle.booth_world.proofs.HearSteps.{LeadsToOutcome, untrue, unchanged}
 use Rattle.booth_world.proofs.GainSteps.{first_of}
 use Rattle.booth_world.proofs.OpenSteps.{steps_good, opens_round, round_said}
 use Rattle.booth_world.proofs.KeptSteps.{asks_term, tries_free, bound_to_me}
@@ -46,33 +45,34 @@ bound_true : (b d : Bool) → not b || d ≡ false → b ≡ true
 bound_true true d e = refl
 bound_true false d e = absurd (untrue (sym e))
 
-module _ (c : Cluster) (id_of : ℕ → MemberId) (ids : AreIds id_of) (now m : ℕ) (setup : Setup) where
+module _ (c : Cluster) (id_of : ℕ → MemberId) (now m : ℕ) (ids : IsPlaced c id_of m) (setup : Setup) where
   -- a view that differs in parts that the world does not see
   pub stays : (f : Facts) (x : MemberState) (old new : View) (say : Say) → SameParts old new → Agrees c id_of f m old x → IsSaid id_of f m say
-      → LeadsTo c id_of now m f x x.reading new say
+      → LeadsTo c id_of (mark_of now m x) f x (unkept id_of new say f x)
   stays f x old new say same a said = rests c id_of now m f x new say (agrees_same c id_of f m old new x same a) said
 
   -- ---- renew
 
   renews_by_term : (f : Facts) (x : MemberState) (view : View) → MemberGood c now f m x → view.waiting ≡ None → Agrees c id_of f m view x → c.is_site m ≡ true
-      → Leads c id_of now m f x (renewed_by_term view x.reading)
+      → LeadsToOutcome c id_of now m f x (renewed_by_term view x.reading)
   renews_by_term f x view good none a site =
-      on_cond (λ (q : Outcome). Leads c id_of now m f x q) (are_terms_spent view) _ _
+      on_cond (λ (q : Outcome). LeadsToOutcome c id_of now m f x q) (are_terms_spent view) _ _
       (stays f x view _ _ (record { term = refl; bound = refl; promise = refl; abstain = refl; kept = refl; round = inl refl; role = λ h. h; repeated = λ h. (h, refl); waiting = none }) a tt)
-      (asks_term c id_of ids now m setup f x view RACQ good a site)
+      (asks_term c id_of now m ids setup f x view RACQ good a site)
 
   opens_next : HasClocks c → m < c.members → (f : Facts) (x : MemberState) (view : View) (round : ViewRound) → MemberGood c now f m x → FactsGood c now f → view.waiting ≡ None
       → Agrees c id_of f m view x → view.round ≡ Some round → x.bound ≡ Some m → 0 < c.times.expire
-      → Leads c id_of now m f x (opened (seat c id_of m setup) view (round.number + 1) x.reading)
+      → LeadsToOutcome c id_of now m f x (opened (seat c id_of m setup) view (round.number + 1) x.reading)
   opens_next clocks below f x view round good facts none a open_so to_me lasts =
-      leads_on c id_of now m f x x.reading _ _ steps does
-      (opens_round c id_of ids now m setup clocks below f' x' view (round.number + 1) (new_round m x (o.own.number + 1)) on.0 on.1 none
+      leads_on c id_of (mark_of now m x) f x _ steps does f.releases (adds_round (mark_of now m x) f (new_round m x (o.own.number + 1)) (refl, refl, refl))
+      (opens_round c id_of now m ids setup clocks below f' x' view (round.number + 1) (new_round m x (o.own.number + 1)) on.0 on.1 none
       (record {
         up = a.up;
         term = a.term;
         bound = a.bound;
         promise = a.promise;
         abstain = a.abstain;
+        within = a.within;
         kept = a.kept;
         round = λ r e. absurd (none_is r e);
         tried = nothing_waits _ view.waiting none;
@@ -96,7 +96,7 @@ module _ (c : Cluster) (id_of : ℕ → MemberId) (ids : AreIds id_of) (now m : 
       x' : MemberState
       x' = member_after_all c now m x steps
 
-      does : DoesAll c now m f x steps
+      does : IsMemberRun c now m f x steps
       does = (record { up = a.up; open_round = o.open_at; own_term = (good.round o.own o.open_at).same; bound = to_me }, tt)
 
       on : MemberGood c now f' m x' × FactsGood c now f'
@@ -104,15 +104,15 @@ module _ (c : Cluster) (id_of : ℕ → MemberId) (ids : AreIds id_of) (now m : 
 
   pub renews : HasClocks c → m < c.members → (f : Facts) (x : MemberState) (view : View) (round : Option ViewRound) → MemberGood c now f m x → FactsGood c now f → view.waiting ≡ None
       → Agrees c id_of f m view x → view.round ≡ round → c.is_site m ≡ true → 0 < c.times.expire
-      → Leads c id_of now m f x (renewed (seat c id_of m setup) view round x.reading)
+      → LeadsToOutcome c id_of now m f x (renewed (seat c id_of m setup) view round x.reading)
   renews clocks below f x view None good facts none a open_so site lasts = renews_by_term f x view good none a site
   renews clocks below f x view (Some round) good facts none a open_so site lasts =
-      on_test (λ (q : Outcome). Leads c id_of now m f x q) (needs_term (seat c id_of m setup) view) _ _
+      on_test (λ (q : Outcome). LeadsToOutcome c id_of now m f x q) (needs_term (seat c id_of m setup) view) _ _
       (λ test. renews_by_term f x view good none a site)
-      (λ test. on_cond (λ (q : Outcome). Leads c id_of now m f x q) (round.number == 4294967295) _ _
+      (λ test. on_cond (λ (q : Outcome). LeadsToOutcome c id_of now m f x q) (round.number == 4294967295) _ _
       (stays f x view _ _ (record { term = refl; bound = refl; promise = refl; abstain = refl; kept = refl; round = inl refl; role = λ h. h; repeated = λ h. (h, refl); waiting = none }) a tt)
       (opens_next clocks below f x view round good facts none a open_so
-      (bound_to_me id_of ids x.bound m (sym (ap (λ (b : Option MemberId). is_some_member b (id_of m)) a.bound) ∙ bound_true (is_some_member view.bound (id_of m)) (nat_lt view.term view.seen) test)) lasts))
+      (bound_to_me c.members id_of ids.apart x.bound m a.within.bound_below ids.below (sym (ap (λ (b : Option MemberId). is_some_member b (id_of m)) a.bound) ∙ bound_true (is_some_member view.bound (id_of m)) (nat_lt view.term view.seen) test)) lasts))
 
   -- ---- deadlines
 
@@ -125,64 +125,64 @@ module _ (c : Cluster) (id_of : ℕ → MemberId) (ids : AreIds id_of) (now m : 
       round_said id_of f m (round_head (seat c id_of m setup) view round.number) (round_part (seat c id_of m setup) view x.reading) (kind_of round.number) (o.own, r.fact, o.site, r.same ∙ sym a.term, o.number)
 
   ends_round : (f : Facts) (x : MemberState) (view : View) → view.waiting ≡ None → Agrees c id_of f m view x → c.is_site m ≡ true
-      → Leads c id_of now m f x (round_ends view x.reading)
+      → LeadsToOutcome c id_of now m f x (round_ends view x.reading)
   ends_round f x view none a site =
-      tries_free c id_of ids now m setup f x (without_round view) rules.EndRound
+      tries_free c id_of now m ids setup f x (without_round view) rules.EndRound
       (agrees_same c id_of f m view (without_round view) x
       (record { term = refl; bound = refl; promise = refl; abstain = refl; kept = refl; round = inr refl; role = λ h. absurd (untrue h); repeated = λ h. (h, refl); waiting = none }) a)
       site tt
 
   candidate : (f : Facts) (x : MemberState) (view : View) (round : Option ViewRound) → MemberGood c now f m x → view.waiting ≡ None → Agrees c id_of f m view x → c.is_site m ≡ true → view.round ≡ round
-      → Leads c id_of now m f x (candidate_due (seat c id_of m setup) view round x.reading)
+      → LeadsToOutcome c id_of now m f x (candidate_due (seat c id_of m setup) view round x.reading)
   candidate f x view None good none a site open_so = ends_round f x view none a site
   candidate f x view (Some round) good none a site open_so =
-      on_cond (λ (q : Outcome). Leads c id_of now m f x q) (is_tried (seat c id_of m setup) round x.reading) _ _
+      on_cond (λ (q : Outcome). LeadsToOutcome c id_of now m f x q) (is_tried (seat c id_of m setup) round x.reading) _ _
       (stays f x view _ _ (record { term = refl; bound = refl; promise = refl; abstain = refl; kept = refl; round = inl refl; role = λ h. h; repeated = λ h. (h, refl); waiting = none }) a
       (said_again f x view round good a open_so))
       (ends_round f x view none a site)
 
   resends : (f : Facts) (x : MemberState) (view : View) (round : Option ViewRound) → MemberGood c now f m x → view.waiting ≡ None → Agrees c id_of f m view x → view.round ≡ round
-      → Leads c id_of now m f x (resends_or_renews (seat c id_of m setup) view round x.reading)
+      → LeadsToOutcome c id_of now m f x (resends_or_renews (seat c id_of m setup) view round x.reading)
   resends f x view None good none a open_so = stays f x view _ _ (unchanged view none) a tt
   resends f x view (Some round) good none a open_so =
-      on_cond (λ (q : Outcome). Leads c id_of now m f x q) (not round.won && is_tried (seat c id_of m setup) round x.reading) _ _
+      on_cond (λ (q : Outcome). LeadsToOutcome c id_of now m f x q) (not round.won && is_tried (seat c id_of m setup) round x.reading) _ _
       (stays f x view _ _ (record { term = refl; bound = refl; promise = refl; abstain = refl; kept = refl; round = inl refl; role = λ h. h; repeated = λ h. (h, refl); waiting = none }) a
       (said_again f x view round good a open_so))
       (stays f x view _ _ (unchanged view none) a tt)
 
   works : (f : Facts) (x : MemberState) (view : View) (job : Option ℕ) → MemberGood c now f m x → view.waiting ≡ None → Agrees c id_of f m view x → c.is_site m ≡ true
-      → Leads c id_of now m f x (leader_works (seat c id_of m setup) view job x.reading)
+      → LeadsToOutcome c id_of now m f x (leader_works (seat c id_of m setup) view job x.reading)
   works f x view None good none a site = resends f x view view.round good none a refl
   works f x view (Some job) good none a site =
-      tries_free c id_of ids now m setup f x (record view { job = None }) (rules.Release LOCF)
+      tries_free c id_of now m ids setup f x (record view { job = None }) (rules.Release LOCF)
       (agrees_same c id_of f m view _ x
       (record { term = refl; bound = refl; promise = refl; abstain = refl; kept = refl; round = inl refl; role = λ h. h; repeated = λ h. (h, refl); waiting = none }) a)
       site tt
 
   leader : (f : Facts) (x : MemberState) (view : View) → MemberGood c now f m x → view.waiting ≡ None → Agrees c id_of f m view x → c.is_site m ≡ true
-      → Leads c id_of now m f x (leader_due (seat c id_of m setup) view x.reading)
+      → LeadsToOutcome c id_of now m f x (leader_due (seat c id_of m setup) view x.reading)
   leader f x view good none a site =
-      on_cond (λ (q : Outcome). Leads c id_of now m f x q) (nat_le (own_end view) x.reading) _ _
+      on_cond (λ (q : Outcome). LeadsToOutcome c id_of now m f x q) (nat_le (own_end view) x.reading) _ _
       (stays f x view _ _ (record { term = refl; bound = refl; promise = refl; abstain = refl; kept = refl; round = inr refl; role = λ h. absurd (untrue h); repeated = λ h. (h, refl); waiting = none }) a tt)
       (works f x view view.job good none a site)
 
   follower : (f : Facts) (x : MemberState) (view : View) → view.waiting ≡ None → Agrees c id_of f m view x
-      → Leads c id_of now m f x (follower_due (seat c id_of m setup) view x.reading)
+      → LeadsToOutcome c id_of now m f x (follower_due (seat c id_of m setup) view x.reading)
   follower f x view none a =
-      on_test (λ (q : Outcome). Leads c id_of now m f x q) (nat_lt 0 view.repeat) _ _
+      on_test (λ (q : Outcome). LeadsToOutcome c id_of now m f x q) (nat_lt 0 view.repeat) _ _
       (λ test.
       let again : 0 < view.repeat = grind (arith, nat_tests) in
       stays f x view _ _ (record { term = refl; bound = refl; promise = refl; abstain = refl; kept = refl; round = inl refl; role = λ h. h; repeated = λ h. (again, refl); waiting = none }) a (a.repeated again))
-      (λ test. on_cond (λ (q : Outcome). Leads c id_of now m f x q) (c.is_site m && view.managed) _ _
-      (on_cond (λ (q : Outcome). Leads c id_of now m f x q) (nat_lt x.reading (shown_end view.shown)) _ _
+      (λ test. on_cond (λ (q : Outcome). LeadsToOutcome c id_of now m f x q) (c.is_site m && view.managed) _ _
+      (on_cond (λ (q : Outcome). LeadsToOutcome c id_of now m f x q) (nat_lt x.reading (shown_end view.shown)) _ _
       (stays f x view _ _ (record { term = refl; bound = refl; promise = refl; abstain = refl; kept = refl; round = inl refl; role = λ h. h; repeated = λ h. (h, refl); waiting = none }) a tt)
-      (on_cond (λ (q : Outcome). Leads c id_of now m f x q) (is_promised_elsewhere view.promise (id_of m) x.reading) _ _
+      (on_cond (λ (q : Outcome). LeadsToOutcome c id_of now m f x q) (is_promised_elsewhere view.promise (id_of m) x.reading) _ _
       (stays f x view _ _ (record { term = refl; bound = refl; promise = refl; abstain = refl; kept = refl; round = inl refl; role = λ h. h; repeated = λ h. (h, refl); waiting = none }) a tt)
       (stays f x view _ _ (record { term = refl; bound = refl; promise = refl; abstain = refl; kept = refl; round = inl refl; role = λ h. h; repeated = λ h. (h, refl); waiting = none }) a tt)))
       (stays f x view _ _ (record { term = refl; bound = refl; promise = refl; abstain = refl; kept = refl; round = inl refl; role = λ h. h; repeated = λ h. (h, refl); waiting = none }) a tt))
 
   pub ticks : (f : Facts) (x : MemberState) (view : View) (role : Role) → MemberGood c now f m x → view.waiting ≡ None → Agrees c id_of f m view x → view.role ≡ role
-      → Leads c id_of now m f x (due_now (seat c id_of m setup) view x.reading role)
+      → LeadsToOutcome c id_of now m f x (due_now (seat c id_of m setup) view x.reading role)
   ticks f x view Follower good none a e = follower f x view none a
   ticks f x view Working good none a e = stays f x view _ _ (unchanged view none) a tt
   ticks f x view Candidate good none a e = candidate f x view view.round good none a (a.active (ap (λ (r : Role). is_candidate r || is_leader r) e)) refl
@@ -191,10 +191,10 @@ module _ (c : Cluster) (id_of : ℕ → MemberId) (ids : AreIds id_of) (now m : 
   -- ---- notes
 
   pub notes_it : (f : Facts) (x : MemberState) (view : View) (note : Note) → view.waiting ≡ None → Agrees c id_of f m view x
-      → LeadsTo c id_of now m f x x.reading (noted (seat c id_of m setup) view x.reading note) says.Nothing
+      → LeadsTo c id_of (mark_of now m x) f x (unkept id_of (noted (seat c id_of m setup) view x.reading note) says.Nothing f x)
   notes_it f x view notes.Asked none a = stays f x view _ _ (record { term = refl; bound = refl; promise = refl; abstain = refl; kept = refl; round = inl refl; role = λ h. h; repeated = λ h. absurd (omega (arith, h)); waiting = none }) a tt
   notes_it f x view (notes.JobStarted job reason) none a =
-      on_cond (λ (w : View). LeadsTo c id_of now m f x x.reading w says.Nothing) (is_leader view.role) _ _
+      on_cond (λ (w : View). LeadsTo c id_of (mark_of now m x) f x (unkept id_of w says.Nothing f x)) (is_leader view.role) _ _
       (stays f x view _ _ (record { term = refl; bound = refl; promise = refl; abstain = refl; kept = refl; round = inl refl; role = λ h. h; repeated = λ h. (h, refl); waiting = none }) a tt)
       (stays f x view _ _ (record { term = refl; bound = refl; promise = refl; abstain = refl; kept = refl; round = inl refl; role = λ h. absurd (untrue h); repeated = λ h. (h, refl); waiting = none }) a tt)
   notes_it f x view notes.JobOver none a = stays f x view _ _ (record { term = refl; bound = refl; promise = refl; abstain = refl; kept = refl; round = inl refl; role = λ h. h; repeated = λ h. (h, refl); waiting = none }) a tt
@@ -205,37 +205,42 @@ module _ (c : Cluster) (id_of : ℕ → MemberId) (ids : AreIds id_of) (now m : 
   -- ---- hello
 
   pub greets : (f : Facts) (x : MemberState) (view : View) → view.waiting ≡ None → Agrees c id_of f m view x
-      → LeadsTo c id_of now m f x x.reading (greeted view) (hello (seat c id_of m setup) view x.reading)
+      → LeadsTo c id_of (mark_of now m x) f x (unkept id_of (greeted view) (hello (seat c id_of m setup) view x.reading) f x)
   greets f x view none a =
       stays f x view _ _ (record { term = refl; bound = refl; promise = refl; abstain = refl; kept = refl; round = inl refl; role = λ h. h; repeated = λ h. (h, refl); waiting = none }) a
       (on_cond (λ (s : Say). IsSaid id_of f m s) view.hello _ _ tt tt)
 
   -- ---- start
 
-  pub starts_with : (f : Facts) (x : MemberState) (kept : Record) → x.up ≡ false → Has x.may kept
-      → LeadsTo c id_of now m f x x.reading (started (seat c id_of m setup) kept x.reading) says.Nothing
-  starts_with f x kept down has = (
-    Starts kept ∷ [],
-    (record { down = down; fact = has }, tt),
-    record {
+  pub starts_with : (f : Facts) (x : MemberState) (kept : KeptRecord) → x.up ≡ false → Has x.may kept
+      → LeadsTo c id_of (mark_of now m x) f x
+      (record { view = started (seat c id_of m setup) (record_in id_of kept) x.reading; say = says.Nothing; may = record_in id_of kept ∷ []; releases = f.releases })
+  starts_with f x kept down has = record {
+    steps = Starts kept ∷ [];
+    run = (record { down = down; fact = has }, tt);
+    reached = record {
       agrees = record {
         up = refl;
         term = refl;
         bound = refl;
         promise = refl;
         abstain = refl;
+        within = record { bound_below = λ s e. absurd (none_is s e); promise_below = λ p e. absurd (none_is p e) };
         kept = inl refl;
         round = λ r e. absurd (none_is r e);
         tried = λ w e. absurd (none_is w e);
         asked = λ w e. absurd (none_is w e);
         keeping = λ w e. absurd (none_is w e);
-        active = by_test (holds_at_start (seat c id_of m setup) kept x.reading) (first_of (c.is_site m) _);
+        active = by_test (holds_at_start (seat c id_of m setup) (record_in id_of kept) x.reading) (first_of (c.is_site m) _);
         repeated = λ h. absurd (omega (arith, h));
       };
       said = tt;
-      unread = refl;
-    },
-  )
+      may_now = refl;
+      same_reading = refl;
+      same_at = refl;
+    };
+    adds = adds_none (mark_of now m x) f;
+  }
     where
       by_test : (b : Bool) → (b ≡ true → c.is_site m ≡ true) → IsTrue (is_candidate (cond b Leader Follower) || is_leader (cond b Leader Follower)) → c.is_site m ≡ true
       by_test true site h = site refl

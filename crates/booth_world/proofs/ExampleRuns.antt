@@ -3,18 +3,15 @@ use Rattle.std.proofs.Common.{true, false, ◌≡◌, ◌≢◌, ℕ, zero, suc,
 use Rattle.std.specs.Prelude.{Some, None, slice_index}
 use Rattle.std.specs.Option.{ForSome}
 use native.Mathlib.Decide.{ℕ_discrete}
-use Rattle.booth_rec.specs.declared.record.Record.{Record}
-use Rattle.booth_rec.specs.Record.{no_record}
 use Rattle.booth_base.specs.declared.address.MemberId.{MemberId}
 use Rattle.booth_base.specs.declared.name.Name.{Name}
-use Rattle.booth_raft.specs.StartAndLearn.{started}
 use Rattle.booth_world.specs.Calls.{IsMember}
 use Rattle.booth_node.specs.Clock.{Cluster, HasClocks, IsClock}
 use Rattle.booth_world.specs.Facts.{Has, Round, Answer, Release}
-use Rattle.booth_world.specs.States.{Promise, WorldState, opening}
+use Rattle.booth_world.specs.States.{KeptRecord, Promise, WorldState, opening}
 use Rattle.booth_world.specs.Steps.{WorldStep, IsRun, happens, after_steps, world_of}
 use Rattle.booth_world.specs.Held.{Held}
-use Rattle.booth_world.specs.Examples.{ahead, behind, exact, clock_of, three, plain, won_by, first_round, second_round, third_round, first_release, granted, renewed, released, granted_elsewhere, crashed_and_started, start, id_of_place, first_setup}
+use Rattle.booth_world.specs.Examples.{ahead, behind, exact, clock_of, three, unleased, won_by, first_round, second_round, third_round, first_release, granted, renewed, released, granted_elsewhere, crashed_and_started, start, id_of_place, first_caller}
 use Rattle.booth_world.proofs.Lists.{new_or_old, none_is, some_same}
 
 -- ---- clocks
@@ -78,7 +75,7 @@ each_long zero = refl
 each_long (suc zero) = refl
 each_long (suc (suc m)) = refl
 
-each_clock : (m : ℕ) → IsClock (clock_of m)
+pub each_clock : (m : ℕ) → IsClock (clock_of m)
 unfolding near_all
 each_clock zero = near_clock ahead refl ahead_near
 each_clock (suc zero) = near_clock behind refl behind_near
@@ -153,7 +150,7 @@ granted_runs = (
                   (
                     (omega arith, record { up = refl; site = refl; own_term = refl; lease = tt }),
                     (
-                      (omega arith, record { up = refl; site = refl; kept = only (λ (k : Record). k.term ≡ 1) (plain 1) refl; unbound = nobody 0; no_round = λ r n. absurd n; no_release = λ r n. absurd n }),
+                      (omega arith, record { up = refl; site = refl; kept = only (λ (k : KeptRecord). k.term ≡ 1) (unleased 1) refl; unbound = nobody 0; no_round = λ r n. absurd n; no_release = λ r n. absurd n }),
                       (
                         (omega arith, record { up = refl; to_site = refl; rested = omega arith; unpromised = no_promise 0 7; unbound = inr (refl, just 0) }),
                         (
@@ -233,7 +230,7 @@ released_runs = (
   (
     (omega arith, record { up = refl; site = refl; own_term = refl; lease = tt }),
     (
-      (omega arith, record { up = refl; site = refl; own_term = only (λ (k : Record). k.term ≡ 1) (plain 1) refl; no_lease = only (λ (k : Record). k.lease ≡ None) (plain 1) refl }),
+      (omega arith, record { up = refl; site = refl; own_term = only (λ (k : KeptRecord). k.term ≡ 1) (unleased 1) refl; no_lease = only (λ (k : KeptRecord). k.lease ≡ None) (unleased 1) refl }),
       (
         (omega arith, record { up = refl; fact = inl refl }),
         tt,
@@ -250,7 +247,7 @@ elsewhere_runs = (
     (
       (omega arith, record { up = refl; site = refl; own_term = refl; lease = tt }),
       (
-        (omega arith, record { up = refl; site = refl; kept = only (λ (k : Record). k.term ≡ 2) (plain 2) refl; unbound = nobody 1; no_round = new_or_old (λ (r : Round). r.site ≡ 1 → r.term ≢ 2) second_round (first_round ∷ []) (λ e. absurd (not_one e)) (only (λ (r : Round). r.site ≡ 1 → r.term ≢ 2) first_round (λ e. absurd (not_one e))); no_release = only (λ (r : Release). r.site ≡ 1 → r.term ≢ 2) first_release (λ e. absurd (not_one e)) }),
+        (omega arith, record { up = refl; site = refl; kept = only (λ (k : KeptRecord). k.term ≡ 2) (unleased 2) refl; unbound = nobody 1; no_round = new_or_old (λ (r : Round). r.site ≡ 1 → r.term ≢ 2) second_round (first_round ∷ []) (λ e. absurd (not_one e)) (only (λ (r : Round). r.site ≡ 1 → r.term ≢ 2) first_round (λ e. absurd (not_one e))); no_release = only (λ (r : Release). r.site ≡ 1 → r.term ≢ 2) first_release (λ e. absurd (not_one e)) }),
         (
           (omega arith, record { up = refl; to_site = refl; rested = omega arith; unpromised = no_promise 1 7; unbound = inr (refl, just 1) }),
           (
@@ -285,13 +282,13 @@ moves =
     (runs_append three (world_of three (granted ++ renewed)) released granted_elsewhere released_runs elsewhere_runs))
 
 pub granted_held : Held three (world_of three granted) 0
-granted_held = (omega arith, (won_by first_round, inl refl, omega arith))
+granted_held = (won_by first_round, record { below = omega arith; may = inl refl; in_force = omega arith })
 
 pub renewed_held : Held three (world_of three (granted ++ renewed)) 0
-renewed_held = (omega arith, (won_by second_round, inl refl, omega arith))
+renewed_held = (won_by second_round, record { below = omega arith; may = inl refl; in_force = omega arith })
 
 pub elsewhere_held : Held three (world_of three (granted ++ renewed ++ released ++ granted_elsewhere)) 1
-elsewhere_held = (omega arith, (won_by third_round, inl refl, omega arith))
+elsewhere_held = (won_by third_round, record { below = omega arith; may = inl refl; in_force = omega arith })
 
 -- ---- a holder restarts
 
@@ -314,19 +311,19 @@ pub restarts : IsRun three (opening three) (granted ++ crashed_and_started)
 restarts = runs_append three (opening three) granted crashed_and_started granted_runs restart_runs
 
 pub restart_held : Held three (world_of three (granted ++ crashed_and_started)) 0
-restart_held = (omega arith, (won_by first_round, inl refl, omega arith))
+restart_held = (won_by first_round, record { below = omega arith; may = inl refl; in_force = omega arith })
 
 -- ---- a view that agrees
 
-same_place : (s t : ℕ) → id_of_place s ≡ id_of_place t → s ≡ t
-same_place s t e = ap (λ (i : MemberId). i.0) e
+pub same_place : (members s t : ℕ) → s < members → t < members → id_of_place s ≡ id_of_place t → s ≡ t
+same_place members s t sl tl e = ap (λ (i : MemberId). i.0) e
 
 inactive : false ≡ true → ⊥
 inactive e = cc
 
-pub started_agrees : (ticket : Name) → IsMember three id_of_place (world_of three start) 0 (first_setup ticket) (started (first_setup ticket) no_record 0)
+pub started_agrees : (ticket : Name) → IsMember three (world_of three start) (first_caller ticket)
 started_agrees ticket = record {
-  ids = same_place;
+  ids = same_place 3;
   below = omega arith;
   seated = refl;
   sound = record {
@@ -353,6 +350,7 @@ started_agrees ticket = record {
     bound = refl;
     promise = refl;
     abstain = refl;
+    within = record { bound_below = λ s e. absurd (none_is s e); promise_below = λ p e. absurd (none_is p e) };
     kept = inl refl;
     round = λ r e. absurd (none_is r e);
     tried = λ w e. absurd (none_is w e);

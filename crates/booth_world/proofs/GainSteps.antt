@@ -3,7 +3,6 @@ use Rattle.std.proofs.Common.{◌≡◌, ℕ, ◌+◌, ◌<◌, [], ◌∷◌, B
 use Rattle.std.specs.Prelude.{Option, Some, None, not, ◌==◌, slice_index_or}
 use Rattle.std.proofs.lemmas.Bool.Decides.{nat_tests}
 use Rattle.booth_base.specs.declared.address.MemberId.{MemberId}
-use Rattle.booth_rec.specs.declared.record.Record.{Record}
 use Rattle.booth_wire.specs.declared.message.Head.{Head}
 use Rattle.booth_wire.specs.declared.message.TicketPart.{TicketPart}
 use Rattle.booth_wire.specs.declared.message.Setup.{Setup}
@@ -14,16 +13,17 @@ use Rattle.booth_raft.specs.Members.{is_same, is_majority}
 use Rattle.booth_raft.specs.Outcome.{Outcome}
 use Rattle.booth_node.specs.Clock.{Cluster}
 use Rattle.booth_world.specs.Facts.{Has, Answer, Gain, Facts}
-use Rattle.booth_world.specs.States.{MemberState}
+use Rattle.booth_world.specs.States.{KeptRecord, MemberState}
 use Rattle.booth_world.specs.Steps.{Gains, TriesKeep}
-use Rattle.booth_world.specs.Agreement.{AreIds, seat, HasAnswered, IsOpen, IsAsked, Agrees}
+use Rattle.booth_world.specs.Agreement.{seat, records_in, HasAnswered, IsOpen, IsAsked, Agrees}
+use Rattle.booth_world.specs.Gives.{mark_of}
 use Rattle.booth_world.proofs.Lists.{some_same}
 use Rattle.booth_world.proofs.Invariant.{RoundGood, MemberGood, FactsGood}
-use Rattle.booth_world.proofs.Views.{on_test, nothing_waits, rests}
+use Rattle.booth_world.proofs.Views.{on_test, nothing_waits, rests, IsPlaced, adds_gain}
 use Rattle.booth_raft.specs.GainReleaseLost.{gain, lease_record}
 use Rattle.booth_raft.specs.RoundsAndAnswers.{is_answer_to, wins, with_answer, joined, answer_heard}
 use Rattle.booth_raft.proofs.AnswerLemmas.{is_same-true}
-use Rattle.booth_world.proofs.HearSteps.{Leads}
+use Rattle.booth_world.proofs.HearSteps.{LeadsToOutcome}
 use Rattle.booth_world.proofs.Places.{places_from, flag_of, majority_of, set_before}
 
 -- both of two tests
@@ -41,14 +41,14 @@ second_of false b e = absurd (never e)
     never : false ≡ true → ⊥
     never e = cc
 
-module _ (c : Cluster) (id_of : ℕ → MemberId) (ids : AreIds id_of) (now m : ℕ) (f : Facts) (x : MemberState) (setup : Setup) where
+module _ (c : Cluster) (id_of : ℕ → MemberId) (now m : ℕ) (ids : IsPlaced c id_of m) (f : Facts) (x : MemberState) (setup : Setup) where
   -- Gain: the lease is gained, and its keep tried
   pub gains_lease : (view : View) (round : ViewRound) → MemberGood c now f m x → FactsGood c now f → Agrees c id_of f m view x
       → IsOpen f m round x.round → is_majority (seat c id_of m setup) round.answers ≡ true → x.reading < round.opened + c.times.expire
-      → Leads c id_of now m f x (gain (seat c id_of m setup) view round x.reading)
-  gains_lease view round good facts a o most soon = (
-    Gains o.own (places_from 0 round.answers) ∷ TriesKeep tried ∷ [],
-    (
+      → LeadsToOutcome c id_of now m f x (gain (seat c id_of m setup) view round x.reading)
+  gains_lease view round good facts a o most soon = record {
+    steps = Gains o.own (places_from 0 round.answers) ∷ TriesKeep tried ∷ [];
+    run = (
       record {
         up = a.up;
         open_round = o.open_at;
@@ -65,27 +65,31 @@ module _ (c : Cluster) (id_of : ℕ → MemberId) (ids : AreIds id_of) (now m : 
         },
         tt,
       ),
-    ),
-    record {
+    );
+    reached = record {
       agrees = record {
         up = a.up;
         term = a.term;
         bound = a.bound;
         promise = a.promise;
         abstain = a.abstain;
+        within = a.within;
         kept = inl refl;
         round = λ q e. subst (λ (q : ViewRound). IsOpen after m q x.round) (some_same _ q e)
             (record { own = o.own; open_at = o.open_at; site = o.site; term = o.term; number = o.number; opened = o.opened; answered = o.answered });
-        tried = λ w e. subst (λ (w : Waiting). Has (tried ∷ x.may) w.tried) (some_same _ w e) (inl refl);
-        asked = λ w e. subst (λ (w : Waiting). IsAsked w.rule tried view.term view.bound) (some_same _ w e) tt;
+        tried = λ w e. subst (λ (w : Waiting). Has (records_in id_of (tried ∷ x.may)) w.tried) (some_same _ w e) (inl refl);
+        asked = λ w e. subst (λ (w : Waiting). IsAsked after x (gain (seat c id_of m setup) view round x.reading).view w.rule) (some_same _ w e) tt;
         keeping = λ w e. site;
         active = λ h. site;
         repeated = a.repeated;
       };
       said = tt;
-      unread = refl;
-    },
-  )
+      may_now = refl;
+      same_reading = refl;
+      same_at = refl;
+    };
+    adds = adds_gain (mark_of now m x) f new (o.site, refl);
+  }
     where
       r : RoundGood f.rounds f.releases m x.term o.own
       r = good.round o.own o.open_at
@@ -93,8 +97,8 @@ module _ (c : Cluster) (id_of : ℕ → MemberId) (ids : AreIds id_of) (now m : 
       site : c.is_site m ≡ true
       site = subst (λ (s : ℕ). c.is_site s ≡ true) o.site (facts.rounds o.own r.fact).site
 
-      tried : Record
-      tried = lease_record (seat c id_of m setup) view.term round
+      tried : KeptRecord
+      tried = let k = lease_record (seat c id_of m setup) view.term round in record { term = k.term; lease = k.lease }
 
       new : Gain
       new = record { round = o.own; at = now; answers = places_from 0 round.answers }
@@ -113,9 +117,9 @@ module _ (c : Cluster) (id_of : ℕ → MemberId) (ids : AreIds id_of) (now m : 
 
   -- an answer joins, and the lease is gained where the round now wins
   joins_round : (view : View) (round : ViewRound) → MemberGood c now f m x → FactsGood c now f → view.waiting ≡ None → Agrees c id_of f m view x
-      → IsOpen f m round x.round → Leads c id_of now m f x (joined (seat c id_of m setup) view round x.reading)
+      → IsOpen f m round x.round → LeadsToOutcome c id_of now m f x (joined (seat c id_of m setup) view round x.reading)
   joins_round view round good facts none a o =
-      on_test (λ (q : Outcome). Leads c id_of now m f x q) (wins (seat c id_of m setup) round x.reading) _ _
+      on_test (λ (q : Outcome). LeadsToOutcome c id_of now m f x q) (wins (seat c id_of m setup) round x.reading) _ _
       (λ test.
       let most_open = first_of (is_majority (seat c id_of m setup) round.answers && not round.won) _ test in
       let soon = second_of (is_majority (seat c id_of m setup) round.answers && not round.won) _ test in
@@ -132,6 +136,7 @@ module _ (c : Cluster) (id_of : ℕ → MemberId) (ids : AreIds id_of) (now m : 
         bound = a.bound;
         promise = a.promise;
         abstain = a.abstain;
+        within = a.within;
         kept = a.kept;
         round = λ q e. subst (λ (q : ViewRound). IsOpen f m q x.round) (some_same _ q e) o;
         tried = nothing_waits _ view.waiting none;
@@ -145,10 +150,10 @@ module _ (c : Cluster) (id_of : ℕ → MemberId) (ids : AreIds id_of) (now m : 
   pub hears_answer : (view : View) (round : Option ViewRound) (head : Head) (part : TicketPart) (z : Answer)
       → MemberGood c now f m x → FactsGood c now f → view.waiting ≡ None → Agrees c id_of f m view x → view.round ≡ round
       → Has f.answers z → id_of z.round.site ≡ part.leader → z.round.term ≡ part.term → z.round.number ≡ head.options
-      → Leads c id_of now m f x (answer_heard (seat c id_of m setup) view round z.member head part x.reading)
+      → LeadsToOutcome c id_of now m f x (answer_heard (seat c id_of m setup) view round z.member head part x.reading)
   hears_answer view None head part z good facts none a open_so fact leader term number = rests c id_of now m f x view _ a tt
   hears_answer view (Some round) head part z good facts none a open_so fact leader term number =
-      on_test (λ (q : Outcome). Leads c id_of now m f x q) (is_answer_to (seat c id_of m setup) round head part) _ _
+      on_test (λ (q : Outcome). LeadsToOutcome c id_of now m f x q) (is_answer_to (seat c id_of m setup) round head part) _ _
       (λ test. joins_round view (with_answer round z.member) good facts none a (with_it test))
       (λ test. rests c id_of now m f x view _ a tt)
     where
@@ -159,7 +164,7 @@ module _ (c : Cluster) (id_of : ℕ → MemberId) (ids : AreIds id_of) (now m : 
           let same_number : round.number ≡ head.options = let e = second_of (is_same part.leader (id_of m) && (round.term == part.term)) (round.number == head.options) test in grind (arith, nat_tests) in
           let same_term : round.term ≡ part.term = let e = second_of (is_same part.leader (id_of m)) (round.term == part.term) two in grind (arith, nat_tests) in
           let to_me : part.leader ≡ id_of m = is_same-true part.leader (id_of m) (first_of _ (round.term == part.term) two) in
-          let site : z.round.site ≡ m = ids z.round.site m (leader ∙ to_me) in
+          let site : z.round.site ≡ m = ids.apart z.round.site m (facts.rounds z.round (facts.answers z fact).round).below ids.below (leader ∙ to_me) in
           let same : z.round ≡ o.own = facts.one_round z.round o.own (facts.answers z fact).round (good.round o.own o.open_at).fact
           (site ∙ sym o.site) (term ∙ sym same_term ∙ sym o.term) (number ∙ sym same_number ∙ sym o.number) in
           record {

@@ -1,5 +1,5 @@
 -- A round that is heard, and other messages, as steps of the member.
-use Rattle.std.proofs.Common.{◌≡◌, ℕ, ◌+◌, ◌*◌, ◌≤◌, [], ◌∷◌, Bool, true, false, cond, ◌&&◌, refl, sym, ap, ◌∙◌, subst, inl, inr, ⊎_elim, arith}
+use Rattle.std.proofs.Common.{◌≡◌, ℕ, ◌+◌, ◌*◌, ◌<◌, ◌≤◌, [], ◌∷◌, Bool, true, false, cond, ◌&&◌, refl, sym, ap, ◌∙◌, subst, inl, inr, ⊎_elim, arith}
 use Rattle.std.specs.Prelude.{Option, Some, None, not, ◌==◌, nat_lt, nat_le, IsTrue}
 use Rattle.std.specs.Option.{ForSome}
 use Rattle.std.proofs.lemmas.Bool.Decides.{nat_tests}
@@ -26,12 +26,12 @@ use Rattle.booth_world.specs.States.{Promise, MemberState}
 use Rattle.booth_world.specs.Rounds.{new_promise, new_answer}
 use Rattle.booth_world.specs.Leases.{cleared}
 use Rattle.booth_world.specs.Steps.{Promises, Answers, Clears}
-use Rattle.booth_world.specs.Agreement.{AreIds, seat, promise_in, Agrees}
+use Rattle.booth_world.specs.Agreement.{AreIds, seat, promise_in, records_in, Agrees}
 use Rattle.booth_world.specs.Messages.{IsFact, AnswerSaid}
-use Rattle.booth_world.specs.Calls.{LeadsTo}
-use Rattle.booth_world.proofs.Lists.{none_is}
+use Rattle.booth_world.specs.Gives.{LeadsTo, mark_of, given_by}
+use Rattle.booth_world.proofs.Lists.{none_is, some_same}
 use Rattle.booth_world.proofs.Invariant.{FactsGood}
-use Rattle.booth_world.proofs.Views.{on_cond, on_test, may_promise, SameParts, nothing_waits, agrees_same, rests}
+use Rattle.booth_world.proofs.Views.{on_cond, on_test, may_promise, SameParts, nothing_waits, agrees_same, rests, IsPlaced, adds_none, adds_answer, unkept}
 use Rattle.booth_raft.specs.OtherMessages.{is_freed_by, is_owner, freed, unmanaged, revoked}
 use Rattle.booth_raft.specs.RoundsAndAnswers.{may_answer, promised, stood_down, shows_site, with_site, with_due, answering, round_heard}
 use Rattle.booth_raft.specs.StartAndLearn.{seeing, awaits_failover, showing, shows_leader, with_failover, learned}
@@ -118,26 +118,26 @@ answer_said id_of f m head part Election said = said
 answer_said id_of f m head part Renewal said = said
 
 -- steps lead to an outcome
-abbrev pub Leads : Cluster → (ℕ → MemberId) → ℕ → ℕ → Facts → MemberState → Outcome → Type 0
-Leads c id_of now m f x outcome = LeadsTo c id_of now m f x x.reading outcome.view outcome.deed.say
+abbrev pub LeadsToOutcome : Cluster → (ℕ → MemberId) → ℕ → ℕ → Facts → MemberState → Outcome → Type 0
+LeadsToOutcome c id_of now m f x outcome = LeadsTo c id_of (mark_of now m x) f x (given_by outcome (records_in id_of x.may) f.releases)
 
 -- ids are equal where places are
-pub same_test : (id_of : ℕ → MemberId) → AreIds id_of → (a b : ℕ) → is_same (id_of a) (id_of b) ≡ (a == b)
-same_test id_of ids a b = by_tests (is_same (id_of a) (id_of b)) (a == b) refl refl
+pub same_test : (members : ℕ) (id_of : ℕ → MemberId) → AreIds members id_of → (a b : ℕ) → a < members → b < members → is_same (id_of a) (id_of b) ≡ (a == b)
+same_test members id_of ids a b al bl = by_tests (is_same (id_of a) (id_of b)) (a == b) refl refl
   where
     by_tests : (p q : Bool) → is_same (id_of a) (id_of b) ≡ p → (a == b) ≡ q → p ≡ q
     by_tests true true e k = refl
     by_tests false false e k = refl
-    by_tests true false e k = let same = ids a b (is_same-true (id_of a) (id_of b) e) in absurd (grind (arith, nat_tests))
+    by_tests true false e k = let same = ids a b al bl (is_same-true (id_of a) (id_of b) e) in absurd (grind (arith, nat_tests))
     by_tests false true e k =
         let same : a ≡ b = grind (arith, nat_tests) in
         absurd (untrue (sym e ∙ same-is_same (id_of a) (id_of b) (ap id_of same)))
 
 -- a promise is dropped in the view where it is in the world
-pub freed_promise : (id_of : ℕ → MemberId) → AreIds id_of → (o : Option Promise) (s t : ℕ)
+pub freed_promise : (members : ℕ) (id_of : ℕ → MemberId) → AreIds members id_of → (o : Option Promise) (s t : ℕ) → s < members → ForSome o (λ p. p.to < members)
     → promise_in id_of (cleared o s t) ≡ cond (is_freed_by (promise_in id_of o) (id_of s) t) None (promise_in id_of o)
-freed_promise id_of ids None s t = refl
-freed_promise id_of ids (Some p) s t = rw (same_test id_of ids p.to s) (by_tests (p.to == s) (nat_lt t p.term) (nat_le p.term t) refl refl)
+freed_promise members id_of ids None s t below to_below = refl
+freed_promise members id_of ids (Some p) s t below to_below = rw (same_test members id_of ids p.to s (to_below p refl) below) (by_tests (p.to == s) (nat_lt t p.term) (nat_le p.term t) refl refl)
   where
     by_tests : (a b d : Bool) → nat_lt t p.term ≡ b → nat_le p.term t ≡ d
         → promise_in id_of (cond (a && not b) None (Some p)) ≡ cond (a && d) None (promise_in id_of (Some p))
@@ -147,20 +147,27 @@ freed_promise id_of ids (Some p) s t = rw (same_test id_of ids p.to s) (by_tests
     by_tests true true true e k = absurd (grind (arith, nat_tests))
     by_tests true false false e k = absurd (grind (arith, nat_tests))
 
-module _ (c : Cluster) (id_of : ℕ → MemberId) (ids : AreIds id_of) (now m : ℕ) (f : Facts) (x : MemberState) (setup : Setup) where
+-- a promise that was not cleared is the same one
+cleared_within : (members : ℕ) (o : Option Promise) (s t : ℕ) → ForSome o (λ p. p.to < members) → ForSome (cleared o s t) (λ p. p.to < members)
+cleared_within members None s t below = below
+cleared_within members (Some p) s t below =
+    on_cond (λ (o : Option Promise). ForSome o (λ p. p.to < members)) (p.to == s && not (nat_lt t p.term)) None (Some p)
+    (λ q e. absurd (none_is q e)) below
+
+module _ (c : Cluster) (id_of : ℕ → MemberId) (now m : ℕ) (ids : IsPlaced c id_of m) (f : Facts) (x : MemberState) (setup : Setup) where
   -- Round heard: where it is answered, a promise and an answer
   answers_it : (view : View) (kind : RoundKind) (head : Head) (part : TicketPart) (r : Round)
       → FactsGood c now f → x.at ≡ now → view.waiting ≡ None → RoundFits view.term view.role view.round → Agrees c id_of f m view x
       → Has f.rounds r → head.from ≡ id_of r.site → r.term ≡ part.term → r.number ≡ head.options
       → may_answer view head.from part.term x.reading ≡ true
-      → LeadsTo c id_of now m f x x.reading (answering (seat c id_of m setup) view head.from kind part x.reading) (answers_round (seat c id_of m setup) kind head part.term)
-  answers_it view kind head part r good timely none fits a fact from term number test = (
-    Promises r.site part.term ∷ Answers r (new_promise c x r.site part.term) ∷ [],
-    (
-      may_promise c id_of f m view x ids a r.site part.term (good.rounds r fact).site may,
+      → LeadsTo c id_of (mark_of now m x) f x (unkept id_of (answering (seat c id_of m setup) view head.from kind part x.reading) (answers_round (seat c id_of m setup) kind head part.term) f x)
+  answers_it view kind head part r good timely none fits a fact from term number test = record {
+    steps = Promises r.site part.term ∷ Answers r (new_promise c x r.site part.term) ∷ [];
+    run = (
+      may_promise c id_of f m view x ids.apart a r.site part.term (good.rounds r fact).below (good.rounds r fact).site may,
       (record { up = a.up; fact = fact; own_term = sym term; bound = refl; stands = refl; to = refl; for_term = sym term; long = le_refl _; later = past }, tt),
-    ),
-    record {
+    );
+    reached = record {
       agrees = agrees_same c id_of _ m gone final _
           (record { term = s.term; bound = s.bound; promise = s.promise; abstain = s.abstain; kept = s.kept; round = inr none_final; role = s.role; repeated = s.repeated; waiting = s.waiting })
           (record {
@@ -169,6 +176,10 @@ module _ (c : Cluster) (id_of : ℕ → MemberId) (ids : AreIds id_of) (now m : 
             bound = ap (λ (i : MemberId). let o : Option MemberId = Some i in o) from;
             promise = ap (λ (i : MemberId). let o : Option ViewPromise = Some (record { to = i; term = part.term; until = x.reading + promise_of c.times }) in o) from;
             abstain = a.abstain;
+            within = record {
+              bound_below = λ s e. subst (λ (s : ℕ). s < c.members) (some_same r.site s e) (good.rounds r fact).below;
+              promise_below = λ p e. subst (λ (p : Promise). p.to < c.members) (some_same _ p e) (good.rounds r fact).below;
+            };
             kept = a.kept;
             round = λ r e. absurd (none_is r e);
             tried = nothing_waits _ view.waiting none;
@@ -178,9 +189,12 @@ module _ (c : Cluster) (id_of : ℕ → MemberId) (ids : AreIds id_of) (now m : 
             repeated = a.repeated;
           });
       said = answer_said id_of (with_answer f (new_answer m x r)) m (head_of (seat c id_of m setup) (answer_cmd kind) head.request head.options 0 0) (part_of (seat c id_of m setup) head.from part.term 0) kind (new_answer m x r, inl refl, refl, sym from, term, number);
-      unread = refl;
-    },
-  )
+      may_now = refl;
+      same_reading = refl;
+      same_at = refl;
+    };
+    adds = adds_answer (mark_of now m x) f (new_answer m x r) (refl, refl, refl);
+  }
     where
       past : r.at ≤ x.at
       past = let l = (good.rounds r fact).past in omega (arith, l, timely)
@@ -212,16 +226,16 @@ module _ (c : Cluster) (id_of : ℕ → MemberId) (ids : AreIds id_of) (now m : 
   pub hears_round : (view : View) (kind : RoundKind) (head : Head) (part : TicketPart) (r : Round)
       → FactsGood c now f → x.at ≡ now → view.waiting ≡ None → RoundFits view.term view.role view.round → Agrees c id_of f m view x
       → Has f.rounds r → head.from ≡ id_of r.site → r.term ≡ part.term → r.number ≡ head.options
-      → Leads c id_of now m f x (round_heard (seat c id_of m setup) view kind head part x.reading)
+      → LeadsToOutcome c id_of now m f x (round_heard (seat c id_of m setup) view kind head part x.reading)
   hears_round view kind head part r good timely none fits a fact from term number =
-      on_test (λ (o : Outcome). Leads c id_of now m f x o) (may_answer view head.from part.term x.reading) _ _
+      on_test (λ (o : Outcome). LeadsToOutcome c id_of now m f x o) (may_answer view head.from part.term x.reading) _ _
       (λ test. answers_it view kind head part r good timely none fits a fact from term number test)
       (λ test. rests c id_of now m f x view _ a tt)
 
   -- a promise that is freed in the view is cleared in the world
-  freed_agrees : (view : View) (z : Release) → view.waiting ≡ None → Agrees c id_of f m view x
+  freed_agrees : (view : View) (z : Release) → z.site < c.members → view.waiting ≡ None → Agrees c id_of f m view x
       → Agrees c id_of f m (freed view (id_of z.site) z.term) (clearing x z)
-  freed_agrees view z none a =
+  freed_agrees view z below none a =
       on_test (λ (w : View). Agrees c id_of f m w (clearing x z)) (is_freed_by view.promise (id_of z.site) z.term) _ _
       (λ test. record {
         up = a.up;
@@ -229,6 +243,7 @@ module _ (c : Cluster) (id_of : ℕ → MemberId) (ids : AreIds id_of) (now m : 
         bound = a.bound;
         promise = sym (cleared_so true test);
         abstain = a.abstain;
+        within = record { bound_below = a.within.bound_below; promise_below = cleared_within c.members x.promise z.site z.term a.within.promise_below };
         kept = a.kept;
         round = a.round;
         tried = nothing_waits _ view.waiting none;
@@ -243,6 +258,7 @@ module _ (c : Cluster) (id_of : ℕ → MemberId) (ids : AreIds id_of) (now m : 
         bound = a.bound;
         promise = a.promise ∙ sym (cleared_so false test);
         abstain = a.abstain;
+        within = record { bound_below = a.within.bound_below; promise_below = cleared_within c.members x.promise z.site z.term a.within.promise_below };
         kept = a.kept;
         round = a.round;
         tried = nothing_waits _ view.waiting none;
@@ -255,7 +271,7 @@ module _ (c : Cluster) (id_of : ℕ → MemberId) (ids : AreIds id_of) (now m : 
       cleared_so : (b : Bool) → is_freed_by view.promise (id_of z.site) z.term ≡ b
           → promise_in id_of (cleared x.promise z.site z.term) ≡ cond b None (promise_in id_of x.promise)
       cleared_so b test =
-          freed_promise id_of ids x.promise z.site z.term
+          freed_promise c.members id_of ids.apart x.promise z.site z.term below a.within.promise_below
           ∙ ap (λ (d : Bool). cond d None (promise_in id_of x.promise)) (sym (ap (λ (o : Option ViewPromise). is_freed_by o (id_of z.site) z.term) a.promise) ∙ test)
 
   unmanaged_same : (view : View) (reason reading : ℕ) → view.waiting ≡ None → SameParts view (unmanaged (seat c id_of m setup) view reason reading)
@@ -280,14 +296,17 @@ module _ (c : Cluster) (id_of : ℕ → MemberId) (ids : AreIds id_of) (now m : 
       (unchanged free still)
 
   -- a revocation that is heard: a clearing
-  pub hears_release : (view : View) (reason : ℕ) (z : Release) → view.waiting ≡ None → Agrees c id_of f m view x → Has f.releases z
-      → Leads c id_of now m f x (quiet (revoked (seat c id_of m setup) view (id_of z.site) z.term reason x.reading))
-  hears_release view reason z none a fact = (
-    Clears z ∷ [],
-    (record { up = a.up; fact = fact }, tt),
-    record {
-      agrees = agrees_same c id_of f m (freed view (id_of z.site) z.term) _ (clearing x z) (revoked_same view (id_of z.site) z.term reason x.reading none) (freed_agrees view z none a);
+  pub hears_release : (view : View) (reason : ℕ) (z : Release) → z.site < c.members → view.waiting ≡ None → Agrees c id_of f m view x → Has f.releases z
+      → LeadsToOutcome c id_of now m f x (quiet (revoked (seat c id_of m setup) view (id_of z.site) z.term reason x.reading))
+  hears_release view reason z below none a fact = record {
+    steps = Clears z ∷ [];
+    run = (record { up = a.up; fact = fact }, tt);
+    reached = record {
+      agrees = agrees_same c id_of f m (freed view (id_of z.site) z.term) _ (clearing x z) (revoked_same view (id_of z.site) z.term reason x.reading none) (freed_agrees view z below none a);
       said = tt;
-      unread = refl;
-    },
-  )
+      may_now = refl;
+      same_reading = refl;
+      same_at = refl;
+    };
+    adds = adds_none (mark_of now m x) f;
+  }

@@ -5,14 +5,16 @@ use native.Mathlib.Decide.{ℕ_discrete}
 use Rattle.booth_rec.specs.declared.record.Lease.{Lease}
 use Rattle.booth_node.specs.Clock.{Cluster, HasClocks, reads, promise_time}
 use Rattle.booth_world.specs.Facts.{Has, Round, Answer, Gain, Release}
-use Rattle.booth_world.specs.States.{WorldState}
-use Rattle.booth_world.specs.Held.{Held, ReleasedBetween, IsApart}
+use Rattle.booth_world.specs.States.{KeptRecord, WorldState}
+use Rattle.booth_world.specs.Held.{IsHeldBy, Held, ReleasedBetween, IsApart}
+use Rattle.booth_world.proofs.Lists.{some_same}
 use Rattle.booth_world.proofs.Invariant.{LeaseGood, RoundFact, AnswerFact, Apart, Good}
 use Rattle.booth_world.proofs.Drift.{clocks_apart, order_from_readings}
 use Rattle.booth_world.proofs.Majority.{majorities_share}
 use Rattle.booth_world.proofs.Later.{Later, same_later}
 
--- The lease of a round in force now, and a member that answered the round and a promise's time later another one.
+-- The lease of a round in force now, and a member that answered the round and a promise's time
+-- later another one.
 times_apart :
     (c : Cluster) → HasClocks c → (now then until : ℕ) (s : ℕ) (r : Round) (rounds : List Round) (a b : Answer) (l : Lease)
     → now < c.span → then < c.span → s < c.members → r.site ≡ s → RoundFact c now r → l.until ≡ r.opened + c.times.expire → reads c s now < l.until
@@ -72,7 +74,8 @@ answers_apart c clocks w z s t gw gz later other sm tm l m g h a b gf g_site l_t
     go (Apart.First f) = inr (f.release, f.fact, f.site ∙ a_site, let x = f.term in omega (arith, a_term))
     go (Apart.Second f) = absurd (let n = m_above f.release f.fact (f.site ∙ b_site) in let x = f.term in omega (arith, n, b_term))
 
--- Two sites that hold, the one early and the other late: the moments are apart, or the first lease was released.
+-- Two sites that hold, the one early and the other late: the moments are apart, or the first lease
+-- was released.
 pub apart_or_freed :
     (c : Cluster) → HasClocks c → (w z : WorldState) (s t : ℕ) → Good c w → Good c z → Later w z → s ≢ t
     → s < c.members → t < c.members
@@ -101,34 +104,38 @@ one_holds c clocks w s t g hs ht = go (ℕ_discrete s t)
   where
     never : s ≢ t → ⊥
     never other =
-        let k = hs.1 in
-        let k_lease = lease_in_force (k.0).lease _ k.2 in
-        let n = ht.1 in
-        let n_lease = lease_in_force (n.0).lease _ n.2 in
-        let ls = (g.each s).lease k.0 k.1 k_lease.0 k_lease.1 in
-        let lt = (g.each t).lease n.0 n.1 n_lease.0 n_lease.1 in
+        let k_lease = lease_in_force (hs.0).lease _ hs.1.in_force in
+        let n_lease = lease_in_force (ht.0).lease _ ht.1.in_force in
+        let ls = (g.each s).lease hs.0 hs.1.may k_lease.0 k_lease.1 in
+        let lt = (g.each t).lease ht.0 ht.1.may n_lease.0 n_lease.1 in
         ⊎_elim
         (λ (apart : IsApart c w w). let a : 1000000 * c.times.after < 1001000 * (w.now - w.now) = apart in omega arith)
         (λ (f : (r : Release) × Has w.facts.releases r × (r.site ≡ s) × (k_lease.0.term ≤ r.term)). let l = ls.above f.0 f.1 f.2 in let m = f.3 in omega arith)
-        (apart_or_freed c clocks w w s t g g (same_later w) other hs.0 ht.0 k_lease.0 n_lease.0 ls lt k_lease.2 n_lease.2)
+        (apart_or_freed c clocks w w s t g g (same_later w) other hs.1.below ht.1.below k_lease.0 n_lease.0 ls lt k_lease.2 n_lease.2)
 
     go : Dec (s ≡ t) → s ≡ t
     go (yes e) = e
     go (no other) = absurd (never other)
 
 -- at two moments
-pub two_hold : (c : Cluster) → HasClocks c → (w z : WorldState) (s t : ℕ) → Good c w → Good c z → Later w z → s ≢ t → Held c w s → Held c z t → IsApart c w z ⊎ ReleasedBetween w z s
-two_hold c clocks w z s t gw gz later other hs ht =
-    let k = hs.1 in
-    let k_lease = lease_in_force (k.0).lease _ k.2 in
-    let n = ht.1 in
-    let n_lease = lease_in_force (n.0).lease _ n.2 in
-    let ls = (gw.each s).lease k.0 k.1 k_lease.0 k_lease.1 in
-    let lt = (gz.each t).lease n.0 n.1 n_lease.0 n_lease.1 in
+pub two_hold : (c : Cluster) → HasClocks c → (w z : WorldState) (s t : ℕ) → Good c w → Good c z → Later w z → s ≢ t
+    → (k : KeptRecord) → IsHeldBy c w s k → Held c z t → IsApart c w z ⊎ ReleasedBetween w z s k
+two_hold c clocks w z s t gw gz later other k hs ht =
+    let k_lease = lease_in_force k.lease _ hs.in_force in
+    let n_lease = lease_in_force (ht.0).lease _ ht.1.in_force in
+    let ls = (gw.each s).lease k hs.may k_lease.0 k_lease.1 in
+    let lt = (gz.each t).lease ht.0 ht.1.may n_lease.0 n_lease.1 in
     ⊎_elim
     (λ (apart : IsApart c w z). inl apart)
     (λ (f : (r : Release) × Has z.facts.releases r × (r.site ≡ s) × (k_lease.0.term ≤ r.term)). ⊎_elim
     (λ (old : Has w.facts.releases f.0). absurd (let l = ls.above f.0 old f.2 in let m = f.3 in omega arith))
-    (λ (new : w.now ≤ (f.0).at). inr (f.0, f.1, f.2, new, gz.facts.releases f.0 f.1))
+    (λ (new : w.now ≤ (f.0).at). inr (record {
+      release = f.0;
+      fact = f.1;
+      gives_back = (f.2, λ l e. subst (λ (l : Lease). l.term ≤ (f.0).term) (some_same k_lease.0 l (sym k_lease.1 ∙ e)) f.3);
+      fresh = λ old. let l = ls.above f.0 old f.2 in let m = f.3 in omega arith;
+      since = new;
+      until = gz.facts.releases f.0 f.1;
+    }))
     (later.releases f.0 f.1))
-    (apart_or_freed c clocks w z s t gw gz later other hs.0 ht.0 k_lease.0 n_lease.0 ls lt k_lease.2 n_lease.2)
+    (apart_or_freed c clocks w z s t gw gz later other hs.below ht.1.below k_lease.0 n_lease.0 ls lt k_lease.2 n_lease.2)

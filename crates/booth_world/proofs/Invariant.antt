@@ -2,10 +2,9 @@
 use Rattle.std.proofs.Common.{◌⊎◌, ◌≡◌, ◌≢◌, ℕ, ◌+◌, ◌<◌, ◌≤◌, List, Bool, true, false}
 use Rattle.std.specs.Prelude.{Option, Some}
 use Rattle.booth_rec.specs.declared.record.Lease.{Lease}
-use Rattle.booth_rec.specs.declared.record.Record.{Record}
 use Rattle.booth_node.specs.Clock.{Cluster, reads, promise_time}
 use Rattle.booth_world.specs.Facts.{Has, Round, Answer, Gain, Release, Facts, IsMajority}
-use Rattle.booth_world.specs.States.{Promise, MemberState, WorldState}
+use Rattle.booth_world.specs.States.{KeptRecord, Promise, MemberState, WorldState}
 
 -- ---- answers
 
@@ -30,7 +29,8 @@ StateGuard c a x = (x.up ≡ false) ⊎ Covers c a x.abstain x.promise
 abbrev pub Guard : Cluster → Answer → MemberState → Type 0
 Guard c a x = StateGuard c a x
 
--- why a member that gave this answer gives none to another site: its promise has passed, or was freed, or is guarded
+-- why a member that gave this answer gives none to another site: its promise has passed, or was
+-- freed, or is guarded
 pub data Stands (c : Cluster) (releases : List Release) (a : Answer) (reading : ℕ) (guard : Type 0) : Type 0 where
   Passed : a.reading + promise_time c ≤ reading → Stands c releases a reading guard
   Free : Freed releases a.round → Stands c releases a reading guard
@@ -43,15 +43,16 @@ pub record ClockGood (c : Cluster) (now m reading at : ℕ) : Type 0 where
   pub clock : reading ≡ reads c m at
   pub past : at ≤ now
 
--- a member may have kept some record, and each has a term at least that of each round and release of the member
-pub record MayGood (rounds : List Round) (releases : List Release) (m : ℕ) (may : List Record) : Type 0 where
-  pub some : (k : Record) × Has may k
-  pub own_rounds : (r : Round) → Has rounds r → r.site ≡ m → (k : Record) → Has may k → r.term ≤ k.term
-  pub own_releases : (r : Release) → Has releases r → r.site ≡ m → (k : Record) → Has may k → r.term ≤ k.term
+-- a member may have kept some record, and each has a term at least that of each round and release
+-- of the member
+pub record MayGood (rounds : List Round) (releases : List Release) (m : ℕ) (may : List KeptRecord) : Type 0 where
+  pub some : (k : KeptRecord) × Has may k
+  pub own_rounds : (r : Round) → Has rounds r → r.site ≡ m → (k : KeptRecord) → Has may k → r.term ≤ k.term
+  pub own_releases : (r : Release) → Has releases r → r.site ≡ m → (k : KeptRecord) → Has may k → r.term ≤ k.term
 
 -- a running member's term is at least that of each record that it may have kept
-abbrev pub TermGood : Bool → ℕ → List Record → Type 0
-TermGood up term may = up ≡ true → (k : Record) → Has may k → k.term ≤ term
+abbrev pub TermGood : Bool → ℕ → List KeptRecord → Type 0
+TermGood up term may = up ≡ true → (k : KeptRecord) → Has may k → k.term ≤ term
 
 -- an open round is a fact of its site and term, above the site's releases, and the last of its term
 pub record RoundGood (rounds : List Round) (releases : List Release) (m term : ℕ) (r : Round) : Type 0 where
@@ -85,7 +86,7 @@ pub record MemberGood (c : Cluster) (now : ℕ) (f : Facts) (m : ℕ) (x : Membe
   pub may : MayGood f.rounds f.releases m x.may
   pub term : TermGood x.up x.term x.may
   pub round : (r : Round) → x.round ≡ Some r → RoundGood f.rounds f.releases m x.term r
-  pub lease : (k : Record) → Has x.may k → (l : Lease) → k.lease ≡ Some l → LeaseGood c f.leases f.releases m l
+  pub lease : (k : KeptRecord) → Has x.may k → (l : Lease) → k.lease ≡ Some l → LeaseGood c f.leases f.releases m l
   pub promise : (p : Promise) → x.promise ≡ Some p → PromiseGood x.term x.reading x.abstain p
   pub answers : (a : Answer) → Has f.answers a → a.member ≡ m → AnswerGood c f.releases a x.reading (Guard c a x)
 
@@ -98,7 +99,8 @@ pub record RoundFact (c : Cluster) (now : ℕ) (r : Round) : Type 0 where
   pub clock : r.opened ≡ reads c r.site r.at
   pub past : r.at ≤ now
 
--- an answer is a member's to a round of the facts, at a reading of its clock no earlier than the round
+-- an answer is a member's to a round of the facts, at a reading of its clock no earlier than the
+-- round
 pub record AnswerFact (c : Cluster) (now : ℕ) (rounds : List Round) (a : Answer) : Type 0 where
   pub below : a.member < c.members
   pub clock : a.reading ≡ reads c a.member a.at
@@ -114,8 +116,8 @@ pub record LeaseFact (c : Cluster) (now : ℕ) (rounds : List Round) (answers : 
   pub answered : (m : ℕ) → Has g.answers m
       → (a : Answer) × (Has answers a) × (a.member ≡ m) × (a.round ≡ g.round) × (a.at ≤ g.at)
 
--- Two answers of one member to two sites: one came a whole promise after the other, or one was freed. The state alone
--- forgets which came first, so this is said of the facts.
+-- Two answers of one member to two sites: one came a whole promise after the other, or one was
+-- freed. The state alone forgets which came first, so this is said of the facts.
 pub data Apart (c : Cluster) (releases : List Release) (a b : Answer) : Type 0 where
   Before : a.reading + promise_time c ≤ b.reading → Apart c releases a b
   After : b.reading + promise_time c ≤ a.reading → Apart c releases a b

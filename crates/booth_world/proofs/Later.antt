@@ -4,7 +4,7 @@ use native.Mathlib.Nat.{le_refl}
 use Rattle.booth_node.specs.Clock.{Cluster}
 use Rattle.booth_world.specs.Facts.{Has, Gain, Release, Facts}
 use Rattle.booth_world.specs.States.{MemberState, WorldState}
-use Rattle.booth_world.specs.Steps.{MemberStep, WorldStep, Elects, Renews, Promises, Answers, Gains, TriesKeep, HasKept, Releases, Clears, Learns, Crashes, Starts, ReadsClock, Does, Passes, facts_after, MayStep, happens, IsRun, after_steps}
+use Rattle.booth_world.specs.Steps.{MemberStep, WorldStep, Elects, Renews, Promises, Answers, Gains, TriesKeep, HasKept, Releases, Clears, Learns, Crashes, Starts, ReadsClock, MemberDoes, Passes, facts_after, MayStep, happens, IsRun, after_steps}
 use Rattle.booth_world.proofs.Lists.{new_or_old}
 
 -- time and facts only grow, and what is released later is released at a later time
@@ -43,7 +43,7 @@ member_grows now m x (Starts k) f = grows_none now f
 member_grows now m x ReadsClock f = grows_none now f
 
 pub step_later : (c : Cluster) (w : WorldState) (step : WorldStep) → MayStep c w step → Later w (happens c w step)
-step_later c w (Does m step) may = let q = member_grows w.now m (w.member m) step w.facts in record { now = le_refl _; leases = q.leases; releases = q.releases }
+step_later c w (MemberDoes m step) may = let q = member_grows w.now m (w.member m) step w.facts in record { now = le_refl _; leases = q.leases; releases = q.releases }
 step_later c w (Passes time) may = record { now = may.later; leases = λ g h. h; releases = λ r h. inl h }
 
 later_more : (w x z : WorldState) → Later w x → Later x z → Later w z

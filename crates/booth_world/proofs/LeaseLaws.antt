@@ -3,10 +3,9 @@ use Rattle.std.proofs.Common.{◌≡◌, ℕ, ◌≤◌, List, [], ◌∷◌, re
 use Rattle.std.specs.Prelude.{Option, Some, None}
 use native.Mathlib.Nat.{le_of_eq, le_refl}
 use Rattle.booth_rec.specs.declared.record.Lease.{Lease}
-use Rattle.booth_rec.specs.declared.record.Record.{Record}
 use Rattle.booth_node.specs.Clock.{Cluster}
 use Rattle.booth_world.specs.Facts.{Has, Round, Gain, Facts}
-use Rattle.booth_world.specs.States.{MemberState}
+use Rattle.booth_world.specs.States.{KeptRecord, MemberState}
 use Rattle.booth_world.specs.Leases.{IsWon, MayLease, MayKeep}
 use Rattle.booth_world.specs.Steps.{Gains, TriesKeep, HasKept}
 use Rattle.booth_world.proofs.Lists.{new_or_old, none_is, some_same}
@@ -54,7 +53,7 @@ kept_lease :
     → MemberGood c now f m x → MayLease c f x o → o ≡ Some l → LeaseGood c f.leases f.releases m l
 kept_lease c now f m x None l i may e = absurd (none_is l e)
 kept_lease c now f m x (Some q) l i may e = subst (λ (y : Lease). LeaseGood c f.leases f.releases m y) (some_same q l e) (⊎_elim
-    (λ (old : (k : Record) × Has x.may k × (k.lease ≡ Some q)). i.lease old.0 old.1 q old.2)
+    (λ (old : (k : KeptRecord) × Has x.may k × (k.lease ≡ Some q)). i.lease old.0 old.1 q old.2)
     (λ (won : IsWon c f x q).
     let r = i.round won.gained.round won.open_round in
     record {
@@ -69,8 +68,8 @@ kept_lease c now f m x (Some q) l i may e = subst (λ (y : Lease). LeaseGood c f
 
 -- what is kept beside what may be kept already
 joins :
-    (c : Cluster) (now : ℕ) (f : Facts) (m : ℕ) (x : MemberState) (k : Record) (rest : List Record)
-    → MemberGood c now f m x → FactsGood c now f → MayKeep c f m x k → ((y : Record) → Has rest y → Has x.may y)
+    (c : Cluster) (now : ℕ) (f : Facts) (m : ℕ) (x : MemberState) (k : KeptRecord) (rest : List KeptRecord)
+    → MemberGood c now f m x → FactsGood c now f → MayKeep c f m x k → ((y : KeptRecord) → Has rest y → Has x.may y)
     → Stays c now f m f (record x { may = k ∷ rest })
 joins c now f m x k rest i g may part =
     let first = i.may.some in
@@ -79,18 +78,18 @@ joins c now f m x k rest i g may part =
       clock = i.clock;
       may = record {
         some = (k, inl refl);
-        own_rounds = λ r h e. new_or_old (λ (z : Record). r.term ≤ z.term) k rest (let l = i.may.own_rounds r h e first.0 first.1 in omega arith) (λ y hy. i.may.own_rounds r h e y (part y hy));
-        own_releases = λ r h e. new_or_old (λ (z : Record). r.term ≤ z.term) k rest (let l = i.may.own_releases r h e first.0 first.1 in omega arith) (λ y hy. i.may.own_releases r h e y (part y hy));
+        own_rounds = λ r h e. new_or_old (λ (z : KeptRecord). r.term ≤ z.term) k rest (let l = i.may.own_rounds r h e first.0 first.1 in omega arith) (λ y hy. i.may.own_rounds r h e y (part y hy));
+        own_releases = λ r h e. new_or_old (λ (z : KeptRecord). r.term ≤ z.term) k rest (let l = i.may.own_releases r h e first.0 first.1 in omega arith) (λ y hy. i.may.own_releases r h e y (part y hy));
       };
-      term = λ up. new_or_old (λ (z : Record). z.term ≤ x.term) k rest (le_of_eq may.own_term) (λ y hy. i.term up y (part y hy));
+      term = λ up. new_or_old (λ (z : KeptRecord). z.term ≤ x.term) k rest (le_of_eq may.own_term) (λ y hy. i.term up y (part y hy));
       round = i.round;
-      lease = new_or_old (λ (z : Record). (l : Lease) → z.lease ≡ Some l → LeaseGood c f.leases f.releases m l) k rest (λ l e. kept_lease c now f m x k.lease l i may.lease e) (λ y hy. i.lease y (part y hy));
+      lease = new_or_old (λ (z : KeptRecord). (l : Lease) → z.lease ≡ Some l → LeaseGood c f.leases f.releases m l) k rest (λ l e. kept_lease c now f m x k.lease l i may.lease e) (λ y hy. i.lease y (part y hy));
       promise = i.promise;
       answers = i.answers;
     })
 
-pub tries : (c : Cluster) (now : ℕ) (f : Facts) (m : ℕ) (x : MemberState) (k : Record) → Law c now f m x (TriesKeep k)
+pub tries : (c : Cluster) (now : ℕ) (f : Facts) (m : ℕ) (x : MemberState) (k : KeptRecord) → Law c now f m x (TriesKeep k)
 tries c now f m x k i g below may = joins c now f m x k x.may i g may (λ y h. h)
 
-pub keeps : (c : Cluster) (now : ℕ) (f : Facts) (m : ℕ) (x : MemberState) (k : Record) → Law c now f m x (HasKept k)
+pub keeps : (c : Cluster) (now : ℕ) (f : Facts) (m : ℕ) (x : MemberState) (k : KeptRecord) → Law c now f m x (HasKept k)
 keeps c now f m x k i g below may = joins c now f m x k [] i g may (λ y n. absurd n)

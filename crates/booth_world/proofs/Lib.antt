@@ -23,4 +23,10 @@ pub mod OpenSteps
 pub mod KeptSteps
 pub mod DueSteps
 pub mod CallSteps
-pub mod StandingLemmas
+pub mod StabilityLemmas
+pub mod CoreSteps
+pub mod CoreRuns
+pub mod TurnKeeps
+pub mod TurnPlaces
+pub mod HostSteps
+pub mod LoneRuns

@@ -1,10 +1,9 @@
 -- Learning a term, crashing, starting and the passing of time keep what holds.
 use Rattle.std.proofs.Common.{ℕ, ◌<◌, ◌≤◌, List, false, refl, sym, ap, ◌∙◌, subst, inl, inr, length, arith}
 use native.Mathlib.Nat.{le_of_eq, le_refl}
-use Rattle.booth_rec.specs.declared.record.Record.{Record}
 use Rattle.booth_node.specs.Clock.{Cluster, HasClocks, reads}
 use Rattle.booth_world.specs.Facts.{Answer, Release, Facts}
-use Rattle.booth_world.specs.States.{MemberState, WorldState}
+use Rattle.booth_world.specs.States.{KeptRecord, MemberState, WorldState}
 use Rattle.booth_world.specs.Steps.{Learns, Crashes, Starts, ReadsClock, Passes, MayStep, happens}
 use Rattle.booth_world.proofs.Lists.{none_is}
 use Rattle.booth_world.proofs.Invariant.{Covers, StateGuard, Guard, Stands, Good}
@@ -39,18 +38,18 @@ crashes c now f m x i g below may =
     })
 
 -- start
-pub starts : (c : Cluster) (now : ℕ) (f : Facts) (m : ℕ) (x : MemberState) (k : Record) → Law c now f m x (Starts k)
+pub starts : (c : Cluster) (now : ℕ) (f : Facts) (m : ℕ) (x : MemberState) (k : KeptRecord) → Law c now f m x (Starts k)
 starts c now f m x k i g below may =
     facts_stay c now f m _ g (record {
       clock = i.clock;
       may = record {
         some = (k, inl refl);
-        own_rounds = λ r h e z hz. subst (λ (y : Record). r.term ≤ y.term) (only_one k z hz) (i.may.own_rounds r h e k may.fact);
-        own_releases = λ r h e z hz. subst (λ (y : Record). r.term ≤ y.term) (only_one k z hz) (i.may.own_releases r h e k may.fact);
+        own_rounds = λ r h e z hz. subst (λ (y : KeptRecord). r.term ≤ y.term) (only_one k z hz) (i.may.own_rounds r h e k may.fact);
+        own_releases = λ r h e z hz. subst (λ (y : KeptRecord). r.term ≤ y.term) (only_one k z hz) (i.may.own_releases r h e k may.fact);
       };
-      term = λ up z hz. let e = only_one k z hz in le_of_eq (ap (λ (y : Record). y.term) (sym e));
+      term = λ up z hz. let e = only_one k z hz in le_of_eq (ap (λ (y : KeptRecord). y.term) (sym e));
       round = λ r e. absurd (none_is r e);
-      lease = λ z hz l e. i.lease k may.fact l (ap (λ (y : Record). y.lease) (only_one k z hz) ∙ e);
+      lease = λ z hz l e. i.lease k may.fact l (ap (λ (y : KeptRecord). y.lease) (only_one k z hz) ∙ e);
       promise = λ p e. absurd (none_is p e);
       answers = λ a h e. let b = i.answers a h e in let l = b.past in record { past = l; stands = Stands.Guarded (inr (Covers.Abstains (omega arith))) };
     })

@@ -2,10 +2,9 @@
 use Rattle.std.proofs.Common.{◌≡◌, ℕ, ◌+◌, ◌<◌, ◌≤◌, ◌∷◌, true, refl, sym, ap, ◌∙◌, subst, inl, inr, ⊎_elim, arith}
 use Rattle.std.specs.Prelude.{Option, Some}
 use native.Mathlib.Nat.{le_of_eq, le_refl}
-use Rattle.booth_rec.specs.declared.record.Record.{Record}
 use Rattle.booth_node.specs.Clock.{Cluster}
 use Rattle.booth_world.specs.Facts.{Has, Round, Release, Facts}
-use Rattle.booth_world.specs.States.{MemberState}
+use Rattle.booth_world.specs.States.{KeptRecord, MemberState}
 use Rattle.booth_world.specs.Rounds.{new_round}
 use Rattle.booth_world.specs.Steps.{Elects, Renews}
 use Rattle.booth_world.proofs.Lists.{new_or_old, some_same}
@@ -16,7 +15,7 @@ use Rattle.booth_world.proofs.Stays.{Stays, Law}
 opens :
     (c : Cluster) (now : ℕ) (f : Facts) (m : ℕ) (x : MemberState) (number : ℕ) (b : Option ℕ)
     → MemberGood c now f m x → FactsGood c now f → m < c.members → c.is_site m ≡ true
-    → ((k : Record) → Has x.may k → x.term ≤ k.term)
+    → ((k : KeptRecord) → Has x.may k → x.term ≤ k.term)
     → ((z : Release) → Has f.releases z → z.site ≡ m → z.term < x.term)
     → ((z : Round) → Has f.rounds z → z.site ≡ m → z.term ≡ x.term → z.number < number)
     → Stays c now f m (record f { rounds = new_round m x number ∷ f.rounds }) (record x { bound = b; round = Some (new_round m x number) })
@@ -31,7 +30,7 @@ opens c now f m x number b i g below site least above fresh =
         may = record {
           some = i.may.some;
           own_releases = i.may.own_releases;
-          own_rounds = new_or_old (λ (r : Round). r.site ≡ m → (k : Record) → Has x.may k → r.term ≤ k.term) new f.rounds (λ e. least) i.may.own_rounds;
+          own_rounds = new_or_old (λ (r : Round). r.site ≡ m → (k : KeptRecord) → Has x.may k → r.term ≤ k.term) new f.rounds (λ e. least) i.may.own_rounds;
         };
         term = i.term;
         round = λ r e. subst (λ (y : Round). RoundGood rs f.releases m x.term y) (some_same new r e)
@@ -45,7 +44,7 @@ opens c now f m x number b i g below site least above fresh =
         may = record {
           some = j.may.some;
           own_releases = j.may.own_releases;
-          own_rounds = new_or_old (λ (r : Round). r.site ≡ k → (q : Record) → Has y.may q → r.term ≤ q.term) new f.rounds (λ e. absurd (other (sym e))) j.may.own_rounds;
+          own_rounds = new_or_old (λ (r : Round). r.site ≡ k → (q : KeptRecord) → Has y.may q → r.term ≤ q.term) new f.rounds (λ e. absurd (other (sym e))) j.may.own_rounds;
         };
         term = j.term;
         round = λ r e. let q = j.round r e in record {

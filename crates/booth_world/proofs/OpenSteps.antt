@@ -19,28 +19,29 @@ use Rattle.booth_raft.specs.Members.{is_leader, is_same, is_majority, joined_by,
 use Rattle.booth_raft.specs.Outcome.{Outcome, saying}
 use Rattle.booth_node.specs.Clock.{Cluster, HasClocks}
 use Rattle.booth_world.specs.Facts.{Has, Round, Facts}
-use Rattle.booth_world.specs.States.{MemberState}
+use Rattle.booth_world.specs.States.{Promise, MemberState}
 use Rattle.booth_world.specs.Rounds.{new_promise, new_answer, round_left}
 use Rattle.booth_world.specs.Steps.{MemberStep, Promises, Answers, member_after, facts_after}
-use Rattle.booth_world.specs.Doings.{DoesAll, member_after_all, facts_after_all}
-use Rattle.booth_world.specs.Agreement.{AreIds, seat, bound_in, promise_in, IsOpen, Agrees}
+use Rattle.booth_world.specs.MemberRuns.{IsMemberRun, member_after_all, facts_after_all}
+use Rattle.booth_world.specs.Agreement.{seat, bound_in, promise_in, IsOpen, Agrees}
 use Rattle.booth_world.specs.Messages.{IsFact, RoundSaid}
+use Rattle.booth_world.specs.Gives.{mark_of}
 use Rattle.booth_world.proofs.Lists.{none_is, some_same}
 use Rattle.booth_world.proofs.Invariant.{RoundGood, MemberGood, FactsGood}
-use Rattle.booth_world.proofs.Views.{on_cond, on_test, SameParts, nothing_waits, agrees_same, rests, leads_on}
+use Rattle.booth_world.proofs.Views.{on_cond, on_test, SameParts, nothing_waits, agrees_same, rests, leads_on, IsPlaced, adds_answer}
 use Rattle.booth_raft.specs.AskAndRenew.{answers_itself, asking_all, opened}
 use Rattle.booth_raft.specs.GainReleaseLost.{gain}
 use Rattle.booth_raft.specs.Messages.{asks_all, round_cmd, kind_of, round_head, round_part}
 use Rattle.booth_raft.specs.declared.deed.Told.TheVariants as tells
 use Rattle.booth_raft.specs.declared.view.TheConstants.{MOST_MEMBERS}
 use Rattle.booth_raft.proofs.AnswerLemmas.{is_same-true}
-use Rattle.booth_world.proofs.HearSteps.{Leads, untrue}
+use Rattle.booth_world.proofs.HearSteps.{LeadsToOutcome, untrue}
 use Rattle.booth_world.proofs.Places.{set_before, none_set}
 use Rattle.booth_world.proofs.GainSteps.{gains_lease, first_of, second_of}
 use Rattle.booth_world.proofs.StepLaws.{kind_good}
 
 -- the invariant goes on over steps of one member
-pub steps_good : (c : Cluster) → HasClocks c → (now m : ℕ) → m < c.members → (f : Facts) (x : MemberState) (steps : List MemberStep) → DoesAll c now m f x steps
+pub steps_good : (c : Cluster) → HasClocks c → (now m : ℕ) → m < c.members → (f : Facts) (x : MemberState) (steps : List MemberStep) → IsMemberRun c now m f x steps
     → MemberGood c now f m x → FactsGood c now f
     → MemberGood c now (facts_after_all c now m f x steps) m (member_after_all c now m x steps) × FactsGood c now (facts_after_all c now m f x steps)
 steps_good c clocks now m below f x [] does good facts = (good, facts)
@@ -83,15 +84,15 @@ pub record IsNew (f : Facts) (m : ℕ) (x : MemberState) (number : ℕ) (own : R
   pub opened_now : own.opened ≡ x.reading
   pub at_once : own.at ≡ x.at
 
-module _ (c : Cluster) (id_of : ℕ → MemberId) (ids : AreIds id_of) (now m : ℕ) (setup : Setup) where
+module _ (c : Cluster) (id_of : ℕ → MemberId) (now m : ℕ) (ids : IsPlaced c id_of m) (setup : Setup) where
   -- a round that is open asks all, or gives its lease at once
   asks_or_gains : (f : Facts) (x : MemberState) (view : View) (round : ViewRound) (number : ℕ) → MemberGood c now f m x → FactsGood c now f → view.waiting ≡ None
       → Agrees c id_of f m view x → IsOpen f m round x.round → round.number ≡ number → round.opened ≡ x.reading → 0 < c.times.expire
-      → Leads c id_of now m f x
+      → LeadsToOutcome c id_of now m f x
       (cond (is_majority (seat c id_of m setup) round.answers) (gain (seat c id_of m setup) view round x.reading) (saying (asking_all (seat c id_of m setup) view x.reading) (asks_all (seat c id_of m setup) view number x.reading) tells.Nothing))
   asks_or_gains f x view round number good facts none a o same_number now_opened lasts =
-      on_test (λ (q : Outcome). Leads c id_of now m f x q) (is_majority (seat c id_of m setup) round.answers) _ _
-      (λ most. gains_lease c id_of ids now m f x setup view round good facts a o most (omega (arith, now_opened, lasts)))
+      on_test (λ (q : Outcome). LeadsToOutcome c id_of now m f x q) (is_majority (seat c id_of m setup) round.answers) _ _
+      (λ most. gains_lease c id_of now m ids f x setup view round good facts a o most (omega (arith, now_opened, lasts)))
       (λ few. rests c id_of now m f x _ _
       (agrees_same c id_of f m at_site _ x asking at_site_agrees)
       (round_said id_of f m (round_head (seat c id_of m setup) view number) (round_part (seat c id_of m setup) view x.reading) (kind_of number) (o.own, r.fact, o.site, r.same ∙ sym a.term, o.number ∙ same_number)))
@@ -112,6 +113,7 @@ module _ (c : Cluster) (id_of : ℕ → MemberId) (ids : AreIds id_of) (now m : 
         bound = a.bound;
         promise = a.promise;
         abstain = a.abstain;
+        within = a.within;
         kept = a.kept;
         round = a.round;
         tried = nothing_waits _ view.waiting none;
@@ -144,13 +146,13 @@ module _ (c : Cluster) (id_of : ℕ → MemberId) (ids : AreIds id_of) (now m : 
         round = Some (round_by view.term number reading b);
       }
 
-  -- a round is opened: where the member may answer itself, a promise and an answer; then all are asked, or the lease is
-  -- gained
+  -- a round is opened: where the member may answer itself, a promise and an answer; then all are
+  -- asked, or the lease is gained
   opened_by : HasClocks c → m < c.members → (f : Facts) (x : MemberState) (view : View) (number : ℕ) (own : Round) (b : Bool)
       → MemberGood c now f m x → FactsGood c now f → view.waiting ≡ None → Agrees c id_of f m (record view { round = None }) x
       → IsNew f m x number own → x.bound ≡ Some m → 0 < c.times.expire
       → (b ≡ true → (x.abstain ≤ x.reading) × ForSome x.promise (λ p. p.to ≢ m → p.until ≤ x.reading))
-      → Leads c id_of now m f x
+      → LeadsToOutcome c id_of now m f x
       (cond (is_majority (seat c id_of m setup) (cond b (joined_by nobody m) nobody)) (gain (seat c id_of m setup) (view_by view number x.reading b) (round_by view.term number x.reading b) x.reading) (saying (asking_all (seat c id_of m setup) (view_by view number x.reading b) x.reading) (asks_all (seat c id_of m setup) (view_by view number x.reading b) number x.reading) tells.Nothing))
   unfolding round_by view_by
   opened_by clocks below f x view number own false good facts none a n to_me lasts may =
@@ -161,6 +163,7 @@ module _ (c : Cluster) (id_of : ℕ → MemberId) (ids : AreIds id_of) (now m : 
         bound = a.bound;
         promise = a.promise;
         abstain = a.abstain;
+        within = a.within;
         kept = a.kept;
         round = λ q e. subst (λ (q : ViewRound). IsOpen f m q x.round) (some_same _ q e) is_open;
         tried = nothing_waits _ view.waiting none;
@@ -182,7 +185,7 @@ module _ (c : Cluster) (id_of : ℕ → MemberId) (ids : AreIds id_of) (now m : 
         answered = λ k h. absurd (untrue (sym (none_set MOST_MEMBERS k) ∙ h));
       }
   opened_by clocks below f x view number own true good facts none a n to_me lasts may =
-      leads_on c id_of now m f x x.reading _ _ steps does
+      leads_on c id_of (mark_of now m x) f x _ steps does f.releases (adds_answer (mark_of now m x) f (new_answer m x own) (refl, refl, refl))
       (asks_or_gains f' x' (view_by view number x.reading true) (round_by view.term number x.reading true) number on.0 on.1 none
       (record {
         up = a.up;
@@ -190,6 +193,7 @@ module _ (c : Cluster) (id_of : ℕ → MemberId) (ids : AreIds id_of) (now m : 
         bound = a.bound ∙ ap (bound_in id_of) to_me;
         promise = ap (λ (t : ℕ). let o : Option ViewPromise = Some (record { to = id_of m; term = t; until = x.reading + promise_of c.times }) in o) a.term;
         abstain = a.abstain;
+        within = record { bound_below = λ s e. subst (λ (s : ℕ). s < c.members) (some_same m s e) below; promise_below = λ p e. subst (λ (p : Promise). p.to < c.members) (some_same _ p e) below };
         kept = a.kept;
         round = λ q e. subst (λ (q : ViewRound). IsOpen f' m q x'.round) (some_same _ q e) is_open;
         tried = nothing_waits _ view.waiting none;
@@ -209,7 +213,7 @@ module _ (c : Cluster) (id_of : ℕ → MemberId) (ids : AreIds id_of) (now m : 
       x' : MemberState
       x' = member_after_all c now m x steps
 
-      does : DoesAll c now m f x steps
+      does : IsMemberRun c now m f x steps
       does = (
         record {
           up = a.up;
@@ -255,7 +259,7 @@ module _ (c : Cluster) (id_of : ℕ → MemberId) (ids : AreIds id_of) (now m : 
   pub opens_round : HasClocks c → m < c.members → (f : Facts) (x : MemberState) (view : View) (number : ℕ) (own : Round)
       → MemberGood c now f m x → FactsGood c now f → view.waiting ≡ None → Agrees c id_of f m (record view { round = None }) x
       → IsNew f m x number own → x.bound ≡ Some m → 0 < c.times.expire
-      → Leads c id_of now m f x (opened (seat c id_of m setup) view number x.reading)
+      → LeadsToOutcome c id_of now m f x (opened (seat c id_of m setup) view number x.reading)
   unfolding round_by view_by
   opens_round clocks below f x view number own good facts none a n to_me lasts =
       opened_by clocks below f x view number own (answers_itself (seat c id_of m setup) view x.reading) good facts none a n to_me lasts
@@ -264,5 +268,5 @@ module _ (c : Cluster) (id_of : ℕ → MemberId) (ids : AreIds id_of) (now m : 
         λ p e other. free_of view.promise (id_of m) x.reading (second_of (nat_le view.abstain x.reading) _ test)
             (record { to = id_of p.to; term = p.term; until = p.until })
             (a.promise ∙ ap (promise_in id_of) e)
-            (λ same. other (ids p.to m same)),
+            (λ same. other (ids.apart p.to m (a.within.promise_below p e) below same)),
       ))

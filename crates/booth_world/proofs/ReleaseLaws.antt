@@ -3,10 +3,9 @@ use Rattle.std.proofs.Common.{◌≡◌, ◌⊎◌, ℕ, ◌<◌, ◌≤◌, Lis
 use Rattle.std.specs.Prelude.{Option, Some, None, if◌then◌else◌, ◌==◌, ◌&&◌, nat_lt, not}
 use Rattle.std.proofs.lemmas.Bool.Decides.{nat_tests}
 use native.Mathlib.Nat.{le_of_eq, le_refl}
-use Rattle.booth_rec.specs.declared.record.Record.{Record}
 use Rattle.booth_node.specs.Clock.{Cluster}
 use Rattle.booth_world.specs.Facts.{Has, Round, Answer, Release, Facts}
-use Rattle.booth_world.specs.States.{Promise, MemberState}
+use Rattle.booth_world.specs.States.{KeptRecord, Promise, MemberState}
 use Rattle.booth_world.specs.Leases.{cleared, not_to}
 use Rattle.booth_world.specs.Steps.{Releases, Clears, member_after}
 use Rattle.booth_world.proofs.Lists.{new_or_old, none_is, some_same}
@@ -87,7 +86,7 @@ releases c now f m x i g below may =
         may = record {
           some = i.may.some;
           own_rounds = i.may.own_rounds;
-          own_releases = new_or_old (λ (r : Release). r.site ≡ m → (k : Record) → Has x.may k → r.term ≤ k.term) new f.releases (λ e k h. le_of_eq (sym (may.own_term k h))) i.may.own_releases;
+          own_releases = new_or_old (λ (r : Release). r.site ≡ m → (k : KeptRecord) → Has x.may k → r.term ≤ k.term) new f.releases (λ e k h. le_of_eq (sym (may.own_term k h))) i.may.own_releases;
         };
         term = i.term;
         round = λ r e. absurd (none_is r e);
@@ -103,7 +102,7 @@ releases c now f m x i g below may =
         may = record {
           some = j.may.some;
           own_rounds = j.may.own_rounds;
-          own_releases = new_or_old (λ (r : Release). r.site ≡ k → (q : Record) → Has y.may q → r.term ≤ q.term) new f.releases (λ e. absurd (other (sym e))) j.may.own_releases;
+          own_releases = new_or_old (λ (r : Release). r.site ≡ k → (q : KeptRecord) → Has y.may q → r.term ≤ q.term) new f.releases (λ e. absurd (other (sym e))) j.may.own_releases;
         };
         term = j.term;
         round = λ r e. let q = j.round r e in record {

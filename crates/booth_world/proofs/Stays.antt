@@ -1,9 +1,8 @@
 -- What each kind of step owes to the invariant, and what the kinds share.
 use Rattle.std.proofs.Common.{◌≡◌, ◌≢◌, ℕ, ◌<◌, List, [], ◌∷◌, true, false, ⊎_elim}
-use Rattle.booth_rec.specs.declared.record.Record.{Record}
 use Rattle.booth_node.specs.Clock.{Cluster}
 use Rattle.booth_world.specs.Facts.{Has, Answer, Release, Facts}
-use Rattle.booth_world.specs.States.{MemberState}
+use Rattle.booth_world.specs.States.{KeptRecord, MemberState}
 use Rattle.booth_world.specs.Steps.{MemberStep, May, member_after, facts_after}
 use Rattle.booth_world.proofs.Invariant.{Stands, MemberGood, FactsGood}
 
@@ -25,7 +24,7 @@ pub facts_stay : (c : Cluster) (now : ℕ) (f : Facts) (m : ℕ) (x' : MemberSta
 facts_stay c now f m x' g here = record { self = here; others = λ k y other h. h; facts = g }
 
 -- the only record of a list
-pub only_one : (k z : Record) → Has (k ∷ []) z → k ≡ z
+pub only_one : (k z : KeptRecord) → Has (k ∷ []) z → k ≡ z
 only_one k z h = ⊎_elim (λ (e : k ≡ z). e) (λ (n : ⊥). absurd n) h
 
 pub not_up : false ≡ true → ⊥

@@ -1,11 +1,9 @@
 -- The invariant holds in every world.
 use Rattle.std.proofs.Common.{◌≡◌, ◌<◌, List, [], ◌∷◌, refl, ap, ◌∙◌, inl, ⊎_elim}
 use native.Mathlib.Nat.{le_refl}
-use Rattle.booth_rec.specs.declared.record.Record.{Record}
-use Rattle.booth_rec.specs.Record.{no_record}
 use Rattle.booth_node.specs.Clock.{Cluster, HasClocks}
-use Rattle.booth_world.specs.States.{WorldState, opening}
-use Rattle.booth_world.specs.Steps.{WorldStep, Does, Passes, member_after, facts_after, MayStep, happens, IsRun, after_steps}
+use Rattle.booth_world.specs.States.{KeptRecord, none_kept, WorldState, opening}
+use Rattle.booth_world.specs.Steps.{WorldStep, MemberDoes, Passes, member_after, facts_after, MayStep, happens, IsRun, after_steps}
 use Rattle.booth_world.proofs.Lists.{put_all, none_is}
 use Rattle.booth_world.proofs.Invariant.{MemberGood, Good}
 use Rattle.booth_world.proofs.StepLaws.{kind_good}
@@ -16,10 +14,10 @@ pub opening_good : (c : Cluster) → 0 < c.span → Good c (opening c)
 opening_good c some = record {
   each = λ m. record {
     clock = record { clock = refl; past = le_refl _ };
-    may = record { some = (no_record, inl refl); own_rounds = λ r n. absurd n; own_releases = λ r n. absurd n };
+    may = record { some = (none_kept, inl refl); own_rounds = λ r n. absurd n; own_releases = λ r n. absurd n };
     term = λ up. absurd (cc);
     round = λ r e. absurd (none_is r e);
-    lease = λ k h l e. ⊎_elim (λ (q : no_record ≡ k). absurd (none_is l (ap (λ (y : Record). y.lease) q ∙ e))) (λ (n : ⊥). absurd n) h;
+    lease = λ k h l e. ⊎_elim (λ (q : none_kept ≡ k). absurd (none_is l (ap (λ (y : KeptRecord). y.lease) q ∙ e))) (λ (n : ⊥). absurd n) h;
     promise = λ p e. absurd (none_is p e);
     answers = λ a n. absurd n;
   };
@@ -36,7 +34,7 @@ opening_good c some = record {
 
 -- each step
 pub step_good : (c : Cluster) → HasClocks c → (w : WorldState) (step : WorldStep) → Good c w → MayStep c w step → Good c (happens c w step)
-step_good c clocks w (Does m step) g may =
+step_good c clocks w (MemberDoes m step) g may =
     let x = w.member m in
     let q = kind_good c clocks w.now w.facts m x step (g.each m) g.facts may.0 may.1 in
     record {

@@ -1,112 +1,141 @@
 -- Each call of the lease rules, and each answer of a keep, is a list of world steps of its member.
-use Rattle.std.specs.Prelude.{◌≡◌, ℕ, ◌<◌, List, Bool, true, false, None, IsTrue}
+use Rattle.std.specs.Prelude.{◌≡◌, ℕ, ◌<◌, List, [], ◌∷◌, Bool, true, false, None, IsTrue}
 use Rattle.booth_base.specs.declared.address.MemberId.{MemberId}
 use Rattle.booth_rec.specs.declared.record.Record.{Record}
-use Rattle.booth_wire.specs.declared.message.Head.{Head}
-use Rattle.booth_wire.specs.declared.message.Say.{Say}
 use Rattle.booth_wire.specs.declared.message.Say.TheVariants as says
 use Rattle.booth_wire.specs.declared.message.Setup.{Setup}
-use Rattle.booth_wire.specs.declared.message.TicketPart.{TicketPart}
-use Rattle.booth_raft.specs.declared.deed.Note.{Note}
 use Rattle.booth_raft.specs.declared.view.View.{View}
-use Rattle.booth_raft.specs.AskAndRenew.{ask, keep_answered, renewed}
-use Rattle.booth_raft.specs.Deadlines.{due_now, greeted, hello}
 use Rattle.booth_raft.specs.Facts.{ViewFacts}
-use Rattle.booth_raft.specs.GainReleaseLost.{release}
 use Rattle.booth_raft.specs.Members.{is_leader}
-use Rattle.booth_raft.specs.Notes.{noted}
-use Rattle.booth_raft.specs.OtherMessages.{heard}
-use Rattle.booth_raft.specs.Outcome.{Outcome}
 use Rattle.booth_raft.specs.RoundsAndAnswers.{MayAnswer}
 use Rattle.booth_raft.specs.Sound.{IsSound}
-use Rattle.booth_raft.specs.StartAndLearn.{started}
 use Rattle.booth_node.specs.Clock.{Cluster, HasClocks}
 use Rattle.booth_world.specs.Facts.{Has, Facts}
 use Rattle.booth_world.specs.States.{MemberState, WorldState, opening}
 use Rattle.booth_world.specs.Rounds.{MayPromise}
 use Rattle.booth_world.specs.Steps.{MemberStep, WorldStep, IsRun, after_steps, world_of}
-use Rattle.booth_world.specs.Doings.{DoesAll, member_after_all, facts_after_all, does_all}
-use Rattle.booth_world.specs.Agreement.{AreIds, IsSeated, Agrees}
-use Rattle.booth_world.specs.Messages.{IsFact, IsSaid}
+use Rattle.booth_world.specs.MemberRuns.{IsMemberRun, member_after_all, facts_after_all, world_steps}
+use Rattle.booth_world.specs.Agreement.{AreIds, IsSeated, records_in, Agrees}
+use Rattle.booth_world.specs.Messages.{IsFact}
+use Rattle.booth_world.specs.Gives.{may_answered, Mark, mark_of, releases_answered, Given, given_by, LeadsTo}
+use Rattle.booth_world.specs.Rules.{MemberLetter, CoreCall, Asks, Hears, RenewsLease, GivesBack, Rules}
 
 -- ---- may answer
 
 -- where a member may answer a round of a site, by its view, it may promise to it in the world
 abbrev pub PromisesWhereItMayAnswer : Type 0
 PromisesWhereItMayAnswer =
-    (c : Cluster) (id_of : ℕ → MemberId) (f : Facts) (m : ℕ) (view : View) (x : MemberState) → AreIds id_of → Agrees c id_of f m view x
-    → (site term : ℕ) → c.is_site site ≡ true → MayAnswer view (id_of site) term x.reading → MayPromise c x site term
+    (c : Cluster) (id_of : ℕ → MemberId) (f : Facts) (m : ℕ) (view : View) (x : MemberState)
+    → AreIds c.members id_of → Agrees c id_of f m view x
+    → (site term : ℕ) → site < c.members → c.is_site site ≡ true
+    → MayAnswer view (id_of site) term x.reading → MayPromise c x site term
 
--- ---- what a call leads to
+-- ---- a member that calls
 
--- the member has come to a state that agrees with the view, what is said is a fact, and it has read no clock
-pub record IsReached (c : Cluster) (id_of : ℕ → MemberId) (m reading : ℕ) (view : View) (say : Say) (f : Facts) (x : MemberState) : Type 0 where
-  pub agrees : Agrees c id_of f m view x
-  pub said : IsSaid id_of f m say
-  pub unread : x.reading ≡ reading
+-- A member as its callers know it: the ids of all places, its place, its setup and its view.
+pub record Caller : Type 0 where
+  pub id_of : ℕ → MemberId
+  pub place : ℕ
+  pub setup : Setup
+  pub view : View
 
--- steps of the member lead there
-abbrev pub LeadsTo : Cluster → (ℕ → MemberId) → ℕ → ℕ → Facts → MemberState → ℕ → View → Say → Type 0
-LeadsTo c id_of now m f x reading view say =
-    (steps : List MemberStep) × (DoesAll c now m f x steps)
-    × IsReached c id_of m reading view say (facts_after_all c now m f x steps) (member_after_all c now m x steps)
+-- a member of a world, with its setup and a view that agrees with its state
+pub record IsMember (c : Cluster) (w : WorldState) (member : Caller) : Type 0 where
+  pub ids : AreIds c.members member.id_of
+  pub below : member.place < c.members
+  pub seated : IsSeated c member.id_of member.place member.setup
+  pub sound : IsSound member.setup
+  pub view_facts : ViewFacts member.setup member.view
+  pub agrees : Agrees c member.id_of w.facts member.place member.view (w.member member.place)
+
+-- what holds of each member of each world that a list of steps leads to
+abbrev pub OfEachMember : (Cluster → WorldState → Caller → Type 0) → Type 0
+OfEachMember P =
+    (c : Cluster) → HasClocks c → (steps : List WorldStep) → IsRun c (opening c) steps
+    → (member : Caller) → IsMember c (world_of c steps) member → P c (world_of c steps) member
+
+abbrev pub state_of : WorldState → Caller → MemberState
+state_of w member = w.member member.place
+
+abbrev pub mark_at : WorldState → ℕ → Mark
+mark_at w m = mark_of w.now m (w.member m)
+
+-- ---- what a call gives
+
+-- steps of the member lead from this world to what is given
+abbrev pub Gives : Cluster → (ℕ → MemberId) → WorldState → ℕ → Given → Type 0
+Gives c id_of w m given = LeadsTo c id_of (mark_at w m) w.facts (w.member m) given
+
+-- by a call, at the member's last reading
+abbrev pub given_by_call : Rules → WorldState → Caller → CoreCall → Given
+given_by_call rules w member call =
+    given_by
+    (rules.call member.setup member.view (state_of w member).reading call)
+    (records_in member.id_of (state_of w member).may)
+    w.facts.releases
+
+-- by the answer of the keep that waits
+abbrev pub given_by_answer : Rules → WorldState → Caller → Bool → Given
+given_by_answer rules w member ok =
+    given_by
+    (rules.answer member.setup member.view (state_of w member).reading ok)
+    (may_answered member.view.waiting ok (records_in member.id_of (state_of w member).may))
+    (releases_answered (mark_at w member.place) member.view.waiting ok w.facts.releases)
+
+-- by a start, after which the record that it read is the only one that may be kept
+abbrev pub given_by_start : Rules → WorldState → ℕ → Setup → Record → Given
+given_by_start rules w m setup kept = record {
+  view = rules.start setup kept (w.member m).reading;
+  say = says.Nothing;
+  may = kept ∷ [];
+  releases = w.facts.releases;
+}
 
 -- ---- the calls
 
--- a member of a world, with its setup and a view that agrees with its state
-pub record IsMember (c : Cluster) (id_of : ℕ → MemberId) (w : WorldState) (m : ℕ) (setup : Setup) (view : View) : Type 0 where
-  pub ids : AreIds id_of
-  pub below : m < c.members
-  pub seated : IsSeated c id_of m setup
-  pub sound : IsSound setup
-  pub view_facts : ViewFacts setup view
-  pub agrees : Agrees c id_of w.facts m view (w.member m)
+-- a message is heard at the true time of the reading, from a member, and is a fact of it
+pub record IsHeard (c : Cluster) (w : WorldState) (member : Caller) (letter : MemberLetter)
+    : Type 0 where
+  pub timely : (state_of w member).at ≡ w.now
+  pub below : letter.sender < c.members
+  pub from : letter.head.from ≡ member.id_of letter.sender
+  pub fact : IsFact member.id_of w.facts letter.sender letter.head letter.part letter.head.cmd
 
--- what holds of each member of each world that a list of steps leads to
-abbrev pub OfEachMember : (Cluster → (ℕ → MemberId) → WorldState → ℕ → Setup → View → Type 0) → Type 0
-OfEachMember P =
-    (c : Cluster) → HasClocks c → (steps : List WorldStep) → IsRun c (opening c) steps → (id_of : ℕ → MemberId) (m : ℕ) (setup : Setup) (view : View)
-    → IsMember c id_of (world_of c steps) m setup view → P c id_of (world_of c steps) m setup view
+-- what a call needs, beside that no keep waits
+abbrev pub MayCall : Cluster → WorldState → Caller → CoreCall → Type 0
+MayCall c w member (Asks reason) = IsTrue member.setup.site
+MayCall c w member (Hears letter) = IsHeard c w member letter
+MayCall c w member RenewsLease = IsTrue (is_leader member.view.role)
+MayCall c w member (GivesBack reason) = IsTrue member.setup.site
+MayCall c w member call = Unit {0}
 
-abbrev pub reading_of : WorldState → ℕ → ℕ
-reading_of w m = (w.member m).reading
+-- a member that is down starts with a record that may be kept
+abbrev pub StartsAreSteps : Rules → Type 0
+StartsAreSteps rules =
+    (c : Cluster) → HasClocks c → (steps : List WorldStep) → IsRun c (opening c) steps
+    → (id_of : ℕ → MemberId) (m : ℕ) (setup : Setup)
+    → AreIds c.members id_of → m < c.members → IsSeated c id_of m setup
+    → ((world_of c steps).member m).up ≡ false
+    → (kept : Record) → Has (records_in id_of ((world_of c steps).member m).may) kept
+    → Gives c id_of (world_of c steps) m (given_by_start rules (world_of c steps) m setup kept)
 
--- steps of the member lead from this world to a view, and what is said is a fact
-abbrev pub Gives : Cluster → (ℕ → MemberId) → WorldState → ℕ → View → Say → Type 0
-Gives c id_of w m view say = LeadsTo c id_of w.now m w.facts (w.member m) (reading_of w m) view say
-
-abbrev pub GivesOutcome : Cluster → (ℕ → MemberId) → WorldState → ℕ → Outcome → Type 0
-GivesOutcome c id_of w m outcome = Gives c id_of w m outcome.view outcome.deed.say
-
--- Each call at the member's last reading gives steps, and so does each answer of a keep. What is heard is a fact of its
--- sender, and is heard at the true time of the reading. A keep's answer may come later, when others have done more.
-pub record CallsAreSteps : Type 0 where
-  pub start : (c : Cluster) → HasClocks c → (steps : List WorldStep) → IsRun c (opening c) steps → (id_of : ℕ → MemberId) (m : ℕ) (setup : Setup)
-      → AreIds id_of → IsSeated c id_of m setup → ((world_of c steps).member m).up ≡ false
-      → (kept : Record) → Has ((world_of c steps).member m).may kept
-      → Gives c id_of (world_of c steps) m (started setup kept (reading_of (world_of c steps) m)) says.Nothing
-  pub ask_gives : OfEachMember (λ c id_of w m setup view. view.waiting ≡ None → IsTrue setup.site
-      → (reason : ℕ) → GivesOutcome c id_of w m (ask view reason (reading_of w m)))
-  pub hear_gives : OfEachMember (λ c id_of w m setup view. view.waiting ≡ None → (w.member m).at ≡ w.now
-      → (place : ℕ) (head : Head) (part : TicketPart) → head.from ≡ id_of place → IsFact id_of w.facts place head part head.cmd
-      → GivesOutcome c id_of w m (heard setup view place head part (reading_of w m) head.cmd))
-  pub kept_gives : OfEachMember (λ c id_of w m setup view. (ok : Bool)
-      → GivesOutcome c id_of w m (keep_answered setup view view.waiting (reading_of w m) ok))
-  pub hello_gives : OfEachMember (λ c id_of w m setup view. view.waiting ≡ None
-      → Gives c id_of w m (greeted view) (hello setup view (reading_of w m)))
-  pub tick_gives : OfEachMember (λ c id_of w m setup view. view.waiting ≡ None
-      → GivesOutcome c id_of w m (due_now setup view (reading_of w m) view.role))
-  pub note_gives : OfEachMember (λ c id_of w m setup view. view.waiting ≡ None
-      → (note : Note) → Gives c id_of w m (noted setup view (reading_of w m) note) says.Nothing)
-  pub renew_gives : OfEachMember (λ c id_of w m setup view. view.waiting ≡ None → IsTrue (is_leader view.role)
-      → GivesOutcome c id_of w m (renewed setup view view.round (reading_of w m)))
-  pub release_gives : OfEachMember (λ c id_of w m setup view. view.waiting ≡ None → IsTrue setup.site
-      → (reason : ℕ) → GivesOutcome c id_of w m (release view reason (reading_of w m)))
+-- Each start, each call and each answer of a keep gives steps. A keep's answer may come later than
+-- its call, when others have done more.
+pub record CallsAreSteps (rules : Rules) : Type 0 where
+  pub start_gives : StartsAreSteps rules
+  pub call_gives : OfEachMember (λ c w member.
+      member.view.waiting ≡ None → (call : CoreCall) → MayCall c w member call
+      → Gives c member.id_of w member.place (given_by_call rules w member call))
+  pub answer_gives : OfEachMember (λ c w member.
+      (ok : Bool) → Gives c member.id_of w member.place (given_by_answer rules w member ok))
 
 -- steps that one member may do from a world are steps of the world
 abbrev pub StepsOfOneAreSteps : Type 0
 StepsOfOneAreSteps =
-    (c : Cluster) (w : WorldState) (m : ℕ) (steps : List MemberStep) → m < c.members → DoesAll c w.now m w.facts (w.member m) steps
-    → IsRun c w (does_all m steps)
-    × ((after_steps c w (does_all m steps)).member m ≡ member_after_all c w.now m (w.member m) steps)
-    × ((after_steps c w (does_all m steps)).facts ≡ facts_after_all c w.now m w.facts (w.member m) steps)
+    (c : Cluster) (w : WorldState) (m : ℕ) (steps : List MemberStep) → m < c.members
+    → IsMemberRun c w.now m w.facts (w.member m) steps
+    → IsRun c w (world_steps m steps)
+    × ((after_steps c w (world_steps m steps)).member m
+    ≡ member_after_all c w.now m (w.member m) steps)
+    × ((after_steps c w (world_steps m steps)).facts
+    ≡ facts_after_all c w.now m w.facts (w.member m) steps)

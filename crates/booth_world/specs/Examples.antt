@@ -2,12 +2,14 @@
 use Rattle.std.specs.Prelude.{ℕ, zero, suc, ◌+◌, ◌++◌, nat_lt, true, List, [], ◌∷◌, Some, None}
 use Rattle.booth_base.specs.declared.address.MemberId.{MemberId}
 use Rattle.booth_base.specs.declared.name.Name.{Name}
-use Rattle.booth_rec.specs.declared.record.Record.{Record}
 use Rattle.booth_rec.specs.Record.{no_record}
 use Rattle.booth_wire.specs.declared.message.Setup.{Setup}
+use Rattle.booth_raft.specs.StartAndLearn.{started}
 use Rattle.booth_node.specs.Clock.{Cluster}
+use Rattle.booth_world.specs.Calls.{Caller}
 use Rattle.booth_world.specs.Facts.{Round, Release}
-use Rattle.booth_world.specs.Steps.{WorldStep, Elects, Renews, Promises, Answers, Gains, TriesKeep, HasKept, Releases, Clears, Learns, Crashes, Starts, ReadsClock, Does, Passes}
+use Rattle.booth_world.specs.States.{KeptRecord, none_kept}
+use Rattle.booth_world.specs.Steps.{WorldStep, Elects, Renews, Promises, Answers, Gains, TriesKeep, HasKept, Releases, Clears, Learns, Crashes, Starts, ReadsClock, MemberDoes, Passes}
 
 -- ---- three members, whose clocks differ by all that the drift allows over so short a time
 
@@ -37,37 +39,44 @@ three = record {
 
 -- ---- what they do
 
-abbrev pub plain : ℕ → Record
-plain term = record { term = term; lease = None }
+abbrev pub unleased : ℕ → KeptRecord
+unleased term = record { term = term; lease = None }
 
-abbrev pub won_by : Round → Record
-won_by round = record { term = round.term; lease = Some (record { term = round.term; until = round.opened + 2 }) }
+abbrev pub won_by : Round → KeptRecord
+won_by round = record {
+  term = round.term;
+  lease = Some (record { term = round.term; until = round.opened + 2 });
+}
 
 -- all start, and have kept nothing
 abbrev pub start : List WorldStep
-start = Does 0 (Starts no_record) ∷ Does 1 (Starts no_record) ∷ Does 2 (Starts no_record) ∷ []
+start =
+    MemberDoes 0 (Starts none_kept) ∷ MemberDoes 1 (Starts none_kept)
+    ∷ MemberDoes 2 (Starts none_kept) ∷ []
 
 abbrev pub all_read_at : ℕ → List WorldStep
-all_read_at time = Passes time ∷ Does 0 ReadsClock ∷ Does 1 ReadsClock ∷ Does 2 ReadsClock ∷ []
+all_read_at time =
+    Passes time ∷ MemberDoes 0 ReadsClock ∷ MemberDoes 1 ReadsClock ∷ MemberDoes 2 ReadsClock ∷ []
 
 -- a member promises to a round until a reading, and answers it
 abbrev pub answers : ℕ → Round → ℕ → List WorldStep
 answers m round until =
-    Does m (Promises round.site round.term)
-    ∷ Does m (Answers round (record { to = round.site; term = round.term; until = until }))
+    MemberDoes m (Promises round.site round.term)
+    ∷ MemberDoes m (Answers round (record { to = round.site; term = round.term; until = until }))
     ∷ []
 
 -- a site takes a new term, and opens its first round
 abbrev pub election : ℕ → ℕ → List WorldStep
 election s term =
-    Does s (Learns term) ∷ Does s (TriesKeep (plain term)) ∷ Does s (HasKept (plain term)) ∷ Does s Elects ∷ []
+    MemberDoes s (Learns term) ∷ MemberDoes s (TriesKeep (unleased term))
+    ∷ MemberDoes s (HasKept (unleased term)) ∷ MemberDoes s Elects ∷ []
 
 -- with its own answer and that of the last member a site gains a lease, and keeps it
 abbrev pub gain : Round → List WorldStep
 gain round =
-    Does round.site (Gains round (round.site ∷ 2 ∷ []))
-    ∷ Does round.site (TriesKeep (won_by round))
-    ∷ Does round.site (HasKept (won_by round))
+    MemberDoes round.site (Gains round (round.site ∷ 2 ∷ []))
+    ∷ MemberDoes round.site (TriesKeep (won_by round))
+    ∷ MemberDoes round.site (HasKept (won_by round))
     ∷ []
 
 -- ---- a ticket is granted, renewed, released, and granted at the other site
@@ -85,24 +94,30 @@ abbrev pub first_release : Release
 first_release = record { site = 0; term = 1; at = 7 }
 
 abbrev pub granted : List WorldStep
-granted = start ++ all_read_at 6 ++ election 0 1 ++ answers 0 first_round 12 ++ answers 2 first_round 11 ++ gain first_round
+granted =
+    start ++ all_read_at 6 ++ election 0 1 ++ answers 0 first_round 12 ++ answers 2 first_round 11
+    ++ gain first_round
 
 abbrev pub renewed : List WorldStep
 renewed =
-    all_read_at 7 ++ (Does 0 (Renews first_round) ∷ []) ++ answers 0 second_round 13 ++ answers 2 second_round 12
-    ++ gain second_round
+    all_read_at 7 ++ (MemberDoes 0 (Renews first_round) ∷ [])
+    ++ answers 0 second_round 13 ++ answers 2 second_round 12 ++ gain second_round
 
 abbrev pub released : List WorldStep
 released =
-    Does 0 (TriesKeep (plain 1)) ∷ Does 0 (HasKept (plain 1)) ∷ Does 0 Releases ∷ Does 2 (Clears first_release) ∷ []
+    MemberDoes 0 (TriesKeep (unleased 1)) ∷ MemberDoes 0 (HasKept (unleased 1))
+    ∷ MemberDoes 0 Releases ∷ MemberDoes 2 (Clears first_release) ∷ []
 
 abbrev pub granted_elsewhere : List WorldStep
-granted_elsewhere = election 1 2 ++ answers 1 third_round 12 ++ answers 2 third_round 12 ++ gain third_round
+granted_elsewhere =
+    election 1 2 ++ answers 1 third_round 12 ++ answers 2 third_round 12 ++ gain third_round
 
 -- ---- a holder crashes, and starts again with what it kept
 
 abbrev pub crashed_and_started : List WorldStep
-crashed_and_started = Does 0 Crashes ∷ Does 2 Crashes ∷ Does 0 (Starts (won_by first_round)) ∷ Does 2 (Starts no_record) ∷ []
+crashed_and_started =
+    MemberDoes 0 Crashes ∷ MemberDoes 2 Crashes
+    ∷ MemberDoes 0 (Starts (won_by first_round)) ∷ MemberDoes 2 (Starts none_kept) ∷ []
 
 -- ---- a member whose view agrees with its state
 
@@ -119,4 +134,12 @@ first_setup ticket = record {
   site = true;
   rank = 0;
   times = three.times;
+}
+
+abbrev pub first_caller : Name → Caller
+first_caller ticket = record {
+  id_of = id_of_place;
+  place = 0;
+  setup = first_setup ticket;
+  view = started (first_setup ticket) no_record 0;
 }

@@ -1,9 +1,9 @@
 -- The laws of a ticket's world, over every list of steps from the opening state.
 use Rattle.std.specs.Prelude.{◌≡◌, ◌≢◌, ◌⊎◌, ◌++◌, ℕ, List}
 use Rattle.booth_node.specs.Clock.{Cluster, HasClocks}
-use Rattle.booth_world.specs.States.{opening}
+use Rattle.booth_world.specs.States.{KeptRecord, opening}
 use Rattle.booth_world.specs.Steps.{WorldStep, IsRun, world_of}
-use Rattle.booth_world.specs.Held.{Held, ReleasedBetween, IsApart, IsAtLeast}
+use Rattle.booth_world.specs.Held.{IsHeldBy, Held, ReleasedBetween, IsApart, IsAtLeast}
 
 -- at no moment is the ticket held at two sites
 abbrev pub HasOneHolder : Type 0
@@ -11,17 +11,21 @@ HasOneHolder =
     (c : Cluster) → HasClocks c → (steps : List WorldStep) → IsRun c (opening c) steps
     → (s t : ℕ) → Held c (world_of c steps) s → Held c (world_of c steps) t → s ≡ t
 
--- where a member holds early and another holds late, acquire-after lies between, or the first released the ticket
--- between the two
+-- where a member holds early by a record and another holds late, acquire-after lies between, or the
+-- first gave the record's lease back between the two
 abbrev pub HoldersAreApart : Type 0
 HoldersAreApart =
-    (c : Cluster) → HasClocks c → (early late : List WorldStep) → IsRun c (opening c) (early ++ late)
-    → (s t : ℕ) → s ≢ t → Held c (world_of c early) s → Held c (world_of c (early ++ late)) t
+    (c : Cluster) → HasClocks c
+    → (early late : List WorldStep) → IsRun c (opening c) (early ++ late)
+    → (s t : ℕ) → s ≢ t → (k : KeptRecord)
+    → IsHeldBy c (world_of c early) s k → Held c (world_of c (early ++ late)) t
     → IsApart c (world_of c early) (world_of c (early ++ late))
-    ⊎ ReleasedBetween (world_of c early) (world_of c (early ++ late)) s
+    ⊎ ReleasedBetween (world_of c early) (world_of c (early ++ late)) s k
 
 -- where each record that a member may have kept has at least a term, so has each one later
 abbrev pub KeptTermsNeverFall : Type 0
 KeptTermsNeverFall =
-    (c : Cluster) → HasClocks c → (early late : List WorldStep) → IsRun c (opening c) (early ++ late)
-    → (s term : ℕ) → IsAtLeast (world_of c early) s term → IsAtLeast (world_of c (early ++ late)) s term
+    (c : Cluster) → HasClocks c
+    → (early late : List WorldStep) → IsRun c (opening c) (early ++ late)
+    → (s term : ℕ)
+    → IsAtLeast (world_of c early) s term → IsAtLeast (world_of c (early ++ late)) s term

@@ -1,62 +1,69 @@
--- The kinds of step by which a lease is gained, kept, given back and freed: for each its condition, and what it changes.
+-- The kinds of step by which a lease is gained, kept, given back and freed: for each its condition,
+-- and what it changes.
 use Rattle.std.specs.Prelude.{◌≡◌, ◌⊎◌, ℕ, ◌+◌, ◌<◌, ◌&&◌, true, if◌then◌else◌, not, ◌==◌, nat_lt, Option, Some, None, List, [], ◌∷◌}
 use Rattle.booth_rec.specs.declared.record.Lease.{Lease}
-use Rattle.booth_rec.specs.declared.record.Record.{Record}
 use Rattle.booth_node.specs.Clock.{Cluster}
 use Rattle.booth_world.specs.Facts.{Has, Round, Answer, Gain, Release, Facts, IsMajority}
-use Rattle.booth_world.specs.States.{Promise, MemberState}
+use Rattle.booth_world.specs.States.{KeptRecord, Promise, MemberState}
 
 -- ---- a gain
--- The open round gives a lease where a majority answered it and the lease would not be over already. The lease is added
--- to the facts.
+-- The open round gives a lease where a majority answered it and the lease would not be over
+-- already. The lease is added to the facts.
 
-pub record MayGain (c : Cluster) (f : Facts) (x : MemberState) (round : Round) (places : List ℕ) : Type 0 where
+pub record MayGain (c : Cluster) (f : Facts) (x : MemberState) (round : Round) (places : List ℕ)
+    : Type 0 where
   pub up : x.up ≡ true
   pub open_round : x.round ≡ Some round
   pub majority : IsMajority c.members places
-  pub answered : (m : ℕ) → Has places m → (a : Answer) × (Has f.answers a) × (a.member ≡ m) × (a.round ≡ round)
+  pub answered : (m : ℕ) → Has places m
+      → (a : Answer) × (Has f.answers a) × (a.member ≡ m) × (a.round ≡ round)
   pub soon : x.reading < round.opened + c.times.expire
 
 abbrev pub with_gain : Facts → Round → ℕ → List ℕ → Facts
-with_gain f round now places = record f { leases = record { round = round; at = now; answers = places } ∷ f.leases }
+with_gain f round now places =
+    record f { leases = record { round = round; at = now; answers = places } ∷ f.leases }
 
 -- ---- a keep
--- A site keeps a record of its term: without a lease, or with one that it may have kept, or with the one that its open
--- round gave. A keep is tried, and then the record is one more that may be kept; and it is done, and then that is the
--- only one.
+-- A site keeps a record of its term: without a lease, or with one that it may have kept, or with
+-- the one that its open round gave. A keep is tried, and then the record is one more that may be
+-- kept; and it is done, and then that is the only one.
 
 -- the lease of a round that is open and gave one: it runs from the reading of the round's opening
 pub record IsWon (c : Cluster) (f : Facts) (x : MemberState) (lease : Lease) : Type 0 where
   pub gained : Gain
   pub fact : Has f.leases gained
   pub open_round : x.round ≡ Some gained.round
-  pub same : lease ≡ record { term = gained.round.term; until = gained.round.opened + c.times.expire }
+  pub same : lease
+      ≡ record { term = gained.round.term; until = gained.round.opened + c.times.expire }
 
 abbrev pub MayLease : Cluster → Facts → MemberState → Option Lease → Type 0
 MayLease c f x None = Unit {0}
-MayLease c f x (Some lease) = ((k : Record) × Has x.may k × (k.lease ≡ Some lease)) ⊎ IsWon c f x lease
+MayLease c f x (Some lease) =
+    ((k : KeptRecord) × Has x.may k × (k.lease ≡ Some lease)) ⊎ IsWon c f x lease
 
-pub record MayKeep (c : Cluster) (f : Facts) (m : ℕ) (x : MemberState) (kept : Record) : Type 0 where
+pub record MayKeep (c : Cluster) (f : Facts) (m : ℕ) (x : MemberState) (kept : KeptRecord)
+    : Type 0 where
   pub up : x.up ≡ true
   pub site : c.is_site m ≡ true
   pub own_term : kept.term ≡ x.term
   pub lease : MayLease c f x kept.lease
 
-abbrev pub trying : MemberState → Record → MemberState
+abbrev pub trying : MemberState → KeptRecord → MemberState
 trying x kept = record x { may = kept ∷ x.may }
 
-abbrev pub having : MemberState → Record → MemberState
+abbrev pub having : MemberState → KeptRecord → MemberState
 having x kept = record x { may = kept ∷ [] }
 
 -- ---- a release
--- A site releases its term where no record that it may have kept has a lease, and all are of that term. Its round is
--- closed, its promise to itself is dropped, and the release is added to the facts.
+-- A site releases its term where no record that it may have kept has a lease, and all are of that
+-- term. Its round is closed, its promise to itself is dropped, and the release is added to the
+-- facts.
 
 pub record MayRelease (c : Cluster) (m : ℕ) (x : MemberState) : Type 0 where
   pub up : x.up ≡ true
   pub site : c.is_site m ≡ true
-  pub own_term : (k : Record) → Has x.may k → k.term ≡ x.term
-  pub no_lease : (k : Record) → Has x.may k → k.lease ≡ None
+  pub own_term : (k : KeptRecord) → Has x.may k → k.term ≡ x.term
+  pub no_lease : (k : KeptRecord) → Has x.may k → k.lease ≡ None
 
 abbrev pub not_to : ℕ → Option Promise → Option Promise
 not_to m None = None
@@ -66,10 +73,12 @@ abbrev pub releasing : ℕ → MemberState → MemberState
 releasing m x = record x { promise = not_to m x.promise; round = None }
 
 abbrev pub with_release : Facts → ℕ → ℕ → ℕ → Facts
-with_release f m term now = record f { releases = record { site = m; term = term; at = now } ∷ f.releases }
+with_release f m term now =
+    record f { releases = record { site = m; term = term; at = now } ∷ f.releases }
 
 -- ---- a clearing
--- A member that hears of a release drops a promise to its site of a term at most the release's, and no other.
+-- A member that hears of a release drops a promise to its site of a term at most the release's, and
+-- no other.
 
 pub record MayClear (f : Facts) (x : MemberState) (release : Release) : Type 0 where
   pub up : x.up ≡ true
@@ -77,7 +86,8 @@ pub record MayClear (f : Facts) (x : MemberState) (release : Release) : Type 0 w
 
 abbrev pub cleared : Option Promise → ℕ → ℕ → Option Promise
 cleared None site term = None
-cleared (Some promise) site term = if promise.to == site && not (nat_lt term promise.term) then None else Some promise
+cleared (Some promise) site term =
+    if promise.to == site && not (nat_lt term promise.term) then None else Some promise
 
 abbrev pub clearing : MemberState → Release → MemberState
 clearing x release = record x { promise = cleared x.promise release.site release.term }

@@ -1,10 +1,9 @@
--- The kinds of step by which a member learns a term, crashes and starts, and by which time passes: for each its
--- condition, and what it changes.
+-- The kinds of step by which a member learns a term, crashes and starts, and by which time passes:
+-- for each its condition, and what it changes.
 use Rattle.std.specs.Prelude.{◌≡◌, ℕ, ◌+◌, ◌<◌, ◌≤◌, true, false, None, [], ◌∷◌}
-use Rattle.booth_rec.specs.declared.record.Record.{Record}
 use Rattle.booth_node.specs.Clock.{Cluster, promise_time, reads}
 use Rattle.booth_world.specs.Facts.{Has}
-use Rattle.booth_world.specs.States.{MemberState, WorldState}
+use Rattle.booth_world.specs.States.{KeptRecord, MemberState, WorldState}
 
 -- ---- a term is learnt
 -- A member takes a term above its own: it answered nobody in it, and its round is closed.
@@ -23,14 +22,14 @@ abbrev pub crashing : MemberState → MemberState
 crashing x = record x { up = false }
 
 -- ---- a start
--- A member that is down starts with a record that it may have kept. It has promised nothing that it knows of, so it
--- answers nobody for a whole promise.
+-- A member that is down starts with a record that it may have kept. It has promised nothing that it
+-- knows of, so it answers nobody for a whole promise.
 
-pub record MayStart (x : MemberState) (kept : Record) : Type 0 where
+pub record MayStart (x : MemberState) (kept : KeptRecord) : Type 0 where
   pub down : x.up ≡ false
   pub fact : Has x.may kept
 
-abbrev pub starting : Cluster → MemberState → Record → MemberState
+abbrev pub starting : Cluster → MemberState → KeptRecord → MemberState
 starting c x kept = record x {
   up = true;
   term = kept.term;

@@ -1,24 +1,25 @@
--- The kinds of step by which a round is opened, promised to and answered: for each its condition, and what it changes.
--- The clock is the stepping member's last reading.
+-- The kinds of step by which a round is opened, promised to and answered: for each its condition,
+-- and what it changes. The clock is the stepping member's last reading.
 use Rattle.std.specs.Prelude.{◌≡◌, ◌≢◌, ◌⊎◌, ℕ, ◌+◌, ◌<◌, ◌≤◌, ◌&&◌, true, if◌then◌else◌, ◌==◌, nat_eq, Option, Some, None, ◌∷◌}
 use Rattle.std.specs.Option.{ForSome}
-use Rattle.booth_rec.specs.declared.record.Record.{Record}
 use Rattle.booth_node.specs.Clock.{Cluster, promise_time}
 use Rattle.booth_world.specs.Facts.{Has, Round, Answer, Release, Facts}
-use Rattle.booth_world.specs.States.{Promise, MemberState}
+use Rattle.booth_world.specs.States.{KeptRecord, Promise, MemberState}
 
 -- the round that a member opens now
 abbrev pub new_round : ℕ → MemberState → ℕ → Round
-new_round m x number = record { site = m; term = x.term; number = number; opened = x.reading; at = x.at }
+new_round m x number =
+    record { site = m; term = x.term; number = number; opened = x.reading; at = x.at }
 
 -- ---- an election is opened
--- A site opens the first round of its term, where every record that it may have kept is of that term, it answered no
--- other in it, and it neither opened a round of the term nor released it. It is bound to itself.
+-- A site opens the first round of its term, where every record that it may have kept is of that
+-- term, it answered no other in it, and it neither opened a round of the term nor released it. It
+-- is bound to itself.
 
 pub record MayElect (c : Cluster) (f : Facts) (m : ℕ) (x : MemberState) : Type 0 where
   pub up : x.up ≡ true
   pub site : c.is_site m ≡ true
-  pub kept : (k : Record) → Has x.may k → k.term ≡ x.term
+  pub kept : (k : KeptRecord) → Has x.may k → k.term ≡ x.term
   pub unbound : ForSome x.bound (λ bound. bound ≡ m)
   pub no_round : (r : Round) → Has f.rounds r → r.site ≡ m → r.term ≢ x.term
   pub no_release : (r : Release) → Has f.releases r → r.site ≡ m → r.term ≢ x.term
@@ -27,7 +28,8 @@ abbrev pub electing : ℕ → MemberState → MemberState
 electing m x = record x { bound = Some m; round = Some (new_round m x 0) }
 
 -- ---- a renewal is opened
--- A site whose round is open, of its own term and with itself as bound, opens the next round of the term.
+-- A site whose round is open, of its own term and with itself as bound, opens the next round of the
+-- term.
 
 pub record MayRenew (m : ℕ) (x : MemberState) (before : Round) : Type 0 where
   pub up : x.up ≡ true
@@ -43,9 +45,10 @@ abbrev pub with_round : Facts → Round → Facts
 with_round f round = record f { rounds = round ∷ f.rounds }
 
 -- ---- a promise
--- A member promises to a site and a term where it may answer a round of them, whatever lease it may have: it does not
--- abstain, no promise to another is live, and the term is new to it, or is its own and it answered no other in it.
--- A round of its own stays open only where it promises to itself within its term.
+-- A member promises to a site and a term where it may answer a round of them, whatever lease it may
+-- have: it does not abstain, no promise to another is live, and the term is new to it, or is its
+-- own and it answered no other in it. A round of its own stays open only where it promises to
+-- itself within its term.
 
 pub record MayPromise (c : Cluster) (x : MemberState) (site term : ℕ) : Type 0 where
   pub up : x.up ≡ true
@@ -69,10 +72,12 @@ promising c m x site term = record x {
 }
 
 -- ---- an answer
--- A member answers a round of the facts where it is of the round's term, bound to its site, and promised to it for a
--- whole promise from now on, and read its clock no earlier than the round's site did. The answer is added to the facts.
+-- A member answers a round of the facts where it is of the round's term, bound to its site, and
+-- promised to it for a whole promise from now on, and read its clock no earlier than the round's
+-- site did. The answer is added to the facts.
 
-pub record MayAnswer (c : Cluster) (f : Facts) (x : MemberState) (round : Round) (given : Promise) : Type 0 where
+pub record MayAddAnswer (c : Cluster) (f : Facts) (x : MemberState) (round : Round) (given : Promise)
+    : Type 0 where
   pub up : x.up ≡ true
   pub fact : Has f.rounds round
   pub own_term : x.term ≡ round.term

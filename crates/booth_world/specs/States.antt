@@ -1,7 +1,6 @@
 -- The state of one automatic ticket in a whole cluster.
 use Rattle.std.specs.Prelude.{ℕ, Bool, false, if◌then◌else◌, ◌==◌, Option, None, List, [], ◌∷◌}
-use Rattle.booth_rec.specs.declared.record.Record.{Record}
-use Rattle.booth_rec.specs.Record.{no_record}
+use Rattle.booth_rec.specs.declared.record.Lease.{Lease}
 use Rattle.booth_node.specs.Clock.{Cluster, reads}
 use Rattle.booth_world.specs.Facts.{Round, Facts, no_facts}
 
@@ -11,9 +10,18 @@ pub record Promise : Type 0 where
   pub term : ℕ
   pub until : ℕ
 
--- A member: whether it is up; its last reading and the true time of it; its term, and whom it answered in that term;
--- its promise; the reading until which it answers nobody; the records that it may have kept, where no record counts
--- as one; and the round that it opened.
+-- A record as the world sees it: whoever it named would be named by place.
+pub record KeptRecord : Type 0 where
+  pub term : ℕ
+  pub lease : Option Lease
+
+-- no record counts as one of term 0 without a lease
+abbrev pub none_kept : KeptRecord
+none_kept = record { term = 0; lease = None }
+
+-- A member: whether it is up; its last reading and the true time of it; its term, and whom it
+-- answered in that term; its promise; the reading until which it answers nobody; the records that
+-- it may have kept; and the round that it opened.
 pub record MemberState : Type 0 where
   pub up : Bool
   pub reading : ℕ
@@ -22,7 +30,7 @@ pub record MemberState : Type 0 where
   pub bound : Option ℕ
   pub promise : Option Promise
   pub abstain : ℕ
-  pub may : List Record
+  pub may : List KeptRecord
   pub round : Option Round
 
 pub record WorldState : Type 0 where
@@ -40,7 +48,7 @@ unstarted c m = record {
   bound = None;
   promise = None;
   abstain = 0;
-  may = no_record ∷ [];
+  may = none_kept ∷ [];
   round = None;
 }
 

@@ -1,10 +1,9 @@
 -- What may happen next to a ticket in a cluster, and lists of it.
 use Rattle.std.specs.Prelude.{◌≡◌, ℕ, ◌+◌, ◌<◌, true, List, [], ◌∷◌}
-use Rattle.booth_rec.specs.declared.record.Record.{Record}
 use Rattle.booth_node.specs.Clock.{Cluster}
 use Rattle.booth_world.specs.Facts.{Round, Release, Facts}
-use Rattle.booth_world.specs.States.{Promise, MemberState, WorldState, opening, put}
-use Rattle.booth_world.specs.Rounds.{new_round, MayElect, electing, MayRenew, renewing, with_round, MayPromise, promising, MayAnswer, new_answer, with_answer}
+use Rattle.booth_world.specs.States.{KeptRecord, Promise, MemberState, WorldState, opening, put}
+use Rattle.booth_world.specs.Rounds.{new_round, MayElect, electing, MayRenew, renewing, with_round, MayPromise, promising, MayAddAnswer, new_answer, with_answer}
 use Rattle.booth_world.specs.Leases.{MayGain, with_gain, MayKeep, trying, having, MayRelease, releasing, with_release, MayClear, clearing}
 use Rattle.booth_world.specs.Lives.{MayLearn, learning, crashing, MayStart, starting, MayPass, reading_clock}
 
@@ -15,18 +14,18 @@ pub data MemberStep : Type 0 where
   Promises : (site term : ℕ) → MemberStep
   Answers : (round : Round) (given : Promise) → MemberStep
   Gains : (round : Round) (places : List ℕ) → MemberStep
-  TriesKeep : (kept : Record) → MemberStep
-  HasKept : (kept : Record) → MemberStep
+  TriesKeep : (kept : KeptRecord) → MemberStep
+  HasKept : (kept : KeptRecord) → MemberStep
   Releases : MemberStep
   Clears : (release : Release) → MemberStep
   Learns : (term : ℕ) → MemberStep
   Crashes : MemberStep
-  Starts : (kept : Record) → MemberStep
+  Starts : (kept : KeptRecord) → MemberStep
   ReadsClock : MemberStep
 
 -- a member does something, or true time rises
 pub data WorldStep : Type 0 where
-  Does : (m : ℕ) (step : MemberStep) → WorldStep
+  MemberDoes : (m : ℕ) (step : MemberStep) → WorldStep
   Passes : (time : ℕ) → WorldStep
 
 -- the condition of each kind, of a member in this state
@@ -34,7 +33,7 @@ abbrev pub May : Cluster → Facts → ℕ → MemberState → MemberStep → Ty
 May c f m x Elects = MayElect c f m x
 May c f m x (Renews before) = MayRenew m x before
 May c f m x (Promises site term) = MayPromise c x site term
-May c f m x (Answers round given) = MayAnswer c f x round given
+May c f m x (Answers round given) = MayAddAnswer c f x round given
 May c f m x (Gains round places) = MayGain c f x round places
 May c f m x (TriesKeep kept) = MayKeep c f m x kept
 May c f m x (HasKept kept) = MayKeep c f m x kept
@@ -65,26 +64,19 @@ member_after c now m x ReadsClock = reading_clock c now m x
 abbrev pub facts_after : ℕ → ℕ → MemberState → MemberStep → Facts → Facts
 facts_after now m x Elects f = with_round f (new_round m x 0)
 facts_after now m x (Renews before) f = with_round f (new_round m x (before.number + 1))
-facts_after now m x (Promises site term) f = f
 facts_after now m x (Answers round given) f = with_answer f (new_answer m x round)
 facts_after now m x (Gains round places) f = with_gain f round now places
-facts_after now m x (TriesKeep kept) f = f
-facts_after now m x (HasKept kept) f = f
 facts_after now m x Releases f = with_release f m x.term now
-facts_after now m x (Clears release) f = f
-facts_after now m x (Learns term) f = f
-facts_after now m x Crashes f = f
-facts_after now m x (Starts kept) f = f
-facts_after now m x ReadsClock f = f
+facts_after now m x step f = f
 
 -- the condition of a step of the world
 abbrev pub MayStep : Cluster → WorldState → WorldStep → Type 0
-MayStep c w (Does m step) = (m < c.members) × May c w.facts m (w.member m) step
+MayStep c w (MemberDoes m step) = (m < c.members) × May c w.facts m (w.member m) step
 MayStep c w (Passes time) = MayPass c w time
 
 -- the world after a step
 abbrev pub happens : Cluster → WorldState → WorldStep → WorldState
-happens c w (Does m step) = record {
+happens c w (MemberDoes m step) = record {
   now = w.now;
   member = put w.member m (member_after c w.now m (w.member m) step);
   facts = facts_after w.now m (w.member m) step w.facts;

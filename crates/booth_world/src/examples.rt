@@ -1,11 +1,12 @@
 //! Small runs, each the contract of a function that does nothing: the laws speak of something.
-ghost use Rattle.std.specs.Prelude.{◌++◌};
+ghost use Rattle.std.specs.Prelude.{◌++◌, []};
 ghost use Rattle.booth_base.specs.declared.name.Name.{Name};
-ghost use Rattle.booth_raft.specs.StartAndLearn.{started};
-ghost use Rattle.booth_rec.specs.Record.{no_record};
 ghost use Rattle.booth_world.specs.Calls.{IsMember};
+ghost use Rattle.booth_world.specs.CoreLaws.{CoreCourse, CoreHolds, early_cores};
+ghost use Rattle.booth_world.specs.HostLaws.{HostCourse, HostHolds, early_hosts};
+ghost use Rattle.booth_world.specs.LoneExamples.{lone, lone_cast, lone_grant, lone_restart, lone_turn};
 ghost use Rattle.booth_node.specs.Clock.{HasClocks};
-ghost use Rattle.booth_world.specs.Examples.{three, granted, renewed, released, granted_elsewhere, crashed_and_started, start, id_of_place, first_setup};
+ghost use Rattle.booth_world.specs.Examples.{three, granted, renewed, released, granted_elsewhere, crashed_and_started, start, first_caller};
 ghost use Rattle.booth_world.specs.Held.{Held};
 ghost use Rattle.booth_world.specs.States.{opening};
 ghost use Rattle.booth_world.specs.Steps.{IsRun, world_of};
@@ -28,5 +29,19 @@ pub fn holder_restarts()
 
 /// A member that has started is one of whose calls the law speaks.
 pub fn started_view_agrees()
-    ensures { (ticket : Name) → IsMember three id_of_place (world_of three start) 0 (first_setup ticket) (started (first_setup ticket) no_record 0) }
+    ensures { (ticket : Name) → IsMember three (world_of three start) (first_caller ticket) }
+{}
+
+/// By the lease rules a member that is alone in its cluster holds. A keep that would give the
+/// ticket back fails, the next is cut, and it starts from the record of the keep that failed.
+pub fn lone_core_holds()
+    ensures entered { (ticket : Name) → CoreCourse lone (lone_cast ticket) lone_grant lone_restart }
+    ensures held { (ticket : Name) → CoreHolds lone (early_cores lone (lone_cast ticket) lone_grant) 0 }
+{}
+
+/// At its host it greets, asks and keeps twice in one turn, stops before the turn ends, starts
+/// again, and holds on.
+pub fn lone_host_holds()
+    ensures hosted { (ticket : Name) → HostCourse lone (lone_cast ticket) lone_turn [] }
+    ensures held { (ticket : Name) → HostHolds lone (early_hosts lone (lone_cast ticket) lone_turn) 0 }
 {}

@@ -1,15 +1,18 @@
 //! The laws of a ticket's world, each the contract of a function that does nothing.
 ghost use Rattle.booth_world.specs.Calls.{CallsAreSteps, PromisesWhereItMayAnswer, StepsOfOneAreSteps};
-ghost use Rattle.booth_world.specs.Standing.{AgreementStays, CallsLeadOn};
+ghost use Rattle.booth_world.specs.CoreLaws.{CoreTermsNeverFall, CoresAreApart, CoresHoldOne};
+ghost use Rattle.booth_world.specs.HostLaws.{HostTermsNeverFall, HostsAreApart, HostsHoldOne};
 ghost use Rattle.booth_world.specs.Laws.{HasOneHolder, HoldersAreApart, KeptTermsNeverFall};
+ghost use Rattle.booth_world.specs.Rules.{lease_rules};
+ghost use Rattle.booth_world.specs.Stability.{AgreementStays, CallsLeadOn, MembersStay, RunsAppend};
 
 /// At no moment is the ticket held at two sites.
 pub fn one_holder()
     ensures { HasOneHolder }
 {}
 
-/// Two sites that hold, the one after the other, have acquire-after between them, or the first
-/// released the ticket between the two.
+/// Two sites that hold, the one after the other, have acquire-after between them, or the first gave
+/// the lease that it held by back between the two.
 pub fn apart()
     ensures { HoldersAreApart }
 {}
@@ -35,10 +38,11 @@ pub fn promises_where_it_may_answer()
     ensures { PromisesWhereItMayAnswer }
 {}
 
-/// Each call of `Core`, and each answer of a keep, is a list of steps of its member in the world:
-/// they lead to a state that agrees with the view, and what is said is a fact.
+/// Each start, each call of `Core` and each answer of a keep is a list of steps of its member. They
+/// lead to a state that agrees with the view, and to a known list of records that may be kept; what
+/// is said is a fact, and no other facts are added.
 pub fn calls_are_steps()
-    ensures { CallsAreSteps }
+    ensures { CallsAreSteps lease_rules }
 {}
 
 /// Steps that one member may do are steps of the world.
@@ -56,3 +60,60 @@ pub fn agreement_stays()
 pub fn calls_lead_on()
     ensures { CallsLeadOn }
 {}
+
+/// Runs append, and split again.
+pub fn runs_append()
+    ensures { RunsAppend }
+{}
+
+/// While others step and time passes, a member stays as it is, and one that agrees still does; so
+/// does one that reads its clock.
+pub fn members_stay()
+    ensures { MembersStay }
+{}
+
+/// Entries of the lease cores of a ticket, at all members, with stops at any of them, make a run of
+/// the world: at no moment after them is the ticket held at two sites.
+pub fn cores_hold_one()
+    ensures { CoresHoldOne }
+{}
+
+/// Where one site holds after some entries of the cores and another later, acquire-after lies
+/// between, or an entry between gave the lease back.
+pub fn cores_are_apart()
+    ensures { CoresAreApart }
+{}
+
+/// The terms of the records that a member may have kept never fall over entries of the cores.
+pub fn core_terms()
+    ensures { CoreTermsNeverFall }
+{}
+
+/// Entries of the hosts of a ticket, whose turns may be cut anywhere by a stop, make entries of its
+/// cores: at no moment after them is the ticket held at two sites.
+pub fn hosts_hold_one()
+    ensures { HostsHoldOne }
+{}
+
+/// Where one site holds after some entries of the hosts and another later, acquire-after lies
+/// between, or a keep between the two gave the lease back.
+pub fn hosts_are_apart()
+    ensures { HostsAreApart }
+{}
+
+/// The terms of the records that a member's keeps may have left never fall over entries of the
+/// hosts.
+pub fn host_terms()
+    ensures { HostTermsNeverFall }
+{}
+
+/// The three laws over entries of the hosts at once, as a program takes them: by their calls.
+pub fn all_over_hosts()
+    ensures one_holder { HostsHoldOne }
+    ensures apart { HostsAreApart }
+    ensures terms { HostTermsNeverFall }
+{
+    hosts_hold_one();
+    hosts_are_apart();
+    host_terms();
+}

@@ -1,5 +1,5 @@
 -- A member's agreement stays while others step.
-use Rattle.std.proofs.Common.{List, ◌∷◌, ◌≢◌, ◌≡◌, ℕ, Bool, true, false, cond, refl, sym, subst, inr, arith, [], ◌∙◌}
+use Rattle.std.proofs.Common.{List, ◌++◌, ◌∷◌, ◌≢◌, ◌≡◌, ℕ, Bool, true, false, cond, refl, sym, subst, inr, arith, [], ◌∙◌}
 use Rattle.std.specs.Prelude.{◌==◌}
 use Rattle.std.proofs.lemmas.Bool.Decides.{nat_tests}
 use Rattle.booth_base.specs.declared.address.MemberId.{MemberId}
@@ -11,13 +11,18 @@ use Rattle.booth_raft.specs.declared.view.View.{View}
 use Rattle.booth_node.specs.Clock.{Cluster}
 use Rattle.booth_world.specs.Facts.{Has, Round, Answer, Release, Facts}
 use Rattle.booth_world.specs.States.{MemberState, WorldState}
-use Rattle.booth_world.specs.Steps.{MemberStep, WorldStep, Elects, Renews, Promises, Answers, Gains, TriesKeep, HasKept, Releases, Clears, Learns, Crashes, Starts, ReadsClock, Does, Passes, member_after, facts_after, happens, after_steps}
+use Rattle.booth_world.specs.Steps.{MemberStep, WorldStep, Elects, Renews, Promises, Answers, Gains, TriesKeep, HasKept, Releases, Clears, Learns, Crashes, Starts, ReadsClock, MemberDoes, Passes, member_after, facts_after, happens, IsRun, after_steps, world_of}
 use Rattle.booth_world.specs.Agreement.{Agrees}
 use Rattle.booth_world.specs.Messages.{IsFact}
-use Rattle.booth_world.specs.Doings.{does_all, member_after_all}
-use Rattle.booth_world.specs.Calls.{IsReached, reading_of}
-use Rattle.booth_world.specs.Standing.{AgreementStays, CallsLeadOn, IsOthers}
-use Rattle.booth_world.proofs.CallSteps.{steps_of_one}
+use Rattle.booth_world.specs.MemberRuns.{world_steps, member_after_all}
+use Rattle.booth_world.specs.Lives.{reading_clock}
+use Rattle.booth_world.specs.Gives.{IsReached, AddsOnly}
+use Rattle.booth_world.specs.Calls.{Caller, IsMember, mark_at}
+use Rattle.booth_world.specs.Stability.{AgreementStays, CallsLeadOn, IsOthers, AreOthers, RunsAppend, MembersStay}
+use Rattle.booth_world.specs.States.{opening}
+use Rattle.booth_world.proofs.Views.{asked_on}
+use Rattle.booth_world.proofs.CallSteps.{steps_of_one, put_same}
+use Rattle.booth_world.proofs.Later.{run_first, run_second, after-append}
 
 -- facts that were added to
 record More (f f' : Facts) : Type 0 where
@@ -44,7 +49,7 @@ step_adds now m x (Starts kept) f = all_there f
 step_adds now m x ReadsClock f = all_there f
 
 adds : (c : Cluster) (w : WorldState) (step : WorldStep) → More w.facts (happens c w step).facts
-adds c w (Does m step) = step_adds w.now m (w.member m) step w.facts
+adds c w (MemberDoes m step) = step_adds w.now m (w.member m) step w.facts
 adds c w (Passes time) = all_there w.facts
 
 -- what was said stays a fact
@@ -53,25 +58,8 @@ fact_stays id_of s f f' head part cmds.RVot more said = (said.0, more.rounds sai
 fact_stays id_of s f f' head part cmds.HrtB more said = (said.0, more.rounds said.0 said.1, said.2, said.3, said.4)
 fact_stays id_of s f f' head part cmds.VtFr more said = (said.0, more.answers said.0 said.1, said.2, said.3, said.4, said.5)
 fact_stays id_of s f f' head part cmds.Ack more said = (said.0, more.answers said.0 said.1, said.2, said.3, said.4, said.5)
-fact_stays id_of s f f' head part cmds.Stat more said = tt
-fact_stays id_of s f f' head part cmds.MIdx more said = tt
-fact_stays id_of s f f' head part cmds.Rjc more said = tt
-fact_stays id_of s f f' head part cmds.UpdE more said = tt
 fact_stays id_of s f f' head part cmds.Revk more said = (said.0, more.releases said.0 said.1, said.2, said.3)
-fact_stays id_of s f f' head part cmds.CLst more said = tt
-fact_stays id_of s f f' head part cmds.Peer more said = tt
-fact_stays id_of s f f' head part cmds.CGnt more said = tt
-fact_stays id_of s f f' head part cmds.CRvk more said = tt
-fact_stays id_of s f f' head part cmds.ASet more said = tt
-fact_stays id_of s f f' head part cmds.AGet more said = tt
-fact_stays id_of s f f' head part cmds.ADel more said = tt
-fact_stays id_of s f f' head part cmds.ALst more said = tt
-fact_stays id_of s f f' head part cmds.RLst more said = tt
-fact_stays id_of s f f' head part cmds.RPer more said = tt
-fact_stays id_of s f f' head part cmds.RALs more said = tt
-fact_stays id_of s f f' head part cmds.RGnt more said = tt
-fact_stays id_of s f f' head part cmds.RRvk more said = tt
-fact_stays id_of s f f' head part cmds.RAtr more said = tt
+fact_stays id_of s f f' head part cmd more said = tt
 
 -- a view agrees with the same state, where there are more facts
 agrees_on : (c : Cluster) (id_of : ℕ → MemberId) (f f' : Facts) (m : ℕ) (view : View) (x : MemberState) → More f f' → Agrees c id_of f m view x → Agrees c id_of f' m view x
@@ -81,6 +69,7 @@ agrees_on c id_of f f' m view x more a = record {
   bound = a.bound;
   promise = a.promise;
   abstain = a.abstain;
+  within = a.within;
   kept = a.kept;
   round = λ r e. let o = a.round r e in record {
     own = o.own;
@@ -92,7 +81,7 @@ agrees_on c id_of f f' m view x more a = record {
     answered = λ place h. let q = o.answered place h in (q.0, more.answers q.0 q.1, q.2, q.3);
   };
   tried = a.tried;
-  asked = a.asked;
+  asked = λ w e. asked_on f f' x x view w.rule (a.asked w e);
   keeping = a.keeping;
   active = a.active;
   repeated = λ h. let q = a.repeated h in (q.0, more.releases q.0 q.1, q.2, q.3);
@@ -100,7 +89,7 @@ agrees_on c id_of f f' m view x more a = record {
 
 others_stay : (c : Cluster) (w : WorldState) (m : ℕ) (step : WorldStep) → IsOthers m step → (happens c w step).member m ≡ w.member m
 others_stay c w m (Passes time) other = refl
-others_stay c w m (Does k step) other = by_test (m == k) refl
+others_stay c w m (MemberDoes k step) other = by_test (m == k) refl
   where
     by_test : (b : Bool) → (m == k) ≡ b → cond b (member_after c w.now k (w.member k) step) (w.member m) ≡ w.member m
     by_test true e = absurd (other (grind (arith, nat_tests)))
@@ -119,10 +108,11 @@ agreement_stays = record {
     bound = a.bound;
     promise = a.promise;
     abstain = a.abstain;
+    within = a.within;
     kept = a.kept;
     round = a.round;
     tried = a.tried;
-    asked = a.asked;
+    asked = λ w e. asked_on f f x (reading_clock c now m x) view w.rule (a.asked w e);
     keeping = a.keeping;
     active = a.active;
     repeated = a.repeated;
@@ -131,39 +121,84 @@ agreement_stays = record {
 
 -- ---- steps of one member, as steps of the world
 
-time_stays : (c : Cluster) (w : WorldState) (m : ℕ) (steps : List MemberStep) → (after_steps c w (does_all m steps)).now ≡ w.now
+time_stays : (c : Cluster) (w : WorldState) (m : ℕ) (steps : List MemberStep) → (after_steps c w (world_steps m steps)).now ≡ w.now
 time_stays c w m [] = refl
-time_stays c w m (step ∷ steps) = time_stays c (happens c w (Does m step)) m steps
+time_stays c w m (step ∷ steps) = time_stays c (happens c w (MemberDoes m step)) m steps
 
-unmoved_by_all : (c : Cluster) (w : WorldState) (m k : ℕ) (steps : List MemberStep) → k ≢ m → (after_steps c w (does_all m steps)).member k ≡ w.member k
+unmoved_by_all : (c : Cluster) (w : WorldState) (m k : ℕ) (steps : List MemberStep) → k ≢ m → (after_steps c w (world_steps m steps)).member k ≡ w.member k
 unmoved_by_all c w m k [] other = refl
 unmoved_by_all c w m k (step ∷ steps) other =
-    unmoved_by_all c (happens c w (Does m step)) m k steps other ∙ others_stay c w k (Does m step) (λ e. other (sym e))
+    unmoved_by_all c (happens c w (MemberDoes m step)) m k steps other ∙ others_stay c w k (MemberDoes m step) (λ e. other (sym e))
 
 agree_on : (c : Cluster) (id_of : ℕ → MemberId) (w : WorldState) (m k : ℕ) (view : View) (steps : List MemberStep) → k ≢ m → Agrees c id_of w.facts k view (w.member k)
-    → Agrees c id_of (after_steps c w (does_all m steps)).facts k view ((after_steps c w (does_all m steps)).member k)
+    → Agrees c id_of (after_steps c w (world_steps m steps)).facts k view ((after_steps c w (world_steps m steps)).member k)
 agree_on c id_of w m k view [] other a = a
 agree_on c id_of w m k view (step ∷ steps) other a =
-    agree_on c id_of (happens c w (Does m step)) m k view steps other (agreement_stays.agreed c id_of w k view (Does m step) (λ e. other (sym e)) a)
+    agree_on c id_of (happens c w (MemberDoes m step)) m k view steps other (agreement_stays.agreed c id_of w k view (MemberDoes m step) (λ e. other (sym e)) a)
 
 said_by_all : (c : Cluster) (id_of : ℕ → MemberId) (w : WorldState) (m : ℕ) (steps : List MemberStep) (s : ℕ) (head : Head) (part : TicketPart) (cmd : Cmd)
-    → IsFact id_of w.facts s head part cmd → IsFact id_of (after_steps c w (does_all m steps)).facts s head part cmd
+    → IsFact id_of w.facts s head part cmd → IsFact id_of (after_steps c w (world_steps m steps)).facts s head part cmd
 said_by_all c id_of w m [] s head part cmd said = said
 said_by_all c id_of w m (step ∷ steps) s head part cmd said =
-    said_by_all c id_of (happens c w (Does m step)) m steps s head part cmd (agreement_stays.said_on c id_of w (Does m step) s head part cmd said)
+    said_by_all c id_of (happens c w (MemberDoes m step)) m steps s head part cmd (agreement_stays.said_on c id_of w (MemberDoes m step) s head part cmd said)
 
 pub calls_lead_on : CallsLeadOn
-calls_lead_on c id_of w m view say below gives =
-    let one = steps_of_one c w m gives.0 below gives.1 in
-    let after = after_steps c w (does_all m gives.0) in (
-      does_all m gives.0,
+calls_lead_on c id_of w m given below gives =
+    let one = steps_of_one c w m gives.steps below gives.run in
+    let after = after_steps c w (world_steps m gives.steps) in (
+      world_steps m gives.steps,
+      one.0,
       record {
-        run = one.0;
-        reached = subst (λ (x : MemberState). IsReached c id_of m (reading_of w m) view say after.facts x) (sym one.1)
-            (subst (λ (f : Facts). IsReached c id_of m (reading_of w m) view say f (member_after_all c w.now m (w.member m) gives.0)) (sym one.2) gives.2);
-        same_time = time_stays c w m gives.0;
-        unmoved = λ k other. unmoved_by_all c w m k gives.0 other;
-        others_agree = λ k view other a. agree_on c id_of w m k view gives.0 other a;
-        said_on = λ s head part cmd said. said_by_all c id_of w m gives.0 s head part cmd said;
+        reached = subst (λ (x : MemberState). IsReached c id_of (mark_at w m) given after.facts x) (sym one.1)
+            (subst (λ (f : Facts). IsReached c id_of (mark_at w m) given f (member_after_all c w.now m (w.member m) gives.steps)) (sym one.2) gives.reached);
+        adds = subst (λ (f : Facts). AddsOnly (mark_at w m) given.releases w.facts f) (sym one.2) gives.adds;
+        same_time = time_stays c w m gives.steps;
+        unmoved = λ k other. unmoved_by_all c w m k gives.steps other;
+        others_agree = λ k view other a. agree_on c id_of w m k view gives.steps other a;
+        said_on = λ s head part cmd said. said_by_all c id_of w m gives.steps s head part cmd said;
       },
     )
+
+-- ---- one run after another
+
+runs_join : (c : Cluster) (w : WorldState) (early late : List WorldStep) → IsRun c w early → IsRun c (after_steps c w early) late → IsRun c w (early ++ late)
+runs_join c w [] late first second = second
+runs_join c w (step ∷ early) late first second = (first.0, runs_join c (happens c w step) early late first.1 second)
+
+pub runs_append : RunsAppend
+runs_append = record { world = after-append; run = runs_join; first = run_first; second = run_second }
+
+stays_by_all : (c : Cluster) (w : WorldState) (m : ℕ) (more : List WorldStep) → AreOthers m more → (after_steps c w more).member m ≡ w.member m
+stays_by_all c w m [] others = refl
+stays_by_all c w m (step ∷ more) others = stays_by_all c (happens c w step) m more others.1 ∙ others_stay c w m step others.0
+
+agrees_by_all : (c : Cluster) (id_of : ℕ → MemberId) (w : WorldState) (m : ℕ) (view : View) (more : List WorldStep) → AreOthers m more
+    → Agrees c id_of w.facts m view (w.member m) → Agrees c id_of (after_steps c w more).facts m view ((after_steps c w more).member m)
+agrees_by_all c id_of w m view [] others a = a
+agrees_by_all c id_of w m view (step ∷ more) others a =
+    agrees_by_all c id_of (happens c w step) m view more others.1 (agreement_stays.agreed c id_of w m view step others.0 a)
+
+member_on : (c : Cluster) (w z : WorldState) (a : Caller) → IsMember c w a → Agrees c a.id_of z.facts a.place a.view (z.member a.place) → IsMember c z a
+member_on c w z a i agrees = record {
+  ids = i.ids;
+  below = i.below;
+  seated = i.seated;
+  sound = i.sound;
+  view_facts = i.view_facts;
+  agrees = agrees;
+}
+
+pub members_stay : MembersStay
+members_stay = record {
+  state = stays_by_all;
+  is_member = λ c steps more a others i.
+      subst (λ (w : WorldState). IsMember c w a) (sym (after-append c (opening c) steps more))
+      (member_on c (world_of c steps) (after_steps c (world_of c steps) more) a i
+      (agrees_by_all c a.id_of (world_of c steps) a.place a.view more others i.agrees));
+  is_member_later = λ c steps a i.
+      let w = world_of c steps in
+      subst (λ (w : WorldState). IsMember c w a) (sym (after-append c (opening c) steps (MemberDoes a.place ReadsClock ∷ [])))
+      (member_on c w (happens c w (MemberDoes a.place ReadsClock)) a i
+      (subst (λ (x : MemberState). Agrees c a.id_of w.facts a.place a.view x) (sym (put_same w.member a.place (reading_clock c w.now a.place (w.member a.place))))
+      (agreement_stays.clock_read c a.id_of w.facts a.place w.now a.view (w.member a.place) i.agrees)));
+}

@@ -3,17 +3,19 @@ use Rattle.std.specs.Prelude.{ℕ, List, [], ◌∷◌}
 use Rattle.booth_node.specs.Clock.{Cluster}
 use Rattle.booth_world.specs.Facts.{Facts}
 use Rattle.booth_world.specs.States.{MemberState}
-use Rattle.booth_world.specs.Steps.{MemberStep, WorldStep, Does, May, member_after, facts_after}
+use Rattle.booth_world.specs.Steps.{MemberStep, WorldStep, MemberDoes, May, member_after, facts_after}
 
 -- each step may be done where it stands
-abbrev pub DoesAll : Cluster → ℕ → ℕ → Facts → MemberState → List MemberStep → Type 0
-DoesAll c now m f x [] = Unit {0}
-DoesAll c now m f x (step ∷ steps) =
-    May c f m x step × DoesAll c now m (facts_after now m x step f) (member_after c now m x step) steps
+abbrev pub IsMemberRun : Cluster → ℕ → ℕ → Facts → MemberState → List MemberStep → Type 0
+IsMemberRun c now m f x [] = Unit {0}
+IsMemberRun c now m f x (step ∷ steps) =
+    May c f m x step
+    × IsMemberRun c now m (facts_after now m x step f) (member_after c now m x step) steps
 
 abbrev pub member_after_all : Cluster → ℕ → ℕ → MemberState → List MemberStep → MemberState
 member_after_all c now m x [] = x
-member_after_all c now m x (step ∷ steps) = member_after_all c now m (member_after c now m x step) steps
+member_after_all c now m x (step ∷ steps) =
+    member_after_all c now m (member_after c now m x step) steps
 
 abbrev pub facts_after_all : Cluster → ℕ → ℕ → Facts → MemberState → List MemberStep → Facts
 facts_after_all c now m f x [] = f
@@ -21,6 +23,6 @@ facts_after_all c now m f x (step ∷ steps) =
     facts_after_all c now m (facts_after now m x step f) (member_after c now m x step) steps
 
 -- the same as steps of the world
-abbrev pub does_all : ℕ → List MemberStep → List WorldStep
-does_all m [] = []
-does_all m (step ∷ steps) = Does m step ∷ does_all m steps
+abbrev pub world_steps : ℕ → List MemberStep → List WorldStep
+world_steps m [] = []
+world_steps m (step ∷ steps) = MemberDoes m step ∷ world_steps m steps

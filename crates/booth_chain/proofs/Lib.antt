@@ -1,0 +1,9 @@
+pub mod NodesLemmas
+pub mod LinkLemmas
+pub mod LinkedLemmas
+pub mod StepLemmas
+pub mod NewLemmas
+pub mod PoolLemmas
+pub mod CountLemmas
+pub mod DueLemmas
+pub mod DueListLemmas

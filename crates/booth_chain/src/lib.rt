@@ -1,0 +1,17 @@
+//! A pool of nodes that are linked by index into many lists, and the timer of many deadlines.
+#![tactic(auto)]
+
+mod aim;
+mod chains;
+mod link;
+mod links;
+mod node_id;
+mod steps;
+#[cfg(test)]
+mod tests;
+mod wheel;
+
+pub use chains::{Chains, Full};
+pub use node_id::NodeId;
+pub use steps::Steps;
+pub use wheel::Wheel;

@@ -1,0 +1,167 @@
+-- Releases are the entries', and the three laws hold of entries of the cores.
+use Rattle.std.proofs.Common.{◌≡◌, ◌⊎◌, ℕ, ◌≤◌, List, [], ◌∷◌, ◌++◌, Bool, true, false, refl, sym, ap, ◌∙◌, subst, inl, inr, ⊎_elim}
+use Rattle.std.specs.Prelude.{Option, Some, None}
+use Rattle.booth_rec.specs.declared.record.Record.{Record}
+use Rattle.booth_rec.specs.Record.{plain, IsInForce}
+use Rattle.booth_wire.specs.declared.message.Setup.{Setup}
+use Rattle.booth_raft.specs.declared.view.Rule.{Rule}
+use Rattle.booth_raft.specs.declared.view.Rule.TheVariants as rules
+use Rattle.booth_raft.specs.declared.view.View.{View}
+use Rattle.booth_raft.specs.declared.view.Waiting.{Waiting}
+use Rattle.booth_raft.specs.Facts.{Tries, ViewFacts}
+use Rattle.booth_node.specs.Clock.{Cluster, HasClocks, reads}
+use Rattle.booth_world.specs.Facts.{Has, Release}
+use Rattle.booth_world.specs.States.{KeptRecord, WorldState, opening}
+use Rattle.booth_world.specs.Steps.{WorldStep, IsRun, world_of}
+use Rattle.booth_world.specs.Held.{IsHeldBy, Held, AreApart, IsApart, GivesBackLease, ReleasedBetween}
+use Rattle.booth_world.specs.Agreement.{record_in}
+use Rattle.booth_world.specs.Gives.{released_by, releases_answered}
+use Rattle.booth_world.specs.Cores.{CoreEntry, ReadsTime, CallsCore, HasAnswer, Stops, StartsWith, Cores, opening_cores, Cast, IsCast, MayEnter, after_call, after_answer, mark_in, entered, AreEntered, cores_after, TimePasses}
+use Rattle.booth_world.specs.CoreLaws.{IsReleaseAt, IsReleaseIn, CoreHoldsBy, CoreHolds, CoreCourse, early_cores, late_cores, CoresHoldOne, CoresAreApart, CoreTermsNeverFall}
+use Rattle.booth_world.proofs.Views.{kept_of, record_has}
+use Rattle.booth_world.proofs.KeptSteps.{the_value}
+use Rattle.booth_world.proofs.Runs.{runs_hold_one, runs_hold_apart, runs_keep_terms}
+use Rattle.booth_world.proofs.CoreSteps.{CoresHold, opens, enters, enter_all}
+
+module _ (c : Cluster) (cast : Cast) (clocks : HasClocks c) (is_cast : IsCast c cast) where
+  one_released : (setup : Setup) (view : View) (w : Waiting) (m now : ℕ) (kept : Record) (releases : List Release) (z : Release) → w.tried ≡ kept
+      → Tries setup view.term view.kept view.round w.rule w.tried
+      → Has (released_by w.rule (record { site = m; term = w.tried.term; at = now }) releases) z
+      → Has releases z ⊎ ((z ≡ record { site = m; term = kept.term; at = now }) × (kept.lease ≡ None))
+  one_released setup view w m now kept releases z same tries has = by_rule w.rule refl
+    where
+      is_new : w.tried ≡ plain view.term None → Has (record { site = m; term = w.tried.term; at = now } ∷ releases) z
+          → Has releases z ⊎ ((z ≡ record { site = m; term = kept.term; at = now }) × (kept.lease ≡ None))
+      is_new free h = ⊎_elim
+          (λ (e : record { site = m; term = w.tried.term; at = now } ≡ z).
+          inr (sym e ∙ ap (λ (k : Record). let r : Release = record { site = m; term = k.term; at = now } in r) same, ap (λ (k : Record). k.lease) (sym same ∙ free)))
+          (λ (old : Has releases z). inl old) h
+
+      by_rule : (rule : Rule) → w.rule ≡ rule → Has releases z ⊎ ((z ≡ record { site = m; term = kept.term; at = now }) × (kept.lease ≡ None))
+      by_rule rules.Gain e = inl (subst (λ (r : Rule). Has (released_by r (record { site = m; term = w.tried.term; at = now }) releases) z) e has)
+      by_rule (rules.Ask reason) e = inl (subst (λ (r : Rule). Has (released_by r (record { site = m; term = w.tried.term; at = now }) releases) z) e has)
+      by_rule (rules.Release reason) e =
+          is_new (subst (λ (r : Rule). Tries setup view.term view.kept view.round r w.tried) e tries)
+          (subst (λ (r : Rule). Has (released_by r (record { site = m; term = w.tried.term; at = now }) releases) z) e has)
+      by_rule rules.EndRound e =
+          is_new (subst (λ (r : Rule). Tries setup view.term view.kept view.round r w.tried) e tries)
+          (subst (λ (r : Rule). Has (released_by r (record { site = m; term = w.tried.term; at = now }) releases) z) e has)
+
+  answer_released : (cores : Cores) (w : WorldState) (m : ℕ) (kept : Record) (ok : Bool) (z : Release) → CoresHold c cast cores w → MayEnter c cast cores (HasAnswer m kept ok)
+      → Has (entered c cast cores (HasAnswer m kept ok)).releases z → Has cores.releases z ⊎ IsReleaseAt cores (HasAnswer m kept ok) z
+  answer_released cores w m kept ok z i may has =
+      let v = the_value _ (cores.place m).view may.1 in
+      let t = the_value _ (v.0).waiting v.2 in
+      by_answer ok v.0 t.0 ((i.each m may.0).view_facts v.0 v.1) t.1 t.2
+      (subst (λ (o : Option View). Has (after_answer cast cores m ok o).releases z) v.1 has)
+    where
+      by_answer : (ok : Bool) (view : View) (waits : Waiting) → ViewFacts (cast.setup m) view → view.waiting ≡ Some waits → waits.tried ≡ kept
+          → Has (releases_answered (mark_in cores m) view.waiting ok cores.releases) z → Has cores.releases z ⊎ IsReleaseAt cores (HasAnswer m kept ok) z
+      by_answer false view waits facts e same h = inl (subst (λ (o : Option Waiting). Has (releases_answered (mark_in cores m) o false cores.releases) z) e h)
+      by_answer true view waits facts e same h =
+          one_released (cast.setup m) view waits m cores.now kept cores.releases z same (facts.tried waits e)
+          (subst (λ (o : Option Waiting). Has (releases_answered (mark_in cores m) o true cores.releases) z) e h)
+
+  entry_released : (cores : Cores) (w : WorldState) (entry : CoreEntry) (z : Release) → CoresHold c cast cores w → MayEnter c cast cores entry
+      → Has (entered c cast cores entry).releases z → Has cores.releases z ⊎ IsReleaseAt cores entry z
+  entry_released cores w (TimePasses time) z i may has = inl has
+  entry_released cores w (ReadsTime m time) z i may has = inl has
+  entry_released cores w (CallsCore m call) z i may has =
+      let v = the_value _ (cores.place m).view may.1 in
+      inl (subst (λ (o : Option View). Has (after_call cast cores m call o).releases z) v.1 has)
+  entry_released cores w (HasAnswer m kept ok) z i may has = answer_released cores w m kept ok z i may has
+  entry_released cores w (Stops m) z i may has = inl has
+  entry_released cores w (StartsWith m kept) z i may has = inl has
+
+  all_released : (cores : Cores) (entries : List CoreEntry) (steps : List WorldStep) (z : Release) → IsRun c (opening c) steps → CoresHold c cast cores (world_of c steps)
+      → AreEntered c cast cores entries → Has (cores_after c cast cores entries).releases z → Has cores.releases z ⊎ IsReleaseIn c cast cores entries z
+  all_released cores [] steps z run i all has = inl has
+  all_released cores (entry ∷ entries) steps z run i all has =
+      let one = enters c cast clocks is_cast cores entry steps run i all.0 in
+      ⊎_elim
+      (λ (old : Has (entered c cast cores entry).releases z). ⊎_elim
+      (λ (older : Has cores.releases z). inl older)
+      (λ (new : IsReleaseAt cores entry z). inr (inl new))
+      (entry_released cores (world_of c steps) entry z i all.0 old))
+      (λ (new : IsReleaseIn c cast (entered c cast cores entry) entries z). inr (inr new))
+      (all_released (entered c cast cores entry) entries (steps ++ one.more) z one.run one.holds all.1 has)
+
+-- ---- the laws
+
+-- runs of the world for both parts
+record Runs (c : Cluster) (cast : Cast) (early late : List CoreEntry) : Type 0 where
+  pub first : List WorldStep
+  pub more : List WorldStep
+  pub run_first : IsRun c (opening c) first
+  pub run_all : IsRun c (opening c) (first ++ more)
+  pub early_holds : CoresHold c cast (early_cores c cast early) (world_of c first)
+  pub late_holds : CoresHold c cast (late_cores c cast early late) (world_of c (first ++ more))
+
+runs_of : (c : Cluster) (cast : Cast) (early late : List CoreEntry) → CoreCourse c cast early late → Runs c cast early late
+runs_of c cast early late i =
+    let one = enter_all c cast i.clocks i.is_cast (opening_cores c) early [] tt (opens c cast i.clocks i.is_cast) i.enters_early in
+    let two = enter_all c cast i.clocks i.is_cast (early_cores c cast early) late one.more one.run one.holds i.enters_late in record {
+      first = one.more;
+      more = two.more;
+      run_first = one.run;
+      run_all = two.run;
+      early_holds = one.holds;
+      late_holds = two.holds;
+    }
+
+-- a record by which a core holds, as the world has it
+held_by : (c : Cluster) (cast : Cast) (cores : Cores) (w : WorldState) (s : ℕ) (k : Record) → CoresHold c cast cores w → CoreHoldsBy c cores s k
+    → (z : KeptRecord) × (record_in cast.id_of z ≡ k) × IsHeldBy c w s z
+held_by c cast cores w s k i h =
+    let z = kept_of cast.id_of (w.member s).may k (subst (λ (l : List Record). Has l k) (sym (i.each s h.0).same_may) h.1) in (
+      z.0,
+      z.2,
+      record {
+        below = h.0;
+        may = z.1;
+        in_force = subst (λ (k : Record). IsInForce k (reads c s w.now)) (sym z.2) (subst (λ (t : ℕ). IsInForce k (reads c s t)) (sym i.same_now) h.2);
+      },
+    )
+
+held : (c : Cluster) (cast : Cast) (cores : Cores) (w : WorldState) (s : ℕ) → CoresHold c cast cores w → CoreHolds c cores s → Held c w s
+held c cast cores w s i h = let z = held_by c cast cores w s h.0 i h.1 in (z.0, z.2)
+
+pub cores_hold_one : CoresHoldOne
+cores_hold_one c cast entries course s t hs ht =
+    let r = runs_of c cast entries [] course in
+    let cores = early_cores c cast entries in
+    runs_hold_one c course.clocks r.first r.run_first s t
+    (held c cast cores (world_of c r.first) s r.early_holds hs)
+    (held c cast cores (world_of c r.first) t r.early_holds ht)
+
+pub cores_are_apart : CoresAreApart
+cores_are_apart c cast early late course s t other k hs ht =
+    let r = runs_of c cast early late course in
+    let w = world_of c r.first in
+    let z = world_of c (r.first ++ r.more) in
+    let first = held_by c cast (early_cores c cast early) w s k r.early_holds hs in
+    ⊎_elim
+    (λ (apart : IsApart c w z). inl (subst (λ (a : ℕ). AreApart c a (late_cores c cast early late).now) r.early_holds.same_now
+    (subst (λ (b : ℕ). AreApart c w.now b) r.late_holds.same_now apart)))
+    (λ (b : ReleasedBetween w z s first.0).
+    let in_late = subst (λ (l : List Release). Has l b.release) r.late_holds.same_releases b.fact in
+    ⊎_elim
+    (λ (old : Has (early_cores c cast early).releases b.release).
+    absurd (b.fresh (subst (λ (l : List Release). Has l b.release) (sym r.early_holds.same_releases) old)))
+    (λ (new : IsReleaseIn c cast (early_cores c cast early) late b.release).
+    inr (b.release, new, subst (λ (k : Record). GivesBackLease s k.lease b.release) first.1 b.gives_back))
+    (all_released c cast course.clocks course.is_cast (early_cores c cast early) late r.first b.release r.run_first r.early_holds course.enters_late in_late))
+    (runs_hold_apart c course.clocks r.first r.more r.run_all s t other first.0 first.2
+    (held c cast (late_cores c cast early late) z t r.late_holds ht))
+
+pub core_terms : CoreTermsNeverFall
+core_terms c cast early late course s term below at k has =
+    let r = runs_of c cast early late course in
+    let w = world_of c r.first in
+    let z = world_of c (r.first ++ r.more) in
+    let one = kept_of cast.id_of (z.member s).may k (subst (λ (l : List Record). Has l k) (sym (r.late_holds.each s below).same_may) has) in
+    let l = runs_keep_terms c course.clocks r.first r.more r.run_all s term
+    (λ y h. at (record_in cast.id_of y)
+    (subst (λ (l : List Record). Has l (record_in cast.id_of y)) (r.early_holds.each s below).same_may (record_has cast.id_of (w.member s).may y h)))
+    one.0 one.1 in
+    subst (λ (k : Record). term ≤ k.term) one.2 l

@@ -1,0 +1,364 @@
+-- Entries of the lease cores make a run of the world, and so the laws hold of them.
+use Rattle.std.proofs.Common.{◌≡◌, ◌≢◌, ℕ, ◌^◌, ◌<◌, ◌≤◌, List, [], ◌∷◌, ◌++◌, Bool, true, false, refl, sym, ap, ◌∙◌, subst, inl, inr, ⊎_elim, arith}
+use Rattle.std.specs.Prelude.{Option, Some, None, ◌==◌, if◌then◌else◌}
+use Rattle.std.proofs.lemmas.Bool.Decides.{nat_tests}
+use Rattle.booth_rec.specs.declared.record.Record.{Record}
+use Rattle.booth_wire.specs.declared.message.Say.{Say}
+use Rattle.booth_wire.specs.declared.message.Say.TheVariants as says
+use Rattle.booth_raft.specs.declared.view.View.{View}
+use Rattle.booth_raft.specs.Facts.{ViewFacts}
+use Rattle.booth_raft.specs.AskAndRenew.{keep_answered}
+use Rattle.booth_raft.specs.StartAndLearn.{started}
+use Rattle.booth_raft.proofs.HeardLemmas.{start_facts, heard_good}
+use Rattle.booth_raft.proofs.KeptLemmas.{ask_good, keep_answered_good, release_good, renewed_good}
+use Rattle.booth_raft.proofs.DueLemmas.{due_now_good, greeted_facts, noted_facts}
+use Rattle.booth_node.specs.Clock.{Cluster, HasClocks, reads}
+use Rattle.booth_world.specs.Facts.{Has, Round, Answer, Gain, Release, Facts}
+use Rattle.booth_world.specs.States.{MemberState, WorldState, opening, put}
+use Rattle.booth_world.specs.Lives.{reading_clock, crashing}
+use Rattle.booth_world.specs.Steps.{WorldStep, ReadsClock, Crashes, MemberDoes, Passes, IsRun, after_steps, world_of}
+use Rattle.booth_world.specs.Agreement.{records_in, Agrees}
+use Rattle.booth_world.specs.Messages.{IsFact, IsSaid}
+use Rattle.booth_world.specs.Gives.{Mark, AddsOnly, IsMarkedRound, IsMarkedAnswer, IsMarkedGain, Given, given_by, may_answered, releases_answered}
+use Rattle.booth_world.specs.Calls.{mark_at, Caller, IsMember, MayCall, Gives}
+use Rattle.booth_world.specs.Rules.{MemberLetter, CoreCall, Asks, Hears, Greets, MeetsDeadline, MakesNote, RenewsLease, GivesBack, lease_call}
+use Rattle.booth_world.specs.Cores.{CoreEntry, ReadsTime, CallsCore, HasAnswer, Stops, StartsWith, CorePlace, Cores, opening_cores, Cast, IsCast, MayCallCore, MayEnter, said_more, has_given, after_call, after_answer, mark_in, entered, AreEntered, cores_after, TimePasses}
+use Rattle.booth_world.proofs.Lists.{none_is, some_same, put_all}
+use Rattle.booth_world.proofs.Invariant.{Good}
+use Rattle.booth_world.proofs.KeptSteps.{the_value}
+use Rattle.booth_world.proofs.CallSteps.{calls_are_steps, good_world}
+use Rattle.booth_world.proofs.StabilityLemmas.{agreement_stays, calls_lead_on, runs_append}
+
+-- what holds of the moved one of each of two, and of each other, holds of all
+put_both : {A B : Type 0} (Q : ℕ → A → B → Type 0) (f : ℕ → A) (g : ℕ → B) (m : ℕ) (x : A) (y : B) → Q m x y → ((k : ℕ) → k ≢ m → Q k (f k) (g k)) → (k : ℕ) → Q k (put f m x k) (put g m y k)
+put_both {A} {B} Q f g m x y here there k = go (k == m) refl
+  where
+    go : (b : Bool) → (k == m) ≡ b → Q k (if b then x else f k) (if b then y else g k)
+    go true e = let same : m ≡ k = grind (arith, nat_tests) in subst (λ (j : ℕ). Q j x y) same here
+    go false e = there k (grind (arith, nat_tests))
+
+-- ---- the relation
+
+-- a member's place and its state
+pub record CorePlaceHolds (c : Cluster) (cast : Cast) (f : Facts) (m : ℕ) (x : MemberState) (s : CorePlace) : Type 0 where
+  pub same_may : records_in cast.id_of x.may ≡ s.may
+  pub same_reading : x.reading ≡ s.reading
+  pub same_at : x.at ≡ s.at
+  pub down : s.view ≡ None → x.up ≡ false
+  pub agrees : (view : View) → s.view ≡ Some view → Agrees c cast.id_of f m view x
+  pub view_facts : (view : View) → s.view ≡ Some view → ViewFacts (cast.setup m) view
+
+-- each round, answer and lease bears the mark of an entry
+pub record IsMarked (marks : List Mark) (f : Facts) : Type 0 where
+  pub rounds : (r : Round) → Has f.rounds r → (mark : Mark) × (Has marks mark) × IsMarkedRound mark r
+  pub answers : (a : Answer) → Has f.answers a → (mark : Mark) × (Has marks mark) × IsMarkedAnswer mark a
+  pub leases : (g : Gain) → Has f.leases g → (mark : Mark) × (Has marks mark) × IsMarkedGain mark g
+
+marks_more : (mark : Mark) (marks : List Mark) (releases : List Release) (f f' : Facts) → IsMarked marks f → AddsOnly mark releases f f' → IsMarked (mark ∷ marks) f'
+marks_more mark marks releases f f' i adds = record {
+  rounds = λ r h. ⊎_elim
+      (λ (old : Has f.rounds r). let q = i.rounds r old in (q.0, inr q.1, q.2))
+      (λ (new : IsMarkedRound mark r). (mark, inl refl, new)) (adds.rounds r h);
+  answers = λ r h. ⊎_elim
+      (λ (old : Has f.answers r). let q = i.answers r old in (q.0, inr q.1, q.2))
+      (λ (new : IsMarkedAnswer mark r). (mark, inl refl, new)) (adds.answers r h);
+  leases = λ r h. ⊎_elim
+      (λ (old : Has f.leases r). let q = i.leases r old in (q.0, inr q.1, q.2))
+      (λ (new : IsMarkedGain mark r). (mark, inl refl, new)) (adds.leases r h);
+}
+
+-- all members, what was said, what was released, and the marks
+pub record CoresHold (c : Cluster) (cast : Cast) (cores : Cores) (w : WorldState) : Type 0 where
+  pub same_now : w.now ≡ cores.now
+  pub each : (m : ℕ) → m < c.members → CorePlaceHolds c cast w.facts m (w.member m) (cores.place m)
+  pub heard_now : (l : MemberLetter) → Has cores.said l
+      → (l.sender < c.members) × IsFact cast.id_of w.facts l.sender l.head l.part l.head.cmd
+  pub same_releases : w.facts.releases ≡ cores.releases
+  pub marked : IsMarked cores.marks w.facts
+
+-- more steps lead to a world that is related
+pub record Reached (c : Cluster) (cast : Cast) (cores : Cores) (steps : List WorldStep) : Type 0 where
+  pub more : List WorldStep
+  pub run : IsRun c (opening c) (steps ++ more)
+  pub holds : CoresHold c cast cores (world_of c (steps ++ more))
+
+goes_on : (c : Cluster) (cast : Cast) (cores : Cores) (steps more : List WorldStep) → IsRun c (opening c) steps → IsRun c (world_of c steps) more
+    → CoresHold c cast cores (after_steps c (world_of c steps) more) → Reached c cast cores steps
+goes_on c cast cores steps more run further holds = record {
+  more = more;
+  run = runs_append.run c (opening c) steps more run further;
+  holds = subst (λ (w : WorldState). CoresHold c cast cores w) (sym (runs_append.world c (opening c) steps more)) holds;
+}
+
+append_assoc : (a b d : List WorldStep) → (a ++ b) ++ d ≡ a ++ (b ++ d)
+append_assoc [] b d = refl
+append_assoc (x ∷ a) b d = ap (λ (l : List WorldStep). x ∷ l) (append_assoc a b d)
+
+append_none : (a : List WorldStep) → a ++ [] ≡ a
+append_none [] = refl
+append_none (x ∷ a) = ap (λ (l : List WorldStep). x ∷ l) (append_none a)
+
+module _ (c : Cluster) (cast : Cast) (clocks : HasClocks c) (is_cast : IsCast c cast) where
+  pub opens : CoresHold c cast (opening_cores c) (opening c)
+  opens = record {
+    same_now = refl;
+    each = λ m below. record {
+      same_may = refl;
+      same_reading = refl;
+      same_at = refl;
+      down = λ e. refl;
+      agrees = λ v e. absurd (none_is v e);
+      view_facts = λ v e. absurd (none_is v e);
+    };
+    heard_now = λ l h. absurd h;
+    same_releases = refl;
+    marked = record { rounds = λ r h. absurd h; answers = λ r h. absurd h; leases = λ r h. absurd h };
+  }
+
+  -- ---- what a core gives
+
+  others_stay : (f f' : Facts) (m : ℕ) (x y : MemberState) (s : CorePlace) → y ≡ x
+      → ((view : View) → Agrees c cast.id_of f m view x → Agrees c cast.id_of f' m view y)
+      → CorePlaceHolds c cast f m x s → CorePlaceHolds c cast f' m y s
+  others_stay f f' m x y s same agree i = record {
+    same_may = ap (λ (x : MemberState). records_in cast.id_of x.may) same ∙ i.same_may;
+    same_reading = ap (λ (x : MemberState). x.reading) same ∙ i.same_reading;
+    same_at = ap (λ (x : MemberState). x.at) same ∙ i.same_at;
+    down = λ e. ap (λ (x : MemberState). x.up) same ∙ i.down e;
+    agrees = λ view e. agree view (i.agrees view e);
+    view_facts = i.view_facts;
+  }
+
+  letters_hold : (f : Facts) (m : ℕ) (say : Say) (said : List MemberLetter) → m < c.members → IsSaid cast.id_of f m say
+      → ((l : MemberLetter) → Has said l → (l.sender < c.members) × IsFact cast.id_of f l.sender l.head l.part l.head.cmd)
+      → (l : MemberLetter) → Has (said_more m say said) l → (l.sender < c.members) × IsFact cast.id_of f l.sender l.head l.part l.head.cmd
+  letters_hold f m says.Nothing said below fact old l h = old l h
+  letters_hold f m (says.All head part) said below fact old l h = ⊎_elim
+      (λ (e : record { sender = m; head = head; part = part } ≡ l). subst (λ (l : MemberLetter). (l.sender < c.members) × IsFact cast.id_of f l.sender l.head l.part l.head.cmd) e (below, fact))
+      (λ (i : Has said l). old l i) h
+  letters_hold f m (says.Unanswered head part members) said below fact old l h = ⊎_elim
+      (λ (e : record { sender = m; head = head; part = part } ≡ l). subst (λ (l : MemberLetter). (l.sender < c.members) × IsFact cast.id_of f l.sender l.head l.part l.head.cmd) e (below, fact))
+      (λ (i : Has said l). old l i) h
+  letters_hold f m (says.Reply head part) said below fact old l h = ⊎_elim
+      (λ (e : record { sender = m; head = head; part = part } ≡ l). subst (λ (l : MemberLetter). (l.sender < c.members) × IsFact cast.id_of f l.sender l.head l.part l.head.cmd) e (below, fact))
+      (λ (i : Has said l). old l i) h
+
+  same_mark : (cores : Cores) (w : WorldState) (m : ℕ) → CoresHold c cast cores w → m < c.members → mark_at w m ≡ mark_in cores m
+  same_mark cores w m i below = λ j. record {
+    member = m;
+    reading = (i.each m below).same_reading j;
+    at = (i.each m below).same_at j;
+    now = i.same_now j;
+  }
+
+  given_holds : (cores : Cores) (steps : List WorldStep) (m : ℕ) (given : Given) → IsRun c (opening c) steps → CoresHold c cast cores (world_of c steps)
+      → m < c.members → Gives c cast.id_of (world_of c steps) m given → ViewFacts (cast.setup m) given.view
+      → Reached c cast (has_given cores m given) steps
+  given_holds cores steps m given run i below gives view_facts =
+      let w = world_of c steps in
+      let call = calls_lead_on c cast.id_of w m given below gives in
+      let next = call.2 in
+      let z = after_steps c w call.0 in
+      goes_on c cast (has_given cores m given) steps call.0 run call.1
+      (record {
+        same_now = next.same_time ∙ i.same_now;
+        each = put_all (λ (k : ℕ) (s : CorePlace). k < c.members → CorePlaceHolds c cast z.facts k (z.member k) s)
+            cores.place m (record (cores.place m) { view = Some given.view; may = given.may })
+            (λ within. record {
+              same_may = next.reached.may_now;
+              same_reading = next.reached.same_reading ∙ (i.each m below).same_reading;
+              same_at = next.reached.same_at ∙ (i.each m below).same_at;
+              down = λ e. absurd (none_is given.view (sym e));
+              agrees = λ view e. subst (λ (v : View). Agrees c cast.id_of z.facts m v (z.member m)) (some_same given.view view e) next.reached.agrees;
+              view_facts = λ view e. subst (λ (v : View). ViewFacts (cast.setup m) v) (some_same given.view view e) view_facts;
+            })
+            (λ k other within. others_stay w.facts z.facts k (w.member k) (z.member k) (cores.place k) (next.unmoved k other)
+            (λ view a. next.others_agree k view other a) (i.each k within));
+        heard_now = letters_hold z.facts m given.say cores.said below next.reached.said
+            (λ l h. let q = i.heard_now l h in (q.0, next.said_on l.sender l.head l.part l.head.cmd q.1));
+        same_releases = next.adds.releases_now;
+        marked = subst (λ (mark : Mark). IsMarked (mark ∷ cores.marks) z.facts) (same_mark cores w m i below)
+            (marks_more (mark_at w m) cores.marks given.releases w.facts z.facts i.marked next.adds);
+      })
+
+  member_in : (cores : Cores) (w : WorldState) (m : ℕ) (view : View) → CoresHold c cast cores w → m < c.members → (cores.place m).view ≡ Some view
+      → IsMember c w (record { id_of = cast.id_of; place = m; setup = cast.setup m; view = view })
+  member_in cores w m view i below e = record {
+    ids = is_cast.ids;
+    below = below;
+    seated = is_cast.seated m below;
+    sound = is_cast.sound m below;
+    view_facts = (i.each m below).view_facts view e;
+    agrees = (i.each m below).agrees view e;
+  }
+
+  early : (w : WorldState) (m : ℕ) → Good c w → m < c.members → (w.member m).reading < 2 ^ 62
+  early w m g below =
+      let k = (g.each m).clock in
+      let a = k.past in
+      let b = g.facts.within in
+      let e = clocks.long m below in
+      let s : reads c m (w.member m).at < 2 ^ 62 = (clocks.clocks m below).small (w.member m).at (omega arith) in
+      subst (λ (r : ℕ). r < 2 ^ 62) (sym k.clock) s
+
+  -- ---- calls
+
+  abbrev caller : ℕ → View → Caller
+  caller m view = record { id_of = cast.id_of; place = m; setup = cast.setup m; view = view }
+
+  may_call : (cores : Cores) (w : WorldState) (m : ℕ) (view : View) (call : CoreCall) → CoresHold c cast cores w → m < c.members
+      → MayCallCore cast cores m view call → MayCall c w (caller m view) call
+  may_call cores w m view (Asks reason) i below may = may
+  may_call cores w m view (Hears letter) i below may =
+      let q = i.heard_now letter may.0 in
+      record { timely = (i.each m below).same_at ∙ may.2 ∙ sym i.same_now; below = q.0; from = may.1; fact = q.1 }
+  may_call cores w m view Greets i below may = tt
+  may_call cores w m view MeetsDeadline i below may = tt
+  may_call cores w m view (MakesNote note) i below may = tt
+  may_call cores w m view RenewsLease i below may = may
+  may_call cores w m view (GivesBack reason) i below may = may
+
+  call_facts : (cores : Cores) (m : ℕ) (view : View) (now : ℕ) (call : CoreCall) → view.waiting ≡ None → MayCallCore cast cores m view call → now < 2 ^ 62 → ViewFacts (cast.setup m) view
+      → ViewFacts (cast.setup m) (lease_call (cast.setup m) view now call).view
+  call_facts cores m view now (Asks reason) none may small facts = (ask_good (cast.setup m) view reason now).facts
+  call_facts cores m view now (Hears letter) none may small facts =
+      (heard_good (cast.setup m) view letter.sender letter.head letter.part now letter.head.cmd none facts).facts
+  call_facts cores m view now Greets none may small facts = greeted_facts (cast.setup m) view facts
+  call_facts cores m view now MeetsDeadline none may small facts = (due_now_good (cast.setup m) view now view.role none facts).facts
+  call_facts cores m view now (MakesNote note) none may small facts = noted_facts (cast.setup m) view now note none may facts
+  call_facts cores m view now RenewsLease none may small facts = (renewed_good (cast.setup m) view view.round now small none facts).facts
+  call_facts cores m view now (GivesBack reason) none may small facts = (release_good (cast.setup m) view reason now facts.round_fits).facts
+
+  -- what the world gives is what the entries count
+  called : (cores : Cores) (steps : List WorldStep) (m : ℕ) (view : View) (call : CoreCall) → IsRun c (opening c) steps
+      → CoresHold c cast cores (world_of c steps) → m < c.members → (cores.place m).view ≡ Some view → view.waiting ≡ None → MayCallCore cast cores m view call
+      → Reached c cast (after_call cast cores m call (Some view)) steps
+  called cores steps m view call run i below e none may =
+      let w = world_of c steps in
+      let one = i.each m below in
+      let gives = calls_are_steps.call_gives c clocks steps run _ (member_in cores w m view i below e) none call (may_call cores w m view call i below may) in
+      let by_reading = subst (λ (r : ℕ). Gives c cast.id_of w m (given_by (lease_call (cast.setup m) view r call) (records_in cast.id_of (w.member m).may) w.facts.releases)) one.same_reading gives in
+      let by_may = subst (λ (l : List Record). Gives c cast.id_of w m (given_by (lease_call (cast.setup m) view (cores.place m).reading call) l w.facts.releases)) one.same_may by_reading in
+      let by_all = subst (λ (l : List Release). Gives c cast.id_of w m (given_by (lease_call (cast.setup m) view (cores.place m).reading call) (cores.place m).may l)) i.same_releases by_may in
+      given_holds cores steps m _ run i below by_all
+      (call_facts cores m view (cores.place m).reading call none may
+      (subst (λ (r : ℕ). r < 2 ^ 62) one.same_reading (early w m (good_world c clocks steps run) below)) (one.view_facts view e))
+
+  answered : (cores : Cores) (steps : List WorldStep) (m : ℕ) (view : View) (ok : Bool) → IsRun c (opening c) steps
+      → CoresHold c cast cores (world_of c steps) → m < c.members → (cores.place m).view ≡ Some view
+      → Reached c cast (after_answer cast cores m ok (Some view)) steps
+  answered cores steps m view ok run i below e =
+      let w = world_of c steps in
+      let one = i.each m below in
+      let gives = calls_are_steps.answer_gives c clocks steps run _ (member_in cores w m view i below e) ok in
+      let by_reading = subst (λ (r : ℕ). Gives c cast.id_of w m (given_by (keep_answered (cast.setup m) view view.waiting r ok) (may_answered view.waiting ok (records_in cast.id_of (w.member m).may)) (releases_answered (record { member = m; reading = r; at = (w.member m).at; now = w.now }) view.waiting ok w.facts.releases))) one.same_reading gives in
+      let by_at = subst (λ (t : ℕ). Gives c cast.id_of w m (given_by (keep_answered (cast.setup m) view view.waiting (cores.place m).reading ok) (may_answered view.waiting ok (records_in cast.id_of (w.member m).may)) (releases_answered (record { member = m; reading = (cores.place m).reading; at = t; now = w.now }) view.waiting ok w.facts.releases))) one.same_at by_reading in
+      let by_now = subst (λ (t : ℕ). Gives c cast.id_of w m (given_by (keep_answered (cast.setup m) view view.waiting (cores.place m).reading ok) (may_answered view.waiting ok (records_in cast.id_of (w.member m).may)) (releases_answered (record { member = m; reading = (cores.place m).reading; at = (cores.place m).at; now = t }) view.waiting ok w.facts.releases))) i.same_now by_at in
+      let by_may = subst (λ (l : List Record). Gives c cast.id_of w m (given_by (keep_answered (cast.setup m) view view.waiting (cores.place m).reading ok) (may_answered view.waiting ok l) (releases_answered (mark_in cores m) view.waiting ok w.facts.releases))) one.same_may by_now in
+      let by_all = subst (λ (l : List Release). Gives c cast.id_of w m (given_by (keep_answered (cast.setup m) view view.waiting (cores.place m).reading ok) (may_answered view.waiting ok (cores.place m).may) (releases_answered (mark_in cores m) view.waiting ok l))) i.same_releases by_may in
+      given_holds cores steps m _ run i below by_all
+      (keep_answered_good (cast.setup m) view view.waiting (cores.place m).reading ok
+      (subst (λ (r : ℕ). r < 2 ^ 62) one.same_reading (early w m (good_world c clocks steps run) below)) refl (one.view_facts view e)).facts
+
+  -- ---- time, and lives
+
+  time_passed : (cores : Cores) (steps : List WorldStep) (time : ℕ) → IsRun c (opening c) steps → CoresHold c cast cores (world_of c steps)
+      → cores.now ≤ time → time < c.span → Reached c cast (entered c cast cores (TimePasses time)) steps
+  time_passed cores steps time run i later within =
+      goes_on c cast (entered c cast cores (TimePasses time)) steps (Passes time ∷ []) run
+      (record { later = let e = i.same_now in omega (arith, e, later); within = within }, tt)
+      (record { same_now = refl; each = i.each; heard_now = i.heard_now; same_releases = i.same_releases; marked = i.marked })
+
+  time_read : (cores : Cores) (steps : List WorldStep) (m time : ℕ) → IsRun c (opening c) steps → CoresHold c cast cores (world_of c steps)
+      → m < c.members → cores.now ≤ time → time < c.span → Reached c cast (entered c cast cores (ReadsTime m time)) steps
+  time_read cores steps m time run i below later within =
+      let w = world_of c steps in
+      goes_on c cast (entered c cast cores (ReadsTime m time)) steps (Passes time ∷ MemberDoes m ReadsClock ∷ []) run
+      (record { later = let e = i.same_now in omega (arith, e, later); within = within }, ((below, tt), tt))
+      (record {
+        same_now = refl;
+        each = put_both (λ (k : ℕ) (x : MemberState) (s : CorePlace). k < c.members → CorePlaceHolds c cast w.facts k x s)
+            w.member cores.place m (reading_clock c time m (w.member m)) (record (cores.place m) { reading = reads c m time; at = time })
+            (λ inside. record {
+              same_may = (i.each m below).same_may;
+              same_reading = refl;
+              same_at = refl;
+              down = (i.each m below).down;
+              agrees = λ view e. agreement_stays.clock_read c cast.id_of w.facts m time view (w.member m) ((i.each m below).agrees view e);
+              view_facts = (i.each m below).view_facts;
+            })
+            (λ k other inside. i.each k inside);
+        heard_now = i.heard_now;
+        same_releases = i.same_releases;
+        marked = i.marked;
+      })
+
+  stopped : (cores : Cores) (steps : List WorldStep) (m : ℕ) (view : View) → IsRun c (opening c) steps → CoresHold c cast cores (world_of c steps)
+      → m < c.members → (cores.place m).view ≡ Some view → Reached c cast (entered c cast cores (Stops m)) steps
+  stopped cores steps m view run i below e =
+      let w = world_of c steps in
+      goes_on c cast (entered c cast cores (Stops m)) steps (MemberDoes m Crashes ∷ []) run
+      ((below, ((i.each m below).agrees view e).up), tt)
+      (record {
+        same_now = i.same_now;
+        each = put_both (λ (k : ℕ) (x : MemberState) (s : CorePlace). k < c.members → CorePlaceHolds c cast w.facts k x s)
+            w.member cores.place m (crashing (w.member m)) (record (cores.place m) { view = None })
+            (λ inside. record {
+              same_may = (i.each m below).same_may;
+              same_reading = (i.each m below).same_reading;
+              same_at = (i.each m below).same_at;
+              down = λ e. refl;
+              agrees = λ v e. absurd (none_is v e);
+              view_facts = λ v e. absurd (none_is v e);
+            })
+            (λ k other inside. i.each k inside);
+        heard_now = i.heard_now;
+        same_releases = i.same_releases;
+        marked = i.marked;
+      })
+
+  -- the record that a start reads is one that may be kept
+  start_premise : (cores : Cores) (w : WorldState) (m : ℕ) (kept : Record) → CoresHold c cast cores w → m < c.members → Has (cores.place m).may kept → Has (records_in cast.id_of (w.member m).may) kept
+  start_premise cores w m kept i below has = subst (λ (l : List Record). Has l kept) (sym (i.each m below).same_may) has
+
+  starts_again : (cores : Cores) (steps : List WorldStep) (m : ℕ) (kept : Record) → IsRun c (opening c) steps → CoresHold c cast cores (world_of c steps)
+      → m < c.members → (cores.place m).view ≡ None → Has (cores.place m).may kept → Reached c cast (entered c cast cores (StartsWith m kept)) steps
+  starts_again cores steps m kept run i below down has =
+      let w = world_of c steps in
+      let one = i.each m below in
+      let gives = calls_are_steps.start_gives c clocks steps run cast.id_of m (cast.setup m) is_cast.ids below (is_cast.seated m below) (one.down down) kept (start_premise cores w m kept i below has) in
+      let by_reading = subst (λ (r : ℕ). Gives c cast.id_of w m (record { view = started (cast.setup m) kept r; say = says.Nothing; may = kept ∷ []; releases = w.facts.releases })) one.same_reading gives in
+      let by_all = subst (λ (l : List Release). Gives c cast.id_of w m (record { view = started (cast.setup m) kept (cores.place m).reading; say = says.Nothing; may = kept ∷ []; releases = l })) i.same_releases by_reading in
+      given_holds cores steps m _ run i below by_all (start_facts (cast.setup m) kept (cores.place m).reading)
+
+  -- ---- entries
+
+  pub enters : (cores : Cores) (entry : CoreEntry) (steps : List WorldStep) → IsRun c (opening c) steps → CoresHold c cast cores (world_of c steps) → MayEnter c cast cores entry
+      → Reached c cast (entered c cast cores entry) steps
+  enters cores (TimePasses time) steps run i may = time_passed cores steps time run i may.0 may.1
+  enters cores (ReadsTime m time) steps run i may = time_read cores steps m time run i may.0 may.1 may.2
+  enters cores (CallsCore m call) steps run i may =
+      let v = the_value _ (cores.place m).view may.1 in
+      subst (λ (o : Option View). Reached c cast (after_call cast cores m call o) steps) (sym v.1) (called cores steps m v.0 call run i may.0 v.1 v.2.0 v.2.1)
+  enters cores (HasAnswer m kept ok) steps run i may =
+      let v = the_value _ (cores.place m).view may.1 in
+      subst (λ (o : Option View). Reached c cast (after_answer cast cores m ok o) steps) (sym v.1) (answered cores steps m v.0 ok run i may.0 v.1)
+  enters cores (Stops m) steps run i may =
+      let v = the_value _ (cores.place m).view may.1 in
+      stopped cores steps m v.0 run i may.0 v.1
+  enters cores (StartsWith m kept) steps run i may = starts_again cores steps m kept run i may.0 may.1 may.2
+
+  pub enter_all : (cores : Cores) (entries : List CoreEntry) (steps : List WorldStep) → IsRun c (opening c) steps → CoresHold c cast cores (world_of c steps) → AreEntered c cast cores entries
+      → Reached c cast (cores_after c cast cores entries) steps
+  enter_all cores [] steps run i all = record {
+    more = [];
+    run = subst (λ (l : List WorldStep). IsRun c (opening c) l) (sym (append_none steps)) run;
+    holds = subst (λ (l : List WorldStep). CoresHold c cast cores (world_of c l)) (sym (append_none steps)) i;
+  }
+  enter_all cores (entry ∷ entries) steps run i all =
+      let one = enters cores entry steps run i all.0 in
+      let rest = enter_all (entered c cast cores entry) entries (steps ++ one.more) one.run one.holds all.1 in record {
+        more = one.more ++ rest.more;
+        run = subst (λ (l : List WorldStep). IsRun c (opening c) l) (append_assoc steps one.more rest.more) rest.run;
+        holds = subst (λ (l : List WorldStep). CoresHold c cast (cores_after c cast (entered c cast cores entry) entries) (world_of c l)) (append_assoc steps one.more rest.more) rest.holds;
+      }

@@ -1,0 +1,428 @@
+-- Entries of the hosts of one ticket are entries of its lease cores, and so the ticket has one
+-- holder.
+use Rattle.std.proofs.Common.{◌≡◌, ◌≢◌, ℕ, ◌^◌, ◌<◌, List, [], ◌∷◌, ◌++◌, Bool, true, false, refl, sym, ap, ◌∙◌, subst, inl, inr, ⊎_elim, arith, ◌⊎◌}
+use Rattle.std.specs.Prelude.{Option, Some, None}
+use Rattle.std.specs.Option.{ForSome}
+use Rattle.booth_base.specs.Tree.{Ends, Does}
+use Rattle.booth_rec.specs.declared.record.Record.{Record}
+use Rattle.booth_rec.specs.Record.{IsInForce}
+use Rattle.booth_wire.specs.declared.message.Setup.{Setup}
+use Rattle.booth_raft.specs.declared.view.View.{View}
+use Rattle.booth_raft.specs.declared.view.Waiting.{Waiting}
+use Rattle.booth_raft.specs.StartAndLearn.{started}
+use Rattle.booth_raft.proofs.HeardLemmas.{start_facts}
+use Rattle.booth_node.specs.Clock.{Cluster, HasClocks, reads}
+use Rattle.booth_world.specs.Facts.{Has, Release}
+use Rattle.booth_world.specs.States.{put}
+use Rattle.booth_world.specs.Gives.{may_answered}
+use Rattle.booth_world.specs.Rules.{MemberLetter}
+use Rattle.booth_world.specs.Cores.{CoreEntry, TimePasses, ReadsTime, HasAnswer, Stops, StartsWith, CorePlace, Cores, opening_cores, Cast, IsCast, MayEnter, answer_given, after_answer, entered, AreEntered, cores_after}
+use Rattle.booth_world.specs.CoreLaws.{CoreHoldsBy, CoreCourse, early_cores, late_cores, IsReleaseAt, IsReleaseIn}
+use Rattle.booth_world.specs.Held.{AreApart, GivesBackLease}
+use Rattle.booth_world.specs.Turns.{TicketAsk, Keeps, Sends, AsksElse, TurnTree, Plan, turn_tree, MayTurn}
+use Rattle.booth_world.specs.Hosts.{MayBegin, HostEntry, LetsPass, BeginsTurn, DoesAsk, Halts, Boots, HostPlace, Hosts, opening_hosts, pending_in, pending, IsNextAsk, MayHost, begun, went_on, may_left, hosted, AreHosted, hosts_after}
+use Rattle.booth_world.specs.HostLaws.{IsHostReleaseAt, IsHostReleaseIn, HostHoldsBy, HostCourse, early_hosts, late_hosts, HostsHoldOne, HostsAreApart, HostTermsNeverFall}
+use Rattle.booth_world.proofs.Lists.{none_is, some_same, put_all}
+use Rattle.booth_world.proofs.KeptSteps.{the_value}
+use Rattle.booth_world.proofs.CallSteps.{put_same}
+use Rattle.booth_world.proofs.CoreRuns.{cores_hold_one, cores_are_apart, core_terms}
+use Rattle.booth_world.proofs.TurnPlaces.{IsOwn, own_given, put_other, MayMore, more_after, IsUp, up_given, IsLater, IsIdle, IsLed, At, Soon, at_later, at_no_more, release_split, entries_join, plan_at, heard_at}
+
+-- ---- the relation
+
+-- a member's place at its host, and its place
+record PlaceHolds (c : Cluster) (cast : Cast) (m : ℕ) (cores : Cores) (p : HostPlace) : Type 0 where
+  pub down : p.tree ≡ None → (cores.place m).view ≡ None
+  pub stands_at : (t : TurnTree) → p.tree ≡ Some t → At c cast m p.reading p.may t cores
+  pub is_up : (t : TurnTree) → p.tree ≡ Some t → IsUp (cores.place m)
+  pub more : MayMore (pending p.tree p.may) (cores.place m).may
+  pub only : MayMore (cores.place m).may (pending p.tree p.may)
+
+record HostsHold (c : Cluster) (cast : Cast) (hosts : Hosts) (cores : Cores) : Type 0 where
+  pub same_now : cores.now ≡ hosts.now
+  pub each : (m : ℕ) → m < c.members → PlaceHolds c cast m cores (hosts.place m)
+  pub said : (l : MemberLetter) → Has hosts.sent l → Has cores.said l
+
+-- entries of the cores lead to a cores that is related, and release only this
+abbrev Follows : Cluster → Cast → Hosts → Cores → (Release → Type 0) → Type 0
+Follows c cast hosts cores IsRelease =
+    (more : List CoreEntry) × AreEntered c cast cores more × HostsHold c cast hosts (cores_after c cast cores more)
+    × ((z : Release) → IsReleaseIn c cast cores more z → IsRelease z)
+
+module _ (c : Cluster) (cast : Cast) (clocks : HasClocks c) (is_cast : IsCast c cast) where
+  place_later : (k : ℕ) (cores cores' : Cores) (p : HostPlace) → IsLater k cores cores' → PlaceHolds c cast k cores p → PlaceHolds c cast k cores' p
+  place_later k cores cores' p later i = record {
+    down = λ e. ap (λ (s : CorePlace). s.view) later.same ∙ i.down e;
+    stands_at = λ t e. at_later c cast k p.reading p.may t cores cores' later (i.stands_at t e);
+    is_up = λ t e. subst (λ (s : CorePlace). IsUp s) (sym later.same) (i.is_up t e);
+    more = λ r h. subst (λ (s : CorePlace). Has s.may r) (sym later.same) (i.more r h);
+    only = subst (λ (s : CorePlace). MayMore s.may (pending p.tree p.may)) (sym later.same) i.only;
+  }
+
+  -- one member has gone on, and the others are as they were
+  moved : (hosts : Hosts) (cores cores' : Cores) (m now : ℕ) (p : HostPlace) (sent : List MemberLetter) → HostsHold c cast hosts cores → cores'.now ≡ now
+      → ((k : ℕ) → k ≢ m → cores'.place k ≡ cores.place k) → ((l : MemberLetter) → Has cores.said l → Has cores'.said l)
+      → PlaceHolds c cast m cores' p → ((l : MemberLetter) → Has sent l → Has cores'.said l)
+      → HostsHold c cast (record { now = now; place = put hosts.place m p; sent = sent }) cores'
+  moved hosts cores cores' m now p sent i same_now others said_on here sent_said = record {
+    same_now = same_now;
+    each = put_all (λ (k : ℕ) (q : HostPlace). k < c.members → PlaceHolds c cast k cores' q) hosts.place m p (λ below. here)
+        (λ k other below. place_later k cores cores' (hosts.place k) (record { same = others k other; said_still = said_on }) (i.each k below));
+    said = sent_said;
+  }
+
+  -- what comes next is among what may be kept
+  pending_more : (m now : ℕ) (t : TurnTree) (may : List Record) (cores : Cores) → At c cast m now may t cores → MayMore may (cores.place m).may → MayMore (pending_in t may) (cores.place m).may
+  pending_more m now (Ends view) may cores h more = more
+  pending_more m now (Does (Keeps kept) g) may cores h more =
+      λ k i. ⊎_elim (λ (e : kept ≡ k). subst (λ (k : Record). Has (cores.place m).may k) e h.0) (λ (old : Has may k). more k old) i
+  pending_more m now (Does (Sends letter) g) may cores h more = more
+  pending_more m now (Does AsksElse g) may cores h more = more
+
+  stands : (m : ℕ) (p : HostPlace) (t : TurnTree) (cores : Cores) → p.tree ≡ Some t → At c cast m p.reading p.may t cores → IsUp (cores.place m) → MayMore p.may (cores.place m).may
+      → PlaceHolds c cast m cores p
+  stands m p t cores e h up more = record {
+    down = λ none. absurd (none_is t (sym none ∙ e));
+    stands_at = λ u d. subst (λ (t : TurnTree). At c cast m p.reading p.may t cores) (some_same t u (sym e ∙ d)) h;
+    is_up = λ u d. up;
+    more = subst (λ (o : Option TurnTree). MayMore (pending o p.may) (cores.place m).may) (sym e) (pending_more m p.reading t p.may cores h more);
+    only = subst (λ (o : Option TurnTree). MayMore (cores.place m).may (pending o p.may)) (sym e) (at_no_more c cast m p.reading p.may t cores h);
+  }
+
+  still : (m : ℕ) (p : HostPlace) (cores : Cores) → PlaceHolds c cast m cores p → MayMore p.may (cores.place m).may
+  still m p cores i = by_tree p.tree i.more
+    where
+      by_pending : (t : TurnTree) → MayMore (pending_in t p.may) (cores.place m).may → MayMore p.may (cores.place m).may
+      by_pending (Ends view) more = more
+      by_pending (Does (Keeps kept) g) more = λ k h. more k (inr h)
+      by_pending (Does (Sends letter) g) more = more
+      by_pending (Does AsksElse g) more = more
+
+      by_tree : (o : Option TurnTree) → MayMore (pending o p.may) (cores.place m).may → MayMore p.may (cores.place m).may
+      by_tree None more = more
+      by_tree (Some t) more = by_pending t more
+
+  own_place : (m : ℕ) → m < c.members → (cast.setup m).place ≡ m
+  own_place m below = ap (λ (s : Setup). s.place) (is_cast.seated m below)
+
+  small : (m time : ℕ) → m < c.members → time < c.span → reads c m time < 2 ^ 62
+  small m time below within = let e = clocks.long m below in (clocks.clocks m below).small time (omega arith)
+
+  -- ---- a turn
+
+  after_reading : (m time : ℕ) (view : View) (cores : Cores) (reading : ℕ) → IsIdle (cast.setup m) reading view (cores.place m)
+      → IsIdle (cast.setup m) (reads c m time) view ((entered c cast cores (ReadsTime m time)).place m)
+  after_reading m time view cores reading i =
+      subst (λ (s : CorePlace). IsIdle (cast.setup m) (reads c m time) view s) (sym (put_same cores.place m _))
+      (record { shows = i.shows; at_rest = i.at_rest; at_reading = refl; view_facts = i.view_facts })
+
+  turn_soon : (m time : ℕ) (base : List Record) (view : View) (came : Option MemberLetter) (plan : View → Plan) (cores : Cores) → m < c.members → time < c.span
+      → IsIdle (cast.setup m) (reads c m time) view (cores.place m) → (cores.place m).at ≡ cores.now
+      → MayMore (cores.place m).may base → ForSome came (λ l. (Has cores.said l) × (l.head.from ≡ cast.id_of l.sender))
+      → MayTurn (cast.setup m) (reads c m time) view came plan
+      → Soon c cast m (reads c m time) (At c cast m (reads c m time) base (turn_tree (cast.setup m) (reads c m time) view came plan)) cores
+  turn_soon m time base view None plan cores below within idle timely only so may =
+      plan_at c cast m (reads c m time) below (small m time below within) (own_place m below) (plan view) base view cores idle only may
+  turn_soon m time base view (Some letter) plan cores below within idle timely only so may =
+      let l = so letter refl in
+      heard_at c cast m (reads c m time) below (small m time below within) (own_place m below) letter plan base view cores idle only (l.0, l.1, timely) may
+
+  begins : (hosts : Hosts) (cores : Cores) (m time : ℕ) (came : Option MemberLetter) (plan : View → Plan) → HostsHold c cast hosts cores → MayHost c cast hosts (BeginsTurn m time came plan)
+      → Follows c cast (hosted c cast hosts (BeginsTurn m time came plan)) cores (IsHostReleaseAt hosts (BeginsTurn m time came plan))
+  begins hosts cores m time came plan i may =
+      let p = the_value _ (hosts.place m).tree may.3 in
+      by_tree p.0 p.1 p.2
+    where
+      by_tree : (t : TurnTree) → (hosts.place m).tree ≡ Some t → MayBegin (cast.setup m) (reads c m time) came plan t → Follows c cast (hosted c cast hosts (BeginsTurn m time came plan)) cores (IsHostReleaseAt hosts (BeginsTurn m time came plan))
+      by_tree (Does ask g) e none = absurd none
+      by_tree (Ends view) e turns =
+          let now = reads c m time in
+          let one = entered c cast cores (ReadsTime m time) in
+          let here = i.each m may.0 in
+          let read = put_same cores.place m (record (cores.place m) { reading = now; at = time }) in
+          let soon = turn_soon m time (hosts.place m).may view came plan one may.0 may.2
+          (after_reading m time view cores (hosts.place m).reading (here.stands_at (Ends view) e).0)
+          (ap (λ (s : CorePlace). s.at) read)
+          (subst (λ (s : CorePlace). MayMore s.may (hosts.place m).may) (sym read) (here.stands_at (Ends view) e).1)
+          (λ l e. let q = may.4 l e in (i.said l q.0, q.1)) turns in
+          let end = cores_after c cast one soon.0 in
+          let led : IsLed c cast m now one soon.0 = soon.2 in (
+            ReadsTime m time ∷ soon.0,
+            ((may.0, (let t = i.same_now in let l = may.1 in omega (arith, t, l)), may.2), soon.1),
+            moved hosts cores end m time _ hosts.sent i led.own.same_time
+                (λ k other. led.own.others k other ∙ put_other cores.place m k _ other)
+                (λ l h. led.own.said_on l h)
+                (stands m (record (hosts.place m) { tree = begun (cast.setup m) now came plan (hosts.place m).tree; reading = now })
+                (turn_tree (cast.setup m) now view came plan) end
+                (ap (λ (o : Option TurnTree). begun (cast.setup m) now came plan o) e) soon.3
+                (led.up_still (subst (λ (s : CorePlace). IsUp s) (sym read) (here.is_up (Ends view) e)))
+                (λ k h. led.more k (subst (λ (s : CorePlace). Has s.may k) (sym read) (still m (hosts.place m) cores here k h))))
+                (λ l h. led.own.said_on l (i.said l h)),
+            λ z h. ⊎_elim (λ (n : ⊥). n) (λ (n : IsReleaseIn c cast one soon.0 z). led.unreleased z n) h,
+          )
+
+  -- ---- an ask
+
+  answer_may : (cores : Cores) (m : ℕ) (kept : Record) (ok : Bool) (may : List Record) → MayEnter c cast cores (HasAnswer m kept ok)
+      → MayMore may (cores.place m).may → Has (cores.place m).may kept
+      → MayMore (may_left (Keeps kept) ok may) ((entered c cast cores (HasAnswer m kept ok)).place m).may
+  answer_may cores m kept ok may enter more has k h =
+      let v = the_value _ (cores.place m).view enter.1 in
+      let w = the_value _ (v.0).waiting v.2 in
+      subst (λ (o : Option View). Has ((after_answer cast cores m ok o).place m).may k) (sym v.1)
+      (subst (λ (s : CorePlace). Has s.may k) (sym (put_same cores.place m _))
+      (more_after _ (may_answered (v.0).waiting ok (cores.place m).may) k
+      (subst (λ (o : Option Waiting). Has (may_answered o ok (cores.place m).may) k) (sym w.1) (by_answer ok w.0 w.2 h))))
+    where
+      by_answer : (ok : Bool) (w : Waiting) → w.tried ≡ kept → Has (may_left (Keeps kept) ok may) k → Has (may_answered (Some w) ok (cores.place m).may) k
+      by_answer true w same h = ⊎_elim (λ (e : kept ≡ k). inl (same ∙ e)) (λ (n : ⊥). absurd n) h
+      by_answer false w same h = ⊎_elim (λ (e : kept ≡ k). subst (λ (k : Record). Has (cores.place m).may k) e has) (λ (old : Has may k). more k old) h
+
+  answer_own : (cores : Cores) (m : ℕ) (kept : Record) (ok : Bool) → MayEnter c cast cores (HasAnswer m kept ok)
+      → IsOwn m cores (entered c cast cores (HasAnswer m kept ok)) × IsUp ((entered c cast cores (HasAnswer m kept ok)).place m)
+  answer_own cores m kept ok enter =
+      let v = the_value _ (cores.place m).view enter.1 in
+      subst (λ (o : Option View). IsOwn m cores (after_answer cast cores m ok o) × IsUp ((after_answer cast cores m ok o).place m)) (sym v.1)
+      (own_given cores m (answer_given cast cores m ok v.0), up_given cores m (answer_given cast cores m ok v.0))
+
+  asks : (hosts : Hosts) (cores : Cores) (m : ℕ) (ask : TicketAsk) (ok : Bool) → HostsHold c cast hosts cores → MayHost c cast hosts (DoesAsk m ask ok)
+      → Follows c cast (hosted c cast hosts (DoesAsk m ask ok)) cores (IsHostReleaseAt hosts (DoesAsk m ask ok))
+  asks hosts cores m ask ok i may =
+      let p = the_value _ (hosts.place m).tree may.1 in
+      by_tree p.0 p.1 p.2
+    where
+      here : PlaceHolds c cast m cores (hosts.place m)
+      here = i.each m may.0
+
+      answer_frees : (kept : Record) (ok : Bool) (z : Release) → IsReleaseAt cores (HasAnswer m kept ok) z → IsHostReleaseAt hosts (DoesAsk m (Keeps kept) ok) z
+      answer_frees kept true z h = (h.0 ∙ ap (λ (t : ℕ). let r : Release = record { site = m; term = kept.term; at = t } in r) i.same_now, h.1)
+      answer_frees kept false z h = h
+
+      by_tree : (t : TurnTree) → (hosts.place m).tree ≡ Some t → IsNextAsk ask t → Follows c cast (hosted c cast hosts (DoesAsk m ask ok)) cores (IsHostReleaseAt hosts (DoesAsk m ask ok))
+      by_tree (Ends view) e none = absurd none
+      by_tree (Does (Keeps kept) g) e same =
+          let h = here.stands_at (Does (Keeps kept) g) e in
+          let q = h.2 ok cores (record { same = refl; said_still = λ l h. h }) in
+          let one = entered c cast cores (HasAnswer m kept ok) in
+          let end = cores_after c cast one q.1.0 in
+          let led : IsLed c cast m (hosts.place m).reading one q.1.0 = q.1.2 in
+          let own = answer_own cores m kept ok q.0 in
+          subst (λ (a : TicketAsk). Follows c cast (hosted c cast hosts (DoesAsk m a ok)) cores (IsHostReleaseAt hosts (DoesAsk m a ok))) same (
+            HasAnswer m kept ok ∷ q.1.0,
+            (q.0, q.1.1),
+            moved hosts cores end m hosts.now _ hosts.sent i (led.own.same_time ∙ own.0.same_time ∙ i.same_now)
+                (λ k other. led.own.others k other ∙ own.0.others k other)
+                (λ l h. led.own.said_on l (own.0.said_on l h))
+                (stands m (record (hosts.place m) { tree = went_on ok (hosts.place m).tree; may = may_left (Keeps kept) ok (hosts.place m).may })
+                (g ok) end (ap (λ (o : Option TurnTree). went_on ok o) e) q.1.3 (led.up_still own.1)
+                (λ k h. led.more k (answer_may cores m kept ok (hosts.place m).may q.0 (still m (hosts.place m) cores here) (here.stands_at (Does (Keeps kept) g) e).0 k h)))
+                (λ l h. led.own.said_on l (own.0.said_on l (i.said l h))),
+            λ z h. ⊎_elim
+                (λ (n : IsReleaseAt cores (HasAnswer m kept ok) z). answer_frees kept ok z n)
+                (λ (n : IsReleaseIn c cast one q.1.0 z). absurd (led.unreleased z n)) h,
+          )
+      by_tree (Does (Sends letter) g) e same =
+          let h = here.stands_at (Does (Sends letter) g) e in
+          let q = h.2 ok cores (record { same = refl; said_still = λ l h. h }) in
+          let end = cores_after c cast cores q.0 in
+          let led : IsLed c cast m (hosts.place m).reading cores q.0 = q.2 in
+          subst (λ (a : TicketAsk). Follows c cast (hosted c cast hosts (DoesAsk m a ok)) cores (IsHostReleaseAt hosts (DoesAsk m a ok))) same (
+            q.0,
+            q.1,
+            moved hosts cores end m hosts.now _ (letter ∷ hosts.sent) i (led.own.same_time ∙ i.same_now)
+                led.own.others
+                led.own.said_on
+                (stands m (record (hosts.place m) { tree = went_on ok (hosts.place m).tree; may = (hosts.place m).may })
+                (g ok) end (ap (λ (o : Option TurnTree). went_on ok o) e) q.3 (led.up_still (here.is_up _ e))
+                (λ k h. led.more k (still m (hosts.place m) cores here k h)))
+                (λ l d. led.own.said_on l (⊎_elim (λ (e : letter ≡ l). subst (λ (l : MemberLetter). Has cores.said l) e h.0) (λ (old : Has hosts.sent l). i.said l old) d)),
+            λ z h. led.unreleased z h,
+          )
+      by_tree (Does AsksElse g) e same =
+          let h = here.stands_at (Does AsksElse g) e in
+          let q = h.1 ok cores (record { same = refl; said_still = λ l h. h }) in
+          let end = cores_after c cast cores q.0 in
+          let led : IsLed c cast m (hosts.place m).reading cores q.0 = q.2 in
+          subst (λ (a : TicketAsk). Follows c cast (hosted c cast hosts (DoesAsk m a ok)) cores (IsHostReleaseAt hosts (DoesAsk m a ok))) same (
+            q.0,
+            q.1,
+            moved hosts cores end m hosts.now _ hosts.sent i (led.own.same_time ∙ i.same_now)
+                led.own.others
+                led.own.said_on
+                (stands m (record (hosts.place m) { tree = went_on ok (hosts.place m).tree; may = (hosts.place m).may })
+                (g ok) end (ap (λ (o : Option TurnTree). went_on ok o) e) q.3 (led.up_still (here.is_up _ e))
+                (λ k h. led.more k (still m (hosts.place m) cores here k h)))
+                (λ l d. led.own.said_on l (i.said l d)),
+            λ z h. led.unreleased z h,
+          )
+
+  -- ---- lives
+
+  halts : (hosts : Hosts) (cores : Cores) (m : ℕ) → HostsHold c cast hosts cores → MayHost c cast hosts (Halts m) → Follows c cast (hosted c cast hosts (Halts m)) cores (IsHostReleaseAt hosts (Halts m))
+  halts hosts cores m i may =
+      let p = the_value _ (hosts.place m).tree may.1 in
+      let here = i.each m may.0 in
+      let gone = put_same cores.place m (record (cores.place m) { view = None }) in (
+        Stops m ∷ [],
+        ((may.0, here.is_up p.0 p.1), tt),
+        moved hosts cores (entered c cast cores (Stops m)) m hosts.now _ hosts.sent i i.same_now
+            (λ k other. put_other cores.place m k _ other)
+            (λ l h. h)
+            (record {
+              down = λ e. ap (λ (s : CorePlace). s.view) gone;
+              stands_at = λ t e. absurd (none_is t e);
+              is_up = λ t e. absurd (none_is t e);
+              more = λ k h. subst (λ (s : CorePlace). Has s.may k) (sym gone) (here.more k h);
+              only = subst (λ (s : CorePlace). MayMore s.may (pending (hosts.place m).tree (hosts.place m).may)) (sym gone) here.only;
+            })
+            i.said,
+        λ z h. ⊎_elim (λ (n : ⊥). n) (λ (n : ⊥). n) h,
+      )
+
+  boots : (hosts : Hosts) (cores : Cores) (m time : ℕ) (kept : Record) → HostsHold c cast hosts cores → MayHost c cast hosts (Boots m time kept)
+      → Follows c cast (hosted c cast hosts (Boots m time kept)) cores (IsHostReleaseAt hosts (Boots m time kept))
+  boots hosts cores m time kept i may =
+      let here = i.each m may.0 in
+      let now = reads c m time in
+      let one = entered c cast cores (ReadsTime m time) in
+      let read = put_same cores.place m (record (cores.place m) { reading = now; at = time }) in
+      let end = entered c cast one (StartsWith m kept) in
+      let up = put_same one.place m (record (one.place m) { view = Some (started (cast.setup m) kept (one.place m).reading); may = kept ∷ [] }) in
+      let reading : (one.place m).reading ≡ now = ap (λ (s : CorePlace). s.reading) read in (
+        ReadsTime m time ∷ StartsWith m kept ∷ [],
+        (
+          (may.0, (let t = i.same_now in let l = may.1 in omega (arith, t, l)), may.2),
+          (
+            (
+              may.0,
+              ap (λ (s : CorePlace). s.view) read ∙ here.down may.3,
+              subst (λ (s : CorePlace). Has s.may kept) (sym read) (still m (hosts.place m) cores here kept may.4),
+            ),
+            tt,
+          ),
+        ),
+        moved hosts cores end m time _ hosts.sent i refl
+            (λ k other. put_other one.place m k _ other ∙ put_other cores.place m k _ other)
+            (λ l h. h)
+            (stands m (record { tree = Some (Ends (started (cast.setup m) kept now)); reading = now; may = kept ∷ [] })
+            (Ends (started (cast.setup m) kept now)) end refl (
+              subst (λ (s : CorePlace). IsIdle (cast.setup m) now (started (cast.setup m) kept now) s) (sym up)
+                  (record {
+                    shows = ap (λ (r : ℕ). let o : Option View = Some (started (cast.setup m) kept r) in o) reading;
+                    at_rest = refl;
+                    at_reading = reading;
+                    view_facts = start_facts (cast.setup m) kept now;
+                  }),
+              subst (λ (s : CorePlace). MayMore s.may (kept ∷ [])) (sym up) (λ k h. h),
+            )
+            (subst (λ (s : CorePlace). IsUp s) (sym up) tt)
+            (λ k h. subst (λ (s : CorePlace). Has s.may k) (sym up) h))
+            i.said,
+        λ z h. ⊎_elim (λ (n : ⊥). n) (λ (h : ⊥ ⊎ ⊥). ⊎_elim (λ (n : ⊥). n) (λ (n : ⊥). n) h) h,
+      )
+
+  passes : (hosts : Hosts) (cores : Cores) (time : ℕ) → HostsHold c cast hosts cores → MayHost c cast hosts (LetsPass time) → Follows c cast (hosted c cast hosts (LetsPass time)) cores (IsHostReleaseAt hosts (LetsPass time))
+  passes hosts cores time i may = (
+    TimePasses time ∷ [],
+    (((let t = i.same_now in let l = may.0 in omega (arith, t, l)), may.1), tt),
+    record {
+      same_now = refl;
+      each = λ k below. place_later k cores (entered c cast cores (TimePasses time)) (hosts.place k) (record { same = refl; said_still = λ l h. h }) (i.each k below);
+      said = i.said;
+    },
+    λ z h. ⊎_elim (λ (n : ⊥). n) (λ (n : ⊥). n) h,
+  )
+
+  -- ---- all entries
+
+  follows : (hosts : Hosts) (cores : Cores) (entry : HostEntry) → HostsHold c cast hosts cores → MayHost c cast hosts entry → Follows c cast (hosted c cast hosts entry) cores (IsHostReleaseAt hosts entry)
+  follows hosts cores (LetsPass time) i may = passes hosts cores time i may
+  follows hosts cores (BeginsTurn m time came plan) i may = begins hosts cores m time came plan i may
+  follows hosts cores (DoesAsk m ask ok) i may = asks hosts cores m ask ok i may
+  follows hosts cores (Halts m) i may = halts hosts cores m i may
+  follows hosts cores (Boots m time kept) i may = boots hosts cores m time kept i may
+
+  follow_all : (hosts : Hosts) (cores : Cores) (entries : List HostEntry) → HostsHold c cast hosts cores → AreHosted c cast hosts entries → Follows c cast (hosts_after c cast hosts entries) cores (IsHostReleaseIn c cast hosts entries)
+  follow_all hosts cores [] i all = ([], tt, i, λ z n. n)
+  follow_all hosts cores (entry ∷ entries) i all =
+      let one = follows hosts cores entry i all.0 in
+      let rest = follow_all (hosted c cast hosts entry) (cores_after c cast cores one.0) entries one.2 all.1 in
+      let j = entries_join c cast 0 0 cores one.0 rest.0 one.1 rest.1 in (
+        one.0 ++ rest.0,
+        j.0,
+        subst (λ (n : Cores). HostsHold c cast (hosts_after c cast (hosted c cast hosts entry) entries) n) (sym j.1) rest.2,
+        λ z h. ⊎_elim
+            (λ (first : IsReleaseIn c cast cores one.0 z). inl (one.3 z first))
+            (λ (second : IsReleaseIn c cast (cores_after c cast cores one.0) rest.0 z). inr (rest.3 z second))
+            (release_split c cast 0 0 cores one.0 rest.0 z h),
+      )
+
+  opens_hosts : HostsHold c cast (opening_hosts c) (opening_cores c)
+  opens_hosts = record {
+    same_now = refl;
+    each = λ m below. record {
+      down = λ e. refl;
+      stands_at = λ t e. absurd (none_is t e);
+      is_up = λ t e. absurd (none_is t e);
+      more = λ k h. h;
+      only = λ k h. h;
+    };
+    said = λ l h. absurd h;
+  }
+
+host_held : (c : Cluster) (cast : Cast) (hosts : Hosts) (cores : Cores) (s : ℕ) (k : Record) → HostsHold c cast hosts cores → HostHoldsBy c hosts s k → CoreHoldsBy c cores s k
+host_held c cast hosts cores s k i h =
+    (h.0, (i.each s h.0).more k h.1, subst (λ (n : ℕ). IsInForce k (reads c s n)) (sym i.same_now) h.2)
+
+pub hosts_hold_one : HostsHoldOne
+hosts_hold_one c cast entries course s t hs ht =
+    let clocks = course.clocks in
+    let f = follow_all c cast clocks course.is_cast (opening_hosts c) (opening_cores c) entries (opens_hosts c cast clocks course.is_cast) course.hosted_early in
+    let cores = cores_after c cast (opening_cores c) f.0 in
+    let hosts = hosts_after c cast (opening_hosts c) entries in
+    cores_hold_one c cast f.0 (record { clocks = clocks; is_cast = course.is_cast; enters_early = f.1; enters_late = tt }) s t
+    (hs.0, host_held c cast hosts cores s hs.0 f.2 hs.1)
+    (ht.0, host_held c cast hosts cores t ht.0 f.2 ht.1)
+
+-- entries of the cores for both parts
+record Followed (c : Cluster) (cast : Cast) (early late : List HostEntry) : Type 0 where
+  pub first : List CoreEntry
+  pub second : List CoreEntry
+  pub course : CoreCourse c cast first second
+  pub early_holds : HostsHold c cast (early_hosts c cast early) (early_cores c cast first)
+  pub late_holds : HostsHold c cast (late_hosts c cast early late) (late_cores c cast first second)
+  pub released : (z : Release) → IsReleaseIn c cast (early_cores c cast first) second z → IsHostReleaseIn c cast (early_hosts c cast early) late z
+
+followed : (c : Cluster) (cast : Cast) (early late : List HostEntry) → HostCourse c cast early late → Followed c cast early late
+followed c cast early late course =
+    let clocks = course.clocks in
+    let f = follow_all c cast clocks course.is_cast (opening_hosts c) (opening_cores c) early (opens_hosts c cast clocks course.is_cast) course.hosted_early in
+    let g = follow_all c cast clocks course.is_cast (early_hosts c cast early) (cores_after c cast (opening_cores c) f.0) late f.2 course.hosted_late in record {
+      first = f.0;
+      second = g.0;
+      course = record { clocks = clocks; is_cast = course.is_cast; enters_early = f.1; enters_late = g.1 };
+      early_holds = f.2;
+      late_holds = g.2;
+      released = g.3;
+    }
+
+pub hosts_are_apart : HostsAreApart
+hosts_are_apart c cast early late course s t other k hs ht =
+    let f = followed c cast early late course in
+    let w = early_cores c cast f.first in
+    let z = late_cores c cast f.first f.second in
+    ⊎_elim
+    (λ (apart : AreApart c w.now z.now). inl (subst (λ (a : ℕ). AreApart c a (late_hosts c cast early late).now) f.early_holds.same_now
+    (subst (λ (b : ℕ). AreApart c w.now b) f.late_holds.same_now apart)))
+    (λ (b : (release : Release) × IsReleaseIn c cast w f.second release × GivesBackLease s k.lease release).
+    inr (b.0, f.released b.0 b.1, b.2))
+    (cores_are_apart c cast f.first f.second f.course s t other k
+    (host_held c cast (early_hosts c cast early) w s k f.early_holds hs)
+    (ht.0, host_held c cast (late_hosts c cast early late) z t ht.0 f.late_holds ht.1))
+
+pub host_terms : HostTermsNeverFall
+host_terms c cast early late course s term below at k has =
+    let f = followed c cast early late course in
+    core_terms c cast f.first f.second f.course s term below
+    (λ k h. at k ((f.early_holds.each s below).only k h))
+    k ((f.late_holds.each s below).more k has)

@@ -1,0 +1,85 @@
+-- The entries of the lone member may come, and the ticket is held after them.
+use Rattle.std.proofs.Common.{Bool, [], refl, inl, arith}
+use Rattle.booth_base.specs.Tree.{Ends, Does}
+use Rattle.booth_base.specs.declared.name.Name.{Name}
+use Rattle.booth_raft.specs.declared.view.View.{View}
+use Rattle.booth_node.specs.Clock.{HasClocks}
+use Rattle.booth_world.specs.Cores.{IsCast}
+use Rattle.booth_world.specs.CoreLaws.{CoreCourse, CoreHolds, early_cores}
+use Rattle.booth_world.specs.Rules.{Asks, Greets, lease_rules}
+use Rattle.booth_world.specs.Turns.{TurnTree, call_tree, LeavesAlways}
+use Rattle.booth_rec.specs.Record.{no_record}
+use Rattle.booth_world.specs.HostLaws.{HostCourse, HostHolds, early_hosts}
+use Rattle.booth_world.specs.LoneExamples.{lone, lone_cast, lone_lease, lone_grant, lone_restart, lone_turn}
+use Rattle.booth_world.proofs.ExampleRuns.{same_place, each_clock}
+
+lone_clocks : HasClocks lone
+lone_clocks = record { some = omega arith; long = λ m h. refl; clocks = λ m h. each_clock 2 }
+
+lone_is_cast : (ticket : Name) → IsCast lone (lone_cast ticket)
+lone_is_cast ticket = record {
+  ids = same_place 1;
+  seated = λ m below. refl;
+  sound = λ m below. record {
+    place = below;
+    members = omega arith;
+    rank = omega arith;
+    expire = omega arith;
+    after = omega arith;
+    timeout = omega arith;
+    renewal = omega arith;
+    retries = omega arith;
+  };
+}
+
+pub lone_entered : (ticket : Name) → CoreCourse lone (lone_cast ticket) lone_grant lone_restart
+lone_entered ticket = record {
+  clocks = lone_clocks;
+  is_cast = lone_is_cast ticket;
+  enters_early = (
+    (omega arith, refl, inl refl),
+    (
+      (omega arith, omega arith, omega arith),
+      ((omega arith, (refl, refl)), ((omega arith, refl), ((omega arith, refl), tt))),
+    ),
+  );
+  enters_late = (
+    (omega arith, (refl, refl)),
+    ((omega arith, refl), ((omega arith, (refl, refl)), ((omega arith, tt), ((omega arith, refl, inl refl), tt)))),
+  );
+}
+
+pub lone_holds : (ticket : Name) → CoreHolds lone (early_cores lone (lone_cast ticket) lone_grant) 0
+lone_holds ticket = (lone_lease, (omega arith, inl refl, omega arith))
+
+-- what is so of every view is so of what a tree leaves
+left_so : (P : View → Type 0) → ((view : View) → P view) → (tree : TurnTree) → LeavesAlways P tree
+left_so P so (Ends view) = so view
+left_so P so (Does ask go) = λ ok. left_so P so (go ok)
+
+-- the deeds of its call
+abbrev asks_tree : Name → TurnTree
+asks_tree ticket =
+    let s = (lone_cast ticket).setup 0 in
+    let view = lease_rules.start s no_record 0 in
+    call_tree s 6 (lease_rules.call s view 6 Greets).view (Asks 0)
+
+pub lone_hosted : (ticket : Name) → HostCourse lone (lone_cast ticket) lone_turn []
+lone_hosted ticket = record {
+  clocks = lone_clocks;
+  is_cast = lone_is_cast ticket;
+  hosted_early = (
+    (omega arith, omega arith, omega arith, refl, inl refl),
+    (
+      (omega arith, omega arith, omega arith, (tt, (refl, left_so (λ (view : View). (ok : Bool) → Unit {0}) (λ view ok. tt) (asks_tree ticket))), λ l e. absurd (cc)),
+      (
+        (omega arith, refl),
+        ((omega arith, refl), ((omega arith, tt), ((omega arith, omega arith, omega arith, refl, inl refl), tt))),
+      ),
+    ),
+  );
+  hosted_late = tt;
+}
+
+pub lone_host_holds : (ticket : Name) → HostHolds lone (early_hosts lone (lone_cast ticket) lone_turn) 0
+lone_host_holds ticket = (lone_lease, (omega arith, inl refl, omega arith))

@@ -1,0 +1,479 @@
+-- A ticket's turn as a tree of asks, and the core's entries along it.
+use Rattle.std.proofs.Common.{◌≡◌, ℕ, zero, suc, ◌-◌, ◌^◌, ◌<◌, List, [], ◌∷◌, ◌++◌, Bool, true, false, refl, sym, ap, ◌∙◌, subst, inl, inr, ◌≢◌, arith, ◌⊎◌, ⊎_elim}
+use Rattle.std.specs.Prelude.{Option, Some, None, ◌==◌, IsSomeAnd, if◌then◌else◌}
+use Rattle.booth_base.specs.Tree.{Ends, Does, next}
+use Rattle.booth_rec.specs.declared.record.Record.{Record}
+use Rattle.booth_wire.specs.declared.message.Say.{Say}
+use Rattle.booth_wire.specs.declared.message.Say.TheVariants as says
+use Rattle.booth_wire.specs.declared.message.Setup.{Setup}
+use Rattle.booth_raft.specs.declared.view.View.{View}
+use Rattle.booth_raft.specs.declared.view.Waiting.{Waiting}
+use Rattle.booth_raft.specs.AskAndRenew.{keep_answered}
+use Rattle.booth_raft.specs.Facts.{ViewFacts, KeepWaits, Leaves}
+use Rattle.booth_raft.specs.Outcome.{Outcome}
+use Rattle.booth_raft.specs.declared.deed.Note.{Note}
+use Rattle.booth_raft.specs.declared.deed.Note.TheVariants as notes
+use Rattle.booth_raft.specs.Members.{is_leader}
+use Rattle.booth_raft.specs.Notes.{noted}
+use Rattle.booth_raft.proofs.KeptLemmas.{ask_good, keep_answered_good, release_good, renewed_good}
+use Rattle.booth_raft.proofs.DueLemmas.{due_now_good, greeted_facts, noted_facts}
+use Rattle.booth_raft.proofs.HeardLemmas.{heard_good}
+use Rattle.booth_node.specs.Clock.{Cluster}
+use Rattle.booth_world.specs.Facts.{Has, Release}
+use Rattle.booth_world.specs.States.{put}
+use Rattle.booth_world.specs.Gives.{Given, may_after, may_answered}
+use Rattle.booth_world.specs.Rules.{MemberLetter, CoreCall, Asks, Hears, Greets, MeetsDeadline, MakesNote, RenewsLease, GivesBack, lease_call}
+use Rattle.booth_world.specs.Cores.{CoreEntry, CallsCore, HasAnswer, CorePlace, Cores, Cast, MayCallAlone, MayCallCore, MayEnter, said_more, has_given, call_given, after_call, answer_given, after_answer, entered, AreEntered, cores_after}
+use Rattle.booth_world.specs.CoreLaws.{IsReleaseAt, IsReleaseIn}
+use Rattle.booth_world.specs.Turns.{Keeps, Sends, AsksElse, TurnTree, sends, bits_set, says_of, keeps_of, says_last, deeds_of, call_tree, Plan, Rests, Calls, Waits, plan_tree, LeavesAlways, MayPlan}
+use Rattle.booth_world.specs.Hosts.{may_left, pending_in}
+use Rattle.std.proofs.lemmas.Bool.Decides.{nat_tests}
+use Rattle.booth_world.proofs.Lists.{none_is, some_same}
+use Rattle.booth_world.proofs.Views.{on_cond}
+use Rattle.booth_world.proofs.KeptSteps.{the_value}
+use Rattle.booth_world.proofs.CallSteps.{put_same}
+use Rattle.booth_world.proofs.TurnKeeps.{IsGainAtMost, second_gains, third_keeps_nothing}
+
+-- ---- a place in the tree, and the core's entries
+
+-- others have gone on, and this member has not
+pub record IsLater (m : ℕ) (cores cores' : Cores) : Type 0 where
+  pub same : cores'.place m ≡ cores.place m
+  pub said_still : (l : MemberLetter) → Has cores.said l → Has cores'.said l
+
+at_once : (m : ℕ) (cores : Cores) → IsLater m cores cores
+at_once m cores = record { same = refl; said_still = λ l h. h }
+
+later_still : (m : ℕ) (a b d : Cores) → IsLater m a b → IsLater m b d → IsLater m a d
+later_still m a b d x y = record { same = y.same ∙ x.same; said_still = λ l h. y.said_still l (x.said_still l h) }
+
+-- this member's core has gone on, and nobody else
+pub record IsOwn (m : ℕ) (cores cores' : Cores) : Type 0 where
+  pub others : (k : ℕ) → k ≢ m → cores'.place k ≡ cores.place k
+  pub said_on : (l : MemberLetter) → Has cores.said l → Has cores'.said l
+  pub same_time : cores'.now ≡ cores.now
+
+pub own_none : (m : ℕ) (cores : Cores) → IsOwn m cores cores
+own_none m cores = record { others = λ k other. refl; said_on = λ l h. h; same_time = refl }
+
+pub own_more : (m : ℕ) (a b d : Cores) → IsOwn m a b → IsOwn m b d → IsOwn m a d
+own_more m a b d x y = record {
+  others = λ k other. y.others k other ∙ x.others k other;
+  said_on = λ l h. y.said_on l (x.said_on l h);
+  same_time = y.same_time ∙ x.same_time;
+}
+
+pub put_other : {A : Type 0} (states : ℕ → A) (m k : ℕ) (x : A) → k ≢ m → put states m x k ≡ states k
+put_other {A} states m k x other = by_test (k == m) refl
+  where
+    by_test : (b : Bool) → (k == m) ≡ b → (if b then x else states k) ≡ states k
+    by_test true e = absurd (other (grind (arith, nat_tests)))
+    by_test false e = refl
+
+said_still_said : (m : ℕ) (say : Say) (said : List MemberLetter) (l : MemberLetter) → Has said l → Has (said_more m say said) l
+said_still_said m says.Nothing said l h = h
+said_still_said m (says.All head part) said l h = inr h
+said_still_said m (says.Unanswered head part members) said l h = inr h
+said_still_said m (says.Reply head part) said l h = inr h
+
+pub own_given : (cores : Cores) (m : ℕ) (given : Given) → IsOwn m cores (has_given cores m given)
+own_given cores m given = record {
+  others = λ k other. put_other cores.place m k _ other;
+  said_on = λ l h. said_still_said m given.say cores.said l h;
+  same_time = refl;
+}
+
+abbrev pub IsUp : CorePlace → Type 0
+IsUp s = IsSomeAnd s.view (λ view. Unit {0})
+
+pub up_given : (cores : Cores) (m : ℕ) (given : Given) → IsUp ((has_given cores m given).place m)
+up_given cores m given = subst (λ (s : CorePlace). IsUp s) (sym (put_same cores.place m _)) tt
+
+-- all records that may be kept still may
+abbrev pub MayMore : List Record → List Record → Type 0
+MayMore may may' = (k : Record) → Has may k → Has may' k
+
+pub more_after : (keep : Option Record) (may : List Record) → MayMore may (may_after keep may)
+more_after None may k h = h
+more_after (Some tried) may k h = inr h
+
+pub tried_in : (keep : Option Record) (may : List Record) (k : Record) → keep ≡ Some k → Has (may_after keep may) k
+tried_in None may k e = absurd (none_is k e)
+tried_in (Some tried) may k e = inl (some_same tried k e)
+
+-- the member's core stands idle at this view, at this reading
+pub record IsIdle (s : Setup) (now : ℕ) (view : View) (place : CorePlace) : Type 0 where
+  pub shows : place.view ≡ Some view
+  pub at_rest : view.waiting ≡ None
+  pub at_reading : place.reading ≡ now
+  pub view_facts : ViewFacts s view
+
+module _ (c : Cluster) (cast : Cast) (m now : ℕ) where
+  -- entries of the core lead on to a cores of which this is true, with all records that may be kept
+  pub record IsLed (cores : Cores) (entries : List CoreEntry) : Type 0 where
+    pub own : IsOwn m cores (cores_after c cast cores entries)
+    pub more : MayMore (cores.place m).may ((cores_after c cast cores entries).place m).may
+    pub up_still : IsUp (cores.place m) → IsUp ((cores_after c cast cores entries).place m)
+    pub unreleased : (z : Release) → IsReleaseIn c cast cores entries z → ⊥
+
+  abbrev pub Soon : (Cores → Type 0) → Cores → Type 0
+  Soon P cores =
+      (entries : List CoreEntry) × AreEntered c cast cores entries × IsLed cores entries
+      × P (cores_after c cast cores entries)
+
+  -- The core's entries stand where the tree does: a keep that comes next is what the view waits
+  -- for, and its answer is an entry; a letter that comes next was said. All of this stays while
+  -- others go on.
+  abbrev pub At : List Record → TurnTree → Cores → Type 0
+  At base (Ends view) cores = IsIdle (cast.setup m) now view (cores.place m) × MayMore (cores.place m).may base
+  At base (Does (Keeps kept) g) cores =
+      (Has (cores.place m).may kept) × MayMore (cores.place m).may (kept ∷ base)
+      × ((ok : Bool) (cores' : Cores) → IsLater m cores cores'
+      → MayEnter c cast cores' (HasAnswer m kept ok)
+      × ((entries : List CoreEntry) × AreEntered c cast (entered c cast cores' (HasAnswer m kept ok)) entries
+      × IsLed (entered c cast cores' (HasAnswer m kept ok)) entries
+      × At (may_left (Keeps kept) ok base) (g ok) (cores_after c cast (entered c cast cores' (HasAnswer m kept ok)) entries)))
+  At base (Does (Sends letter) g) cores =
+      (Has cores.said letter) × MayMore (cores.place m).may base
+      × ((ok : Bool) (cores' : Cores) → IsLater m cores cores'
+      → (entries : List CoreEntry) × AreEntered c cast cores' entries × IsLed cores' entries
+      × At base (g ok) (cores_after c cast cores' entries))
+  At base (Does AsksElse g) cores =
+      MayMore (cores.place m).may base
+      × ((ok : Bool) (cores' : Cores) → IsLater m cores cores'
+      → (entries : List CoreEntry) × AreEntered c cast cores' entries × IsLed cores' entries
+      × At base (g ok) (cores_after c cast cores' entries))
+
+  led_none : (cores : Cores) → IsLed cores []
+  led_none cores = record { own = own_none m cores; more = λ k h. h; up_still = λ h. h; unreleased = λ z n. n }
+
+  pub release_split : (cores : Cores) (a b : List CoreEntry) (z : Release) → IsReleaseIn c cast cores (a ++ b) z → IsReleaseIn c cast cores a z ⊎ IsReleaseIn c cast (cores_after c cast cores a) b z
+  release_split cores [] b z h = inr h
+  release_split cores (e ∷ a) b z h = ⊎_elim
+      (λ (here : IsReleaseAt cores e z). inl (inl here))
+      (λ (on : IsReleaseIn c cast (entered c cast cores e) (a ++ b) z). ⊎_elim
+      (λ (first : IsReleaseIn c cast (entered c cast cores e) a z). inl (inr first))
+      (λ (second : IsReleaseIn c cast (cores_after c cast (entered c cast cores e) a) b z). inr second)
+      (release_split (entered c cast cores e) a b z on)) h
+
+  led_more : (cores : Cores) (a b : List CoreEntry) → IsLed cores a → IsLed (cores_after c cast cores a) b → cores_after c cast cores (a ++ b) ≡ cores_after c cast (cores_after c cast cores a) b
+      → IsLed cores (a ++ b)
+  led_more cores a b x y joined = record {
+    own = subst (λ (n : Cores). IsOwn m cores n) (sym joined) (own_more m cores _ _ x.own y.own);
+    more = λ k h. subst (λ (n : Cores). Has (n.place m).may k) (sym joined) (y.more k (x.more k h));
+    up_still = λ h. subst (λ (n : Cores). IsUp (n.place m)) (sym joined) (y.up_still (x.up_still h));
+    unreleased = λ z h. ⊎_elim
+        (λ (first : IsReleaseIn c cast cores a z). x.unreleased z first)
+        (λ (second : IsReleaseIn c cast (cores_after c cast cores a) b z). y.unreleased z second)
+        (release_split cores a b z h);
+  }
+
+  -- while others go on
+  pub at_later : (base : List Record) (t : TurnTree) (cores cores' : Cores) → IsLater m cores cores' → At base t cores → At base t cores'
+  at_later base (Ends view) cores cores' later h = (
+    subst (λ (s : CorePlace). IsIdle (cast.setup m) now view s) (sym later.same) h.0,
+    subst (λ (s : CorePlace). MayMore s.may base) (sym later.same) h.1,
+  )
+  at_later base (Does (Keeps kept) g) cores cores' later h = (
+    subst (λ (s : CorePlace). Has s.may kept) (sym later.same) h.0,
+    subst (λ (s : CorePlace). MayMore s.may (kept ∷ base)) (sym later.same) h.1,
+    λ ok on more. h.2 ok on (later_still m cores cores' on later more),
+  )
+  at_later base (Does (Sends letter) g) cores cores' later h = (
+    later.said_still letter h.0,
+    subst (λ (s : CorePlace). MayMore s.may base) (sym later.same) h.1,
+    λ ok on more. h.2 ok on (later_still m cores cores' on later more),
+  )
+  at_later base (Does AsksElse g) cores cores' later h = (
+    subst (λ (s : CorePlace). MayMore s.may base) (sym later.same) h.0,
+    λ ok on more. h.1 ok on (later_still m cores cores' on later more),
+  )
+
+  -- no more may be kept than what is counted, with what comes next
+  pub at_no_more : (base : List Record) (t : TurnTree) (cores : Cores) → At base t cores → MayMore (cores.place m).may (pending_in t base)
+  at_no_more base (Ends view) cores h = h.1
+  at_no_more base (Does (Keeps kept) g) cores h = h.1
+  at_no_more base (Does (Sends letter) g) cores h = h.1
+  at_no_more base (Does AsksElse g) cores h = h.0
+
+  pub entries_join : (cores : Cores) (a b : List CoreEntry) → AreEntered c cast cores a → AreEntered c cast (cores_after c cast cores a) b
+      → AreEntered c cast cores (a ++ b) × (cores_after c cast cores (a ++ b) ≡ cores_after c cast (cores_after c cast cores a) b)
+  entries_join cores [] b first second = (second, refl)
+  entries_join cores (e ∷ a) b first second =
+      let rest = entries_join (entered c cast cores e) a b first.1 second in ((first.0, rest.0), rest.1)
+
+  pub soon_on : (P Q : Cores → Type 0) (cores : Cores) → Soon P cores → ((cores' : Cores) → P cores' → Soon Q cores') → Soon Q cores
+  soon_on P Q cores a f =
+      let b = f (cores_after c cast cores a.0) a.3 in
+      let j = entries_join cores a.0 b.0 a.1 b.1 in (
+        a.0 ++ b.0,
+        j.0,
+        led_more cores a.0 b.0 a.2 b.2 j.1,
+        subst (λ (n : Cores). Q n) (sym j.1) b.3,
+      )
+
+  -- a tree, and what follows its end, where this is so of what the tree leaves
+  at_next : (P : View → Type 0) (base : List Record) (t : TurnTree) (f : View → TurnTree) (cores : Cores) → At base t cores → LeavesAlways P t
+      → ((base : List Record) (view : View) (cores' : Cores) → IsIdle (cast.setup m) now view (cores'.place m) → MayMore (cores'.place m).may base → P view → Soon (At base (f view)) cores')
+      → Soon (At base (next t f)) cores
+  at_next P base (Ends view) f cores h so go = go base view cores h.0 h.1 so
+  at_next P base (Does (Keeps kept) g) f cores h so go = (
+    [],
+    tt,
+    led_none cores,
+    (
+      h.0,
+      h.1,
+      λ ok on later.
+          let one = h.2 ok on later in
+          let left = may_left (Keeps kept) ok base in
+          (one.0, soon_on (At left (g ok)) (At left (next (g ok) f)) _ one.1 (λ n a. at_next P left (g ok) f n a (so ok) go)),
+    ),
+  )
+  at_next P base (Does (Sends letter) g) f cores h so go = (
+    [],
+    tt,
+    led_none cores,
+    (h.0, h.1, λ ok on later. soon_on (At base (g ok)) (At base (next (g ok) f)) on (h.2 ok on later) (λ n a. at_next P base (g ok) f n a (so ok) go)),
+  )
+  at_next P base (Does AsksElse g) f cores h so go = (
+    [],
+    tt,
+    led_none cores,
+    (h.0, λ ok on later. soon_on (At base (g ok)) (At base (next (g ok) f)) on (h.1 ok on later) (λ n a. at_next P base (g ok) f n a (so ok) go)),
+  )
+
+  -- ---- an outcome's tree
+
+  -- a letter that was said
+  abbrev IsSaidOf : Say → List MemberLetter → Type 0
+  IsSaidOf says.Nothing said = Unit {0}
+  IsSaidOf (says.All head part) said = Has said (record { sender = m; head = head; part = part })
+  IsSaidOf (says.Unanswered head part members) said = Has said (record { sender = m; head = head; part = part })
+  IsSaidOf (says.Reply head part) said = Has said (record { sender = m; head = head; part = part })
+
+  said_now : (say : Say) (said : List MemberLetter) → IsSaidOf say (said_more m say said)
+  said_now says.Nothing said = tt
+  said_now (says.All head part) said = inl refl
+  said_now (says.Unanswered head part members) said = inl refl
+  said_now (says.Reply head part) said = inl refl
+
+  sends_at : (base : List Record) (n : ℕ) (l : MemberLetter) (t : TurnTree) (cores : Cores) → Has cores.said l → MayMore (cores.place m).may base → At base t cores → At base (sends n l t) cores
+  sends_at base zero l t cores has more h = h
+  sends_at base (suc n) l t cores has more h = (
+    has,
+    more,
+    λ ok on later. (
+      [],
+      tt,
+      led_none on,
+      sends_at base n l t on (later.said_still l has)
+          (subst (λ (s : CorePlace). MayMore s.may base) (sym later.same) more) (at_later base t cores on later h),
+    ),
+  )
+
+  says_at : (place : (cast.setup m).place ≡ m) (base : List Record) (say : Say) (t : TurnTree) (cores : Cores) → IsSaidOf say cores.said → MayMore (cores.place m).may base → At base t cores
+      → At base (says_of (cast.setup m) say t) cores
+  says_at place base says.Nothing t cores has more h = h
+  says_at place base (says.All head part) t cores has more h = sends_at base ((cast.setup m).members - 1) _ t cores (subst (λ (p : ℕ). Has cores.said (record { sender = p; head = head; part = part })) (sym place) has) more h
+  says_at place base (says.Unanswered head part members) t cores has more h = sends_at base (bits_set (cast.setup m).members members) _ t cores (subst (λ (p : ℕ). Has cores.said (record { sender = p; head = head; part = part })) (sym place) has) more h
+  says_at place base (says.Reply head part) t cores has more h = sends_at base 1 _ t cores (subst (λ (p : ℕ). Has cores.said (record { sender = p; head = head; part = part })) (sym place) has) more h
+
+  -- the core has just given this outcome
+  record IsGiven (base : List Record) (o : Outcome) (cores : Cores) : Type 0 where
+    pub shows : (cores.place m).view ≡ Some o.view
+    pub at_reading : (cores.place m).reading ≡ now
+    pub said_it : IsSaidOf o.deed.say cores.said
+    pub leaves : Leaves (cast.setup m) now o.view o.deed
+    pub tried : (k : Record) → o.deed.keep ≡ Some k → Has (cores.place m).may k
+    pub no_more : MayMore (cores.place m).may (may_after o.deed.keep base)
+
+  given_is : (base : List Record) (cores : Cores) (given : Given) (o : Outcome) → (cores.place m).reading ≡ now → given.view ≡ o.view → given.say ≡ o.deed.say
+      → Leaves (cast.setup m) now o.view o.deed → ((k : Record) → o.deed.keep ≡ Some k → Has given.may k) → MayMore given.may (may_after o.deed.keep base) → IsGiven base o (has_given cores m given)
+  given_is base cores given o reading view say leaves tries only =
+      let one = put_same cores.place m (record (cores.place m) { view = Some given.view; may = given.may }) in record {
+        shows = ap (λ (s : CorePlace). s.view) one ∙ ap (λ (v : View). let q : Option View = Some v in q) view;
+        at_reading = ap (λ (s : CorePlace). s.reading) one ∙ reading;
+        said_it = subst (λ (q : Say). IsSaidOf q (said_more m given.say cores.said)) say (said_now given.say cores.said);
+        leaves = leaves;
+        tried = λ k e. subst (λ (s : CorePlace). Has s.may k) (sym one) (tries k e);
+        no_more = subst (λ (s : CorePlace). MayMore s.may (may_after o.deed.keep base)) (sym one) only;
+      }
+
+  keeps_none : (o : Outcome) → KeepWaits None o.view.waiting now → o.view.waiting ≡ None
+  keeps_none o waits = waits
+
+  -- it says, and is idle
+  last_at : (place : (cast.setup m).place ≡ m) (base : List Record) (o : Outcome) (cores : Cores) → IsGiven base o cores → o.deed.keep ≡ None → At base (says_last (cast.setup m) o) cores
+  last_at place base o cores g none =
+      let only : MayMore (cores.place m).may base = subst (λ (k : Option Record). MayMore (cores.place m).may (may_after k base)) none g.no_more in
+      says_at place base o.deed.say (Ends o.view) cores g.said_it only (
+        record {
+          shows = g.shows;
+          at_rest = keeps_none o (subst (λ (k : Option Record). KeepWaits k o.view.waiting now) none g.leaves.waits);
+          at_reading = g.at_reading;
+          view_facts = g.leaves.facts;
+        },
+        only,
+      )
+
+  -- after an answer, what may be kept is what is counted
+  only_left : (base may : List Record) (kept : Record) (w : Waiting) (ok : Bool) → w.tried ≡ kept → MayMore may (kept ∷ base)
+      → MayMore (may_answered (Some w) ok may) (may_left (Keeps kept) ok base)
+  only_left base may kept w true same only k h = ⊎_elim (λ (e : w.tried ≡ k). inl (sym same ∙ e)) (λ (n : ⊥). absurd n) h
+  only_left base may kept w false same only k h = only k h
+
+  after_only : (keep : Option Record) (may base : List Record) → MayMore may base → MayMore (may_after keep may) (may_after keep base)
+  after_only None may base only k h = only k h
+  after_only (Some tried) may base only k h = ⊎_elim (λ (e : tried ≡ k). inl e) (λ (old : Has may k). inr (only k old)) h
+
+  -- a keep's answer gives the next outcome
+  keep_at : m < c.members → now < 2 ^ 62 → (o : Outcome) (cores : Cores) (kept : Record) (f : Outcome → TurnTree) (base : List Record) → IsGiven base o cores → o.deed.keep ≡ Some kept
+      → ((ok : Bool) (cores' : Cores) → IsGiven (may_left (Keeps kept) ok base) (keep_answered (cast.setup m) o.view o.view.waiting now ok) cores'
+      → At (may_left (Keeps kept) ok base) (f (keep_answered (cast.setup m) o.view o.view.waiting now ok)) cores')
+      → At base (keeps_of (cast.setup m) now (Some kept) o f) cores
+  keep_at below small o cores kept f base g is_kept go = (
+    g.tried kept is_kept,
+    subst (λ (k : Option Record). MayMore (cores.place m).may (may_after k base)) is_kept g.no_more,
+    λ ok on later.
+        let shows : (on.place m).view ≡ Some o.view = ap (λ (s : CorePlace). s.view) later.same ∙ g.shows in
+        let reading : (on.place m).reading ≡ now = ap (λ (s : CorePlace). s.reading) later.same ∙ g.at_reading in
+        let waits = the_value _ o.view.waiting (subst (λ (k : Option Record). KeepWaits k o.view.waiting now) is_kept g.leaves.waits) in
+        let o' = keep_answered (cast.setup m) o.view o.view.waiting now ok in (
+          (
+            below,
+            subst (λ (v : Option View). IsSomeAnd v (λ view. IsSomeAnd view.waiting (λ waits. waits.tried ≡ kept))) (sym shows)
+                (subst (λ (w : Option Waiting). IsSomeAnd w (λ waits. waits.tried ≡ kept)) (sym waits.1) waits.2.0),
+          ),
+          (
+            [],
+            tt,
+            led_none _,
+            go ok (entered c cast on (HasAnswer m kept ok))
+                (subst (λ (v : Option View). IsGiven (may_left (Keeps kept) ok base) o' (after_answer cast on m ok v)) (sym shows)
+                (given_is (may_left (Keeps kept) ok base) on (answer_given cast on m ok o.view) o' reading
+                (ap (λ (r : ℕ). (keep_answered (cast.setup m) o.view o.view.waiting r ok).view) reading)
+                (ap (λ (r : ℕ). (keep_answered (cast.setup m) o.view o.view.waiting r ok).deed.say) reading)
+                (keep_answered_good (cast.setup m) o.view o.view.waiting now ok small refl g.leaves.facts)
+                (λ k e. tried_in _ _ k (ap (λ (r : ℕ). (keep_answered (cast.setup m) o.view o.view.waiting r ok).deed.keep) reading ∙ e))
+                (subst (λ (r : ℕ). MayMore (may_after (keep_answered (cast.setup m) o.view o.view.waiting r ok).deed.keep (may_answered o.view.waiting ok (on.place m).may)) (may_after o'.deed.keep (may_left (Keeps kept) ok base))) (sym reading)
+                (after_only o'.deed.keep _ _
+                (subst (λ (w : Option Waiting). MayMore (may_answered w ok (on.place m).may) (may_left (Keeps kept) ok base)) (sym waits.1)
+                (only_left base (on.place m).may kept waits.0 ok waits.2.0
+                (subst (λ (s : CorePlace). MayMore s.may (kept ∷ base)) (sym later.same)
+                (subst (λ (k : Option Record). MayMore (cores.place m).may (may_after k base)) is_kept g.no_more)))))))),
+          ),
+        ),
+  )
+
+  deeds_at : m < c.members → now < 2 ^ 62 → (cast.setup m).place ≡ m → (base : List Record) (o : Outcome) (cores : Cores) → IsGiven base o cores → At base (deeds_of (cast.setup m) now o) cores
+  deeds_at below small place base o cores g = first o.deed.keep refl
+    where
+      second : (base : List Record) (q : Outcome) (cores : Cores) → IsGiven base q cores → IsGainAtMost q.view.waiting → (keep : Option Record) → q.deed.keep ≡ keep
+          → At base (keeps_of (cast.setup m) now keep q (says_last (cast.setup m))) cores
+      second base q cores g gain None e = last_at place base q cores g e
+      second base q cores g gain (Some kept) e =
+          keep_at below small q cores kept (says_last (cast.setup m)) base g e
+          (λ ok on h. last_at place _ _ on h (third_keeps_nothing (cast.setup m) q.view q.view.waiting now ok gain))
+
+      first : (keep : Option Record) → o.deed.keep ≡ keep
+          → At base (keeps_of (cast.setup m) now keep o (λ o. keeps_of (cast.setup m) now o.deed.keep o (says_last (cast.setup m)))) cores
+      first None e = subst (λ (k : Option Record). At base (keeps_of (cast.setup m) now k o (says_last (cast.setup m))) cores) (sym e) (last_at place base o cores g e)
+      first (Some kept) e =
+          keep_at below small o cores kept (λ o. keeps_of (cast.setup m) now o.deed.keep o (says_last (cast.setup m))) base g e
+          (λ ok on h. second _ _ on h (second_gains (cast.setup m) o.view o.view.waiting now ok refl) _ refl)
+
+  -- ---- a call's tree
+
+  -- a call of an idle core is an entry, and then its tree follows
+  pub call_at : m < c.members → now < 2 ^ 62 → (cast.setup m).place ≡ m → (base : List Record) (view : View) (call : CoreCall) (cores : Cores) → IsIdle (cast.setup m) now view (cores.place m)
+      → MayMore (cores.place m).may base → MayCallCore cast cores m view call → Leaves (cast.setup m) now (lease_call (cast.setup m) view now call).view (lease_call (cast.setup m) view now call).deed
+      → Soon (At base (deeds_of (cast.setup m) now (lease_call (cast.setup m) view now call))) cores
+  call_at below small place base view call cores idle only may leaves = (
+    CallsCore m call ∷ [],
+    ((below, subst (λ (v : Option View). IsSomeAnd v (λ view. (view.waiting ≡ None) × MayCallCore cast cores m view call)) (sym idle.shows) (idle.at_rest, may)), tt),
+    record {
+      own = subst (λ (v : Option View). IsOwn m cores (after_call cast cores m call v)) (sym idle.shows) (own_given cores m (call_given cast cores m call view));
+      more = λ k h. subst (λ (v : Option View). Has ((after_call cast cores m call v).place m).may k) (sym idle.shows)
+          (subst (λ (s : CorePlace). Has s.may k) (sym (put_same cores.place m _)) (more_after _ (cores.place m).may k h));
+      up_still = λ h. subst (λ (v : Option View). IsUp ((after_call cast cores m call v).place m)) (sym idle.shows) (up_given cores m (call_given cast cores m call view));
+      unreleased = λ z h. ⊎_elim (λ (n : ⊥). n) (λ (n : ⊥). n) h;
+    },
+    subst (λ (v : Option View). At base (deeds_of (cast.setup m) now (lease_call (cast.setup m) view now call)) (after_call cast cores m call v)) (sym idle.shows)
+        (deeds_at below small place base (lease_call (cast.setup m) view now call) _
+        (given_is base cores (call_given cast cores m call view) (lease_call (cast.setup m) view now call) idle.at_reading
+        (ap (λ (r : ℕ). (lease_call (cast.setup m) view r call).view) idle.at_reading)
+        (ap (λ (r : ℕ). (lease_call (cast.setup m) view r call).deed.say) idle.at_reading)
+        leaves
+        (λ k e. tried_in _ _ k (ap (λ (r : ℕ). (lease_call (cast.setup m) view r call).deed.keep) idle.at_reading ∙ e))
+        (subst (λ (r : ℕ). MayMore (may_after (lease_call (cast.setup m) view r call).deed.keep (cores.place m).may) (may_after (lease_call (cast.setup m) view now call).deed.keep base)) (sym idle.at_reading)
+        (after_only (lease_call (cast.setup m) view now call).deed.keep (cores.place m).may base only)))),
+  )
+
+  -- ---- a plan's tree
+
+  -- a note waits for nothing
+  note_waits_not : (view : View) (note : Note) → view.waiting ≡ None → (noted (cast.setup m) view now note).waiting ≡ None
+  note_waits_not view notes.Asked none = none
+  note_waits_not view (notes.JobStarted job reason) none = on_cond (λ (v : View). v.waiting ≡ None) (is_leader view.role) _ _ none none
+  note_waits_not view notes.JobOver none = none
+  note_waits_not view notes.AskFailed none = none
+  note_waits_not view notes.HandlerFailed none = none
+  note_waits_not view notes.Unready none = none
+
+  call_leaves : now < 2 ^ 62 → (view : View) (call : CoreCall) → view.waiting ≡ None → ViewFacts (cast.setup m) view → MayCallAlone (cast.setup m) view call
+      → Leaves (cast.setup m) now (lease_call (cast.setup m) view now call).view (lease_call (cast.setup m) view now call).deed
+  call_leaves small view (Asks reason) none facts may = ask_good (cast.setup m) view reason now
+  call_leaves small view (Hears letter) none facts may = absurd may
+  call_leaves small view Greets none facts may = record { facts = greeted_facts (cast.setup m) view facts; waits = none }
+  call_leaves small view MeetsDeadline none facts may = due_now_good (cast.setup m) view now view.role none facts
+  call_leaves small view (MakesNote note) none facts may =
+      record { facts = noted_facts (cast.setup m) view now note none may facts; waits = note_waits_not view note none }
+  call_leaves small view RenewsLease none facts may = renewed_good (cast.setup m) view view.round now small none facts
+  call_leaves small view (GivesBack reason) none facts may = release_good (cast.setup m) view reason now facts.round_fits
+
+  may_alone : (cores : Cores) (view : View) (call : CoreCall) → MayCallAlone (cast.setup m) view call → MayCallCore cast cores m view call
+  may_alone cores view (Asks reason) may = may
+  may_alone cores view (Hears letter) may = absurd may
+  may_alone cores view Greets may = may
+  may_alone cores view MeetsDeadline may = may
+  may_alone cores view (MakesNote note) may = may
+  may_alone cores view RenewsLease may = may
+  may_alone cores view (GivesBack reason) may = may
+
+  -- a plan of an idle core is entries, by its calls
+  pub plan_at : m < c.members → now < 2 ^ 62 → (cast.setup m).place ≡ m → (plan : Plan) (base : List Record) (view : View) (cores : Cores)
+      → IsIdle (cast.setup m) now view (cores.place m) → MayMore (cores.place m).may base → MayPlan (cast.setup m) now view plan
+      → Soon (At base (plan_tree (cast.setup m) now view plan)) cores
+  plan_at below small place Rests base view cores idle only may = ([], tt, led_none cores, (idle, only))
+  plan_at below small place (Calls call go) base view cores idle only may =
+      soon_on (At base (call_tree (cast.setup m) now view call))
+      (At base (next (call_tree (cast.setup m) now view call) (λ left. plan_tree (cast.setup m) now left (go left)))) cores
+      (call_at below small place base view call cores idle only (may_alone cores view call may.0) (call_leaves small view call idle.at_rest idle.view_facts may.0))
+      (λ on h. at_next (λ left. MayPlan (cast.setup m) now left (go left)) base (call_tree (cast.setup m) now view call) (λ left. plan_tree (cast.setup m) now left (go left)) on h may.1
+      (λ base left on idle only may. plan_at below small place (go left) base left on idle only may))
+  plan_at below small place (Waits go) base view cores idle only may = (
+    [],
+    tt,
+    led_none cores,
+    (
+      only,
+      λ ok on later.
+          plan_at below small place (go ok) base view on
+          (subst (λ (s : CorePlace). IsIdle (cast.setup m) now view s) (sym later.same) idle)
+          (subst (λ (s : CorePlace). MayMore s.may base) (sym later.same) only) (may ok),
+    ),
+  )
+
+  -- and after a message that is heard
+  pub heard_at : m < c.members → now < 2 ^ 62 → (cast.setup m).place ≡ m → (letter : MemberLetter) (plan : View → Plan) (base : List Record) (view : View) (cores : Cores)
+      → IsIdle (cast.setup m) now view (cores.place m) → MayMore (cores.place m).may base → MayCallCore cast cores m view (Hears letter)
+      → LeavesAlways (λ left. MayPlan (cast.setup m) now left (plan left)) (call_tree (cast.setup m) now view (Hears letter))
+      → Soon (At base (next (call_tree (cast.setup m) now view (Hears letter)) (λ left. plan_tree (cast.setup m) now left (plan left)))) cores
+  heard_at below small place letter plan base view cores idle only heard may =
+      soon_on (At base (call_tree (cast.setup m) now view (Hears letter)))
+      (At base (next (call_tree (cast.setup m) now view (Hears letter)) (λ left. plan_tree (cast.setup m) now left (plan left)))) cores
+      (call_at below small place base view (Hears letter) cores idle only heard
+      (heard_good (cast.setup m) view letter.sender letter.head letter.part now letter.head.cmd idle.at_rest idle.view_facts))
+      (λ on h. at_next (λ left. MayPlan (cast.setup m) now left (plan left)) base (call_tree (cast.setup m) now view (Hears letter)) (λ left. plan_tree (cast.setup m) now left (plan left)) on h may
+      (λ base left on idle only may. plan_at below small place (plan left) base left on idle only may))

@@ -1,0 +1,74 @@
+-- The three laws, over entries of the lease cores of one ticket.
+use Rattle.std.specs.Prelude.{◌≡◌, ◌≢◌, ◌⊎◌, ℕ, ◌<◌, ◌≤◌, List, [], ◌∷◌, true, None}
+use Rattle.booth_rec.specs.declared.record.Record.{Record}
+use Rattle.booth_rec.specs.Record.{IsInForce}
+use Rattle.booth_node.specs.Clock.{Cluster, HasClocks, reads}
+use Rattle.booth_world.specs.Facts.{Has, Release}
+use Rattle.booth_world.specs.Held.{AreApart, GivesBackLease}
+use Rattle.booth_world.specs.Cores.{CoreEntry, HasAnswer, Cores, opening_cores, Cast, IsCast, entered, AreEntered, cores_after}
+
+-- ---- releases, by the entries
+
+-- the answer of a keep gives a term back where a record of it, without a lease, was kept
+abbrev pub IsReleaseAt : Cores → CoreEntry → Release → Type 0
+IsReleaseAt cores (HasAnswer m kept true) release =
+    (release ≡ record { site = m; term = kept.term; at = cores.now }) × (kept.lease ≡ None)
+IsReleaseAt cores entry release = ⊥
+
+abbrev pub IsReleaseIn : Cluster → Cast → Cores → List CoreEntry → Release → Type 0
+IsReleaseIn c cast cores [] release = ⊥
+IsReleaseIn c cast cores (entry ∷ entries) release =
+    IsReleaseAt cores entry release
+    ⊎ IsReleaseIn c cast (entered c cast cores entry) entries release
+
+-- ---- holders
+
+-- a member holds by a record that it may have kept, while that is in force at what its clock reads
+-- now
+abbrev pub CoreHoldsBy : Cluster → Cores → ℕ → Record → Type 0
+CoreHoldsBy c cores s k =
+    (s < c.members) × Has (cores.place s).may k × IsInForce k (reads c s cores.now)
+
+abbrev pub CoreHolds : Cluster → Cores → ℕ → Type 0
+CoreHolds c cores s = (k : Record) × CoreHoldsBy c cores s k
+
+-- ---- the laws
+
+-- Entries from before anything has happened, in two parts.
+pub record CoreCourse (c : Cluster) (cast : Cast) (early late : List CoreEntry) : Type 0 where
+  pub clocks : HasClocks c
+  pub is_cast : IsCast c cast
+  pub enters_early : AreEntered c cast (opening_cores c) early
+  pub enters_late : AreEntered c cast (cores_after c cast (opening_cores c) early) late
+
+abbrev pub early_cores : Cluster → Cast → List CoreEntry → Cores
+early_cores c cast early = cores_after c cast (opening_cores c) early
+
+abbrev pub late_cores : Cluster → Cast → List CoreEntry → List CoreEntry → Cores
+late_cores c cast early late = cores_after c cast (early_cores c cast early) late
+
+-- at no moment is the ticket held at two sites
+abbrev pub CoresHoldOne : Type 0
+CoresHoldOne =
+    (c : Cluster) (cast : Cast) (entries : List CoreEntry) → CoreCourse c cast entries []
+    → (s t : ℕ) → CoreHolds c (early_cores c cast entries) s
+    → CoreHolds c (early_cores c cast entries) t → s ≡ t
+
+-- where one holds by a record and another holds later, acquire-after lies between, or an entry
+-- between the two gave the record's lease back
+abbrev pub CoresAreApart : Type 0
+CoresAreApart =
+    (c : Cluster) (cast : Cast) (early late : List CoreEntry) → CoreCourse c cast early late
+    → (s t : ℕ) → s ≢ t → (k : Record)
+    → CoreHoldsBy c (early_cores c cast early) s k → CoreHolds c (late_cores c cast early late) t
+    → AreApart c (early_cores c cast early).now (late_cores c cast early late).now
+    ⊎ ((release : Release) × IsReleaseIn c cast (early_cores c cast early) late release
+    × GivesBackLease s k.lease release)
+
+-- where each record that a member may have kept has at least a term, so has each one later
+abbrev pub CoreTermsNeverFall : Type 0
+CoreTermsNeverFall =
+    (c : Cluster) (cast : Cast) (early late : List CoreEntry) → CoreCourse c cast early late
+    → (s term : ℕ) → s < c.members
+    → ((k : Record) → Has ((early_cores c cast early).place s).may k → term ≤ k.term)
+    → (k : Record) → Has ((late_cores c cast early late).place s).may k → term ≤ k.term

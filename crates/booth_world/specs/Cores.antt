@@ -1,0 +1,186 @@
+-- Entries of the lease cores of one ticket, at all members, and where they leave each: the records
+-- that may be kept, what was said and what was released are counted from the entries alone.
+use Rattle.std.specs.Prelude.{◌≡◌, ℕ, ◌<◌, ◌≤◌, List, [], ◌∷◌, Bool, Option, Some, None, IsTrue, IsSomeAnd}
+use Rattle.booth_base.specs.declared.address.MemberId.{MemberId}
+use Rattle.booth_rec.specs.declared.record.Record.{Record}
+use Rattle.booth_rec.specs.Record.{no_record}
+use Rattle.booth_wire.specs.declared.message.Say.{Say}
+use Rattle.booth_wire.specs.declared.message.Say.TheVariants as says
+use Rattle.booth_wire.specs.declared.message.Setup.{Setup}
+use Rattle.booth_raft.specs.declared.view.View.{View}
+use Rattle.booth_raft.specs.Members.{is_leader}
+use Rattle.booth_raft.specs.Notes.{MayNote}
+use Rattle.booth_raft.specs.Sound.{IsSound}
+use Rattle.booth_node.specs.Clock.{Cluster, reads}
+use Rattle.booth_world.specs.Facts.{Has, Release}
+use Rattle.booth_world.specs.States.{put}
+use Rattle.booth_world.specs.Agreement.{AreIds, IsSeated}
+use Rattle.booth_world.specs.Rules.{MemberLetter, CoreCall, Asks, Hears, MakesNote, RenewsLease, GivesBack, lease_rules}
+use Rattle.booth_world.specs.Gives.{Mark, Given, given_by, may_answered, releases_answered}
+
+-- ---- entries
+
+-- What happens: true time passes; or, at one member, it reads its clock, calls its core, or has the
+-- answer of a keep; it stops, or starts with a record.
+pub data CoreEntry : Type 0 where
+  TimePasses : (time : ℕ) → CoreEntry
+  ReadsTime : (m time : ℕ) → CoreEntry
+  CallsCore : (m : ℕ) (call : CoreCall) → CoreEntry
+  HasAnswer : (m : ℕ) (kept : Record) (ok : Bool) → CoreEntry
+  Stops : (m : ℕ) → CoreEntry
+  StartsWith : (m : ℕ) (kept : Record) → CoreEntry
+
+-- ---- where entries leave the members
+
+-- A member: its view while it is up, its last reading and the true time of it, and the records that
+-- may be kept.
+pub record CorePlace : Type 0 where
+  pub view : Option View
+  pub reading : ℕ
+  pub at : ℕ
+  pub may : List Record
+
+-- All members, what was said, what was released, and the marks that facts may bear.
+pub record Cores : Type 0 where
+  pub now : ℕ
+  pub place : ℕ → CorePlace
+  pub said : List MemberLetter
+  pub releases : List Release
+  pub marks : List Mark
+
+-- nobody has started, and nothing is kept
+abbrev pub opening_cores : Cluster → Cores
+opening_cores c = record {
+  now = 0;
+  place = λ m. record { view = None; reading = reads c m 0; at = 0; may = no_record ∷ [] };
+  said = [];
+  releases = [];
+  marks = [];
+}
+
+-- Who stands at the places: their ids, and their setups.
+pub record Cast : Type 0 where
+  pub id_of : ℕ → MemberId
+  pub setup : ℕ → Setup
+
+pub record IsCast (c : Cluster) (cast : Cast) : Type 0 where
+  pub ids : AreIds c.members cast.id_of
+  pub seated : (m : ℕ) → m < c.members → IsSeated c cast.id_of m (cast.setup m)
+  pub sound : (m : ℕ) → m < c.members → IsSound (cast.setup m)
+
+-- ---- what may come next
+
+-- what a call needs that hears nothing, beside that no keep waits
+abbrev pub MayCallAlone : Setup → View → CoreCall → Type 0
+MayCallAlone setup view (Asks reason) = IsTrue setup.site
+MayCallAlone setup view (Hears letter) = ⊥
+MayCallAlone setup view (MakesNote note) = MayNote view note
+MayCallAlone setup view RenewsLease = IsTrue (is_leader view.role)
+MayCallAlone setup view (GivesBack reason) = IsTrue setup.site
+MayCallAlone setup view call = Unit {0}
+
+-- a message is heard that was said, with its sender's id, at the true time of the reading
+abbrev pub MayCallCore : Cast → Cores → ℕ → View → CoreCall → Type 0
+MayCallCore cast cores m view (Hears letter) =
+    (Has cores.said letter) × (letter.head.from ≡ cast.id_of letter.sender)
+    × ((cores.place m).at ≡ cores.now)
+MayCallCore cast cores m view call = MayCallAlone (cast.setup m) view call
+
+-- while a keep waits, its answer comes, or a stop; a start reads one of the records that may be
+-- kept
+abbrev pub MayEnter : Cluster → Cast → Cores → CoreEntry → Type 0
+MayEnter c cast cores (TimePasses time) = (cores.now ≤ time) × (time < c.span)
+MayEnter c cast cores (ReadsTime m time) = (m < c.members) × (cores.now ≤ time) × (time < c.span)
+MayEnter c cast cores (CallsCore m call) =
+    (m < c.members)
+    × IsSomeAnd (cores.place m).view
+    (λ view. (view.waiting ≡ None) × MayCallCore cast cores m view call)
+MayEnter c cast cores (HasAnswer m kept ok) =
+    (m < c.members)
+    × IsSomeAnd (cores.place m).view
+    (λ view. IsSomeAnd view.waiting (λ waits. waits.tried ≡ kept))
+MayEnter c cast cores (Stops m) =
+    (m < c.members) × IsSomeAnd (cores.place m).view (λ view. Unit {0})
+MayEnter c cast cores (StartsWith m kept) =
+    (m < c.members) × ((cores.place m).view ≡ None) × Has (cores.place m).may kept
+
+-- ---- what it changes
+
+-- what is said once more
+abbrev pub said_more : ℕ → Say → List MemberLetter → List MemberLetter
+said_more m says.Nothing said = said
+said_more m (says.All head part) said = record { sender = m; head = head; part = part } ∷ said
+said_more m (says.Unanswered head part members) said =
+    record { sender = m; head = head; part = part } ∷ said
+said_more m (says.Reply head part) said = record { sender = m; head = head; part = part } ∷ said
+
+abbrev pub mark_in : Cores → ℕ → Mark
+mark_in cores m = record {
+  member = m;
+  reading = (cores.place m).reading;
+  at = (cores.place m).at;
+  now = cores.now;
+}
+
+-- a member's core has given this
+abbrev pub has_given : Cores → ℕ → Given → Cores
+has_given cores m given = record {
+  now = cores.now;
+  place = put cores.place m (record (cores.place m) { view = Some given.view; may = given.may });
+  said = said_more m given.say cores.said;
+  releases = given.releases;
+  marks = mark_in cores m ∷ cores.marks;
+}
+
+-- what a call gives, and the answer of the keep that waits
+abbrev pub call_given : Cast → Cores → ℕ → CoreCall → View → Given
+call_given cast cores m call view =
+    given_by
+    (lease_rules.call (cast.setup m) view (cores.place m).reading call)
+    (cores.place m).may
+    cores.releases
+
+abbrev pub answer_given : Cast → Cores → ℕ → Bool → View → Given
+answer_given cast cores m ok view =
+    given_by
+    (lease_rules.answer (cast.setup m) view (cores.place m).reading ok)
+    (may_answered view.waiting ok (cores.place m).may)
+    (releases_answered (mark_in cores m) view.waiting ok cores.releases)
+
+-- where the member is up
+abbrev pub after_call : Cast → Cores → ℕ → CoreCall → Option View → Cores
+after_call cast cores m call None = cores
+after_call cast cores m call (Some view) = has_given cores m (call_given cast cores m call view)
+
+abbrev pub after_answer : Cast → Cores → ℕ → Bool → Option View → Cores
+after_answer cast cores m ok None = cores
+after_answer cast cores m ok (Some view) = has_given cores m (answer_given cast cores m ok view)
+
+abbrev pub entered : Cluster → Cast → Cores → CoreEntry → Cores
+entered c cast cores (TimePasses time) = record cores { now = time }
+entered c cast cores (ReadsTime m time) = record cores {
+  now = time;
+  place = put cores.place m (record (cores.place m) { reading = reads c m time; at = time });
+}
+entered c cast cores (CallsCore m call) = after_call cast cores m call (cores.place m).view
+entered c cast cores (HasAnswer m kept ok) = after_answer cast cores m ok (cores.place m).view
+entered c cast cores (Stops m) = record cores {
+  place = put cores.place m (record (cores.place m) { view = None });
+}
+entered c cast cores (StartsWith m kept) = has_given cores m (record {
+  view = lease_rules.start (cast.setup m) kept (cores.place m).reading;
+  say = says.Nothing;
+  may = kept ∷ [];
+  releases = cores.releases;
+})
+
+-- each entry may come where it stands
+abbrev pub AreEntered : Cluster → Cast → Cores → List CoreEntry → Type 0
+AreEntered c cast cores [] = Unit {0}
+AreEntered c cast cores (entry ∷ entries) =
+    MayEnter c cast cores entry × AreEntered c cast (entered c cast cores entry) entries
+
+abbrev pub cores_after : Cluster → Cast → Cores → List CoreEntry → Cores
+cores_after c cast cores [] = cores
+cores_after c cast cores (entry ∷ entries) =
+    cores_after c cast (entered c cast cores entry) entries

@@ -1,0 +1,151 @@
+-- Entries of the hosts of one ticket, at all members: turns that may be cut anywhere, and where
+-- they leave each. The records that may be kept are counted from the answers of keeps alone.
+use Rattle.std.specs.Prelude.{◌≡◌, ℕ, ◌<◌, ◌≤◌, List, [], ◌∷◌, Bool, true, false, Option, Some, None, IsSomeAnd}
+use Rattle.std.specs.Option.{ForSome}
+use Rattle.booth_base.specs.Tree.{Ends, Does}
+use Rattle.booth_rec.specs.declared.record.Record.{Record}
+use Rattle.booth_rec.specs.Record.{no_record}
+use Rattle.booth_wire.specs.declared.message.Setup.{Setup}
+use Rattle.booth_raft.specs.declared.view.View.{View}
+use Rattle.booth_node.specs.Clock.{Cluster, reads}
+use Rattle.booth_world.specs.Facts.{Has}
+use Rattle.booth_world.specs.States.{put}
+use Rattle.booth_world.specs.Rules.{MemberLetter, lease_rules}
+use Rattle.booth_world.specs.Cores.{Cast}
+use Rattle.booth_world.specs.Turns.{TicketAsk, Keeps, Sends, TurnTree, Plan, turn_tree, MayTurn}
+
+-- ---- entries
+
+-- What happens: true time passes; or, at one member, a turn begins at a reading, at whose head a
+-- message may have come; the next ask of its turn is answered; it stops, wherever it is; or it
+-- starts, at a reading, with a record.
+pub data HostEntry : Type 0 where
+  LetsPass : (time : ℕ) → HostEntry
+  BeginsTurn : (m time : ℕ) (came : Option MemberLetter) (plan : View → Plan) → HostEntry
+  DoesAsk : (m : ℕ) (ask : TicketAsk) (ok : Bool) → HostEntry
+  Halts : (m : ℕ) → HostEntry
+  Boots : (m time : ℕ) (kept : Record) → HostEntry
+
+-- ---- where entries leave the members
+
+-- A member: what is still to be done while it is up, its last reading, and the records that its
+-- keeps may have left.
+pub record HostPlace : Type 0 where
+  pub tree : Option TurnTree
+  pub reading : ℕ
+  pub may : List Record
+
+pub record Hosts : Type 0 where
+  pub now : ℕ
+  pub place : ℕ → HostPlace
+  pub sent : List MemberLetter
+
+-- nobody has started, and nothing is kept
+abbrev pub opening_hosts : Cluster → Hosts
+opening_hosts c = record {
+  now = 0;
+  place = λ m. record { tree = None; reading = reads c m 0; may = no_record ∷ [] };
+  sent = [];
+}
+
+-- a keep that comes next may be done already, its answer unseen
+abbrev pub pending_in : TurnTree → List Record → List Record
+pending_in (Does (Keeps kept) go) may = kept ∷ may
+pending_in tree may = may
+
+abbrev pub pending : Option TurnTree → List Record → List Record
+pending None may = may
+pending (Some tree) may = pending_in tree may
+
+-- ---- what may come next
+
+-- the last turn is over, and the next may be this one
+abbrev pub MayBegin : Setup → ℕ → Option MemberLetter → (View → Plan) → TurnTree → Type 0
+MayBegin s now came plan (Ends view) = MayTurn s now view came plan
+MayBegin s now came plan (Does ask go) = ⊥
+
+abbrev pub IsNextAsk : TicketAsk → TurnTree → Type 0
+IsNextAsk ask (Ends view) = ⊥
+IsNextAsk ask (Does first go) = first ≡ ask
+
+-- a message that comes was sent, with its sender's id
+abbrev pub MayCome : Cast → Hosts → MemberLetter → Type 0
+MayCome cast hosts letter =
+    (Has hosts.sent letter) × (letter.head.from ≡ cast.id_of letter.sender)
+
+-- a start reads a record that a keep left that was done, or one that failed or was cut since
+abbrev pub MayHost : Cluster → Cast → Hosts → HostEntry → Type 0
+MayHost c cast hosts (LetsPass time) = (hosts.now ≤ time) × (time < c.span)
+MayHost c cast hosts (BeginsTurn m time came plan) =
+    (m < c.members) × (hosts.now ≤ time) × (time < c.span)
+    × IsSomeAnd (hosts.place m).tree (MayBegin (cast.setup m) (reads c m time) came plan)
+    × ForSome came (MayCome cast hosts)
+MayHost c cast hosts (DoesAsk m ask ok) =
+    (m < c.members) × IsSomeAnd (hosts.place m).tree (IsNextAsk ask)
+MayHost c cast hosts (Halts m) =
+    (m < c.members) × IsSomeAnd (hosts.place m).tree (λ tree. Unit {0})
+MayHost c cast hosts (Boots m time kept) =
+    (m < c.members) × (hosts.now ≤ time) × (time < c.span)
+    × ((hosts.place m).tree ≡ None) × Has (hosts.place m).may kept
+
+-- ---- what it changes
+
+abbrev pub begun : Setup → ℕ → Option MemberLetter → (View → Plan) → Option TurnTree
+    → Option TurnTree
+begun s now came plan (Some (Ends view)) = Some (turn_tree s now view came plan)
+begun s now came plan tree = tree
+
+abbrev pub went_on : Bool → Option TurnTree → Option TurnTree
+went_on ok (Some (Does ask go)) = Some (go ok)
+went_on ok tree = tree
+
+abbrev pub may_left : TicketAsk → Bool → List Record → List Record
+may_left (Keeps kept) true may = kept ∷ []
+may_left (Keeps kept) false may = kept ∷ may
+may_left ask ok may = may
+
+abbrev pub sent_more : TicketAsk → List MemberLetter → List MemberLetter
+sent_more (Sends letter) sent = letter ∷ sent
+sent_more ask sent = sent
+
+abbrev pub hosted : Cluster → Cast → Hosts → HostEntry → Hosts
+hosted c cast hosts (LetsPass time) = record hosts { now = time }
+hosted c cast hosts (BeginsTurn m time came plan) = record hosts {
+  now = time;
+  place = put hosts.place m (record (hosts.place m) {
+    tree = begun (cast.setup m) (reads c m time) came plan (hosts.place m).tree;
+    reading = reads c m time;
+  });
+}
+hosted c cast hosts (DoesAsk m ask ok) = record hosts {
+  place = put hosts.place m (record (hosts.place m) {
+    tree = went_on ok (hosts.place m).tree;
+    may = may_left ask ok (hosts.place m).may;
+  });
+  sent = sent_more ask hosts.sent;
+}
+hosted c cast hosts (Halts m) = record hosts {
+  place = put hosts.place m (record (hosts.place m) {
+    tree = None;
+    may = pending (hosts.place m).tree (hosts.place m).may;
+  });
+}
+hosted c cast hosts (Boots m time kept) = record hosts {
+  now = time;
+  place = put hosts.place m (record {
+    tree = Some (Ends (lease_rules.start (cast.setup m) kept (reads c m time)));
+    reading = reads c m time;
+    may = kept ∷ [];
+  });
+}
+
+-- each entry may come where it stands
+abbrev pub AreHosted : Cluster → Cast → Hosts → List HostEntry → Type 0
+AreHosted c cast hosts [] = Unit {0}
+AreHosted c cast hosts (entry ∷ entries) =
+    MayHost c cast hosts entry × AreHosted c cast (hosted c cast hosts entry) entries
+
+abbrev pub hosts_after : Cluster → Cast → Hosts → List HostEntry → Hosts
+hosts_after c cast hosts [] = hosts
+hosts_after c cast hosts (entry ∷ entries) =
+    hosts_after c cast (hosted c cast hosts entry) entries

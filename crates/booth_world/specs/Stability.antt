@@ -1,0 +1,91 @@
+-- What stays of a member's agreement with its view while others step, while time passes, and while
+-- it reads its clock; and runs one after another.
+use Rattle.std.specs.Prelude.{◌≡◌, ◌≢◌, ◌++◌, ℕ, ◌<◌, List, [], ◌∷◌}
+use Rattle.booth_base.specs.declared.address.MemberId.{MemberId}
+use Rattle.booth_wire.specs.declared.command.Cmd.{Cmd}
+use Rattle.booth_wire.specs.declared.message.Head.{Head}
+use Rattle.booth_wire.specs.declared.message.TicketPart.{TicketPart}
+use Rattle.booth_raft.specs.declared.view.View.{View}
+use Rattle.booth_node.specs.Clock.{Cluster}
+use Rattle.booth_world.specs.Facts.{Facts}
+use Rattle.booth_world.specs.States.{MemberState, WorldState}
+use Rattle.booth_world.specs.Lives.{reading_clock}
+use Rattle.booth_world.specs.Steps.{WorldStep, ReadsClock, MemberDoes, Passes, happens, IsRun, after_steps, world_of}
+use Rattle.booth_world.specs.Agreement.{Agrees}
+use Rattle.booth_world.specs.Messages.{IsFact}
+use Rattle.booth_world.specs.Gives.{Given, IsReached, AddsOnly}
+use Rattle.booth_world.specs.Calls.{Caller, IsMember, Gives, mark_at}
+
+-- a step that is not this member's
+abbrev pub IsOthers : ℕ → WorldStep → Type 0
+IsOthers m (MemberDoes k step) = k ≢ m
+IsOthers m (Passes time) = Unit {0}
+
+-- Others leave a member as it is, and its view agrees on; what was said stays a fact, whoever
+-- steps; and the clock that a member reads is nothing that its view shows.
+pub record AgreementStays : Type 0 where
+  pub unmoved : (c : Cluster) (w : WorldState) (m : ℕ) (step : WorldStep) → IsOthers m step
+      → (happens c w step).member m ≡ w.member m
+  pub agreed : (c : Cluster) (id_of : ℕ → MemberId) (w : WorldState) (m : ℕ) (view : View)
+      → (step : WorldStep) → IsOthers m step → Agrees c id_of w.facts m view (w.member m)
+      → Agrees c id_of (happens c w step).facts m view ((happens c w step).member m)
+  pub said_on : (c : Cluster) (id_of : ℕ → MemberId) (w : WorldState) (step : WorldStep)
+      → (s : ℕ) (head : Head) (part : TicketPart) (cmd : Cmd)
+      → IsFact id_of w.facts s head part cmd → IsFact id_of (happens c w step).facts s head part cmd
+  pub clock_read : (c : Cluster) (id_of : ℕ → MemberId) (f : Facts) (m now : ℕ)
+      → (view : View) (x : MemberState)
+      → Agrees c id_of f m view x → Agrees c id_of f m view (reading_clock c now m x)
+
+-- ---- a call, as steps of the world
+
+-- Where a call of one member leads from a world to another: its view agrees, what it says is a
+-- fact, and it adds no other facts. True time is as before, and so are other members, whose views
+-- agree on.
+pub record IsNext (c : Cluster) (id_of : ℕ → MemberId) (w z : WorldState) (m : ℕ) (given : Given)
+    : Type 0 where
+  pub reached : IsReached c id_of (mark_at w m) given z.facts (z.member m)
+  pub adds : AddsOnly (mark_at w m) given.releases w.facts z.facts
+  pub same_time : z.now ≡ w.now
+  pub unmoved : (k : ℕ) → k ≢ m → z.member k ≡ w.member k
+  pub others_agree : (k : ℕ) (other : View) → k ≢ m
+      → Agrees c id_of w.facts k other (w.member k) → Agrees c id_of z.facts k other (z.member k)
+  pub said_on : (s : ℕ) (head : Head) (part : TicketPart) (cmd : Cmd)
+      → IsFact id_of w.facts s head part cmd → IsFact id_of z.facts s head part cmd
+
+-- each call leads on from world to world
+abbrev pub CallsLeadOn : Type 0
+CallsLeadOn =
+    (c : Cluster) (id_of : ℕ → MemberId) (w : WorldState) (m : ℕ) (given : Given) → m < c.members
+    → Gives c id_of w m given
+    → (steps : List WorldStep) × IsRun c w steps
+    × IsNext c id_of w (after_steps c w steps) m given
+
+-- ---- one run after another
+
+-- runs append, and split where they were appended
+pub record RunsAppend : Type 0 where
+  pub world : (c : Cluster) (w : WorldState) (early late : List WorldStep)
+      → after_steps c w (early ++ late) ≡ after_steps c (after_steps c w early) late
+  pub run : (c : Cluster) (w : WorldState) (early late : List WorldStep)
+      → IsRun c w early → IsRun c (after_steps c w early) late → IsRun c w (early ++ late)
+  pub first : (c : Cluster) (w : WorldState) (early late : List WorldStep)
+      → IsRun c w (early ++ late) → IsRun c w early
+  pub second : (c : Cluster) (w : WorldState) (early late : List WorldStep)
+      → IsRun c w (early ++ late) → IsRun c (after_steps c w early) late
+
+-- none of the steps is this member's
+abbrev pub AreOthers : ℕ → List WorldStep → Type 0
+AreOthers m [] = Unit {0}
+AreOthers m (step ∷ steps) = IsOthers m step × AreOthers m steps
+
+-- While others step and time passes, a member stays as it is, and one that agrees still does; so
+-- does one that reads its clock.
+pub record MembersStay : Type 0 where
+  pub state : (c : Cluster) (w : WorldState) (m : ℕ) (more : List WorldStep) → AreOthers m more
+      → (after_steps c w more).member m ≡ w.member m
+  pub is_member : (c : Cluster) (steps more : List WorldStep) (member : Caller)
+      → AreOthers member.place more → IsMember c (world_of c steps) member
+      → IsMember c (world_of c (steps ++ more)) member
+  pub is_member_later : (c : Cluster) (steps : List WorldStep) (member : Caller)
+      → IsMember c (world_of c steps) member
+      → IsMember c (world_of c (steps ++ MemberDoes member.place ReadsClock ∷ [])) member
