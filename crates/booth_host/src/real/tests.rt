@@ -2,12 +2,11 @@
 use crate::{Arrival, Datagram, Failed, Host, Place, ReadFault, RealHost};
 use booth_base::{Address, Name, PathText, Peer};
 use booth_rec::{Lease, Record};
-use std::fs;
 use std::fs::File;
 use std::os::unix::fs::MetadataExt;
 use std::test::Fail;
-use std::thread;
 use std::time::{Duration, Instant, SystemTime};
+use std::{fs, thread};
 
 const LOOPBACK: Address = Address::V4([127, 0, 0, 1]);
 
@@ -100,7 +99,10 @@ fn a_next_waits_its_time(rt: HostRuntime) -> Result<(), Fail> {
     let (answer, took) = waited(&mut new_host(&rt)?)?;
     assert!(rt; answer == Err(Failed) && took >= 80, "unopened: {took} ms");
     let (answer, took) = waited(&mut keeper(&rt, "")?)?;
-    assert!(rt; answer == Ok(Arrival::Quiet) && took >= 80, "opened: {took} ms");
+    assert!(rt;
+        answer == Ok(Arrival::Quiet) && took >= 80,
+        "opened: {took} ms"
+    );
     Ok(())
 }
 
@@ -111,10 +113,18 @@ fn a_file_is_read_whole(rt: HostRuntime) -> Result<(), Fail> {
     let mut long = [b'x'; 9000];
     long[4096] = b'y';
     long[8999] = b'z';
-    for text in [b"".as_slice(), b"site=\"127.0.0.1\"\n".as_slice(), long.as_slice()] {
+    for text in [
+        b"".as_slice(),
+        b"site=\"127.0.0.1\"\n".as_slice(),
+        long.as_slice(),
+    ] {
         fs::write(&rt, path, text)?;
         let read = host.read_file(rt.alloc(), path);
-        assert!(rt; read.is_ok_and(|read| read.bytes() == text), "{} bytes", text.len());
+        assert!(rt;
+            read.is_ok_and(|read| read.bytes() == text),
+            "{} bytes",
+            text.len()
+        );
     }
     fs::remove_file(&rt, path)?;
     assert_eq!(rt; host.faults, 0);
@@ -144,7 +154,10 @@ fn the_clock_tells_milliseconds_since_1970(rt: HostRuntime) -> Result<(), Fail> 
     thread::sleep(&rt, Duration::from_millis(3));
     let second = host.now();
     assert!(rt; (system..system + 60_000).contains(&u128::from(first)));
-    assert!(rt; first % 1000 != 0 || second % 1000 != 0, "whole seconds alone");
+    assert!(rt;
+        first % 1000 != 0 || second % 1000 != 0,
+        "whole seconds alone"
+    );
     assert!(rt; first < second && host.faults == 0);
     Ok(())
 }
@@ -231,7 +244,10 @@ fn a_directory_that_cannot_be_is_not_opened(rt: HostRuntime) -> Result<(), Fail>
     fs::write(&rt, file, "")?;
     let mut host = new_host(&rt)?;
     for directory in [file, "booth-host-missing/below"] {
-        assert!(rt; host.open(&place(None, 0, directory)?).is_err(), "{directory}");
+        assert!(rt;
+            host.open(&place(None, 0, directory)?).is_err(),
+            "{directory}"
+        );
     }
     fs::remove_file(&rt, file)?;
     assert_eq!(rt; host.faults, 2);
