@@ -1,6 +1,6 @@
 use Rattle.std.proofs.Common.{◌∙◌, arith}
 use Rattle.booth_node.proofs.LogLemmas.{one_turn, last_turn}
-use Rattle.booth_cli.proofs.daemon.make_turns.Goals as goal
+use Rattle.booth_cli.proofs.serving.make_turns.Goals as goal
 
 pub returns-in-Stopped-clause-past : goal.returns-in-Stopped-clause-past
 returns-in-Stopped-clause-past g c =

@@ -10,11 +10,11 @@ const LINE_BYTES: usize = 400;
 
 /// Nothing, or one line that names the program. Contracts see its bytes.
 #[derive(Drop)]
-pub(crate) struct Complaint {
+pub(crate) struct ErrorLine {
     bytes: ArrayVec<u8, 400>,
 }
 
-impl Model for Complaint {
+impl Model for ErrorLine {
     ghost use Rattle.std.specs.Prelude.{List, ℕ, ◌≤◌, length};
 
     ghost Value = { List ℕ };
@@ -24,23 +24,23 @@ impl Model for Complaint {
     ghost invariant = { λ c. length c.bytes.items ≤ 400 };
 }
 
-impl Complaint {
+impl ErrorLine {
     /// Nothing.
-    pub fn none() -> Complaint
+    pub fn none() -> ErrorLine
         ensures { result ≡ [] }
     {
-        Complaint {
+        ErrorLine {
             bytes: ArrayVec::new(),
         }
     }
 
     /// The program's name, with which each line begins.
-    pub fn begun() -> Complaint
+    pub fn begun() -> ErrorLine
         ensures { result ≡ codes "boothd: " }
     {
-        let mut complaint = Complaint::none();
-        complaint.put(b"boothd: ");
-        complaint
+        let mut line = ErrorLine::none();
+        line.put(b"boothd: ");
+        line
     }
 
     /// Appends a piece, for which there is room.

@@ -1,6 +1,6 @@
 use Rattle.std.proofs.Common.{map, string_bytes}
 use Rattle.booth_cli.proofs.RunLemmas.{run_of, fits_asked}
-use Rattle.booth_cli.proofs.top.boothd.Goals as goal
+use Rattle.booth_cli.proofs.run.boothd.Goals as goal
 
 pub returns-in-Ok-clause-past : goal.returns-in-Ok-clause-past
 returns-in-Ok-clause-past g c =

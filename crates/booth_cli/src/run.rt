@@ -1,23 +1,24 @@
 //! The program `boothd` over any host.
 ghost use Rattle.std.specs.Prelude.{◌≡◌, ◌≤◌, length, map, string_bytes};
 ghost use Rattle.booth_host.specs.Past.{GrewSome};
+ghost use Rattle.booth_host.specs.Memory.{quiet_past};
 ghost use Rattle.booth_cli.specs.Serving.{HasBlame, IsServed, IsBlameless};
 ghost use Rattle.booth_cli.specs.Run.{IsAskedRun, IsText, IsRun, FitsWords};
 
-use crate::complaint::Complaint;
-use crate::daemon::serve;
+use crate::error_line::ErrorLine;
+use crate::serving::serve;
 use crate::words::{Asked, Refusal, read_words};
 use crate::{Outcome, texts};
 use booth_host::{Host, QuietHost};
 use std::alloc::Global;
 
 // Says a line on standard error, if there is one.
-fn complain<H: Host>(complaint: &Complaint, host: &mut H)
-    ensures past { GrewSome (IsText complaint.now) (H.past host.old) (H.past host.new) }
+fn tell<H: Host>(line: &ErrorLine, host: &mut H)
+    ensures past { GrewSome (IsText line.now) (H.past host.old) (H.past host.new) }
     ensures later { H.faults host.old ≤ H.faults host.new }
 {
-    if !complaint.bytes().is_empty() {
-        let _ = host.err(complaint.bytes());
+    if !line.bytes().is_empty() {
+        let _ = host.err(line.bytes());
     }
 }
 
@@ -29,7 +30,7 @@ fn run_asked<H: Host>(alloc: Global, asked: &Asked, host: &mut H) -> Outcome
     ensures later { H.faults host.old ≤ H.faults host.new }
 {
     let ended = serve(alloc, asked, host);
-    complain(&ended.said, host);
+    tell(&ended.said, host);
     ended.outcome
 }
 
@@ -50,11 +51,11 @@ pub fn boothd<H: Host>(alloc: Global, words: &[String], host: &mut H) -> Outcome
     match read_words(words) {
         Ok(asked) => run_asked(alloc, &asked, host),
         Err(Refusal::NoDaemon) => {
-            complain(&texts::usage(), host);
+            tell(&texts::usage_text(), host);
             Outcome::Usage(None)
         }
         Err(Refusal::Bad(word)) => {
-            complain(&texts::bad_word(word), host);
+            tell(&texts::bad_word_text(word), host);
             Outcome::BadWord(word)
         }
     }
@@ -62,6 +63,7 @@ pub fn boothd<H: Host>(alloc: Global, words: &[String], host: &mut H) -> Outcome
 
 /// Runs `boothd` over a host without failures: no failure is ever answered.
 pub fn quiet_boothd(alloc: Global, words: &[String], host: &mut QuietHost) -> Outcome
+    ensures past { GrewSome (IsRun (map string_bytes words.now) result) (quiet_past host.old) (quiet_past host.new) }
     ensures words { FitsWords (map string_bytes words.now) result }
     ensures blameless { IsBlameless result }
 {

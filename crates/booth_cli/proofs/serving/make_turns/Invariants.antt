@@ -2,7 +2,7 @@ use Rattle.std.proofs.Common.{◌≡◌, ◌≤◌}
 use Rattle.booth_host.specs.Past.{GrewSome}
 use Rattle.booth_node.specs.View.{station_of, state_of}
 use Rattle.booth_node.specs.Log.{IsNodeLog}
-use Rattle.booth_cli.proofs.daemon.make_turns.Given as goal
+use Rattle.booth_cli.proofs.serving.make_turns.Given as goal
 
 abbrev pub invariant-loop-turn : goal.invariant-loop-turn
 invariant-loop-turn g l = record {
