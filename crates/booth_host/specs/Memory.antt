@@ -1,5 +1,5 @@
 -- What a host in memory tells, and what its script makes it answer.
-use Rattle.std.specs.Prelude.{◌≡◌, ◌+◌, ◌-◌, ◌==◌, ℕ, List, [], ◌∷◌, nat_eq, position, option_map, unwrap_or, Option, None, Some, MatchOption, Result, Ok, Err, OnOk, IfOk, IfErr, IsErrOf, ◌↔◌, Bool, false, if◌then◌else◌, slice_get, slice_set, ◌++◌, length, drop, take, min}
+use Rattle.std.specs.Prelude.{◌≡◌, ◌+◌, ◌-◌, ◌==◌, ℕ, List, [], ◌∷◌, nat_eq, option_map, unwrap_or, Option, None, Some, MatchOption, Result, Ok, Err, OnOk, IfOk, IfErr, IsErrOf, ◌↔◌, Bool, false, if◌then◌else◌, slice_get, length, drop, take, min}
 use Rattle.std.specs.Cmp.Lexicographic.{pointwise}
 use Rattle.std.specs.List.{find}
 use Rattle.booth_rec.specs.declared.record.Record.{Record}
@@ -53,7 +53,8 @@ outs_fail host = out_flag host.script.fail_out (running host)
 -- what the next step brings: its arrival with its bytes, or Stop after the last
 abbrev pub IsBrought : Option Step → Result Arrival Failed → List ℕ → Type 0
 IsBrought None answer bytes = (answer ≡ Ok Stop) × (bytes ≡ [])
-IsBrought (Some step) answer bytes = (answer ≡ step.arrival) × (bytes ≡ take (min (length step.bytes) 16461) step.bytes)
+IsBrought (Some step) answer bytes = (answer ≡ step.arrival)
+    × (bytes ≡ take (min (length step.bytes) 16461) step.bytes)
 
 -- an answer without failures: a failing step is Quiet
 abbrev pub quietly : Result Arrival Failed → Result Arrival Failed
@@ -63,7 +64,8 @@ quietly (Err fault) = Ok Quiet
 -- what the next step brings to a quiet host: the same, without failures
 abbrev pub IsQuietlyBrought : Option Step → Result Arrival Failed → List ℕ → Type 0
 IsQuietlyBrought None answer bytes = (answer ≡ Ok Stop) × (bytes ≡ [])
-IsQuietlyBrought (Some step) answer bytes = (answer ≡ quietly step.arrival) × (bytes ≡ take (min (length step.bytes) 16461) step.bytes)
+IsQuietlyBrought (Some step) answer bytes = (answer ≡ quietly step.arrival)
+    × (bytes ≡ take (min (length step.bytes) 16461) step.bytes)
 
 -- the step that a next begins
 abbrev pub coming : MemoryHost → Option Step
@@ -120,7 +122,8 @@ pub record Begins (old new : MemoryHost) : Type 0 where
 
 -- the text of the file at this path
 abbrev pub file_of : MemoryHost → List ℕ → Option (List ℕ)
-file_of host path = option_map (λ file. file.1) (find (λ file. pointwise nat_eq file.0 path) host.files.items)
+file_of host path =
+    option_map (λ file. file.1) (find (λ file. pointwise nat_eq file.0 path) host.files.items)
 
 -- a read of what is at this path, or a failure where nothing is; for want of memory it may always fail
 pub record ReadsFile (found : Option (List ℕ)) (result : Result (List ℕ) ReadFault) : Type 0 where
@@ -132,41 +135,11 @@ pub record ReadsQuietly (found : Option (List ℕ)) (result : Result (List ℕ) 
   pub text : IfOk result (λ text. text ≡ unwrap_or found [])
   pub memory : IfErr result (λ fault. fault ≡ NoMemory)
 
--- ---- locks and records
+-- ---- locks and keeps
 
 -- whether another holds each lock
 abbrev pub taken_in : MemoryHost → Bool
 taken_in host = host.script.taken
-
--- the records that are kept, by their tickets' names
-abbrev pub records_of : MemoryHost → List (List ℕ × Record)
-records_of host = host.records.items
-
--- where the record of this ticket stands
-abbrev pub place_of : List (List ℕ × Record) → List ℕ → Option ℕ
-place_of records ticket = position (λ pair. pointwise nat_eq pair.0 ticket) records
-
--- the record of a place
-abbrev pub record_at : List (List ℕ × Record) → Option ℕ → Option Record
-record_at records None = None
-record_at records (Some place) = option_map (λ pair. pair.1) (slice_get records place)
-
--- the record that is kept of this ticket
-abbrev pub record_of : List (List ℕ × Record) → List ℕ → Option Record
-record_of records ticket = record_at records (place_of records ticket)
-
-abbrev pub stored_at : List (List ℕ × Record) → List ℕ → Record → Option ℕ → List (List ℕ × Record)
-stored_at records ticket rec None = records ++ (ticket, rec) ∷ []
-stored_at records ticket rec (Some place) = slice_set records place (ticket, rec)
-
--- the records with this one in the place of the one before, or behind the others
-abbrev pub stored : List (List ℕ × Record) → List ℕ → Record → List (List ℕ × Record)
-stored records ticket rec = stored_at records ticket rec (place_of records ticket)
-
--- the records after a keep with this answer
-abbrev pub kept_after : Result (Unit {0}) Failed → List (List ℕ × Record) → List ℕ → Record → List (List ℕ × Record)
-kept_after (Ok done) records ticket rec = stored records ticket rec
-kept_after (Err fault) records ticket rec = records
 
 abbrev pub keep_flag : Option Step → Bool
 keep_flag None = false

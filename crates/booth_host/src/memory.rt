@@ -76,7 +76,8 @@ fn push<T: Drop>(list: &mut Vec<T>, last: T) -> Result<(), AllocError>
 }
 
 impl MemoryHost {
-    ghost use Rattle.booth_host.specs.Memory.{memory_past, records_of, place_of, record_of, stored, kept_after, running, coming, to_come, file_of, IsBrought, IsNew, Stays, StaysButRecords, Begins, SaysTheSame, taken_in};
+    ghost use Rattle.booth_host.specs.Memory.{memory_past, running, coming, to_come, file_of, IsBrought, IsNew, Stays, StaysButRecords, Begins, SaysTheSame, taken_in};
+    ghost use Rattle.booth_host.specs.Records.{records_of, place_of, record_of, stored, kept_after};
 
     /// A host that runs this script, has these files and records, and tells at most `room` calls.
     pub fn new(
@@ -258,7 +259,8 @@ impl MemoryHost {
     pub(crate) fn put(&mut self, ticket: &Name, rec: &Record)
         ensures past { GrewBy (memory_past self.old) (memory_past self.new) [] }
         ensures faults { self.new.faults ≡ self.old.faults }
-        ensures records { IsSome (memory_past self.new) → records_of self.new ≡ stored (records_of self.old) ticket.now rec.now }
+        ensures records { IsSome (memory_past self.new) →
+            records_of self.new ≡ stored (records_of self.old) ticket.now rec.now }
         ensures stays { StaysButRecords self.old self.new }
     {
         if self.store(ticket, rec).is_err() {
@@ -270,7 +272,8 @@ impl MemoryHost {
     fn put_if_ok(&mut self, answer: Result<(), Failed>, ticket: &Name, rec: &Record)
         ensures past { GrewBy (memory_past self.old) (memory_past self.new) [] }
         ensures faults { self.new.faults ≡ self.old.faults }
-        ensures records { IsSome (memory_past self.new) → records_of self.new ≡ kept_after answer (records_of self.old) ticket.now rec.now }
+        ensures records { IsSome (memory_past self.new) →
+            records_of self.new ≡ kept_after answer (records_of self.old) ticket.now rec.now }
         ensures stays { StaysButRecords self.old self.new }
     {
         match answer {
@@ -296,7 +299,8 @@ impl MemoryHost {
 }
 
 impl Host for MemoryHost {
-    ghost use Rattle.booth_host.specs.Memory.{memory_past, records_of, record_of, kept_after, reading_of, sends_fail, keeps_fail, outs_fail, coming, file_of, IsBrought, Stays, StaysButRecords, Begins, ReadsFile, taken_in};
+    ghost use Rattle.booth_host.specs.Memory.{memory_past, reading_of, sends_fail, keeps_fail, outs_fail, coming, file_of, IsBrought, Stays, StaysButRecords, Begins, ReadsFile, taken_in};
+    ghost use Rattle.booth_host.specs.Records.{records_of, record_of, kept_after};
 
     ghost past = { memory_past };
 
@@ -316,7 +320,8 @@ impl Host for MemoryHost {
     }
 
     fn next(&mut self, wait_ms: u64, into: &mut Datagram) -> Result<Arrival, Failed>
-        ensures past { GrewBy (memory_past self.old) (memory_past self.new) (Entry.Next wait_ms result into.new ∷ []) }
+        ensures past { GrewBy (memory_past self.old) (memory_past self.new)
+            (Entry.Next wait_ms result into.new ∷ []) }
         ensures cause { HasCause self.old.faults self.new.faults result }
         ensures brought { IsBrought (coming self.old) result into.new }
         ensures begins { Begins self.old self.new }
@@ -342,7 +347,8 @@ impl Host for MemoryHost {
     }
 
     fn send(&mut self, to: &Peer, bytes: &[u8]) -> Result<(), Failed>
-        ensures past { GrewBy (memory_past self.old) (memory_past self.new) (Entry.Send to.now bytes.now result ∷ []) }
+        ensures past { GrewBy (memory_past self.old) (memory_past self.new)
+            (Entry.Send to.now bytes.now result ∷ []) }
         ensures cause { HasCause self.old.faults self.new.faults result }
         ensures fails { is_err result ≡ sends_fail self.old }
         ensures stays { Stays self.old self.new }
@@ -358,7 +364,8 @@ impl Host for MemoryHost {
     }
 
     fn kept(&mut self, ticket: &Name) -> Result<Option<Record>, Failed>
-        ensures past { GrewBy (memory_past self.old) (memory_past self.new) (Entry.Kept ticket.now result ∷ []) }
+        ensures past { GrewBy (memory_past self.old) (memory_past self.new)
+            (Entry.Kept ticket.now result ∷ []) }
         ensures cause { HasCause self.old.faults self.new.faults result }
         ensures answer { MatchResult result
             (λ found. (self.old.script.fail_kept ≡ false) × (found ≡ record_of (records_of self.old) ticket.now))
@@ -376,10 +383,12 @@ impl Host for MemoryHost {
 
     #[tactic(auto, using(crate::proofs::PastLemmas::one_behind_none))]
     fn keep(&mut self, ticket: &Name, rec: &Record) -> Result<(), Failed>
-        ensures past { GrewBy (memory_past self.old) (memory_past self.new) (Entry.Keep ticket.now rec.now result ∷ []) }
+        ensures past { GrewBy (memory_past self.old) (memory_past self.new)
+            (Entry.Keep ticket.now rec.now result ∷ []) }
         ensures cause { HasCause self.old.faults self.new.faults result }
         ensures fails { is_err result ≡ keeps_fail self.old }
-        ensures records { IsSome (memory_past self.new) → records_of self.new ≡ kept_after result (records_of self.old) ticket.now rec.now }
+        ensures records { IsSome (memory_past self.new) →
+            records_of self.new ≡ kept_after result (records_of self.old) ticket.now rec.now }
         ensures stays { StaysButRecords self.old self.new }
     {
         let fails = match self.step() {
@@ -394,7 +403,8 @@ impl Host for MemoryHost {
     }
 
     fn read_file(&mut self, alloc: Global, path: &str) -> Result<ByteText, ReadFault>
-        ensures past { GrewBy (memory_past self.old) (memory_past self.new) (Entry.ReadFile path.now result ∷ []) }
+        ensures past { GrewBy (memory_past self.old) (memory_past self.new)
+            (Entry.ReadFile path.now result ∷ []) }
         ensures cause { HasReadCause self.old.faults self.new.faults result }
         ensures file { ReadsFile (file_of self.old path.now) result }
         ensures stays { Stays self.old self.new }
@@ -415,7 +425,8 @@ impl Host for MemoryHost {
     }
 
     fn lock(&mut self, path: &str) -> Result<bool, Failed>
-        ensures past { GrewBy (memory_past self.old) (memory_past self.new) (Entry.Lock path.now result ∷ []) }
+        ensures past { GrewBy (memory_past self.old) (memory_past self.new)
+            (Entry.Lock path.now result ∷ []) }
         ensures cause { HasCause self.old.faults self.new.faults result }
         ensures answer { MatchResult result
             (λ held. (self.old.script.fail_lock ≡ false) × (held ≡ not (taken_in self.old)))
@@ -433,7 +444,8 @@ impl Host for MemoryHost {
     }
 
     fn out(&mut self, bytes: &[u8]) -> Result<(), Failed>
-        ensures past { GrewBy (memory_past self.old) (memory_past self.new) (Entry.Out bytes.now result ∷ []) }
+        ensures past { GrewBy (memory_past self.old) (memory_past self.new)
+            (Entry.Out bytes.now result ∷ []) }
         ensures cause { HasCause self.old.faults self.new.faults result }
         ensures fails { is_err result ≡ outs_fail self.old }
         ensures stays { Stays self.old self.new }
@@ -449,7 +461,8 @@ impl Host for MemoryHost {
     }
 
     fn err(&mut self, bytes: &[u8]) -> Result<(), Failed>
-        ensures past { GrewBy (memory_past self.old) (memory_past self.new) (Entry.Err bytes.now result ∷ []) }
+        ensures past { GrewBy (memory_past self.old) (memory_past self.new)
+            (Entry.Err bytes.now result ∷ []) }
         ensures cause { HasCause self.old.faults self.new.faults result }
         ensures fails { is_err result ≡ self.old.script.fail_err }
         ensures stays { Stays self.old self.new }

@@ -24,7 +24,8 @@ pub struct QuietHost {
 }
 
 impl QuietHost {
-    ghost use Rattle.booth_host.specs.Memory.{quiet_past, records_of, running, to_come, IsNew, SaysTheSame};
+    ghost use Rattle.booth_host.specs.Memory.{quiet_past, running, to_come, IsNew, SaysTheSame};
+    ghost use Rattle.booth_host.specs.Records.{records_of};
 
     /// A host that runs this script without its failures.
     pub fn new(
@@ -86,7 +87,8 @@ impl QuietHost {
 }
 
 impl Host for QuietHost {
-    ghost use Rattle.booth_host.specs.Memory.{quiet_past, records_of, record_of, stored, reading_of, coming, file_of, IsQuietlyBrought, Stays, StaysButRecords, Begins, ReadsQuietly, taken_in};
+    ghost use Rattle.booth_host.specs.Memory.{quiet_past, reading_of, coming, file_of, IsQuietlyBrought, Stays, StaysButRecords, Begins, ReadsQuietly, taken_in};
+    ghost use Rattle.booth_host.specs.Records.{records_of, record_of, stored};
 
     ghost past = { quiet_past };
 
@@ -104,7 +106,8 @@ impl Host for QuietHost {
     }
 
     fn next(&mut self, wait_ms: u64, into: &mut Datagram) -> Result<Arrival, Failed>
-        ensures past { GrewBy (quiet_past self.old) (quiet_past self.new) (Entry.Next wait_ms result into.new ∷ []) }
+        ensures past { GrewBy (quiet_past self.old) (quiet_past self.new)
+            (Entry.Next wait_ms result into.new ∷ []) }
         ensures cause { HasCause 0 0 result }
         ensures brought { IsQuietlyBrought (coming self.old.host) result into.new }
         ensures begins { Begins self.old.host self.new.host }
@@ -127,7 +130,8 @@ impl Host for QuietHost {
     }
 
     fn send(&mut self, to: &Peer, bytes: &[u8]) -> Result<(), Failed>
-        ensures past { GrewBy (quiet_past self.old) (quiet_past self.new) (Entry.Send to.now bytes.now result ∷ []) }
+        ensures past { GrewBy (quiet_past self.old) (quiet_past self.new)
+            (Entry.Send to.now bytes.now result ∷ []) }
         ensures cause { HasCause 0 0 result }
         ensures stays { Stays self.old.host self.new.host }
     {
@@ -137,7 +141,8 @@ impl Host for QuietHost {
     }
 
     fn kept(&mut self, ticket: &Name) -> Result<Option<Record>, Failed>
-        ensures past { GrewBy (quiet_past self.old) (quiet_past self.new) (Entry.Kept ticket.now result ∷ []) }
+        ensures past { GrewBy (quiet_past self.old) (quiet_past self.new)
+            (Entry.Kept ticket.now result ∷ []) }
         ensures cause { HasCause 0 0 result }
         ensures answer { result ≡ Ok (record_of (records_of self.old.host) ticket.now) }
         ensures stays { Stays self.old.host self.new.host }
@@ -150,9 +155,11 @@ impl Host for QuietHost {
 
     #[tactic(auto, using(crate::proofs::PastLemmas::one_behind_none))]
     fn keep(&mut self, ticket: &Name, rec: &Record) -> Result<(), Failed>
-        ensures past { GrewBy (quiet_past self.old) (quiet_past self.new) (Entry.Keep ticket.now rec.now result ∷ []) }
+        ensures past { GrewBy (quiet_past self.old) (quiet_past self.new)
+            (Entry.Keep ticket.now rec.now result ∷ []) }
         ensures cause { HasCause 0 0 result }
-        ensures records { IsSome (quiet_past self.new) → records_of self.new.host ≡ stored (records_of self.old.host) ticket.now rec.now }
+        ensures records { IsSome (quiet_past self.new) →
+            records_of self.new.host ≡ stored (records_of self.old.host) ticket.now rec.now }
         ensures stays { StaysButRecords self.old.host self.new.host }
     {
         self.host.put(ticket, rec);
@@ -162,7 +169,8 @@ impl Host for QuietHost {
     }
 
     fn read_file(&mut self, alloc: Global, path: &str) -> Result<ByteText, ReadFault>
-        ensures past { GrewBy (quiet_past self.old) (quiet_past self.new) (Entry.ReadFile path.now result ∷ []) }
+        ensures past { GrewBy (quiet_past self.old) (quiet_past self.new)
+            (Entry.ReadFile path.now result ∷ []) }
         ensures cause { HasReadCause 0 0 result }
         ensures file { ReadsQuietly (file_of self.old.host path.now) result }
         ensures stays { Stays self.old.host self.new.host }
@@ -181,7 +189,8 @@ impl Host for QuietHost {
     }
 
     fn lock(&mut self, path: &str) -> Result<bool, Failed>
-        ensures past { GrewBy (quiet_past self.old) (quiet_past self.new) (Entry.Lock path.now result ∷ []) }
+        ensures past { GrewBy (quiet_past self.old) (quiet_past self.new)
+            (Entry.Lock path.now result ∷ []) }
         ensures cause { HasCause 0 0 result }
         ensures answer { result ≡ Ok (not (taken_in self.old.host)) }
         ensures stays { Stays self.old.host self.new.host }
@@ -193,7 +202,8 @@ impl Host for QuietHost {
     }
 
     fn out(&mut self, bytes: &[u8]) -> Result<(), Failed>
-        ensures past { GrewBy (quiet_past self.old) (quiet_past self.new) (Entry.Out bytes.now result ∷ []) }
+        ensures past { GrewBy (quiet_past self.old) (quiet_past self.new)
+            (Entry.Out bytes.now result ∷ []) }
         ensures cause { HasCause 0 0 result }
         ensures stays { Stays self.old.host self.new.host }
     {
@@ -203,7 +213,8 @@ impl Host for QuietHost {
     }
 
     fn err(&mut self, bytes: &[u8]) -> Result<(), Failed>
-        ensures past { GrewBy (quiet_past self.old) (quiet_past self.new) (Entry.Err bytes.now result ∷ []) }
+        ensures past { GrewBy (quiet_past self.old) (quiet_past self.new)
+            (Entry.Err bytes.now result ∷ []) }
         ensures cause { HasCause 0 0 result }
         ensures stays { Stays self.old.host self.new.host }
     {
