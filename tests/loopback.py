@@ -22,7 +22,7 @@ sys.path[:0] = [HERE, f"{HERE}/../tools"]
 import refusals
 import replies
 from room import Room, Wrong, checks
-from serving import LOCK, built_program, end_by_signals, lock_trouble, turn
+from serving import LOCK, RECORDS, built_program, end_by_signals, lock_trouble, turn
 
 
 def passes(check, room):
@@ -48,6 +48,13 @@ def run(program, word):
     return failed
 
 
+def may_open(path, access):
+    """Whether this user may open what boothd opens, or makes where it is missing."""
+    if os.path.exists(path):
+        return os.access(path, access)
+    return os.access(os.path.dirname(path), os.W_OK)
+
+
 def main(words):
     end_by_signals()
     program = words[0] if words else built_program()
@@ -56,10 +63,10 @@ def main(words):
         return 0
     if not os.access(program, os.X_OK):
         sys.exit(f"loopback.py: cannot run {program}")
-    is_there = os.path.exists(LOCK)
-    if not (os.access(LOCK, os.R_OK) if is_there else os.access(os.path.dirname(LOCK), os.W_OK)):
-        print(f"loopback: skipped, since this user may not open {LOCK}, as boothd does")
-        return 0
+    for path, access in ((LOCK, os.R_OK), (RECORDS, os.W_OK)):
+        if not may_open(path, access):
+            print(f"loopback: skipped, since this user may not open {path}, as boothd does")
+            return 0
     with turn("loopback"):
         trouble = lock_trouble()
         if trouble:

@@ -3,13 +3,16 @@
 It is imported by tests/loopback.py, and not run by itself.
 """
 
+import contextlib
+import fcntl
 import os
 import socket
+import stat
 import subprocess
 
 import frames
 from room import Asker, check, require
-from serving import LOCK, TOP
+from serving import LOCK, RECORDS, TOP
 
 # a file that is served, line by line, with this machine's address as @
 FILE = b"""site = "@"
@@ -346,6 +349,68 @@ def port_in_use(room):
     room.refuses(room.words(path, "10.0.0.1"), b"cannot open")
     with room.serving() as daemon, Asker(daemon) as asker:
         asker.asks("CLst")
+
+
+@contextlib.contextmanager
+def locked(path):
+    """The lock of this file, as another program holds it."""
+    with open(path, "rb") as file:
+        fcntl.flock(file, fcntl.LOCK_EX | fcntl.LOCK_NB)
+        yield
+
+
+def mode(path):
+    return stat.S_IMODE(os.stat(path).st_mode)
+
+
+@check
+def own_lock_files(room):
+    """the lock files that it makes are its user's alone, since whoever opens one can hold its lock"""
+    files = (LOCK, f"{RECORDS}/booth.lock")
+    for path in files:
+        with contextlib.suppress(FileNotFoundError), locked(path):
+            os.remove(path)
+    with room.serving():
+        modes = {path: mode(path) for path in files}
+    require(set(modes.values()) == {0o600}, f"the modes are {modes}")
+    # one that is there stays as it is
+    os.chmod(LOCK, 0o640)
+    with room.serving():
+        require(mode(LOCK) == 0o640, "the mode of a lock file was changed")
+    os.chmod(LOCK, 0o600)
+
+
+@check
+def one_daemon_for_records(room):
+    """where another program has the directory of the records, nothing is opened"""
+    path = room.file(here(room, FILE) + SITE)
+    with room.serving():
+        pass
+    with locked(f"{RECORDS}/booth.lock"):
+        room.refuses(room.words(path), b"cannot open")
+    with room.serving() as daemon, Asker(daemon) as asker:
+        asker.asks("CLst")
+
+
+@check
+def special_files(room):
+    """what is no regular file is not read, and nothing waits for what may come from it"""
+    pipe = os.path.join(room.folder, "pipe")
+    os.mkfifo(pipe)
+    for path in (pipe, room.folder + "/.", "/dev/null"):
+        room.refuses(room.words(path), b"cannot read %s" % path.encode())
+        room.refuses(room.words(with_key(room, path)), b"cannot read %s" % path.encode())
+
+
+@check
+def unread_standard_error(room):
+    """where nobody reads standard error, the run has its status all the same"""
+    unread, into = os.pipe()
+    os.close(unread)
+    streams = {"stdin": subprocess.DEVNULL, "stdout": subprocess.DEVNULL, "stderr": into}
+    ran = subprocess.run([room.program, "status"], timeout=5, **streams)
+    os.close(into)
+    require(ran.returncode == 1, f"the run had status {ran.returncode}")
 
 
 @check

@@ -22,14 +22,16 @@ TOP = os.path.dirname(os.path.dirname(os.path.abspath(__file__)))
 # where make build leaves the proved program, and where rt does
 PROGRAMS = [f"{TOP}/out/boothd", f"{TOP}/crates/boothd/out/boothd"]
 
-# what boothd locks while it runs
+# what boothd locks while it runs, and the directory that it keeps its records in, which it locks too
 LOCK = "/var/run/booth.lock"
+RECORDS = "/var/lib/booth"
 
 # what may help, by what boothd said
 HINTS = {
     "already running": f"another boothd of this machine holds {LOCK}: end it first",
     f"cannot lock {LOCK}": "boothd makes or opens that file, so run it as a user who may, as root",
-    "cannot open": "its port is in use, or the address is none of this machine",
+    "cannot open": "its port is in use, the address is none of this machine, or the user may not make"
+    f" or lock {RECORDS}, or another boothd has",
 }
 
 

@@ -13,8 +13,9 @@ use Rattle.booth_host.specs.declared.entry.Entry.{Entry}
 use Rattle.booth_host.specs.declared.entry.Entry.TheVariants.{Open, Now, ReadFile, Lock}
 use Rattle.booth_cli.specs.declared.outcome.Outcome.{Outcome}
 use Rattle.booth_cli.specs.declared.outcome.Outcome.TheVariants.{Done, Usage, BadWord, ConfUnread, ConfBad, NotMember, Unbuilt, KeyUnread, KeyBad, LockFault, Running, OpenFault, TurnsSpent, OutOfMemory}
-use Rattle.booth_cli.specs.Opening.{has_member, reads_of, lock_path}
-use Rattle.booth_cli.specs.Serving.{IsServing, IsStuck}
+use Rattle.booth_cli.specs.Fitness.{has_member, IsUnserved}
+use Rattle.booth_cli.specs.Opening.{IsUnread, IsKeyless, IsLockless, IsUnopened, reads_of, lock_path}
+use Rattle.booth_cli.specs.Serving.{IsServing, Unread, Refused, Unkeyed, Unlocked, Unopened, Turning, IsStuck, IsTurning}
 use Rattle.booth_cli.specs.declared.outcome.Word.{Word}
 use Rattle.booth_cli.specs.declared.outcome.Word.TheVariants.{Site, Configuration}
 use Rattle.booth_cli.specs.Words.{IsPath, HasBadWord}
@@ -52,59 +53,83 @@ same_member address text config valid says none =
     let is : has_member config address ≡ true = subst (λ c. has_member c address ≡ true) same valid.member in
     cc
 
--- a call behind the reads
-behind : {address : Address} {path : List ℕ} {after : ConfigSays → List Entry → Type 0} {entries : List Entry} (x : Entry) (s : IsStuck address path after entries) →
-    Contains s.rest x → Contains entries x
-behind {address} {path} {after} {entries} x s here =
-    same_calls x (reads_of path s.ready ++ s.rest) entries (Contains-append_right (reads_of path s.ready) s.rest x here) s.whole
+-- each part of a run whose calls are among these, and in which nothing fails, ends well
+module _ (address : Address) (path said : List ℕ) (body entries : List Entry) (all : (x : Entry) → Contains body x → Contains entries x)
+    (free : IsFaultless path address entries) where
+  -- the call at this place of the body was made
+  made : (x : Entry) (xs : List Entry) → Contains xs x → body ≡ xs → Contains entries x
+  made x xs here same = all x (same_calls x xs body here same)
 
-served : (path : List ℕ) (address : Address) (outcome : Outcome) (said : List ℕ) (body entries : List Entry) →
-    ((x : Entry) → Contains body x → Contains entries x) → IsServing address path outcome said body → IsFaultless path address entries → EndsWell outcome
-served path address Done said body entries all made free = tt
-served path address TurnsSpent said body entries all made free = tt
-served path address OutOfMemory said body entries all made free = tt
-served path address (Unbuilt key) said body entries all made free = tt
-served path address (Usage kind) said body entries all made free = absurd made
-served path address (BadWord word) said body entries all made free = absurd made
-served path address ConfUnread said body entries all made free =
-    free.read path (all (ReadFile path (Err reads.Failed)) (same_calls (ReadFile path (Err reads.Failed)) (ReadFile path (Err reads.Failed) ∷ []) body (first_of (ReadFile path (Err reads.Failed)) []) made.1))
-served path address (ConfBad fault) said body entries all made free =
-    no_fault address made.0 fault
-    (free.valid made.0 (all (ReadFile path (Ok made.0)) (same_calls (ReadFile path (Ok made.0)) (ReadFile path (Ok made.0) ∷ []) body (first_of (ReadFile path (Ok made.0)) []) made.3)))
-    made.1
-served path address NotMember said body entries all made free =
-    same_member address made.text made.config
-    (free.valid made.text (all (ReadFile path (Ok made.text)) (same_calls (ReadFile path (Ok made.text)) (ReadFile path (Ok made.text) ∷ []) body (first_of (ReadFile path (Ok made.text)) []) made.whole)))
-    made.says made.here.0
-served path address KeyUnread said body entries all made free =
-    let file : List ℕ = made.here.0 in
-    let call : Entry = ReadFile file (Err reads.Failed) in
-    free.read file (all call (same_calls call (ReadFile path (Ok made.text) ∷ call ∷ []) body (second_of (ReadFile path (Ok made.text)) call [])
-    (made.whole ∙ ap (λ es. ReadFile path (Ok made.text) ∷ es) made.here.3)))
-served path address (KeyBad fault) said body entries all made free =
-    let file : List ℕ = made.here.0 in
-    let text : List ℕ = made.here.1 in
-    let conf_call : Entry = ReadFile path (Ok made.text) in
-    let call : Entry = ReadFile file (Ok text) in
-    let calls : body ≡ conf_call ∷ call ∷ [] = made.whole ∙ ap (λ es. conf_call ∷ es) made.here.5 in
-    let key = free.keyed made.text file text made.config (all conf_call (same_calls conf_call (conf_call ∷ call ∷ []) body (first_of conf_call (call ∷ [])) calls))
-    made.fit.says made.here.2 (all call (same_calls call (conf_call ∷ call ∷ []) body (second_of conf_call call []) calls)) in
-    let is = made.here.3 in
-    let reads = key.reads in
-    cc
-served path address LockFault said body entries all made free =
-    free.locked lock_path made.1.here.0
-    (all (Lock lock_path (Err made.1.here.0)) (behind (Lock lock_path (Err made.1.here.0)) made.1
-    (same_calls (Lock lock_path (Err made.1.here.0)) (Lock lock_path (Err made.1.here.0) ∷ []) made.1.rest (first_of (Lock lock_path (Err made.1.here.0)) []) made.1.here.1)))
-served path address Running said body entries all made free =
-    free.free lock_path
-    (all (Lock lock_path (Ok false)) (behind (Lock lock_path (Ok false)) made.1
-    (same_calls (Lock lock_path (Ok false)) (Lock lock_path (Ok false) ∷ []) made.1.rest (first_of (Lock lock_path (Ok false)) []) made.1.here)))
-served path address OpenFault said body entries all made free =
-    let call : Entry = Open (Some address) made.1.config.port (codes "/var/lib/booth") path (Err made.1.here.1) in
-    free.opened (Some address) made.1.config.port (codes "/var/lib/booth") path made.1.here.1
-    (all call (behind call made.1
-    (same_calls call (Lock lock_path (Ok true) ∷ Now made.1.here.0 ∷ call ∷ []) made.1.rest (third_of (Lock lock_path (Ok true)) (Now made.1.here.0) call []) made.1.here.2)))
+  unread : (outcome : Outcome) → IsUnread path outcome said body → EndsWell outcome
+  unread OutOfMemory u = tt
+  unread ConfUnread u =
+      let call : Entry = ReadFile path (Err reads.Failed) in
+      free.read path (made call (call ∷ []) (first_of call []) u.1)
+  unread (ConfBad fault) u =
+      let call : Entry = ReadFile path (Ok u.0) in
+      no_fault address u.0 fault (free.valid u.0 (made call (call ∷ []) (first_of call []) u.3)) u.1
+  unread outcome u = absurd u
+
+  unserved : (text : List ℕ) (config : ConfigSays) (outcome : Outcome) → Says text config → body ≡ ReadFile path (Ok text) ∷ [] →
+      IsUnserved address config outcome said → EndsWell outcome
+  unserved text config (Unbuilt key) says whole u = tt
+  unserved text config NotMember says whole u =
+      let call : Entry = ReadFile path (Ok text) in
+      same_member address text config (free.valid text (made call (call ∷ []) (first_of call []) whole)) says u.0
+  unserved text config outcome says whole u = absurd u
+
+  keyless : (text : List ℕ) (config : ConfigSays) (rest : List Entry) (outcome : Outcome) → Says text config → body ≡ ReadFile path (Ok text) ∷ rest →
+      IsKeyless config.authfile outcome said rest → EndsWell outcome
+  keyless text config rest OutOfMemory says whole k = tt
+  keyless text config rest KeyUnread says whole k =
+      let conf : Entry = ReadFile path (Ok text) in
+      let call : Entry = ReadFile k.0 (Err reads.Failed) in
+      free.read k.0 (made call (conf ∷ call ∷ []) (second_of conf call []) (whole ∙ ap (λ es. conf ∷ es) k.3))
+  keyless text config rest (KeyBad fault) says whole k =
+      let conf : Entry = ReadFile path (Ok text) in
+      let call : Entry = ReadFile k.0 (Ok k.1) in
+      let calls : body ≡ conf ∷ call ∷ [] = whole ∙ ap (λ es. conf ∷ es) k.5 in
+      let key = free.keyed text k.0 k.1 config (made conf (conf ∷ call ∷ []) (first_of conf (call ∷ [])) calls) says k.2
+      (made call (conf ∷ call ∷ []) (second_of conf call []) calls) in
+      let is = k.3 in
+      let reads = key.reads in
+      cc
+  keyless text config rest outcome says whole k = absurd k
+
+  -- a call behind the reads was made
+  behind : {after : ConfigSays → List Entry → Type 0} (s : IsStuck address path after body) (x : Entry) (xs : List Entry) → Contains xs x → s.rest ≡ xs → Contains entries x
+  behind s x xs here same =
+      all x (same_calls x (reads_of path s.ready ++ s.rest) body (Contains-append_right (reads_of path s.ready) s.rest x (same_calls x xs s.rest here same)) s.whole)
+
+  unlocked : (outcome : Outcome) → IsStuck address path (λ config es. IsLockless outcome said es) body → EndsWell outcome
+  unlocked Running s =
+      let call : Entry = Lock lock_path (Ok false) in
+      free.free lock_path (behind s call (call ∷ []) (first_of call []) s.here.1)
+  unlocked LockFault s =
+      let call : Entry = Lock lock_path (Err s.here.1) in
+      free.locked lock_path s.here.1 (behind s call (call ∷ []) (first_of call []) s.here.2)
+  unlocked outcome s = absurd s.here
+
+  unopened : (outcome : Outcome) → IsStuck address path (λ config es. IsUnopened address path config outcome said es) body → EndsWell outcome
+  unopened OutOfMemory s = tt
+  unopened OpenFault s =
+      let call : Entry = Open (Some address) s.config.port (codes "/var/lib/booth") path (Err s.here.2) in
+      free.opened (Some address) s.config.port (codes "/var/lib/booth") path s.here.2
+      (behind s call (Lock lock_path (Ok true) ∷ Now s.here.1 ∷ call ∷ []) (third_of (Lock lock_path (Ok true)) (Now s.here.1) call []) s.here.3)
+  unopened outcome s = absurd s.here
+
+  turning : (outcome : Outcome) (t : IsTurning address path outcome said body) → EndsWell outcome
+  turning Done t = tt
+  turning TurnsSpent t = tt
+  turning outcome t = absurd t.log
+
+  served : (outcome : Outcome) → IsServing address path outcome said body → EndsWell outcome
+  served outcome (Unread u) = unread outcome u
+  served outcome (Refused r) = unserved r.text r.config outcome r.says r.whole r.here
+  served outcome (Unkeyed u) = keyless u.text u.config u.rest outcome u.fit.says u.whole u.here
+  served outcome (Unlocked s) = unlocked outcome s
+  served outcome (Unopened s) = unopened outcome s
+  served outcome (Turning t) = turning outcome t
 
 -- words that ask for a daemon have no bad word
 bad_word : (words : List (List ℕ)) (word : Word) → AskSome words → HasBadWord words word → ⊥
@@ -119,21 +144,10 @@ bad_word words Configuration some bad =
 
 asked : (words : List (List ℕ)) (outcome : Outcome) (entries : List Entry) → IsDaemonRun words outcome entries → AreFaultless words entries → EndsWell outcome
 asked words outcome entries d free =
-    served d.path d.address outcome d.run.said d.run.body entries (λ x here. among x d.run.body d.run.complaint entries here d.run.whole)
-    d.run.made (free d.path d.address d.asks)
+    served d.address d.path d.run.said d.run.body entries (λ x here. among x d.run.body d.run.last entries here d.run.whole)
+    (free d.path d.address d.asks) outcome d.run.made
 
 pub faultless_runs : FaultlessRuns
-faultless_runs words Done entries some run free = asked words Done entries run free
 faultless_runs words (Usage kind) entries some run free = run.1 some.path some.asks.site some.asks.spelled
 faultless_runs words (BadWord word) entries some run free = bad_word words word some run.0
-faultless_runs words ConfUnread entries some run free = asked words ConfUnread entries run free
-faultless_runs words (ConfBad fault) entries some run free = asked words (ConfBad fault) entries run free
-faultless_runs words NotMember entries some run free = asked words NotMember entries run free
-faultless_runs words (Unbuilt key) entries some run free = asked words (Unbuilt key) entries run free
-faultless_runs words KeyUnread entries some run free = asked words KeyUnread entries run free
-faultless_runs words (KeyBad fault) entries some run free = asked words (KeyBad fault) entries run free
-faultless_runs words LockFault entries some run free = asked words LockFault entries run free
-faultless_runs words Running entries some run free = asked words Running entries run free
-faultless_runs words OpenFault entries some run free = asked words OpenFault entries run free
-faultless_runs words TurnsSpent entries some run free = asked words TurnsSpent entries run free
-faultless_runs words OutOfMemory entries some run free = asked words OutOfMemory entries run free
+faultless_runs words outcome entries some run free = asked words outcome entries run free

@@ -8,7 +8,7 @@ use Rattle.booth_host.specs.declared.entry.Entry.TheVariants as calls
 use Rattle.booth_host.specs.Past.{GrewBy, GrewSome}
 use Rattle.booth_host.proofs.PastLemmas.{some_of, some_joined, some_weaker}
 use Rattle.booth_cli.specs.declared.outcome.Outcome.{Outcome}
-use Rattle.booth_cli.specs.declared.outcome.Outcome.TheVariants.{Done, Usage, BadWord, ConfUnread, ConfBad, NotMember, Unbuilt, KeyUnread, KeyBad, LockFault, Running, OpenFault, TurnsSpent, OutOfMemory}
+use Rattle.booth_cli.specs.declared.outcome.Outcome.TheVariants.{Usage, BadWord}
 use Rattle.booth_cli.specs.Words.{Asks}
 use Rattle.booth_cli.specs.Serving.{IsServing, IsServed}
 use Rattle.booth_cli.specs.Run.{IsText, IsAskedRun, IsRun, FitsWords}
@@ -16,26 +16,15 @@ use Rattle.booth_cli.specs.Run.{IsText, IsAskedRun, IsRun, FitsWords}
 -- the daemon's calls, and then what it says
 pub asked_run : (path said : List ℕ) (address : Address) (outcome : Outcome) {a b c : Option (List Entry)} →
     GrewSome (IsServing address path outcome said) a b → GrewSome (IsText said) b c → GrewSome (IsAskedRun path address outcome) a c
-asked_run path said address outcome body complaint =
+asked_run path said address outcome body last =
     some_joined (IsServing address path outcome said) (IsText said) (IsAskedRun path address outcome)
-    (λ xs ys made told. record { said = said; body = xs; complaint = ys; whole = refl; made = made; told = told }) body complaint
+    (λ xs ys made told. record { said = said; body = xs; last = ys; whole = refl; made = made; told = told }) body last
 
 run_asked : (words : List (List ℕ)) (path : List ℕ) (address : Address) (outcome : Outcome) (es : List Entry) → Asks words path address → IsServed outcome →
     IsAskedRun path address outcome es → IsRun words outcome es
-run_asked words path address Done es asks served run = record { path = path; address = address; asks = asks; run = run }
 run_asked words path address (Usage kind) es asks served run = absurd served
 run_asked words path address (BadWord word) es asks served run = absurd served
-run_asked words path address ConfUnread es asks served run = record { path = path; address = address; asks = asks; run = run }
-run_asked words path address (ConfBad fault) es asks served run = record { path = path; address = address; asks = asks; run = run }
-run_asked words path address NotMember es asks served run = record { path = path; address = address; asks = asks; run = run }
-run_asked words path address (Unbuilt key) es asks served run = record { path = path; address = address; asks = asks; run = run }
-run_asked words path address KeyUnread es asks served run = record { path = path; address = address; asks = asks; run = run }
-run_asked words path address (KeyBad fault) es asks served run = record { path = path; address = address; asks = asks; run = run }
-run_asked words path address LockFault es asks served run = record { path = path; address = address; asks = asks; run = run }
-run_asked words path address Running es asks served run = record { path = path; address = address; asks = asks; run = run }
-run_asked words path address OpenFault es asks served run = record { path = path; address = address; asks = asks; run = run }
-run_asked words path address TurnsSpent es asks served run = record { path = path; address = address; asks = asks; run = run }
-run_asked words path address OutOfMemory es asks served run = record { path = path; address = address; asks = asks; run = run }
+run_asked words path address outcome es asks served run = record { path = path; address = address; asks = asks; run = run }
 
 -- words that ask for this
 pub run_of : (words : List (List ℕ)) (path : List ℕ) (address : Address) (outcome : Outcome) {a b : Option (List Entry)} → Asks words path address → IsServed outcome →
@@ -45,20 +34,9 @@ run_of words path address outcome asks served run =
 
 -- the outcome of a daemon that was asked for fits the words
 pub fits_asked : (words : List (List ℕ)) (path : List ℕ) (address : Address) (outcome : Outcome) → Asks words path address → IsServed outcome → FitsWords words outcome
-fits_asked words path address Done asks served = record { path = path; address = address; asks = asks }
 fits_asked words path address (Usage kind) asks served = absurd served
 fits_asked words path address (BadWord word) asks served = absurd served
-fits_asked words path address ConfUnread asks served = record { path = path; address = address; asks = asks }
-fits_asked words path address (ConfBad fault) asks served = record { path = path; address = address; asks = asks }
-fits_asked words path address NotMember asks served = record { path = path; address = address; asks = asks }
-fits_asked words path address (Unbuilt key) asks served = record { path = path; address = address; asks = asks }
-fits_asked words path address KeyUnread asks served = record { path = path; address = address; asks = asks }
-fits_asked words path address (KeyBad fault) asks served = record { path = path; address = address; asks = asks }
-fits_asked words path address LockFault asks served = record { path = path; address = address; asks = asks }
-fits_asked words path address Running asks served = record { path = path; address = address; asks = asks }
-fits_asked words path address OpenFault asks served = record { path = path; address = address; asks = asks }
-fits_asked words path address TurnsSpent asks served = record { path = path; address = address; asks = asks }
-fits_asked words path address OutOfMemory asks served = record { path = path; address = address; asks = asks }
+fits_asked words path address outcome asks served = record { path = path; address = address; asks = asks }
 
 said_of : (text : List ℕ) (answer : Result (Unit {0}) Failed) → (text ≡ [] → ⊥) → IsText text (calls.Err text answer ∷ [])
 said_of [] answer some = absurd (some refl)

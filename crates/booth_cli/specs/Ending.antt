@@ -1,6 +1,6 @@
 -- How a row of turns ended.
-use Rattle.booth_cli.specs.declared.daemon.Ending.{Ending}
-use Rattle.booth_cli.specs.declared.daemon.Ending.TheVariants.{Stopped, Spent}
+use Rattle.booth_cli.specs.declared.serving.Ending.{Ending}
+use Rattle.booth_cli.specs.declared.serving.Ending.TheVariants.{Stopped, Spent}
 
 -- the first fact of a row that stopped, the second of one that did not
 abbrev pub MatchEnding : Ending → Type 0 → Type 0 → Type 0

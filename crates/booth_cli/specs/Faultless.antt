@@ -9,8 +9,8 @@ use Rattle.booth_host.specs.declared.host.ReadFault.TheVariants as reads
 use Rattle.booth_host.specs.declared.entry.Entry.{Entry}
 use Rattle.booth_host.specs.declared.entry.Entry.TheVariants.{Open, ReadFile, Lock}
 use Rattle.booth_cli.specs.declared.outcome.Outcome.{Outcome}
-use Rattle.booth_cli.specs.declared.outcome.Outcome.TheVariants.{Done, Usage, BadWord, ConfUnread, ConfBad, NotMember, Unbuilt, KeyUnread, KeyBad, LockFault, Running, OpenFault, TurnsSpent, OutOfMemory}
-use Rattle.booth_cli.specs.Opening.{has_member}
+use Rattle.booth_cli.specs.declared.outcome.Outcome.TheVariants.{Done, Unbuilt, TurnsSpent, OutOfMemory}
+use Rattle.booth_cli.specs.Fitness.{has_member}
 use Rattle.booth_cli.specs.Words.{Asks}
 use Rattle.booth_cli.specs.Run.{AskSome, IsRun}
 
@@ -44,16 +44,7 @@ EndsWell Done = Unit {0}
 EndsWell TurnsSpent = Unit {0}
 EndsWell OutOfMemory = Unit {0}
 EndsWell (Unbuilt key) = Unit {0}
-EndsWell (Usage kind) = ⊥
-EndsWell (BadWord word) = ⊥
-EndsWell ConfUnread = ⊥
-EndsWell (ConfBad fault) = ⊥
-EndsWell NotMember = ⊥
-EndsWell KeyUnread = ⊥
-EndsWell (KeyBad fault) = ⊥
-EndsWell LockFault = ⊥
-EndsWell Running = ⊥
-EndsWell OpenFault = ⊥
+EndsWell outcome = ⊥
 
 -- the same of what the words ask for
 abbrev pub AreFaultless : List (List ℕ) → List Entry → Type 0

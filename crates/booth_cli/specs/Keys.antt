@@ -1,5 +1,5 @@
 -- What the reader of a key file says, in parts.
-use Rattle.std.specs.Prelude.{◌≡◌, ℕ, List, [], ◌∷◌, Option, Some, Result, Ok, Err}
+use Rattle.std.specs.Prelude.{◌≡◌, ℕ, List, [], ◌∷◌, Some, Result, Ok, Err}
 use Rattle.booth_auth.specs.Key.{key_read}
 use Rattle.booth_auth.specs.declared.key.KeyFault.{KeyFault}
 use Rattle.booth_host.specs.declared.entry.Entry.{Entry}
@@ -7,8 +7,7 @@ use Rattle.booth_host.specs.declared.entry.Entry.TheVariants.{ReadFile}
 use Rattle.booth_cli.specs.declared.outcome.Ended.{Ended}
 use Rattle.booth_cli.specs.declared.outcome.Outcome.TheVariants.{KeyBad}
 use Rattle.booth_cli.specs.Texts.{key_fault_text}
-use Rattle.booth_cli.specs.Opening.{key_calls, HasKey}
-use Rattle.booth_cli.specs.Serving.{IsKeyless}
+use Rattle.booth_cli.specs.Opening.{IsKeyless}
 
 -- these bytes are no key, for this fault, which is told
 pub record IsNoKey (bytes : List ℕ) (ended : Ended) : Type 0 where
@@ -26,9 +25,3 @@ abbrev pub IsFromFile : List ℕ → Result (List ℕ) Ended → List Entry → 
 IsFromFile file (Ok key) entries = (text : List ℕ) × (key_read text ≡ Ok key)
     × (entries ≡ ReadFile file (Ok text) ∷ [])
 IsFromFile file (Err ended) entries = IsKeyless (Some file) ended.outcome ended.said entries
-
--- the read of the key file, where one is set, and what came of it
-abbrev pub IsKeyRead : Option (List ℕ) → Result (Option (List ℕ)) Ended → List Entry → Type 0
-IsKeyRead authfile (Ok key) entries = (text : List ℕ) × HasKey authfile text key
-    × (entries ≡ key_calls authfile text)
-IsKeyRead authfile (Err ended) entries = IsKeyless authfile ended.outcome ended.said entries

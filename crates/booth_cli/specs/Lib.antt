@@ -1,11 +1,13 @@
 pub mod Words
 pub mod Texts
-pub mod Ending
+pub mod Fitness
 pub mod Opening
 pub mod Serving
-pub mod Stages
-pub mod Keys
 pub mod Run
 pub mod Faultless
+pub mod Stages
+pub mod Keys
+pub mod Ending
 pub use Rattle.booth_host.specs.Past
 pub use Rattle.booth_host.specs.Causes
+pub use Rattle.booth_host.specs.Memory

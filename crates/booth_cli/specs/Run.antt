@@ -5,7 +5,7 @@ use Rattle.booth_host.specs.declared.host.Failed.{Failed}
 use Rattle.booth_host.specs.declared.entry.Entry.{Entry}
 use Rattle.booth_host.specs.declared.entry.Entry.TheVariants as calls
 use Rattle.booth_cli.specs.declared.outcome.Outcome.{Outcome}
-use Rattle.booth_cli.specs.declared.outcome.Outcome.TheVariants.{Done, Usage, BadWord, ConfUnread, ConfBad, NotMember, Unbuilt, KeyUnread, KeyBad, LockFault, Running, OpenFault, TurnsSpent, OutOfMemory}
+use Rattle.booth_cli.specs.declared.outcome.Outcome.TheVariants.{Usage, BadWord}
 use Rattle.booth_cli.specs.Words.{Asks, AskNothing, HasBadWord}
 use Rattle.booth_cli.specs.Texts.{usage_text, bad_word_text}
 use Rattle.booth_cli.specs.Serving.{IsServing}
@@ -20,10 +20,10 @@ pub record IsAskedRun (path : List ℕ) (address : Address) (outcome : Outcome)
     (entries : List Entry) : Type 0 where
   pub said : List ℕ
   pub body : List Entry
-  pub complaint : List Entry
-  pub whole : entries ≡ body ++ complaint
+  pub last : List Entry
+  pub whole : entries ≡ body ++ last
   pub made : IsServing address path outcome said body
-  pub told : IsText said complaint
+  pub told : IsText said last
 
 -- words that ask for a daemon, and its run
 pub record IsDaemonRun (words : List (List ℕ)) (outcome : Outcome) (entries : List Entry) : Type 0 where
@@ -36,18 +36,7 @@ pub record IsDaemonRun (words : List (List ℕ)) (outcome : Outcome) (entries : 
 abbrev pub IsRun : List (List ℕ) → Outcome → List Entry → Type 0
 IsRun words (Usage kind) entries = (kind ≡ None) × AskNothing words × IsText usage_text entries
 IsRun words (BadWord word) entries = HasBadWord words word × IsText (bad_word_text word) entries
-IsRun words Done entries = IsDaemonRun words Done entries
-IsRun words TurnsSpent entries = IsDaemonRun words TurnsSpent entries
-IsRun words ConfUnread entries = IsDaemonRun words ConfUnread entries
-IsRun words (ConfBad fault) entries = IsDaemonRun words (ConfBad fault) entries
-IsRun words NotMember entries = IsDaemonRun words NotMember entries
-IsRun words (Unbuilt key) entries = IsDaemonRun words (Unbuilt key) entries
-IsRun words KeyUnread entries = IsDaemonRun words KeyUnread entries
-IsRun words (KeyBad fault) entries = IsDaemonRun words (KeyBad fault) entries
-IsRun words LockFault entries = IsDaemonRun words LockFault entries
-IsRun words Running entries = IsDaemonRun words Running entries
-IsRun words OpenFault entries = IsDaemonRun words OpenFault entries
-IsRun words OutOfMemory entries = IsDaemonRun words OutOfMemory entries
+IsRun words outcome entries = IsDaemonRun words outcome entries
 
 -- the words ask for a daemon, whatever their path and address
 pub record AskSome (words : List (List ℕ)) : Type 0 where
@@ -59,15 +48,4 @@ pub record AskSome (words : List (List ℕ)) : Type 0 where
 abbrev pub FitsWords : List (List ℕ) → Outcome → Type 0
 FitsWords words (Usage kind) = (kind ≡ None) × AskNothing words
 FitsWords words (BadWord word) = HasBadWord words word
-FitsWords words Done = AskSome words
-FitsWords words TurnsSpent = AskSome words
-FitsWords words ConfUnread = AskSome words
-FitsWords words (ConfBad fault) = AskSome words
-FitsWords words NotMember = AskSome words
-FitsWords words (Unbuilt key) = AskSome words
-FitsWords words KeyUnread = AskSome words
-FitsWords words (KeyBad fault) = AskSome words
-FitsWords words LockFault = AskSome words
-FitsWords words Running = AskSome words
-FitsWords words OpenFault = AskSome words
-FitsWords words OutOfMemory = AskSome words
+FitsWords words outcome = AskSome words

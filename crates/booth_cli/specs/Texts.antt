@@ -12,7 +12,7 @@ use Rattle.booth_auth.specs.declared.key.KeyFault.TheVariants as keys
 use Rattle.booth_cli.specs.declared.outcome.Word.{Word}
 use Rattle.booth_cli.specs.declared.outcome.Word.TheVariants as words
 use Rattle.booth_cli.specs.declared.outcome.Outcome.{Outcome}
-use Rattle.booth_cli.specs.declared.outcome.Outcome.TheVariants.{Done, Usage, BadWord, ConfUnread, ConfBad, NotMember, Unbuilt, KeyUnread, KeyBad, LockFault, Running, OpenFault, TurnsSpent, OutOfMemory}
+use Rattle.booth_cli.specs.declared.outcome.Outcome.TheVariants.{Done}
 
 -- a line that names the program
 abbrev pub line_of : List ℕ → List ℕ
@@ -80,16 +80,4 @@ fault_text path text confs.OutOfMemory = out_of_memory_text
 
 abbrev pub status_of : Outcome → ℕ
 status_of Done = 0
-status_of (Usage kind) = 1
-status_of (BadWord word) = 1
-status_of ConfUnread = 1
-status_of (ConfBad fault) = 1
-status_of NotMember = 1
-status_of (Unbuilt key) = 1
-status_of KeyUnread = 1
-status_of (KeyBad fault) = 1
-status_of LockFault = 1
-status_of Running = 1
-status_of OpenFault = 1
-status_of TurnsSpent = 1
-status_of OutOfMemory = 1
+status_of outcome = 1

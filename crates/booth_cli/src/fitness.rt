@@ -1,9 +1,9 @@
 //! Whether a configuration can be served: it has this member, and asks for no part that is not built yet.
-ghost use Rattle.std.specs.Prelude.{◌≡◌, true, None, MatchOption};
+ghost use Rattle.std.specs.Prelude.{◌≡◌, ℕ, IfErr};
 ghost use Rattle.std.specs.List.{list_any};
 ghost use Rattle.booth_conf.specs.Rules.{is_at, same_address};
-ghost use Rattle.booth_cli.specs.Opening.{has_member, is_manual, has_handler, has_prereqs, unbuilt};
-ghost use Rattle.booth_cli.specs.Serving.{IsUnserved};
+ghost use Rattle.booth_cli.specs.Fitness.{has_member, is_manual, has_handler, has_prereqs, unbuilt, IsAdmitted};
+ghost use Rattle.booth_cli.specs.Serving.{HasBlame, IsServed};
 
 use crate::outcome::Ended;
 use crate::{Outcome, texts};
@@ -60,23 +60,23 @@ fn unbuilt(tickets: &[TicketConf]) -> Option<KeyNo>
     None
 }
 
-/// Why this configuration cannot be served at this address, if so.
-pub(crate) fn objection(config: &Config, address: &Address) -> Option<Ended>
-    ensures { MatchOption result
-        ((has_member config.now address.now ≡ true) × (unbuilt config.now.tickets ≡ None))
-        (λ ended. IsUnserved address.now config.now ended.outcome ended.said) }
+/// Lets a configuration be served at this address, or says how the daemon ends.
+pub(crate) fn admit(config: &Config, address: &Address) -> Result<(), Ended>
+    ensures admitted { IsAdmitted address.now config.now result }
+    ensures served { IfErr result (λ ended. IsServed ended.outcome) }
+    ensures blame { IfErr result (λ ended. (before after : ℕ) → HasBlame ended.outcome before after) }
 {
     if !has_member(config, address) {
-        return Some(Ended {
+        return Err(Ended {
             outcome: Outcome::NotMember,
-            said: texts::not_member(address),
+            said: texts::not_member_text(address),
         });
     }
     match unbuilt(config.tickets()) {
-        Some(key) => Some(Ended {
+        Some(key) => Err(Ended {
             outcome: Outcome::Unbuilt(key),
-            said: texts::unbuilt(key),
+            said: texts::unbuilt_text(key),
         }),
-        None => None,
+        None => Ok(()),
     }
 }

@@ -1,17 +1,18 @@
 //! The programs of Booth over any host: words in, calls on the host, texts and outcome out.
 #![tactic(auto)]
 
-mod complaint;
-mod daemon;
+mod error_line;
 mod fitness;
-mod keyfile;
+mod keys;
 pub mod laws;
+mod opening;
 mod outcome;
+mod run;
+mod serving;
 #[cfg(test)]
 mod tests;
 mod texts;
-mod top;
 mod words;
 
 pub use outcome::{Outcome, Word};
-pub use top::{boothd, quiet_boothd};
+pub use run::{boothd, quiet_boothd};

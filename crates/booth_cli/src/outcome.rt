@@ -2,7 +2,7 @@
 ghost use Rattle.std.specs.Prelude.{◌≡◌};
 ghost use Rattle.booth_cli.specs.Texts.{status_of};
 
-use crate::complaint::Complaint;
+use crate::error_line::ErrorLine;
 use booth_auth::KeyFault;
 use booth_conf::{ConfFault, KeyNo};
 use clap::error::ErrorKind;
@@ -69,5 +69,5 @@ impl Outcome {
 #[derive(Drop)]
 pub(crate) struct Ended {
     pub outcome: Outcome,
-    pub said: Complaint,
+    pub said: ErrorLine,
 }

@@ -5,208 +5,208 @@ ghost use Rattle.booth_conf.specs.Names.{ticket_names};
 ghost use Rattle.booth_cli.specs.Texts.{line_of, usage_text, bad_word_text, unread_text, not_member_text, key_name, unbuilt_text, key_fault_text, out_of_memory_text, file_text, at_line, at_ticket, fault_text};
 
 use crate::Word;
-use crate::complaint::Complaint;
+use crate::error_line::ErrorLine;
 use booth_auth::KeyFault;
 use booth_base::{Address, PathText};
 use booth_conf::{ConfFault, KeyNo, ticket_name};
 
 /// A line of this text.
-pub(crate) fn line(text: &[u8]) -> Complaint
+pub(crate) fn line_of(text: &[u8]) -> ErrorLine
     requires { length text.now ≤ 300 }
     ensures { result ≡ line_of text.now }
 {
-    let mut complaint = Complaint::begun();
-    complaint.put(text);
-    complaint.put(b"\n");
-    complaint
+    let mut line = ErrorLine::begun();
+    line.put(text);
+    line.put(b"\n");
+    line
 }
 
-pub(crate) fn usage() -> Complaint
+pub(crate) fn usage_text() -> ErrorLine
     ensures { result ≡ usage_text }
 {
-    line(b"usage: boothd daemon -c FILE -s ADDRESS")
+    line_of(b"usage: boothd daemon -c FILE -s ADDRESS")
 }
 
-pub(crate) fn bad_word(word: Word) -> Complaint
+pub(crate) fn bad_word_text(word: Word) -> ErrorLine
     ensures { result ≡ bad_word_text word }
 {
     match word {
-        Word::Site => line(b"bad site"),
-        Word::Configuration => line(b"bad configuration"),
+        Word::Site => line_of(b"bad site"),
+        Word::Configuration => line_of(b"bad configuration"),
     }
 }
 
-pub(crate) fn unread(path: &PathText) -> Complaint
+pub(crate) fn unread_text(path: &PathText) -> ErrorLine
     ensures { result ≡ unread_text path.now }
 {
-    let mut complaint = Complaint::begun();
-    complaint.put(b"cannot read ");
-    complaint.put(path.as_str().as_bytes());
-    complaint.put(b"\n");
-    complaint
+    let mut line = ErrorLine::begun();
+    line.put(b"cannot read ");
+    line.put(path.as_str().as_bytes());
+    line.put(b"\n");
+    line
 }
 
-fn put_not_member(address: &Address, complaint: &mut Complaint)
-    requires { length complaint.old ≤ 300 }
-    ensures bytes { complaint.new ≡ complaint.old ++ (printed address.now ++ codes " is not a member") }
-    ensures len { length complaint.new ≤ length complaint.old + 55 }
+fn put_not_member(address: &Address, line: &mut ErrorLine)
+    requires { length line.old ≤ 300 }
+    ensures bytes { line.new ≡ line.old ++ (printed address.now ++ codes " is not a member") }
+    ensures len { length line.new ≤ length line.old + 55 }
 {
-    complaint.put(address.print().as_bytes());
-    complaint.put(b" is not a member");
+    line.put(address.print().as_bytes());
+    line.put(b" is not a member");
 }
 
-pub(crate) fn not_member(address: &Address) -> Complaint
+pub(crate) fn not_member_text(address: &Address) -> ErrorLine
     ensures { result ≡ not_member_text address.now }
 {
-    let mut complaint = Complaint::begun();
-    put_not_member(address, &mut complaint);
-    complaint.put(b"\n");
-    complaint
+    let mut line = ErrorLine::begun();
+    put_not_member(address, &mut line);
+    line.put(b"\n");
+    line
 }
 
 // The name of a key; those of the table have one.
-fn key_text(key: KeyNo) -> &'static str
+fn key_name(key: KeyNo) -> &'static str
     ensures name { result.now ≡ key_name key }
     ensures short { length result.now ≤ 22 }
 {
     key.name().unwrap_or("")
 }
 
-pub(crate) fn unbuilt(key: KeyNo) -> Complaint
+pub(crate) fn unbuilt_text(key: KeyNo) -> ErrorLine
     ensures { result ≡ unbuilt_text key }
 {
-    let mut complaint = Complaint::begun();
-    complaint.put(b"not built: ");
-    complaint.put(key_text(key).as_bytes());
-    complaint.put(b"\n");
-    complaint
+    let mut line = ErrorLine::begun();
+    line.put(b"not built: ");
+    line.put(key_name(key).as_bytes());
+    line.put(b"\n");
+    line
 }
 
-pub(crate) fn key_fault(fault: KeyFault) -> Complaint
+pub(crate) fn key_fault_text(fault: KeyFault) -> ErrorLine
     ensures { result ≡ key_fault_text fault }
 {
     match fault {
-        KeyFault::TooShort => line(b"key too short"),
-        KeyFault::TooLong => line(b"key too long"),
+        KeyFault::TooShort => line_of(b"key too short"),
+        KeyFault::TooLong => line_of(b"key too long"),
     }
 }
 
-pub(crate) fn out_of_memory() -> Complaint
+pub(crate) fn out_of_memory_text() -> ErrorLine
     ensures { result ≡ out_of_memory_text }
 {
-    line(b"out of memory")
+    line_of(b"out of memory")
 }
 
 // The begin of a line on the file at this path.
-fn begun_with(path: &PathText) -> Complaint
+fn begun_with(path: &PathText) -> ErrorLine
     ensures bytes { result ≡ codes "boothd: " ++ path.now ++ codes ": " }
     ensures len { length result ≤ 265 }
 {
-    let mut complaint = Complaint::begun();
-    complaint.put(path.as_str().as_bytes());
-    complaint.put(b": ");
-    complaint
+    let mut line = ErrorLine::begun();
+    line.put(path.as_str().as_bytes());
+    line.put(b": ");
+    line
 }
 
-fn of_file(path: &PathText, what: &[u8]) -> Complaint
+fn file_text(path: &PathText, what: &[u8]) -> ErrorLine
     requires { length what.now ≤ 100 }
     ensures { result ≡ file_text path.now what.now }
 {
-    let mut complaint = begun_with(path);
-    complaint.put(what);
-    complaint.put(b"\n");
-    complaint
+    let mut line = begun_with(path);
+    line.put(what);
+    line.put(b"\n");
+    line
 }
 
 // The begin of a line on a line of the file at this path.
-fn begun_at(path: &PathText, number: u32) -> Complaint
+fn begun_at(path: &PathText, number: u32) -> ErrorLine
     ensures bytes { result ≡ codes "boothd: " ++ path.now ++ codes ": line " ++ decimal number ++ codes ": " }
     ensures len { length result ≤ 282 }
 {
-    let mut complaint = begun_with(path);
-    complaint.put(b"line ");
-    complaint.put_number(number);
-    complaint.put(b": ");
-    complaint
+    let mut line = begun_with(path);
+    line.put(b"line ");
+    line.put_number(number);
+    line.put(b": ");
+    line
 }
 
-fn of_line(path: &PathText, number: u32, what: &[u8]) -> Complaint
+fn at_line(path: &PathText, number: u32, what: &[u8]) -> ErrorLine
     requires { length what.now ≤ 100 }
     ensures { result ≡ at_line path.now number what.now }
 {
-    let mut complaint = begun_at(path, number);
-    complaint.put(what);
-    complaint.put(b"\n");
-    complaint
+    let mut line = begun_at(path, number);
+    line.put(what);
+    line.put(b"\n");
+    line
 }
 
-fn put_value(key: KeyNo, complaint: &mut Complaint)
-    requires { length complaint.old ≤ 300 }
-    ensures bytes { complaint.new ≡ complaint.old ++ (codes "bad value for " ++ key_name key) }
-    ensures len { length complaint.new ≤ length complaint.old + 36 }
+fn put_value(key: KeyNo, line: &mut ErrorLine)
+    requires { length line.old ≤ 300 }
+    ensures bytes { line.new ≡ line.old ++ (codes "bad value for " ++ key_name key) }
+    ensures len { length line.new ≤ length line.old + 36 }
 {
-    complaint.put(b"bad value for ");
-    complaint.put(key_text(key).as_bytes());
+    line.put(b"bad value for ");
+    line.put(key_name(key).as_bytes());
 }
 
-fn of_value(path: &PathText, number: u32, key: KeyNo) -> Complaint
+fn of_value(path: &PathText, number: u32, key: KeyNo) -> ErrorLine
     ensures { result ≡ at_line path.now number (codes "bad value for " ++ key_name key) }
 {
-    let mut complaint = begun_at(path, number);
-    put_value(key, &mut complaint);
-    complaint.put(b"\n");
-    complaint
+    let mut line = begun_at(path, number);
+    put_value(key, &mut line);
+    line.put(b"\n");
+    line
 }
 
 // Appends the name of the ticket at this place of the text.
-fn put_name(text: &[u8], ticket: usize, complaint: &mut Complaint)
-    requires { length complaint.old ≤ 300 }
-    ensures bytes { complaint.new ≡ complaint.old ++ unwrap_or (slice_get (ticket_names text.now) ticket) [] }
-    ensures len { length complaint.new ≤ length complaint.old + 63 }
+fn put_name(text: &[u8], ticket: usize, line: &mut ErrorLine)
+    requires { length line.old ≤ 300 }
+    ensures bytes { line.new ≡ line.old ++ unwrap_or (slice_get (ticket_names text.now) ticket) [] }
+    ensures len { length line.new ≤ length line.old + 63 }
 {
     if let Some(name) = ticket_name(text, ticket) {
-        complaint.put(name.bytes());
+        line.put(name.bytes());
     }
 }
 
-fn of_ticket(path: &PathText, text: &[u8], ticket: usize, what: &[u8]) -> Complaint
+fn at_ticket(path: &PathText, text: &[u8], ticket: usize, what: &[u8]) -> ErrorLine
     requires { length what.now ≤ 50 }
     ensures { result ≡ at_ticket path.now text.now ticket what.now }
 {
-    let mut complaint = begun_with(path);
-    complaint.put(b"ticket ");
-    put_name(text, ticket, &mut complaint);
-    complaint.put(b": ");
-    complaint.put(what);
-    complaint.put(b"\n");
-    complaint
+    let mut line = begun_with(path);
+    line.put(b"ticket ");
+    put_name(text, ticket, &mut line);
+    line.put(b": ");
+    line.put(what);
+    line.put(b"\n");
+    line
 }
 
 /// What is said of the fault of this text, which stands in the file at this path.
-pub(crate) fn conf_fault(path: &PathText, text: &[u8], fault: ConfFault) -> Complaint
+pub(crate) fn fault_text(path: &PathText, text: &[u8], fault: ConfFault) -> ErrorLine
     ensures { result ≡ fault_text path.now text.now fault }
 {
     match fault {
-        ConfFault::TooLarge => of_file(path, b"too large"),
-        ConfFault::Syntax { line } => of_line(path, line, b"syntax"),
-        ConfFault::UnknownKey { line } => of_line(path, line, b"unknown key"),
-        ConfFault::Misplaced { line } => of_line(path, line, b"misplaced key"),
+        ConfFault::TooLarge => file_text(path, b"too large"),
+        ConfFault::Syntax { line } => at_line(path, line, b"syntax"),
+        ConfFault::UnknownKey { line } => at_line(path, line, b"unknown key"),
+        ConfFault::Misplaced { line } => at_line(path, line, b"misplaced key"),
         ConfFault::BadValue { line, key } => of_value(path, line, key),
-        ConfFault::Repeated { line } => of_line(path, line, b"repeated"),
-        ConfFault::DefaultLate { line } => of_line(path, line, b"__default__ must come first"),
-        ConfFault::TooMany { line } => of_line(path, line, b"too many"),
-        ConfFault::NoSite => of_file(path, b"no site"),
-        ConfFault::NoTicket => of_file(path, b"no ticket"),
-        ConfFault::IdClash { .. } => of_file(path, b"member ids clash"),
+        ConfFault::Repeated { line } => at_line(path, line, b"repeated"),
+        ConfFault::DefaultLate { line } => at_line(path, line, b"__default__ must come first"),
+        ConfFault::TooMany { line } => at_line(path, line, b"too many"),
+        ConfFault::NoSite => file_text(path, b"no site"),
+        ConfFault::NoTicket => file_text(path, b"no ticket"),
+        ConfFault::IdClash { .. } => file_text(path, b"member ids clash"),
         ConfFault::Renewal { ticket } => {
-            of_ticket(path, text, ticket, b"renewal-freq is not below expire")
+            at_ticket(path, text, ticket, b"renewal-freq is not below expire")
         }
-        ConfFault::RetryTime { ticket } => of_ticket(
+        ConfFault::RetryTime { ticket } => at_ticket(
             path,
             text,
             ticket,
             b"timeout and retries do not fit renewal-freq",
         ),
-        ConfFault::OutOfMemory => out_of_memory(),
+        ConfFault::OutOfMemory => out_of_memory_text(),
     }
 }

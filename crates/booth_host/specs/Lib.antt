@@ -1,4 +1,5 @@
 pub mod Past
 pub mod Causes
 pub mod Memory
+pub mod Records
 pub use Rattle.booth_base.specs.Tree

@@ -1,12 +1,16 @@
 -- What a host in memory tells, and what its script makes it answer.
-use Rattle.std.specs.Prelude.{◌≡◌, ◌-◌, ◌==◌, ℕ, List, [], ◌∷◌, nat_eq, position, option_map, Option, None, Some, Result, Ok, Err, Bool, false, if◌then◌else◌, slice_get, slice_set, ◌++◌, length, take, min}
+use Rattle.std.specs.Prelude.{◌≡◌, ◌+◌, ◌-◌, ◌==◌, ℕ, List, [], ◌∷◌, nat_eq, option_map, unwrap_or, Option, None, Some, MatchOption, Result, Ok, Err, OnOk, IfOk, IfErr, IsErrOf, ◌↔◌, Bool, false, if◌then◌else◌, slice_get, length, drop, take, min}
 use Rattle.std.specs.Cmp.Lexicographic.{pointwise}
+use Rattle.std.specs.List.{find}
 use Rattle.booth_rec.specs.declared.record.Record.{Record}
 use Rattle.booth_host.specs.declared.entry.Entry.{Entry}
 use Rattle.booth_host.specs.declared.host.Arrival.{Arrival}
 use Rattle.booth_host.specs.declared.host.Arrival.TheVariants.{Stop, Quiet}
 use Rattle.booth_host.specs.declared.host.Failed.{Failed}
+use Rattle.booth_host.specs.declared.host.ReadFault.{ReadFault}
+use Rattle.booth_host.specs.declared.host.ReadFault.TheVariants.{NoMemory, Failed as ReadFailed}
 use Rattle.booth_host.specs.declared.memory.Step.{Step}
+use Rattle.booth_host.specs.declared.memory.Script.{Script}
 use Rattle.booth_host.specs.declared.memory.MemoryHost.{MemoryHost}
 use Rattle.booth_host.specs.declared.quiet.QuietHost.{QuietHost}
 
@@ -15,6 +19,8 @@ memory_past host = if host.tells then Some host.entries.items else None
 
 abbrev pub quiet_past : QuietHost → Option (List Entry)
 quiet_past host = memory_past host.host
+
+-- ---- the script
 
 -- the step that runs, once one has begun
 abbrev pub running : MemoryHost → Option Step
@@ -47,7 +53,8 @@ outs_fail host = out_flag host.script.fail_out (running host)
 -- what the next step brings: its arrival with its bytes, or Stop after the last
 abbrev pub IsBrought : Option Step → Result Arrival Failed → List ℕ → Type 0
 IsBrought None answer bytes = (answer ≡ Ok Stop) × (bytes ≡ [])
-IsBrought (Some step) answer bytes = (answer ≡ step.arrival) × (bytes ≡ take (min (length step.bytes) 16461) step.bytes)
+IsBrought (Some step) answer bytes = (answer ≡ step.arrival)
+    × (bytes ≡ take (min (length step.bytes) 16461) step.bytes)
 
 -- an answer without failures: a failing step is Quiet
 abbrev pub quietly : Result Arrival Failed → Result Arrival Failed
@@ -57,45 +64,82 @@ quietly (Err fault) = Ok Quiet
 -- what the next step brings to a quiet host: the same, without failures
 abbrev pub IsQuietlyBrought : Option Step → Result Arrival Failed → List ℕ → Type 0
 IsQuietlyBrought None answer bytes = (answer ≡ Ok Stop) × (bytes ≡ [])
-IsQuietlyBrought (Some step) answer bytes = (answer ≡ quietly step.arrival) × (bytes ≡ take (min (length step.bytes) 16461) step.bytes)
+IsQuietlyBrought (Some step) answer bytes = (answer ≡ quietly step.arrival)
+    × (bytes ≡ take (min (length step.bytes) 16461) step.bytes)
 
 -- the step that a next begins
 abbrev pub coming : MemoryHost → Option Step
 coming host = slice_get host.script.steps.items host.begun
 
+-- the steps that have not begun
+abbrev pub to_come : MemoryHost → List Step
+to_come host = drop host.begun host.script.steps.items
+
+-- all that a script says besides its steps
+pub record SaysTheSame (old new : Script) : Type 0 where
+  pub first : new.first ≡ old.first
+  pub taken : new.taken ≡ old.taken
+  pub opens : new.fail_open ≡ old.fail_open
+  pub locks : new.fail_lock ≡ old.fail_lock
+  pub reads : new.fail_kept ≡ old.fail_kept
+  pub errs : new.fail_err ≡ old.fail_err
+  pub sends : new.fail_send ≡ old.fail_send
+  pub outs : new.fail_out ≡ old.fail_out
+
+-- ---- the host as it was made, and what stays of it
+
+-- a host that was made of these, and has not begun
+pub record IsNew (host : MemoryHost) (script : Script) (files : List (List ℕ × List ℕ))
+    (records : List (List ℕ × Record)) : Type 0 where
+  pub runs : host.script ≡ script
+  pub begun : host.begun ≡ 0
+  pub reads : host.files.items ≡ files
+  pub keeps : host.records.items ≡ records
+  pub tells : memory_past host ≡ Some []
+  pub faults : host.faults ≡ 0
+
+-- the script, the files and the records stay, and no step begins
+pub record Stays (old new : MemoryHost) : Type 0 where
+  pub script : new.script ≡ old.script
+  pub begun : new.begun ≡ old.begun
+  pub files : new.files ≡ old.files
+  pub records : new.records ≡ old.records
+
+-- the same but for the records
+pub record StaysButRecords (old new : MemoryHost) : Type 0 where
+  pub script : new.script ≡ old.script
+  pub begun : new.begun ≡ old.begun
+  pub files : new.files ≡ old.files
+
+-- one more step begins, where one is left, and all else stays
+pub record Begins (old new : MemoryHost) : Type 0 where
+  pub script : new.script ≡ old.script
+  pub begun : MatchOption (coming old) (new.begun ≡ old.begun) (λ step. new.begun ≡ old.begun + 1)
+  pub files : new.files ≡ old.files
+  pub records : new.records ≡ old.records
+
+-- ---- files
+
+-- the text of the file at this path
+abbrev pub file_of : MemoryHost → List ℕ → Option (List ℕ)
+file_of host path =
+    option_map (λ file. file.1) (find (λ file. pointwise nat_eq file.0 path) host.files.items)
+
+-- a read of what is at this path, or a failure where nothing is; for want of memory it may always fail
+pub record ReadsFile (found : Option (List ℕ)) (result : Result (List ℕ) ReadFault) : Type 0 where
+  pub text : IfOk result (λ text. found ≡ Some text)
+  pub missing : IsErrOf result ReadFailed ↔ (found ≡ None)
+
+-- the same without failures: what is not there is empty
+pub record ReadsQuietly (found : Option (List ℕ)) (result : Result (List ℕ) ReadFault) : Type 0 where
+  pub text : IfOk result (λ text. text ≡ unwrap_or found [])
+  pub memory : IfErr result (λ fault. fault ≡ NoMemory)
+
+-- ---- locks and keeps
+
 -- whether another holds each lock
 abbrev pub taken_in : MemoryHost → Bool
 taken_in host = host.script.taken
-
--- the records that are kept, by their tickets' names
-abbrev pub records_of : MemoryHost → List (List ℕ × Record)
-records_of host = host.records.items
-
--- where the record of this ticket stands
-abbrev pub place_of : List (List ℕ × Record) → List ℕ → Option ℕ
-place_of records ticket = position (λ pair. pointwise nat_eq pair.0 ticket) records
-
--- the record of a place
-abbrev pub record_at : List (List ℕ × Record) → Option ℕ → Option Record
-record_at records None = None
-record_at records (Some place) = option_map (λ pair. pair.1) (slice_get records place)
-
--- the record that is kept of this ticket
-abbrev pub record_of : List (List ℕ × Record) → List ℕ → Option Record
-record_of records ticket = record_at records (place_of records ticket)
-
-abbrev pub stored_at : List (List ℕ × Record) → List ℕ → Record → Option ℕ → List (List ℕ × Record)
-stored_at records ticket rec None = records ++ (ticket, rec) ∷ []
-stored_at records ticket rec (Some place) = slice_set records place (ticket, rec)
-
--- the records with this one in the place of the one before, or behind the others
-abbrev pub stored : List (List ℕ × Record) → List ℕ → Record → List (List ℕ × Record)
-stored records ticket rec = stored_at records ticket rec (place_of records ticket)
-
--- the records after a keep with this answer
-abbrev pub kept_after : Result (Unit {0}) Failed → List (List ℕ × Record) → List ℕ → Record → List (List ℕ × Record)
-kept_after (Ok done) records ticket rec = stored records ticket rec
-kept_after (Err fault) records ticket rec = records
 
 abbrev pub keep_flag : Option Step → Bool
 keep_flag None = false

@@ -60,7 +60,7 @@ pub enum Entry {
     },
 }
 
-pub(crate) fn opened(
+pub(crate) fn open_entry(
     alloc: Global,
     place: &Place,
     answer: Result<(), Failed>,
@@ -79,7 +79,7 @@ pub(crate) fn opened(
     })
 }
 
-pub(crate) fn came(
+pub(crate) fn next_entry(
     alloc: Global,
     wait_ms: u64,
     answer: Result<Arrival, Failed>,
@@ -95,7 +95,7 @@ pub(crate) fn came(
     })
 }
 
-pub(crate) fn sent(
+pub(crate) fn send_entry(
     alloc: Global,
     to: &Peer,
     bytes: &[u8],
@@ -111,7 +111,7 @@ pub(crate) fn sent(
     })
 }
 
-pub(crate) fn read(
+pub(crate) fn read_file_entry(
     alloc: Global,
     path: &str,
     answer: &Result<ByteText, ReadFault>,
@@ -126,7 +126,7 @@ pub(crate) fn read(
     Ok(Entry::ReadFile { path, answer })
 }
 
-pub(crate) fn locked(
+pub(crate) fn lock_entry(
     alloc: Global,
     path: &str,
     answer: Result<bool, Failed>,
@@ -137,7 +137,7 @@ pub(crate) fn locked(
     Ok(Entry::Lock { path, answer })
 }
 
-pub(crate) fn printed(
+pub(crate) fn out_entry(
     alloc: Global,
     bytes: &[u8],
     answer: Result<(), Failed>,
@@ -148,7 +148,7 @@ pub(crate) fn printed(
     Ok(Entry::Out { bytes, answer })
 }
 
-pub(crate) fn complained(
+pub(crate) fn err_entry(
     alloc: Global,
     bytes: &[u8],
     answer: Result<(), Failed>,
@@ -159,7 +159,7 @@ pub(crate) fn complained(
     Ok(Entry::Err { bytes, answer })
 }
 
-pub(crate) fn was_kept(
+pub(crate) fn kept_entry(
     alloc: Global,
     ticket: &Name,
     answer: Result<Option<Record>, Failed>,
@@ -170,7 +170,7 @@ pub(crate) fn was_kept(
     Ok(Entry::Kept { ticket, answer })
 }
 
-pub(crate) fn kept(
+pub(crate) fn keep_entry(
     alloc: Global,
     ticket: &Name,
     rec: &Record,

@@ -1,10 +1,13 @@
 //! A host in memory, which runs a script and tells its calls.
 ghost use Rattle.std.specs.Prelude.{◌≡◌, ◌≤◌, [], ◌∷◌, ◌++◌, Some, None, IfOk, OnOk, OnErr, IsSome, MatchResult, false, true, not, is_err, option_map, if◌then◌else◌};
 ghost use Rattle.booth_host.specs.Past.{GrewBy};
-ghost use Rattle.booth_host.specs.Causes.{Rose, HasCause};
+ghost use Rattle.booth_host.specs.Causes.{Rose, HasCause, HasReadCause};
 ghost use Rattle.booth_host.specs.declared.entry.Entry.{Entry};
 
-use crate::entry::{came, complained, kept, locked, opened, printed, read, sent, was_kept};
+use crate::entry::{
+    err_entry, keep_entry, kept_entry, lock_entry, next_entry, open_entry, out_entry,
+    read_file_entry, send_entry,
+};
 use crate::{Arrival, Datagram, Entry, Failed, Host, Place, ReadFault};
 use booth_base::{ByteText, Name, PathText, Peer};
 use booth_rec::Record;
@@ -61,18 +64,20 @@ pub struct MemoryHost {
     faults: u64,
 }
 
-// Adds this entry where there is memory for it.
-fn add(entries: &mut Vec<Entry>, entry: Entry) -> Result<(), AllocError>
-    ensures { OnOk result (entries.new.items ≡ entries.old.items ++ entry ∷ []) }
+// Adds this where there is memory for it.
+fn push<T: Drop>(list: &mut Vec<T>, last: T) -> Result<(), AllocError>
+    ensures ok { OnOk result (list.new.items ≡ list.old.items ++ last ∷ []) }
+    ensures err { OnErr result (list.new.items ≡ list.old.items) }
 {
-    match entries.push(entry) {
+    match list.push(last) {
         Ok(()) => Ok(()),
         Err(_) => Err(AllocError),
     }
 }
 
 impl MemoryHost {
-    ghost use Rattle.booth_host.specs.Memory.{memory_past, records_of, place_of, record_of, stored, kept_after, running, coming, IsBrought, taken_in};
+    ghost use Rattle.booth_host.specs.Memory.{memory_past, running, coming, to_come, file_of, IsBrought, IsNew, Stays, StaysButRecords, Begins, SaysTheSame, taken_in};
+    ghost use Rattle.booth_host.specs.Records.{records_of, place_of, record_of, stored, kept_after};
 
     /// A host that runs this script, has these files and records, and tells at most `room` calls.
     pub fn new(
@@ -82,7 +87,7 @@ impl MemoryHost {
         records: Records,
         room: u32,
     ) -> Result<MemoryHost, AllocError>
-        ensures { IfOk result (λ host. memory_past host ≡ Some []) }
+        ensures { IfOk result (λ host. IsNew host script files.items records.items) }
     {
         Ok(MemoryHost {
             alloc,
@@ -115,18 +120,50 @@ impl MemoryHost {
         &self.records
     }
 
+    /// Adds a step behind the others. For want of memory it stays as it was.
+    pub fn add(&mut self, step: Step) -> Result<(), AllocError>
+        ensures ok { OnOk result (self.new.script.steps.items ≡ self.old.script.steps.items ++ step ∷ []) }
+        ensures err { OnErr result (self.new.script.steps.items ≡ self.old.script.steps.items) }
+        ensures script { SaysTheSame self.old.script self.new.script }
+        ensures begun { self.new.begun ≡ self.old.begun }
+        ensures files { self.new.files ≡ self.old.files }
+        ensures records { self.new.records ≡ self.old.records }
+        ensures past { memory_past self.new ≡ memory_past self.old }
+        ensures faults { self.new.faults ≡ self.old.faults }
+    {
+        push(&mut self.script.steps, step)
+    }
+
+    /// Drops the calls so far, and the steps that have run. The step that runs goes on, so all calls are answered as
+    /// before.
+    pub fn forget(&mut self)
+        ensures past { memory_past self.new ≡ option_map (λ _. []) (memory_past self.old) }
+        ensures running { running self.new ≡ running self.old }
+        ensures to_come { to_come self.new ≡ to_come self.old }
+        ensures begun { self.new.begun ≤ 1 }
+        ensures script { SaysTheSame self.old.script self.new.script }
+        ensures files { self.new.files ≡ self.old.files }
+        ensures records { self.new.records ≡ self.old.records }
+        ensures faults { self.new.faults ≡ self.old.faults }
+    {
+        self.entries.clear();
+        let run = self.begun.saturating_sub(1).min(self.script.steps.len());
+        drop(self.script.steps.drain(..run));
+        self.begun = self.begun.min(1);
+    }
+
     // Adds this entry, or tells nothing from now on.
     pub(crate) fn note(&mut self, entry: Result<Entry, AllocError>)
         ensures told { IfOk entry (λ entry. GrewBy (memory_past self.old) (memory_past self.new) (entry ∷ [])) }
         ensures untold { OnErr entry (memory_past self.new ≡ None) }
         ensures faults { self.new.faults ≡ self.old.faults }
-        ensures records { records_of self.new ≡ records_of self.old }
+        ensures stays { Stays self.old self.new }
     {
         let Ok(entry) = entry else {
             self.tells = false;
             return;
         };
-        if self.entries.len() >= self.room as usize || add(&mut self.entries, entry).is_err() {
+        if self.entries.len() >= self.room as usize || push(&mut self.entries, entry).is_err() {
             self.tells = false;
         }
     }
@@ -134,9 +171,9 @@ impl MemoryHost {
     // Counts a failure.
     fn fail(&mut self)
         ensures past { memory_past self.new ≡ memory_past self.old }
-        ensures records { records_of self.new ≡ records_of self.old }
         ensures rose { Rose self.old.faults self.new.faults }
         ensures later { self.old.faults ≤ self.new.faults }
+        ensures stays { Stays self.old self.new }
     {
         self.faults = self.faults.saturating_add(1);
     }
@@ -146,7 +183,7 @@ impl MemoryHost {
         ensures past { memory_past self.new ≡ memory_past self.old }
         ensures cause { HasCause self.old.faults self.new.faults result }
         ensures exact { is_err result ≡ fails }
-        ensures records { records_of self.new ≡ records_of self.old }
+        ensures stays { Stays self.old self.new }
     {
         if fails {
             self.fail();
@@ -160,6 +197,7 @@ impl MemoryHost {
         ensures past { memory_past self.new ≡ memory_past self.old }
         ensures cause { HasCause self.old.faults self.new.faults result }
         ensures brought { IsBrought (coming self.old) result into.new }
+        ensures begins { Begins self.old self.new }
     {
         let Some(step) = self.script.steps.get(self.begun) else {
             into.set(&[]);
@@ -206,16 +244,14 @@ impl MemoryHost {
         ensures err { OnErr result (records_of self.new ≡ records_of self.old) }
         ensures past { memory_past self.new ≡ memory_past self.old }
         ensures faults { self.new.faults ≡ self.old.faults }
+        ensures stays { StaysButRecords self.old self.new }
     {
         match self.place(ticket) {
             Some(place) => {
                 self.records[place] = (ticket.copy(), *rec);
                 Ok(())
             }
-            None => match self.records.push((ticket.copy(), *rec)) {
-                Ok(()) => Ok(()),
-                Err(_) => Err(AllocError),
-            },
+            None => push(&mut self.records, (ticket.copy(), *rec)),
         }
     }
 
@@ -223,7 +259,9 @@ impl MemoryHost {
     pub(crate) fn put(&mut self, ticket: &Name, rec: &Record)
         ensures past { GrewBy (memory_past self.old) (memory_past self.new) [] }
         ensures faults { self.new.faults ≡ self.old.faults }
-        ensures records { IsSome (memory_past self.new) → records_of self.new ≡ stored (records_of self.old) ticket.now rec.now }
+        ensures records { IsSome (memory_past self.new) →
+            records_of self.new ≡ stored (records_of self.old) ticket.now rec.now }
+        ensures stays { StaysButRecords self.old self.new }
     {
         if self.store(ticket, rec).is_err() {
             self.tells = false;
@@ -234,7 +272,9 @@ impl MemoryHost {
     fn put_if_ok(&mut self, answer: Result<(), Failed>, ticket: &Name, rec: &Record)
         ensures past { GrewBy (memory_past self.old) (memory_past self.new) [] }
         ensures faults { self.new.faults ≡ self.old.faults }
-        ensures records { IsSome (memory_past self.new) → records_of self.new ≡ kept_after answer (records_of self.old) ticket.now rec.now }
+        ensures records { IsSome (memory_past self.new) →
+            records_of self.new ≡ kept_after answer (records_of self.old) ticket.now rec.now }
+        ensures stays { StaysButRecords self.old self.new }
     {
         match answer {
             Ok(()) => self.put(ticket, rec),
@@ -249,38 +289,45 @@ impl MemoryHost {
         self.script.taken
     }
 
-    // The bytes of a file, where there is one of this path.
-    pub(crate) fn file(&self, path: &str) -> Option<&ByteText> {
-        for (name, text) in &self.files {
-            if name.as_str() == path {
-                return Some(text);
-            }
-        }
-        None
+    // The text of the file at this path.
+    pub(crate) fn file(&self, path: &str) -> Option<&ByteText>
+        ensures { option_map (λ text. text.now) result ≡ file_of self.now path.now }
+    {
+        let (_, text) = self.files.iter().find(|(name, _)| name.as_str() == path)?;
+        Some(text)
     }
 }
 
 impl Host for MemoryHost {
-    ghost use Rattle.booth_host.specs.Memory.{memory_past, records_of, record_of, kept_after, reading_of, sends_fail, keeps_fail, outs_fail, coming, IsBrought, taken_in};
+    ghost use Rattle.booth_host.specs.Memory.{memory_past, reading_of, sends_fail, keeps_fail, outs_fail, coming, file_of, IsBrought, Stays, StaysButRecords, Begins, ReadsFile, taken_in};
+    ghost use Rattle.booth_host.specs.Records.{records_of, record_of, kept_after};
 
     ghost past = { memory_past };
 
     ghost faults = { λ host. host.faults };
 
-    fn open(&mut self, place: &Place) -> Result<(), Failed> {
+    fn open(&mut self, place: &Place) -> Result<(), Failed>
+        ensures past { GrewBy (memory_past self.old) (memory_past self.new)
+            (Entry.Open place.now.local place.now.port place.now.records place.now.conf_path result ∷ []) }
+        ensures cause { HasCause self.old.faults self.new.faults result }
+        ensures fails { is_err result ≡ self.old.script.fail_open }
+        ensures stays { Stays self.old self.new }
+    {
         let answer = self.fail_if(self.script.fail_open);
-        let entry = opened(self.alloc, place, answer);
+        let entry = open_entry(self.alloc, place, answer);
         self.note(entry);
         answer
     }
 
     fn next(&mut self, wait_ms: u64, into: &mut Datagram) -> Result<Arrival, Failed>
-        ensures past { GrewBy (memory_past self.old) (memory_past self.new) (Entry.Next wait_ms result into.new ∷ []) }
+        ensures past { GrewBy (memory_past self.old) (memory_past self.new)
+            (Entry.Next wait_ms result into.new ∷ []) }
         ensures cause { HasCause self.old.faults self.new.faults result }
         ensures brought { IsBrought (coming self.old) result into.new }
+        ensures begins { Begins self.old self.new }
     {
         let answer = self.begin(into);
-        let entry = came(self.alloc, wait_ms, answer, into.bytes());
+        let entry = next_entry(self.alloc, wait_ms, answer, into.bytes());
         self.note(entry);
         answer
     }
@@ -289,6 +336,7 @@ impl Host for MemoryHost {
         ensures past { GrewBy (memory_past self.old) (memory_past self.new) (Entry.Now result ∷ []) }
         ensures later { self.old.faults ≤ self.new.faults }
         ensures reading { result ≡ reading_of self.old }
+        ensures stays { Stays self.old self.new }
     {
         let reading = match self.step() {
             Some(step) => step.reading,
@@ -299,43 +347,49 @@ impl Host for MemoryHost {
     }
 
     fn send(&mut self, to: &Peer, bytes: &[u8]) -> Result<(), Failed>
-        ensures past { GrewBy (memory_past self.old) (memory_past self.new) (Entry.Send to.now bytes.now result ∷ []) }
+        ensures past { GrewBy (memory_past self.old) (memory_past self.new)
+            (Entry.Send to.now bytes.now result ∷ []) }
         ensures cause { HasCause self.old.faults self.new.faults result }
         ensures fails { is_err result ≡ sends_fail self.old }
+        ensures stays { Stays self.old self.new }
     {
         let fails = match self.step() {
             Some(step) => step.fail_send,
             None => self.script.fail_send,
         };
         let answer = self.fail_if(fails);
-        let entry = sent(self.alloc, to, bytes, answer);
+        let entry = send_entry(self.alloc, to, bytes, answer);
         self.note(entry);
         answer
     }
 
     fn kept(&mut self, ticket: &Name) -> Result<Option<Record>, Failed>
-        ensures past { GrewBy (memory_past self.old) (memory_past self.new) (Entry.Kept ticket.now result ∷ []) }
+        ensures past { GrewBy (memory_past self.old) (memory_past self.new)
+            (Entry.Kept ticket.now result ∷ []) }
         ensures cause { HasCause self.old.faults self.new.faults result }
         ensures answer { MatchResult result
             (λ found. (self.old.script.fail_kept ≡ false) × (found ≡ record_of (records_of self.old) ticket.now))
             (λ _. self.old.script.fail_kept ≡ true) }
-        ensures records { records_of self.new ≡ records_of self.old }
+        ensures stays { Stays self.old self.new }
     {
         let answer = match self.fail_if(self.script.fail_kept) {
             Ok(()) => Ok(self.record(ticket)),
             Err(Failed) => Err(Failed),
         };
-        let entry = was_kept(self.alloc, ticket, answer);
+        let entry = kept_entry(self.alloc, ticket, answer);
         self.note(entry);
         answer
     }
 
     #[tactic(auto, using(crate::proofs::PastLemmas::one_behind_none))]
     fn keep(&mut self, ticket: &Name, rec: &Record) -> Result<(), Failed>
-        ensures past { GrewBy (memory_past self.old) (memory_past self.new) (Entry.Keep ticket.now rec.now result ∷ []) }
+        ensures past { GrewBy (memory_past self.old) (memory_past self.new)
+            (Entry.Keep ticket.now rec.now result ∷ []) }
         ensures cause { HasCause self.old.faults self.new.faults result }
         ensures fails { is_err result ≡ keeps_fail self.old }
-        ensures records { IsSome (memory_past self.new) → records_of self.new ≡ kept_after result (records_of self.old) ticket.now rec.now }
+        ensures records { IsSome (memory_past self.new) →
+            records_of self.new ≡ kept_after result (records_of self.old) ticket.now rec.now }
+        ensures stays { StaysButRecords self.old self.new }
     {
         let fails = match self.step() {
             Some(step) => step.fail_keep,
@@ -343,12 +397,18 @@ impl Host for MemoryHost {
         };
         let answer = self.fail_if(fails);
         self.put_if_ok(answer, ticket, rec);
-        let entry = kept(self.alloc, ticket, rec, answer);
+        let entry = keep_entry(self.alloc, ticket, rec, answer);
         self.note(entry);
         answer
     }
 
-    fn read_file(&mut self, alloc: Global, path: &str) -> Result<ByteText, ReadFault> {
+    fn read_file(&mut self, alloc: Global, path: &str) -> Result<ByteText, ReadFault>
+        ensures past { GrewBy (memory_past self.old) (memory_past self.new)
+            (Entry.ReadFile path.now result ∷ []) }
+        ensures cause { HasReadCause self.old.faults self.new.faults result }
+        ensures file { ReadsFile (file_of self.old path.now) result }
+        ensures stays { Stays self.old self.new }
+    {
         let answer = match self.file(path) {
             Some(text) => match ByteText::new(alloc, text.bytes()) {
                 Ok(text) => Ok(text),
@@ -359,47 +419,56 @@ impl Host for MemoryHost {
                 Err(ReadFault::Failed)
             }
         };
-        let entry = read(self.alloc, path, &answer);
+        let entry = read_file_entry(self.alloc, path, &answer);
         self.note(entry);
         answer
     }
 
     fn lock(&mut self, path: &str) -> Result<bool, Failed>
-        ensures past { GrewBy (memory_past self.old) (memory_past self.new) (Entry.Lock path.now result ∷ []) }
+        ensures past { GrewBy (memory_past self.old) (memory_past self.new)
+            (Entry.Lock path.now result ∷ []) }
         ensures cause { HasCause self.old.faults self.new.faults result }
         ensures answer { MatchResult result
             (λ held. (self.old.script.fail_lock ≡ false) × (held ≡ not (taken_in self.old)))
             (λ _. self.old.script.fail_lock ≡ true) }
-        ensures records { records_of self.new ≡ records_of self.old }
+        ensures stays { Stays self.old self.new }
     {
         let taken = self.is_taken();
         let answer = match self.fail_if(self.script.fail_lock) {
             Ok(()) => Ok(!taken),
             Err(Failed) => Err(Failed),
         };
-        let entry = locked(self.alloc, path, answer);
+        let entry = lock_entry(self.alloc, path, answer);
         self.note(entry);
         answer
     }
 
     fn out(&mut self, bytes: &[u8]) -> Result<(), Failed>
-        ensures past { GrewBy (memory_past self.old) (memory_past self.new) (Entry.Out bytes.now result ∷ []) }
+        ensures past { GrewBy (memory_past self.old) (memory_past self.new)
+            (Entry.Out bytes.now result ∷ []) }
         ensures cause { HasCause self.old.faults self.new.faults result }
         ensures fails { is_err result ≡ outs_fail self.old }
+        ensures stays { Stays self.old self.new }
     {
         let fails = match self.step() {
             Some(step) => step.fail_out,
             None => self.script.fail_out,
         };
         let answer = self.fail_if(fails);
-        let entry = printed(self.alloc, bytes, answer);
+        let entry = out_entry(self.alloc, bytes, answer);
         self.note(entry);
         answer
     }
 
-    fn err(&mut self, bytes: &[u8]) -> Result<(), Failed> {
+    fn err(&mut self, bytes: &[u8]) -> Result<(), Failed>
+        ensures past { GrewBy (memory_past self.old) (memory_past self.new)
+            (Entry.Err bytes.now result ∷ []) }
+        ensures cause { HasCause self.old.faults self.new.faults result }
+        ensures fails { is_err result ≡ self.old.script.fail_err }
+        ensures stays { Stays self.old self.new }
+    {
         let answer = self.fail_if(self.script.fail_err);
-        let entry = complained(self.alloc, bytes, answer);
+        let entry = err_entry(self.alloc, bytes, answer);
         self.note(entry);
         answer
     }

@@ -1,12 +1,16 @@
 //! A host in memory that never fails.
-ghost use Rattle.std.specs.Prelude.{◌≡◌, [], ◌∷◌, Some, Ok, IfOk, IsSome, not, option_map};
+ghost use Rattle.std.specs.Prelude.{◌≡◌, ◌≤◌, [], ◌∷◌, ◌++◌, Ok, IfOk, OnOk, OnErr, IsSome, not, option_map};
 ghost use Rattle.booth_host.specs.Past.{GrewBy};
-ghost use Rattle.booth_host.specs.Causes.{HasCause};
+ghost use Rattle.booth_host.specs.Causes.{HasCause, HasReadCause};
 ghost use Rattle.booth_host.specs.declared.entry.Entry.{Entry};
 
-use crate::entry::{came, complained, kept, locked, opened, printed, read, sent, was_kept};
+use crate::entry::{
+    err_entry, keep_entry, kept_entry, lock_entry, next_entry, open_entry, out_entry,
+    read_file_entry, send_entry,
+};
 use crate::{
     Arrival, Datagram, Entry, Failed, Files, Host, MemoryHost, Place, ReadFault, Records, Script,
+    Step,
 };
 use booth_base::{ByteText, Name, Peer};
 use booth_rec::Record;
@@ -20,7 +24,8 @@ pub struct QuietHost {
 }
 
 impl QuietHost {
-    ghost use Rattle.booth_host.specs.Memory.{quiet_past};
+    ghost use Rattle.booth_host.specs.Memory.{quiet_past, running, to_come, IsNew, SaysTheSame};
+    ghost use Rattle.booth_host.specs.Records.{records_of};
 
     /// A host that runs this script without its failures.
     pub fn new(
@@ -30,7 +35,7 @@ impl QuietHost {
         records: Records,
         room: u32,
     ) -> Result<QuietHost, AllocError>
-        ensures { IfOk result (λ host. quiet_past host ≡ Some []) }
+        ensures { IfOk result (λ host. IsNew host.host script files.items records.items) }
     {
         Ok(QuietHost {
             host: MemoryHost::new(alloc, script, files, records, room)?,
@@ -43,31 +48,75 @@ impl QuietHost {
     {
         self.host.past()
     }
+
+    /// The records that are kept.
+    pub fn records(&self) -> &[(Name, Record)]
+        ensures { result.now ≡ records_of self.now.host }
+    {
+        self.host.records()
+    }
+
+    /// Adds a step behind the others. For want of memory it stays as it was.
+    pub fn add(&mut self, step: Step) -> Result<(), AllocError>
+        ensures ok { OnOk result
+            (self.new.host.script.steps.items ≡ self.old.host.script.steps.items ++ step ∷ []) }
+        ensures err { OnErr result
+            (self.new.host.script.steps.items ≡ self.old.host.script.steps.items) }
+        ensures script { SaysTheSame self.old.host.script self.new.host.script }
+        ensures begun { self.new.host.begun ≡ self.old.host.begun }
+        ensures files { self.new.host.files ≡ self.old.host.files }
+        ensures records { self.new.host.records ≡ self.old.host.records }
+        ensures past { quiet_past self.new ≡ quiet_past self.old }
+    {
+        self.host.add(step)
+    }
+
+    /// Drops the calls so far, and the steps that have run. The step that runs goes on, so all calls are answered as
+    /// before.
+    pub fn forget(&mut self)
+        ensures past { quiet_past self.new ≡ option_map (λ _. []) (quiet_past self.old) }
+        ensures running { running self.new.host ≡ running self.old.host }
+        ensures to_come { to_come self.new.host ≡ to_come self.old.host }
+        ensures begun { self.new.host.begun ≤ 1 }
+        ensures script { SaysTheSame self.old.host.script self.new.host.script }
+        ensures files { self.new.host.files ≡ self.old.host.files }
+        ensures records { self.new.host.records ≡ self.old.host.records }
+    {
+        self.host.forget();
+    }
 }
 
 impl Host for QuietHost {
-    ghost use Rattle.booth_host.specs.Memory.{quiet_past, records_of, record_of, stored, reading_of, coming, IsQuietlyBrought, taken_in};
+    ghost use Rattle.booth_host.specs.Memory.{quiet_past, reading_of, coming, file_of, IsQuietlyBrought, Stays, StaysButRecords, Begins, ReadsQuietly, taken_in};
+    ghost use Rattle.booth_host.specs.Records.{records_of, record_of, stored};
 
     ghost past = { quiet_past };
 
     ghost faults = { λ _. 0 };
 
-    fn open(&mut self, place: &Place) -> Result<(), Failed> {
-        let entry = opened(self.host.alloc, place, Ok(()));
+    fn open(&mut self, place: &Place) -> Result<(), Failed>
+        ensures past { GrewBy (quiet_past self.old) (quiet_past self.new)
+            (Entry.Open place.now.local place.now.port place.now.records place.now.conf_path result ∷ []) }
+        ensures cause { HasCause 0 0 result }
+        ensures stays { Stays self.old.host self.new.host }
+    {
+        let entry = open_entry(self.host.alloc, place, Ok(()));
         self.host.note(entry);
         Ok(())
     }
 
     fn next(&mut self, wait_ms: u64, into: &mut Datagram) -> Result<Arrival, Failed>
-        ensures past { GrewBy (quiet_past self.old) (quiet_past self.new) (Entry.Next wait_ms result into.new ∷ []) }
+        ensures past { GrewBy (quiet_past self.old) (quiet_past self.new)
+            (Entry.Next wait_ms result into.new ∷ []) }
         ensures cause { HasCause 0 0 result }
         ensures brought { IsQuietlyBrought (coming self.old.host) result into.new }
+        ensures begins { Begins self.old.host self.new.host }
     {
         let answer = match self.host.begin(into) {
             Ok(arrival) => Ok(arrival),
             Err(Failed) => Ok(Arrival::Quiet),
         };
-        let entry = came(self.host.alloc, wait_ms, answer, into.bytes());
+        let entry = next_entry(self.host.alloc, wait_ms, answer, into.bytes());
         self.host.note(entry);
         answer
     }
@@ -75,41 +124,57 @@ impl Host for QuietHost {
     fn now(&mut self) -> u64
         ensures past { GrewBy (quiet_past self.old) (quiet_past self.new) (Entry.Now result ∷ []) }
         ensures reading { result ≡ reading_of self.old.host }
+        ensures stays { Stays self.old.host self.new.host }
     {
         self.host.now()
     }
 
-    fn send(&mut self, to: &Peer, bytes: &[u8]) -> Result<(), Failed> {
-        let entry = sent(self.host.alloc, to, bytes, Ok(()));
+    fn send(&mut self, to: &Peer, bytes: &[u8]) -> Result<(), Failed>
+        ensures past { GrewBy (quiet_past self.old) (quiet_past self.new)
+            (Entry.Send to.now bytes.now result ∷ []) }
+        ensures cause { HasCause 0 0 result }
+        ensures stays { Stays self.old.host self.new.host }
+    {
+        let entry = send_entry(self.host.alloc, to, bytes, Ok(()));
         self.host.note(entry);
         Ok(())
     }
 
     fn kept(&mut self, ticket: &Name) -> Result<Option<Record>, Failed>
-        ensures past { GrewBy (quiet_past self.old) (quiet_past self.new) (Entry.Kept ticket.now result ∷ []) }
+        ensures past { GrewBy (quiet_past self.old) (quiet_past self.new)
+            (Entry.Kept ticket.now result ∷ []) }
         ensures cause { HasCause 0 0 result }
         ensures answer { result ≡ Ok (record_of (records_of self.old.host) ticket.now) }
-        ensures records { records_of self.new.host ≡ records_of self.old.host }
+        ensures stays { Stays self.old.host self.new.host }
     {
         let answer = Ok(self.host.record(ticket));
-        let entry = was_kept(self.host.alloc, ticket, answer);
+        let entry = kept_entry(self.host.alloc, ticket, answer);
         self.host.note(entry);
         answer
     }
 
     #[tactic(auto, using(crate::proofs::PastLemmas::one_behind_none))]
     fn keep(&mut self, ticket: &Name, rec: &Record) -> Result<(), Failed>
-        ensures past { GrewBy (quiet_past self.old) (quiet_past self.new) (Entry.Keep ticket.now rec.now result ∷ []) }
+        ensures past { GrewBy (quiet_past self.old) (quiet_past self.new)
+            (Entry.Keep ticket.now rec.now result ∷ []) }
         ensures cause { HasCause 0 0 result }
-        ensures records { IsSome (quiet_past self.new) → records_of self.new.host ≡ stored (records_of self.old.host) ticket.now rec.now }
+        ensures records { IsSome (quiet_past self.new) →
+            records_of self.new.host ≡ stored (records_of self.old.host) ticket.now rec.now }
+        ensures stays { StaysButRecords self.old.host self.new.host }
     {
         self.host.put(ticket, rec);
-        let entry = kept(self.host.alloc, ticket, rec, Ok(()));
+        let entry = keep_entry(self.host.alloc, ticket, rec, Ok(()));
         self.host.note(entry);
         Ok(())
     }
 
-    fn read_file(&mut self, alloc: Global, path: &str) -> Result<ByteText, ReadFault> {
+    fn read_file(&mut self, alloc: Global, path: &str) -> Result<ByteText, ReadFault>
+        ensures past { GrewBy (quiet_past self.old) (quiet_past self.new)
+            (Entry.ReadFile path.now result ∷ []) }
+        ensures cause { HasReadCause 0 0 result }
+        ensures file { ReadsQuietly (file_of self.old.host path.now) result }
+        ensures stays { Stays self.old.host self.new.host }
+    {
         let copy = match self.host.file(path) {
             Some(text) => ByteText::new(alloc, text.bytes()),
             None => ByteText::new(alloc, &[]),
@@ -118,31 +183,42 @@ impl Host for QuietHost {
             Ok(text) => Ok(text),
             Err(_) => Err(ReadFault::NoMemory),
         };
-        let entry = read(self.host.alloc, path, &answer);
+        let entry = read_file_entry(self.host.alloc, path, &answer);
         self.host.note(entry);
         answer
     }
 
     fn lock(&mut self, path: &str) -> Result<bool, Failed>
-        ensures past { GrewBy (quiet_past self.old) (quiet_past self.new) (Entry.Lock path.now result ∷ []) }
+        ensures past { GrewBy (quiet_past self.old) (quiet_past self.new)
+            (Entry.Lock path.now result ∷ []) }
         ensures cause { HasCause 0 0 result }
         ensures answer { result ≡ Ok (not (taken_in self.old.host)) }
-        ensures records { records_of self.new.host ≡ records_of self.old.host }
+        ensures stays { Stays self.old.host self.new.host }
     {
         let answer = Ok(!self.host.is_taken());
-        let entry = locked(self.host.alloc, path, answer);
+        let entry = lock_entry(self.host.alloc, path, answer);
         self.host.note(entry);
         answer
     }
 
-    fn out(&mut self, bytes: &[u8]) -> Result<(), Failed> {
-        let entry = printed(self.host.alloc, bytes, Ok(()));
+    fn out(&mut self, bytes: &[u8]) -> Result<(), Failed>
+        ensures past { GrewBy (quiet_past self.old) (quiet_past self.new)
+            (Entry.Out bytes.now result ∷ []) }
+        ensures cause { HasCause 0 0 result }
+        ensures stays { Stays self.old.host self.new.host }
+    {
+        let entry = out_entry(self.host.alloc, bytes, Ok(()));
         self.host.note(entry);
         Ok(())
     }
 
-    fn err(&mut self, bytes: &[u8]) -> Result<(), Failed> {
-        let entry = complained(self.host.alloc, bytes, Ok(()));
+    fn err(&mut self, bytes: &[u8]) -> Result<(), Failed>
+        ensures past { GrewBy (quiet_past self.old) (quiet_past self.new)
+            (Entry.Err bytes.now result ∷ []) }
+        ensures cause { HasCause 0 0 result }
+        ensures stays { Stays self.old.host self.new.host }
+    {
+        let entry = err_entry(self.host.alloc, bytes, Ok(()));
         self.host.note(entry);
         Ok(())
     }

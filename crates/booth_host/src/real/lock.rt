@@ -3,7 +3,10 @@
 use std::fs::{File, TryLockError};
 use std::io;
 use std::io::ErrorKind;
-use std::os::unix::fs::MetadataExt;
+use std::os::unix::fs::{MetadataExt, OpenOptionsExt};
+
+/// Who may open a lock file that is made here: its owner, since whoever can open it can hold its lock.
+const OWNER_ALONE: u32 = 0o600;
 
 // Whether these are one file, by whatever path each was opened.
 fn is_same(one: &File, other: &File) -> io::Result<bool> {
@@ -12,15 +15,33 @@ fn is_same(one: &File, other: &File) -> io::Result<bool> {
     Ok(one.dev() == other.dev() && one.ino() == other.ino())
 }
 
-// The file, which is made where it is missing. It is open for reading alone: where a standard stream was closed, the file
-// may get its number, and what is then said goes nowhere.
+// The file, which is made where it is missing. It is open for reading alone: where a standard stream was closed, the
+// file may get its number, and what is then said goes nowhere.
 fn open_or_make(rt: &HostRuntime, path: &str) -> io::Result<File> {
     match File::open(rt, path) {
         Err(error) if error.kind() == ErrorKind::NotFound => {}
         opened => return opened,
     }
-    File::options().write(true).create(true).open(rt, path)?;
+    File::options()
+        .write(true)
+        .create(true)
+        .mode(OWNER_ALONE)
+        .open(rt, path)?;
     File::open(rt, path)
+}
+
+// The file with its lock, or none where another holds it.
+fn locked(file: File) -> io::Result<Option<File>> {
+    match file.try_lock() {
+        Ok(()) => Ok(Some(file)),
+        Err(TryLockError::WouldBlock) => Ok(None),
+        Err(TryLockError::Error(error)) => Err(error),
+    }
+}
+
+/// The file at this path with its lock, which lasts while the file is open; none where another holds it.
+pub(super) fn lock_file(rt: &HostRuntime, path: &str) -> io::Result<Option<File>> {
+    locked(open_or_make(rt, path)?)
 }
 
 /// Takes the lock of a file, which stays open in `held`; false where another holds it.
@@ -33,12 +54,6 @@ pub(super) fn take_lock(rt: &HostRuntime, held: &mut Option<File>, path: &str) -
             Err(io::Error::from(ErrorKind::InvalidInput))
         };
     }
-    match file.try_lock() {
-        Ok(()) => {
-            *held = Some(file);
-            Ok(true)
-        }
-        Err(TryLockError::WouldBlock) => Ok(false),
-        Err(TryLockError::Error(error)) => Err(error),
-    }
+    *held = locked(file)?;
+    Ok(held.is_some())
 }

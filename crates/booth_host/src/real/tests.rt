@@ -1,17 +1,18 @@
-//! The real devices: a datagram each way on loopback, files, the clock, a lock.
+//! The real devices: datagrams on loopback, files, the clock, kept records, locks.
 use crate::{Arrival, Datagram, Failed, Host, Place, ReadFault, RealHost};
 use booth_base::{Address, Name, PathText, Peer};
 use booth_rec::{Lease, Record};
-use std::fs;
+use std::fs::File;
+use std::os::unix::fs::MetadataExt;
 use std::test::Fail;
+use std::time::{Duration, Instant, SystemTime};
+use std::{fs, thread};
 
 const LOOPBACK: Address = Address::V4([127, 0, 0, 1]);
 
-fn place(local: Option<Address>, port: u16) -> Result<Place, Fail> {
-    place_with(local, port, "")
-}
+const LOOPBACK_6: Address = Address::V6([0, 0, 0, 0, 0, 0, 0, 0, 0, 0, 0, 0, 0, 0, 0, 1]);
 
-fn place_with(local: Option<Address>, port: u16, records: &str) -> Result<Place, Fail> {
+fn place(local: Option<Address>, port: u16, records: &str) -> Result<Place, Fail> {
     Ok(Place {
         local,
         port,
@@ -20,129 +21,188 @@ fn place_with(local: Option<Address>, port: u16, records: &str) -> Result<Place,
     })
 }
 
-// Opens the first of a hundred ports that is free, and says which.
-fn open_somewhere(host: &mut RealHost) -> Result<u16, Fail> {
+fn new_host(rt: &HostRuntime) -> Result<RealHost, Fail> {
+    Ok(RealHost::new(rt.clone()?, rt.alloc())?)
+}
+
+// A host without an address that keeps its records in this directory.
+fn keeper(rt: &HostRuntime, directory: &str) -> Result<RealHost, Fail> {
+    let mut host = new_host(rt)?;
+    match host.open(&place(None, 0, directory)?) {
+        Ok(()) => Ok(host),
+        Err(Failed) => Err(Fail::from("not opened")),
+    }
+}
+
+// Opens the first of a hundred ports that is free, and says where it is.
+fn open_somewhere(host: &mut RealHost, address: Address) -> Result<Peer, Fail> {
     for port in 19_929..20_029 {
-        if host.open(&place(Some(LOOPBACK), port)?).is_ok() {
-            return Ok(port);
+        if host.open(&place(Some(address), port, "")?).is_ok() {
+            return Ok(Peer { address, port });
         }
     }
     Err(Fail::from("no free port"))
 }
 
-#[test]
-fn a_datagram_goes_each_way(rt: HostRuntime) -> Result<(), Fail> {
-    let alloc = rt.alloc();
-    let mut daemon = RealHost::new(rt.clone()?, alloc)?;
-    let mut client = RealHost::new(rt.clone()?, alloc)?;
-    let mut datagram = Datagram::new(alloc)?;
-    assert!(rt; daemon.next(1, &mut datagram).is_err());
-    assert!(rt; daemon.faults == 1);
-    let port = open_somewhere(&mut daemon)?;
-    assert!(rt; client.open(&place(Some(LOOPBACK), port)?).is_err());
-    assert!(rt; client.faults == 1);
-    assert!(rt; client.open(&place(None, 0)?).is_ok());
-    assert!(rt; daemon.next(1, &mut datagram) == Ok(Arrival::Quiet));
-    let request = [0x51u8; 48];
-    assert!(rt;
-        client
-            .send(
-                &Peer {
-                    address: LOOPBACK,
-                    port
-                },
-                &request
-            )
-            .is_ok()
-    );
-    let Ok(Arrival::Datagram(from)) = daemon.next(5000, &mut datagram) else {
-        return Err(Fail::from("the request did not come"));
-    };
-    assert_eq!(rt; datagram.bytes(), request.as_slice());
-    let reply = [0x52u8; 66];
-    assert!(rt; daemon.send(&from, &reply).is_ok());
-    let Ok(Arrival::Datagram(back)) = client.next(5000, &mut datagram) else {
-        return Err(Fail::from("the reply did not come"));
-    };
-    assert_eq!(rt; datagram.bytes(), reply.as_slice());
-    assert!(rt;
-        back == Peer {
-            address: LOOPBACK,
-            port
-        }
-    );
-    Ok(())
-}
-
-#[test]
-fn a_file_is_read_and_a_missing_one_is_a_failure(rt: HostRuntime) -> Result<(), Fail> {
-    let alloc = rt.alloc();
-    let mut host = RealHost::new(rt.clone()?, alloc)?;
-    assert!(rt; host.now() > 0);
-    let path = "booth-host-test.conf";
-    fs::write(&rt, path, "site=\"127.0.0.1\"\n")?;
-    let Ok(text) = host.read_file(alloc, path) else {
-        return Err(Fail::from("not read"));
-    };
-    fs::remove_file(&rt, path)?;
-    assert_eq!(rt; text.bytes(), b"site=\"127.0.0.1\"\n".as_slice());
-    assert_eq!(rt; host.faults, 0);
-    assert!(rt; host.read_file(alloc, path).err() == Some(ReadFault::Failed));
-    assert_eq!(rt; host.faults, 1);
-    Ok(())
-}
-
-// A host that keeps its records in this directory.
-fn keeper(rt: &HostRuntime, directory: &str) -> Result<RealHost, Fail> {
-    let mut host = RealHost::new(rt.clone()?, rt.alloc())?;
-    if host.open(&place_with(None, 0, directory)?).is_err() {
-        return Err(Fail::from("not opened"));
+// From whom the bytes came that one host sent to another.
+fn carried(from: &mut RealHost, to: &mut RealHost, at: &Peer, bytes: &[u8]) -> Result<Peer, Fail> {
+    let mut datagram = Datagram::new(to.rt.alloc())?;
+    if from.send(at, bytes).is_err() {
+        return Err(Fail::from("not sent"));
     }
-    Ok(host)
+    let Ok(Arrival::Datagram(peer)) = to.next(5000, &mut datagram) else {
+        return Err(Fail::from("nothing came"));
+    };
+    if datagram.bytes() == bytes {
+        Ok(peer)
+    } else {
+        Err(Fail::from("other bytes came"))
+    }
+}
+
+#[test]
+fn a_host_without_an_address_reaches_both_families(rt: HostRuntime) -> Result<(), Fail> {
+    let mut client = keeper(&rt, "")?;
+    for address in [LOOPBACK, LOOPBACK_6] {
+        let mut daemon = new_host(&rt)?;
+        let at = open_somewhere(&mut daemon, address)?;
+        let from = carried(&mut client, &mut daemon, &at, &[0x51; 48])?;
+        assert!(rt; from.address == address);
+        let back = carried(&mut daemon, &mut client, &from, &[0x52; 66])?;
+        assert!(rt; back == at);
+    }
+    Ok(())
+}
+
+#[test]
+fn a_port_is_opened_by_one_host(rt: HostRuntime) -> Result<(), Fail> {
+    let mut first = new_host(&rt)?;
+    let at = open_somewhere(&mut first, LOOPBACK)?;
+    let mut second = new_host(&rt)?;
+    assert!(rt; second.open(&place(Some(LOOPBACK), at.port, "")?).is_err());
+    assert!(rt; second.send(&at, b"x").is_err(), "nothing is open");
+    assert!(rt; second.faults == 2);
+    Ok(())
+}
+
+// What a next of 100 ms answers, and how many milliseconds it takes.
+fn waited(host: &mut RealHost) -> Result<(Result<Arrival, Failed>, u128), Fail> {
+    let mut datagram = Datagram::new(host.rt.alloc())?;
+    let start = Instant::now(&host.rt)?;
+    let answer = host.next(100, &mut datagram);
+    Ok((answer, start.elapsed(&host.rt)?.as_millis()))
+}
+
+// (The system's timer may be some milliseconds off.)
+#[test]
+fn a_next_waits_its_time(rt: HostRuntime) -> Result<(), Fail> {
+    let (answer, took) = waited(&mut new_host(&rt)?)?;
+    assert!(rt; answer == Err(Failed) && took >= 80, "unopened: {took} ms");
+    let (answer, took) = waited(&mut keeper(&rt, "")?)?;
+    assert!(rt;
+        answer == Ok(Arrival::Quiet) && took >= 80,
+        "opened: {took} ms"
+    );
+    Ok(())
+}
+
+#[test]
+fn a_file_is_read_whole(rt: HostRuntime) -> Result<(), Fail> {
+    let mut host = new_host(&rt)?;
+    let path = "booth-host-test.conf";
+    let mut long = [b'x'; 9000];
+    long[4096] = b'y';
+    long[8999] = b'z';
+    for text in [
+        b"".as_slice(),
+        b"site=\"127.0.0.1\"\n".as_slice(),
+        long.as_slice(),
+    ] {
+        fs::write(&rt, path, text)?;
+        let read = host.read_file(rt.alloc(), path);
+        assert!(rt;
+            read.is_ok_and(|read| read.bytes() == text),
+            "{} bytes",
+            text.len()
+        );
+    }
+    fs::remove_file(&rt, path)?;
+    assert_eq!(rt; host.faults, 0);
+    Ok(())
+}
+
+#[test]
+fn no_other_file_is_read(rt: HostRuntime) -> Result<(), Fail> {
+    let mut host = new_host(&rt)?;
+    let long = "booth-host-long";
+    File::create(&rt, long)?.set_len((1 << 30) + 1)?;
+    for path in [long, "booth-host-missing", ".", "/dev/null"] {
+        let read = host.read_file(rt.alloc(), path);
+        assert!(rt; read.err() == Some(ReadFault::Failed), "{path}");
+    }
+    fs::remove_file(&rt, long)?;
+    assert_eq!(rt; host.faults, 4);
+    Ok(())
+}
+
+#[test]
+fn the_clock_tells_milliseconds_since_1970(rt: HostRuntime) -> Result<(), Fail> {
+    let mut host = new_host(&rt)?;
+    let system = SystemTime::now(&rt)?.duration_since(SystemTime::UNIX_EPOCH);
+    let system = system.map_err(|_| Fail::from("before 1970"))?.as_millis();
+    let first = host.now();
+    thread::sleep(&rt, Duration::from_millis(3));
+    let second = host.now();
+    assert!(rt; (system..system + 60_000).contains(&u128::from(first)));
+    assert!(rt;
+        first % 1000 != 0 || second % 1000 != 0,
+        "whole seconds alone"
+    );
+    assert!(rt; first < second && host.faults == 0);
+    Ok(())
 }
 
 fn ticket() -> Result<Name, Fail> {
     Name::read(b"ticket-db8").map_err(|_| Fail::from("a name"))
 }
 
+// What a host reads of a ticket after another one kept this record.
+fn passed_on(rt: &HostRuntime, directory: &str, record: &Record) -> Result<Option<Record>, Fail> {
+    let name = ticket()?;
+    let mut first = keeper(rt, directory)?;
+    if first.keep(&name, record).is_err() {
+        return Err(Fail::from("not kept"));
+    }
+    drop(first);
+    let read = keeper(rt, directory)?.kept(&name);
+    read.map_err(|_| Fail::from("not read"))
+}
+
 #[test]
 fn a_kept_record_is_read_by_another_host(rt: HostRuntime) -> Result<(), Fail> {
-    let directory = "booth-host-kept/below";
-    let name = ticket()?;
-    let mut first = keeper(&rt, directory)?;
-    assert!(rt; first.kept(&name) == Ok(None), "the directory is missing");
-    for lease in [
-        None,
-        Some(Lease {
-            term: 7,
-            until: 1_600_000,
-        }),
-    ] {
+    let directory = "booth-host-kept";
+    let until = 1_600_000;
+    assert!(rt; keeper(&rt, directory)?.kept(&ticket()?) == Ok(None));
+    for lease in [None, Some(Lease { term: 7, until })] {
         let record = Record::plain(7, lease);
-        assert!(rt; first.keep(&name, &record).is_ok());
-        let mut second = keeper(&rt, directory)?;
-        assert!(rt; second.kept(&name) == Ok(Some(record)));
-        assert!(rt; second.faults == 0);
+        assert!(rt; passed_on(&rt, directory, &record)? == Some(record));
     }
-    assert!(rt; first.faults == 0);
-    fs::remove_dir_all(&rt, "booth-host-kept")?;
+    fs::remove_dir_all(&rt, directory)?;
     Ok(())
 }
 
 #[test]
-fn a_gate_before_no_record_is_a_failure(rt: HostRuntime) -> Result<(), Fail> {
+fn a_commit_byte_before_no_record_is_a_failure(rt: HostRuntime) -> Result<(), Fail> {
     let name = ticket()?;
     let mut host = keeper(&rt, "booth-host-torn")?;
-    fs::create_dir_all(&rt, "booth-host-torn")?;
     // "ticket-db8" in hexadecimal
     let file = "booth-host-torn/7469636b65742d646238.rec";
     let mut bytes = [0u8; 64];
     fs::write(&rt, file, bytes.as_slice())?;
-    assert!(rt; host.kept(&name) == Ok(None), "the gate is not open");
+    assert!(rt; host.kept(&name) == Ok(None), "nothing is committed");
     bytes[0] = 1;
     fs::write(&rt, file, bytes.as_slice())?;
-    assert!(rt; host.kept(&name).is_err());
-    assert!(rt; host.faults == 1);
+    assert!(rt; host.kept(&name).is_err() && host.faults == 1);
     fs::remove_dir_all(&rt, "booth-host-torn")?;
     Ok(())
 }
@@ -151,22 +211,47 @@ fn a_gate_before_no_record_is_a_failure(rt: HostRuntime) -> Result<(), Fail> {
 fn a_record_that_has_no_place_is_a_failure(rt: HostRuntime) -> Result<(), Fail> {
     let name = ticket()?;
     let record = Record::plain(1, None);
-    let mut unopened = RealHost::new(rt.clone()?, rt.alloc())?;
-    assert!(rt; unopened.keep(&name, &record).is_err());
-    assert!(rt; unopened.faults == 1);
-    fs::write(&rt, "booth-host-file", "")?;
-    let mut host = keeper(&rt, "booth-host-file")?;
-    assert!(rt;
-        host.keep(&name, &record).is_err(),
-        "a file stands where the directory should"
-    );
-    assert!(rt; host.faults == 1);
-    fs::remove_file(&rt, "booth-host-file")?;
+    for mut host in [new_host(&rt)?, keeper(&rt, "")?] {
+        assert!(rt; host.keep(&name, &record).is_err());
+        assert!(rt; host.kept(&name).is_err());
+        assert_eq!(rt; host.faults, 2);
+    }
     Ok(())
 }
 
-fn new_host(rt: &HostRuntime) -> Result<RealHost, Fail> {
-    Ok(RealHost::new(rt.clone()?, rt.alloc())?)
+fn mode(rt: &HostRuntime, path: &str) -> Result<u32, Fail> {
+    Ok(fs::metadata(rt, path)?.mode() & 0o777)
+}
+
+#[test]
+fn a_directory_of_records_has_one_host(rt: HostRuntime) -> Result<(), Fail> {
+    let directory = "booth-host-one";
+    let first = keeper(&rt, directory)?;
+    let mut second = new_host(&rt)?;
+    assert!(rt; second.open(&place(None, 0, directory)?).is_err());
+    assert!(rt; second.faults == 1 && mode(&rt, "booth-host-one/booth.lock")? == 0o600);
+    drop(first);
+    for _ in 0..2 {
+        assert!(rt; second.open(&place(None, 0, directory)?).is_ok());
+    }
+    fs::remove_dir_all(&rt, directory)?;
+    Ok(())
+}
+
+#[test]
+fn a_directory_that_cannot_be_is_not_opened(rt: HostRuntime) -> Result<(), Fail> {
+    let file = "booth-host-file";
+    fs::write(&rt, file, "")?;
+    let mut host = new_host(&rt)?;
+    for directory in [file, "booth-host-missing/below"] {
+        assert!(rt;
+            host.open(&place(None, 0, directory)?).is_err(),
+            "{directory}"
+        );
+    }
+    fs::remove_file(&rt, file)?;
+    assert_eq!(rt; host.faults, 2);
+    Ok(())
 }
 
 #[test]
@@ -174,7 +259,7 @@ fn a_lock_is_held_by_one_host(rt: HostRuntime) -> Result<(), Fail> {
     let path = "booth-host-test.lock";
     let mut first = new_host(&rt)?;
     let mut second = new_host(&rt)?;
-    assert!(rt; first.lock(path) == Ok(true));
+    assert!(rt; first.lock(path) == Ok(true) && mode(&rt, path)? == 0o600);
     assert!(rt; second.lock(path) == Ok(false));
     assert!(rt; first.lock(path) == Ok(true), "it is asked again");
     drop(first);

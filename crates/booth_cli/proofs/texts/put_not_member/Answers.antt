@@ -5,5 +5,5 @@ use Rattle.booth_cli.proofs.texts.put_not_member.Goals as goal
 
 pub returns-clause-bytes : goal.returns-clause-bytes
 returns-clause-bytes c =
-    two_pieces c.args.complaint.now (printed c.args.address.now) (codes " is not a member") c.put.new.self c.put-2.new.self
+    two_pieces c.args.line.now (printed c.args.address.now) (codes " is not a member") c.put.new.self c.put-2.new.self
     (rw (c.as_bytes.ensures.value, c.deref.ensures.0, c.print.ensures) at c.put.ensures) c.put-2.ensures

@@ -5,5 +5,5 @@ use Rattle.booth_cli.proofs.texts.put_value.Goals as goal
 
 pub returns-clause-bytes : goal.returns-clause-bytes
 returns-clause-bytes c =
-    two_pieces c.args.complaint.now (codes "bad value for ") (key_name c.args.key) c.put.new.self c.put-2.new.self
-    c.put.ensures (rw (c.as_bytes.ensures.value, c.key_text.ensures.name) at c.put-2.ensures)
+    two_pieces c.args.line.now (codes "bad value for ") (key_name c.args.key) c.put.new.self c.put-2.new.self
+    c.put.ensures (rw (c.as_bytes.ensures.value, c.key_name.ensures.name) at c.put-2.ensures)

@@ -1,0 +1,14 @@
+use Rattle.std.proofs.Common.{◌∙◌, arith}
+use Rattle.booth_node.proofs.LogLemmas.{one_turn, last_turn}
+use Rattle.booth_cli.proofs.serving.make_turns.Goals as goal
+
+pub returns-in-Stopped-clause-past : goal.returns-in-Stopped-clause-past
+returns-in-Stopped-clause-past g c =
+    last_turn c.loop-turn.invariant.past (rw c.loop-turn.invariant.station at c.in-Stopped.ensures.past)
+
+pub loop-turn-preserved : goal.loop-turn-preserved
+loop-turn-preserved g c = record {
+  past = one_turn c.loop-turn.invariant.past (rw c.loop-turn.invariant.station at c.in-Went.ensures.past);
+  station = c.in-Went.ensures.station ∙ c.loop-turn.invariant.station;
+  later = omega (arith, c.loop-turn.invariant.later, c.in-Went.ensures.later);
+}

@@ -1,0 +1,79 @@
+//! The daemon: its opening, and then its turns.
+ghost use Rattle.std.specs.Prelude.{◌≡◌, ◌≤◌, ◌^◌, ℕ};
+ghost use Rattle.booth_host.specs.Past.{GrewSome};
+ghost use Rattle.booth_node.specs.View.{station_of, state_of};
+ghost use Rattle.booth_node.specs.Log.{IsNodeLog, IsStoppedLog};
+ghost use Rattle.booth_cli.specs.Ending.{MatchEnding};
+ghost use Rattle.booth_cli.specs.Serving.{HasBlame, IsNodeRun, IsServed, IsServing};
+
+use crate::error_line::ErrorLine;
+use crate::opening::open;
+use crate::outcome::Ended;
+use crate::words::Asked;
+use crate::{Outcome, texts};
+use booth_host::Host;
+use booth_node::{Node, Turn};
+use std::alloc::Global;
+
+/// How many turns a daemon makes.
+const TURNS: u64 = 1 << 62;
+
+/// How a row of turns ended.
+enum Ending {
+    /// The last turn stopped.
+    Stopped,
+    /// All turns were made, and none stopped.
+    Spent,
+}
+
+// So many turns, or those up to the first that stops.
+fn make_turns<H: Host>(node: &mut Node, count: u64, host: &mut H) -> Ending
+    ensures past { MatchEnding result
+        (GrewSome (λ es. IsStoppedLog (station_of node.old) (state_of node.old) (state_of node.new) es)
+        (H.past host.old) (H.past host.new))
+        (GrewSome (λ es. IsNodeLog (station_of node.old) (state_of node.old) count
+        (state_of node.new) es) (H.past host.old) (H.past host.new)) }
+    ensures later { H.faults host.old ≤ H.faults host.new }
+{
+    for _turn in 0..count {
+        match node.turn(host) {
+            Turn::Stopped => return Ending::Stopped,
+            Turn::Went => {}
+        }
+    }
+    Ending::Spent
+}
+
+// The turns of a node, and how the daemon ends with them.
+fn run_node<H: Host>(node: &mut Node, host: &mut H) -> Ended
+    ensures past { GrewSome (IsNodeRun (station_of node.old) (state_of node.old)
+        (state_of node.new) result.outcome result.said) (H.past host.old) (H.past host.new) }
+    ensures served { IsServed result.outcome }
+    ensures blame { (before after : ℕ) → HasBlame result.outcome before after }
+    ensures later { H.faults host.old ≤ H.faults host.new }
+{
+    match make_turns(node, TURNS, host) {
+        Ending::Stopped => Ended {
+            outcome: Outcome::Done,
+            said: ErrorLine::none(),
+        },
+        Ending::Spent => Ended {
+            outcome: Outcome::TurnsSpent,
+            said: texts::line_of(b"turns spent"),
+        },
+    }
+}
+
+/// The calls of the daemon that was asked for, up to where its outcome is decided.
+pub(crate) fn serve<H: Host>(alloc: Global, asked: &Asked, host: &mut H) -> Ended
+    ensures past { GrewSome (IsServing asked.now.address asked.now.path result.outcome result.said)
+        (H.past host.old) (H.past host.new) }
+    ensures served { IsServed result.outcome }
+    ensures blame { HasBlame result.outcome (H.faults host.old) (H.faults host.new) }
+    ensures later { H.faults host.old ≤ H.faults host.new }
+{
+    match open(alloc, asked, host) {
+        Ok(mut node) => run_node(&mut node, host),
+        Err(ended) => ended,
+    }
+}
