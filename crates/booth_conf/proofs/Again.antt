@@ -17,13 +17,13 @@ use Rattle.booth_conf.specs.declared.members.Member.{Member as MemberOf}
 use Rattle.booth_conf.specs.declared.tickets.Prereq.{Prereq as PrereqOf}
 use Rattle.booth_conf.specs.declared.tickets.TicketConf.{TicketConf}
 use Rattle.booth_conf.specs.declared.faults.ConfFault.{ConfFault}
-use Rattle.booth_conf.specs.declared.readings.Said.{Said}
-use Rattle.booth_conf.specs.declared.readings.Said.TheVariants.{Empty, Pair}
+use Rattle.booth_conf.specs.declared.line_meaning.Said.{Said}
+use Rattle.booth_conf.specs.declared.line_meaning.Said.TheVariants.{Empty, Pair}
 use Rattle.booth_conf.specs.declared.settings.FileSetting.TheVariants.{Skew}
 use Rattle.booth_conf.specs.declared.settings.TicketSetting.TheVariants.{Renewal}
 use Rattle.booth_conf.specs.declared.settings.Setting.{Setting}
 use Rattle.booth_conf.specs.declared.settings.Setting.TheVariants.{File, Member, Of}
-use Rattle.booth_conf.proofs.FinishLemmas.{both_true}
+use Rattle.booth_conf.proofs.DefaultLemmas.{both_true}
 use Rattle.booth_conf.proofs.SaidLemmas.{all_said_found}
 use Rattle.booth_conf.proofs.LineAgain.{line_cut}
 use Rattle.booth_conf.proofs.SettingAgain.{is_printed, key_of, IsRead, setting_read, line_said, setting_fine}

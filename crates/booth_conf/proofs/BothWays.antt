@@ -105,8 +105,8 @@ begins_some (b ∷ bs) tail h = grind (arith, nat_tests)
 pub bare_only : (value tail : List ℕ) → begins_bare value ≡ true → stays_bare value tail ≡ true → ends_bare tail ≡ true → list_all is_value_byte value ≡ true → value_in (value ++ tail) ≡ Some value
 bare_only value tail b s e plain = begins_some value tail b ∙ rw (bare_of value tail s e, plain) refl
 
-begins_part : (b : ℕ) (bs : List ℕ) → is_blank b ≡ false → (b == 0x23) ≡ false → (b == 0x22 || b == 0x27) ≡ false → begins_bare (bare_part (b ∷ bs)) ≡ true
-begins_part b bs n h q = grind (arith, nat_tests)
+begins_section : (b : ℕ) (bs : List ℕ) → is_blank b ≡ false → (b == 0x23) ≡ false → (b == 0x22 || b == 0x27) ≡ false → begins_bare (bare_part (b ∷ bs)) ≡ true
+begins_section b bs n h q = grind (arith, nat_tests)
 
 pub bare_found : (b : ℕ) (bs value : List ℕ) → is_blank b ≡ false → (b == 0x23) ≡ false → (b == 0x22 || b == 0x27) ≡ false → bare (b ∷ bs) ≡ Some value → IsBare (b ∷ bs) value × (list_all is_value_byte value ≡ true)
 bare_found b bs value n h q e =
@@ -115,7 +115,7 @@ bare_found b bs value n h q e =
     let given : IsBare rest (bare_part rest) = record {
       tail = bare_tail rest;
       spelled = bare_parts rest;
-      begins = begins_part b bs n h q;
+      begins = begins_section b bs n h q;
       stays = bare_stays rest;
       ends = bare_ends rest;
     } in

@@ -3,7 +3,7 @@ use Rattle.std.proofs.Common.{◌≡◌, ◌<◌, ◌+◌, ℕ, List, [], ◌∷
 use Rattle.std.specs.List.{filter_map, enumerate_from}
 use Rattle.std.specs.Option.{option_or, is_some}
 use Rattle.std.proofs.lemmas.List.{drop_more}
-use Rattle.booth_conf.specs.Parts.{first}
+use Rattle.booth_conf.specs.Sections.{first}
 
 -- what f gives first of the elements with their places
 abbrev pub given : {X Y : Type 0} → (ℕ × X → Option Y) → ℕ → List X → Option Y

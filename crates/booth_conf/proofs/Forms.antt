@@ -11,8 +11,8 @@ use Rattle.booth_base.specs.Address.{Spells}
 use Rattle.booth_conf.specs.Values.{is_digit, worth, IsNumber, AreWords, IsText, IsCommand, IsTransport, IsMode, IsWeight, AreWeights, IsWeightList, IsKindWord, IsTestWord, IsPrereq, IsSetBy, IsTicketLine, HasValue, default_name, is_word_byte}
 use Rattle.booth_conf.specs.ValueReader.{number_in, number_within, when_within, text_in, command_in, transport_in, mode_in, address_in, name_in, value_in, ticket_in, weight_in, weight_added, weights_from, weights_in, one_word, four_words, kind_in, test_in, prereq_of, prereq_in, Words, setting_in}
 use Rattle.booth_conf.specs.declared.limits.TheConstants.{MEMBERS, SECONDS, WEIGHT}
-use Rattle.booth_conf.specs.declared.keys.Key.{Key}
-use Rattle.booth_conf.specs.declared.keys.Key.TheVariants as keys
+use Rattle.booth_conf.specs.declared.keys.ConfKey.{ConfKey}
+use Rattle.booth_conf.specs.declared.keys.ConfKey.TheVariants as keys
 use Rattle.booth_conf.specs.declared.tickets.GrantKind.{GrantKind}
 use Rattle.booth_conf.specs.declared.tickets.GrantKind.TheVariants.{Auto, Manual}
 use Rattle.booth_conf.specs.declared.tickets.Prereq.{Prereq as PrereqOf}
@@ -273,7 +273,7 @@ made_only Form read make r text s h = rw (r.only text h.value h.spelled) (ap (λ
 addresses : Reads Spells address_in
 addresses = record { found = address_found; only = address_only }
 
-pub setting_found : (key : Key) (text : List ℕ) (s : Setting) → setting_in key text ≡ Some s → HasValue key text s
+pub setting_found : (key : ConfKey) (text : List ℕ) (s : Setting) → setting_in key text ≡ Some s → HasValue key text s
 setting_found keys.Port text s e = made_found _ _ _ (numbers 1 65535) text s e
 setting_found keys.Transport text s e = made_found _ _ _ transports text s e
 setting_found keys.Authfile text s e = made_found _ _ _ (texts 1) text s e
@@ -296,7 +296,7 @@ setting_found keys.BeforeAcquireHandler text s e = made_found _ _ _ commands tex
 setting_found keys.AttrPrereq text s e = made_found _ _ _ prereqs text s e
 setting_found keys.Mode text s e = made_found _ _ _ modes text s e
 
-pub setting_only : (key : Key) (text : List ℕ) (s : Setting) → HasValue key text s → setting_in key text ≡ Some s
+pub setting_only : (key : ConfKey) (text : List ℕ) (s : Setting) → HasValue key text s → setting_in key text ≡ Some s
 setting_only keys.Port text s h = made_only _ _ _ (numbers 1 65535) text s h
 setting_only keys.Transport text s h = made_only _ _ _ transports text s h
 setting_only keys.Authfile text s h = made_only _ _ _ (texts 1) text s h

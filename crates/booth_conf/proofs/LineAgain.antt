@@ -13,12 +13,12 @@ use Rattle.booth_conf.specs.SaidReader.{said, said_of, said_by}
 use Rattle.booth_conf.specs.Reads.{lines_of}
 use Rattle.booth_conf.specs.Print.{written, pair_line, line_text}
 use Rattle.booth_conf.specs.Sound.{is_sayable}
-use Rattle.booth_conf.specs.declared.keys.Key.{Key}
-use Rattle.booth_conf.specs.declared.keys.Key.TheVariants as keys
+use Rattle.booth_conf.specs.declared.keys.ConfKey.{ConfKey}
+use Rattle.booth_conf.specs.declared.keys.ConfKey.TheVariants as keys
 use Rattle.booth_conf.specs.declared.settings.Setting.{Setting}
-use Rattle.booth_conf.specs.declared.readings.Said.TheVariants.{Pair}
+use Rattle.booth_conf.specs.declared.line_meaning.Said.TheVariants.{Pair}
 use Rattle.booth_conf.proofs.BothWays.{pair_only}
-use Rattle.booth_conf.proofs.FinishLemmas.{both_true}
+use Rattle.booth_conf.proofs.DefaultLemmas.{both_true}
 use Rattle.booth_conf.proofs.SaidLemmas.{named_only}
 use Rattle.booth_conf.proofs.SayLemmas.{is_formed}
 
@@ -48,7 +48,7 @@ pair_again name value named s =
       plain = b.0;
     })
 
-key_name : (key : Key) → is_key (row_of key).name ≡ true
+key_name : (key : ConfKey) → is_key (row_of key).name ≡ true
 key_name keys.Port = refl
 key_name keys.Transport = refl
 key_name keys.Authfile = refl
@@ -71,7 +71,7 @@ key_name keys.BeforeAcquireHandler = refl
 key_name keys.AttrPrereq = refl
 key_name keys.Mode = refl
 
-pub key_said : (key : Key) (value : List ℕ) (s : Setting) → is_sayable value ≡ true → setting_in key value ≡ Some s → said (pair_line (row_of key).name value) ≡ Pair key (Some s)
+pub key_said : (key : ConfKey) (value : List ℕ) (s : Setting) → is_sayable value ≡ true → setting_in key value ≡ Some s → said (pair_line (row_of key).name value) ≡ Pair key (Some s)
 key_said key value s say is =
     ap said_of (pair_again (row_of key).name value (key_name key) say) ∙ ap (said_by value) (named_only key) ∙ ap (λ o. Pair key o) is
 
@@ -114,7 +114,7 @@ pair_no_end name value named s =
     no_end_both name (codes " = " ++ written value) (key_no_end name (name_bytes name named)) (written_no_end value (list_all (is_other 0x22) value) (list_all (is_other 0x27) value) v)
 
 -- a line with its end, in front of a text
-pub line_cut : (key : Key) (value rest : List ℕ) → is_sayable value ≡ true → lines_of (line_text (row_of key).name value ++ rest) ≡ pair_line (row_of key).name value ∷ lines_of rest
+pub line_cut : (key : ConfKey) (value rest : List ℕ) → is_sayable value ≡ true → lines_of (line_text (row_of key).name value ++ rest) ≡ pair_line (row_of key).name value ∷ lines_of rest
 unfolding line_text
 line_cut key value rest s =
     ap lines_of (append_assoc (pair_line (row_of key).name value) (0x0A ∷ []) rest)

@@ -8,7 +8,7 @@ use Rattle.booth_conf.specs.Keys.{row_of}
 use Rattle.booth_conf.specs.Print.{line_text, lines_text, setting_name, setting_value, times_settings, weights_settings, handler_settings, prereq_setting, kind_word, kind_of, ticket_settings, authfile_settings, extra_setting, top_settings, printed}
 use Rattle.booth_conf.specs.Config.{ConfigSays}
 use Rattle.booth_conf.specs.declared.keys.KeyNo.{KeyNo}
-use Rattle.booth_conf.specs.declared.keys.Key.TheVariants as keys
+use Rattle.booth_conf.specs.declared.keys.ConfKey.TheVariants as keys
 use Rattle.booth_conf.specs.declared.settings.FileSetting.TheVariants.{Skew}
 use Rattle.booth_conf.specs.declared.tickets.TicketConf.{TicketConf}
 use Rattle.booth_conf.specs.declared.settings.TicketSetting.TheVariants.{Mode}

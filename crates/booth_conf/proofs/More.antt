@@ -5,21 +5,21 @@ use Rattle.std.specs.List.{filter_map, cons_option}
 use Rattle.std.specs.Prelude.{is_some, option_map}
 use Rattle.std.proofs.lemmas.Bool.Decides.{nat_tests}
 use Rattle.std.proofs.lemmas.List.Elements.{filter_map-append}
-use Rattle.booth_conf.specs.Parts.{PartSays, part_of, part_clash}
-use Rattle.booth_conf.specs.Rules.{OwnKeys, own, owns, default_own, file_in, member_in, prereqs_of, named_part, Summary, summary, open_part, placed_clash, clash, said_fault, setting_said, settings, line_fault, is_misplaced, value_fault}
+use Rattle.booth_conf.specs.Sections.{SectionSays, section_of, section_clash}
+use Rattle.booth_conf.specs.Rules.{OwnKeys, own, owns, default_own, file_in, member_in, prereqs_of, named_section, Summary, summary, open_section, placed_clash, clash, said_fault, setting_said, settings, line_fault, is_misplaced, value_fault}
 use Rattle.booth_conf.specs.Steps.{added, last_added, said_added}
-use Rattle.booth_conf.specs.declared.parts.NamedPart.{NamedPart}
-use Rattle.booth_conf.specs.declared.keys.Key.{Key}
+use Rattle.booth_conf.specs.declared.sections.NamedSection.{NamedSection}
+use Rattle.booth_conf.specs.declared.keys.ConfKey.{ConfKey}
 use Rattle.booth_conf.specs.declared.members.Member.{Member as MemberOf}
 use Rattle.booth_conf.specs.declared.tickets.Prereq.{Prereq as PrereqOf}
-use Rattle.booth_conf.specs.declared.readings.Said.{Said}
-use Rattle.booth_conf.specs.declared.readings.Said.TheVariants.{Empty, Broken, Unknown, Pair}
+use Rattle.booth_conf.specs.declared.line_meaning.Said.{Said}
+use Rattle.booth_conf.specs.declared.line_meaning.Said.TheVariants.{Empty, Broken, Unknown, Pair}
 use Rattle.booth_conf.specs.declared.faults.LineFault.TheVariants.{Misplaced, Repeated, DefaultLate}
 use Rattle.booth_conf.specs.declared.settings.FileSetting.{FileSetting}
 use Rattle.booth_conf.specs.declared.settings.TicketSetting.{TicketSetting}
 use Rattle.booth_conf.specs.declared.settings.Setting.{Setting}
 use Rattle.booth_conf.specs.declared.settings.Setting.TheVariants.{File, Member, Ticket, Defaults, Of}
-use Rattle.booth_conf.proofs.KeyLemmas.{kept, grows, top_more, part_more}
+use Rattle.booth_conf.proofs.KeyLemmas.{kept, grows, top_more, section_more}
 
 -- one ticket's keys, with more behind them
 abbrev pub with_more : List TicketSetting → OwnKeys → OwnKeys
@@ -111,9 +111,9 @@ then_none : {K : Type 0} (b : Bool) (k : K) (o : Option K) → cond b (Some k) o
 then_none true k o e = cc
 then_none false k o e = (refl, e)
 
-parts_more : (inherited : List PrereqOf) (defaults : Option PartSays) (o : OwnKeys) (os : List OwnKeys) (p : TicketSetting) → placed_clash (open_part defaults (map (named_part inherited) (o ∷ os))) p ≡ None → map (named_part inherited) (on_last (p ∷ []) (o ∷ os)) ≡ last_added (map (named_part inherited) (o ∷ os)) p
-parts_more inherited defaults o [] p h = ap (λ (x : PartSays). (record { name = o.name; part = x }) ∷ []) (part_more inherited o.keys p h)
-parts_more inherited defaults o (r ∷ rs) p h = ap (λ xs. named_part inherited o ∷ xs) (parts_more inherited defaults r rs p h)
+sections_more : (inherited : List PrereqOf) (defaults : Option SectionSays) (o : OwnKeys) (os : List OwnKeys) (p : TicketSetting) → placed_clash (open_section defaults (map (named_section inherited) (o ∷ os))) p ≡ None → map (named_section inherited) (on_last (p ∷ []) (o ∷ os)) ≡ last_added (map (named_section inherited) (o ∷ os)) p
+sections_more inherited defaults o [] p h = ap (λ (x : SectionSays). (record { name = o.name; section = x }) ∷ []) (section_more inherited o.keys p h)
+sections_more inherited defaults o (r ∷ rs) p h = ap (λ xs. named_section inherited o ∷ xs) (sections_more inherited defaults r rs p h)
 
 summary_file : (ss : List Setting) (f : FileSetting) → clash (summary ss) (File f) ≡ None → summary (ss ++ File f ∷ []) ≡ added (summary ss) (File f)
 summary_file ss f h =
@@ -125,37 +125,37 @@ summary_member ss m =
 
 summary_ticket : (ss : List Setting) (n : List ℕ) → summary (ss ++ Ticket n ∷ []) ≡ added (summary ss) (Ticket n)
 summary_ticket ss n =
-    rw (kept file_in ss (Ticket n) refl, kept member_in ss (Ticket n) refl, default_kept ss (Ticket n) refl refl, owns_kept ss (Ticket n) refl, map-append (named_part (prereqs_of (option_map (part_of []) (default_own ss)))) (owns ss) (titled n [] ∷ [])) refl
+    rw (kept file_in ss (Ticket n) refl, kept member_in ss (Ticket n) refl, default_kept ss (Ticket n) refl refl, owns_kept ss (Ticket n) refl, map-append (named_section (prereqs_of (option_map (section_of []) (default_own ss)))) (owns ss) (titled n [] ∷ [])) refl
 
-no_parts : (f : OwnKeys → NamedPart) (os : List OwnKeys) → nat_lt 0 (length (map f os)) ≡ false → os ≡ []
-no_parts f [] h = refl
-no_parts f (o ∷ os) h = grind (arith, nat_tests)
+no_sections : (f : OwnKeys → NamedSection) (os : List OwnKeys) → nat_lt 0 (length (map f os)) ≡ false → os ≡ []
+no_sections f [] h = refl
+no_sections f (o ∷ os) h = grind (arith, nat_tests)
 
-no_default : (f : List TicketSetting → PartSays) (o : Option (List TicketSetting)) → is_some (option_map f o) ≡ false → o ≡ None
+no_default : (f : List TicketSetting → SectionSays) (o : Option (List TicketSetting)) → is_some (option_map f o) ≡ false → o ≡ None
 no_default f None h = refl
 no_default f (Some o) h = cc
 
 summary_defaults : (ss : List Setting) → clash (summary ss) Defaults ≡ None → summary (ss ++ Defaults ∷ []) ≡ added (summary ss) Defaults
 summary_defaults ss h =
-    let defaults : Option PartSays = option_map (part_of []) (default_own ss) in
-    let t = then_none (is_some defaults) Repeated (cond (nat_lt 0 (length (map (named_part (prereqs_of defaults)) (owns ss)))) (Some DefaultLate) None) h in
-    let none : owns ss ≡ [] = no_parts (named_part (prereqs_of defaults)) (owns ss) (none_of _ DefaultLate t.1) in
-    let was : default_own ss ≡ None = no_default (part_of []) (default_own ss) t.0 in
+    let defaults : Option SectionSays = option_map (section_of []) (default_own ss) in
+    let t = then_none (is_some defaults) Repeated (cond (nat_lt 0 (length (map (named_section (prereqs_of defaults)) (owns ss)))) (Some DefaultLate) None) h in
+    let none : owns ss ≡ [] = no_sections (named_section (prereqs_of defaults)) (owns ss) (none_of _ DefaultLate t.1) in
+    let was : default_own ss ≡ None = no_default (section_of []) (default_own ss) t.0 in
     rw (kept file_in ss Defaults refl, kept member_in ss Defaults refl, default_none ss Defaults none, owns_kept ss Defaults refl, none, was) refl
 
 of_default : (ss : List Setting) (p : TicketSetting) (d : Option (List TicketSetting)) → owns ss ≡ [] → default_own ss ≡ d → clash (summary ss) (Of p) ≡ None → summary (ss ++ Of p ∷ []) ≡ added (summary ss) (Of p)
 of_default ss p None none was h = let e : Some Misplaced ≡ None = rw (none, was) at h in cc
 of_default ss p (Some o) none was h =
-    let c : part_clash (part_of [] o) p ≡ None = rw (none, was) at h in
-    rw (kept file_in ss (Of p) refl, kept member_in ss (Of p) refl, default_none ss (Of p) none, owns_more ss (Of p), none, was, part_more [] o p c) refl
+    let c : section_clash (section_of [] o) p ≡ None = rw (none, was) at h in
+    rw (kept file_in ss (Of p) refl, kept member_in ss (Of p) refl, default_none ss (Of p) none, owns_more ss (Of p), none, was, section_more [] o p c) refl
 
 of_ticket : (ss : List Setting) (p : TicketSetting) (o : OwnKeys) (os : List OwnKeys) → owns ss ≡ o ∷ os → clash (summary ss) (Of p) ≡ None → summary (ss ++ Of p ∷ []) ≡ added (summary ss) (Of p)
 of_ticket ss p o os some h =
-    let defaults : Option PartSays = option_map (part_of []) (default_own ss) in
+    let defaults : Option SectionSays = option_map (section_of []) (default_own ss) in
     let inherited : List PrereqOf = prereqs_of defaults in
-    let c : placed_clash (open_part defaults (map (named_part inherited) (o ∷ os))) p ≡ None = rw some at h in
-    let t : nat_lt 0 (length (map (named_part inherited) (o ∷ os))) ≡ true = grind (arith, nat_tests) in
-    rw (kept file_in ss (Of p) refl, kept member_in ss (Of p) refl, default_some ss (Of p) o os some, owns_more ss (Of p), some, append-nil (on_last (p ∷ []) (o ∷ os)), parts_more inherited defaults o os p c, t) refl
+    let c : placed_clash (open_section defaults (map (named_section inherited) (o ∷ os))) p ≡ None = rw some at h in
+    let t : nat_lt 0 (length (map (named_section inherited) (o ∷ os))) ≡ true = grind (arith, nat_tests) in
+    rw (kept file_in ss (Of p) refl, kept member_in ss (Of p) refl, default_some ss (Of p) o os some, owns_more ss (Of p), some, append-nil (on_last (p ∷ []) (o ∷ os)), sections_more inherited defaults o os p c, t) refl
 
 of_at : (ss : List Setting) (p : TicketSetting) (os : List OwnKeys) → owns ss ≡ os → clash (summary ss) (Of p) ≡ None → summary (ss ++ Of p ∷ []) ≡ added (summary ss) (Of p)
 of_at ss p [] e h = of_default ss p (default_own ss) e refl h
@@ -172,7 +172,7 @@ summary_more ss (Of p) h = of_at ss p (owns ss) refl h
 -- LINES
 
 -- the setting of a line without a fault does not clash
-pub pair_fine : (d : Summary) (key : Key) (o : Option Setting) → said_fault d (Pair key o) ≡ None → value_fault key d o ≡ None
+pub pair_fine : (d : Summary) (key : ConfKey) (o : Option Setting) → said_fault d (Pair key o) ≡ None → value_fault key d o ≡ None
 pair_fine d key o h = (then_none (is_misplaced key d) Misplaced (value_fault key d o) h).1
 
 said_more : (ss : List Setting) (s : Said) → said_fault (summary ss) s ≡ None → summary (ss ++ cons_option (setting_said s) []) ≡ said_added (summary ss) s

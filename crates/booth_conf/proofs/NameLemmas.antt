@@ -1,14 +1,15 @@
 -- The names of tickets, line by line.
 use Rattle.std.specs.Prelude.{slice_get}
-use Rattle.std.specs.List.{filter_map}
-use Rattle.std.proofs.Common.{◌≡◌, ◌<◌, ◌≤◌, ◌+◌, ◌-◌, ℕ, zero, suc, List, [], ◌∷◌, length, map, drop, get_or, Some, None, refl, sym, ap, ◌∙◌, arith}
+use Rattle.std.proofs.Common.{◌≡◌, ◌<◌, ◌≤◌, ◌+◌, ◌-◌, ℕ, zero, suc, Option, List, [], ◌∷◌, length, map, drop, get_or, Some, None, refl, sym, ap, ◌∙◌, arith}
 use Rattle.std.proofs.lemmas.List.{drop_all}
 use Rattle.booth_conf.specs.SaidReader.{said}
-use Rattle.booth_conf.specs.Names.{name_said}
+use Rattle.booth_conf.specs.Reads.{lines_of, said_lines}
+use Rattle.booth_conf.specs.Names.{name_said, names_said, NamesTicket}
+use Rattle.booth_conf.proofs.SaidLemmas.{all_said_found}
 
 -- the names on these lines
 abbrev pub names_of : List (List ℕ) → List (List ℕ)
-names_of lines = filter_map name_said (map said lines)
+names_of lines = names_said (map said lines)
 
 -- the lines from one on
 from_line : (lines : List (List ℕ)) (n : ℕ) (line : List ℕ) → n < length lines → line ≡ get_or lines n line → drop n lines ≡ line ∷ drop (suc n) lines
@@ -52,3 +53,9 @@ module _ (lines : List (List ℕ)) (n : ℕ) (line : List ℕ) (within : n < len
 -- no line is left
 pub none_left : (lines : List (List ℕ)) (n left : ℕ) → length lines ≤ n → slice_get (names_of (drop n lines)) left ≡ None
 none_left lines n left h = ap (λ ls. slice_get (names_of ls) left) (drop_all n lines h)
+
+-- the name that is read is the one that the lines say
+pub names_ticket : (text : List ℕ) (place : ℕ) (name : Option (List ℕ)) →
+    name ≡ slice_get (names_said (said_lines text)) place → NamesTicket text place name
+names_ticket text place name same =
+    record { said = said_lines text; reads = all_said_found (lines_of text); at_place = same }

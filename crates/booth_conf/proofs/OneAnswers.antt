@@ -5,8 +5,8 @@ use Rattle.booth_conf.specs.Reads.{lines_of, said_lines, fault_at}
 use Rattle.booth_conf.specs.Config.{ConfigSays, file_fault}
 use Rattle.booth_conf.specs.Says.{said_config, Says, HasLineFault, HasFileFault, IsFault, OneAnswer}
 use Rattle.booth_conf.specs.declared.limits.TheConstants.{TEXT_BYTES}
-use Rattle.booth_conf.specs.declared.readings.Said.{Said}
-use Rattle.booth_conf.specs.declared.readings.Said.TheVariants.{Empty}
+use Rattle.booth_conf.specs.declared.line_meaning.Said.{Said}
+use Rattle.booth_conf.specs.declared.line_meaning.Said.TheVariants.{Empty}
 use Rattle.booth_conf.specs.declared.faults.ConfFault.{ConfFault}
 use Rattle.booth_conf.specs.declared.faults.ConfFault.TheVariants.{TooLarge, Syntax, UnknownKey, Misplaced, BadValue, Repeated, DefaultLate, TooMany, NoSite, NoTicket, IdClash, Renewal, RetryTime, OutOfMemory}
 use Rattle.booth_conf.specs.declared.faults.LineFault.{LineFault}

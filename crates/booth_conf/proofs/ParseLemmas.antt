@@ -2,11 +2,10 @@
 use Rattle.std.proofs.Common.{◌≡◌, ◌≤◌, ◌+◌, ℕ, Bool, true, false, cond, List, [], ◌∷◌, ◌++◌, length, drop, Option, Some, None, Result, Ok, Err, refl, ap, ◌∙◌, sym, subst, inl, inr}
 use Rattle.std.specs.Prelude.{option_map, position}
 use Rattle.std.specs.List.{list_all, list_any, filter_map, enumerate_from, cons_option}
-use Rattle.booth_conf.specs.Parts.{first}
+use Rattle.booth_conf.specs.Sections.{first}
 use Rattle.booth_conf.specs.Rules.{Summary}
 use Rattle.booth_conf.specs.Reads.{lines_of, said_lines, ReadsLines, fault_at}
-use Rattle.booth_conf.specs.Config.{ConfigSays, config_of, is_site, no_site, no_ticket, is_reserved, reserved_id, has_id, same_id, time_fault, file_faults, file_fault}
-use Rattle.booth_conf.specs.Finish.{Finishes}
+use Rattle.booth_conf.specs.Config.{Completes, ConfigSays, config_of, is_site, no_site, no_ticket, is_reserved, reserved_id, has_id, same_id, time_fault, file_faults, file_fault}
 use Rattle.booth_conf.specs.Says.{said_config, HasLineFault, HasFileFault, IsFault, Parses}
 use Rattle.booth_conf.specs.declared.limits.TheConstants.{TEXT_BYTES}
 use Rattle.booth_conf.specs.declared.members.Member.{Member}
@@ -16,7 +15,7 @@ use Rattle.booth_conf.specs.declared.faults.ConfFault.TheVariants.{TooLarge, Syn
 use Rattle.booth_conf.specs.declared.faults.LineFault.{LineFault}
 use Rattle.booth_conf.specs.declared.faults.LineFault.TheVariants as faults
 use Rattle.booth_conf.proofs.SaidLemmas.{all_said_found}
-use Rattle.booth_conf.proofs.FinishLemmas.{both_true}
+use Rattle.booth_conf.proofs.DefaultLemmas.{both_true}
 
 -- FAULTS OF THE WHOLE FILE
 
@@ -118,8 +117,8 @@ line_fault_is text line faults.TooMany h = h
 
 -- THE ANSWER
 
-pub finish_parses : (text : List ℕ) (d : Summary) (r : Result ConfigSays ConfFault) → length text ≤ TEXT_BYTES → ReadsLines (Ok d) (said_lines text) → Finishes d r → Parses text r
-finish_parses text d (Ok c) short (fine, same) (value, whole) = record {
+pub complete_parses : (text : List ℕ) (d : Summary) (r : Result ConfigSays ConfFault) → length text ≤ TEXT_BYTES → ReadsLines (Ok d) (said_lines text) → Completes d r → Parses text r
+complete_parses text d (Ok c) short (fine, same) (value, whole) = record {
   short = short;
   said = said_lines text;
   reads = all_said_found (lines_of text);
@@ -127,8 +126,8 @@ finish_parses text d (Ok c) short (fine, same) (value, whole) = record {
   value = value ∙ ap config_of same;
   whole = whole;
 }
-finish_parses text d (Err f) short h (inl memory) = inl memory
-finish_parses text d (Err f) short (fine, same) (inr fault) = inr (file_fault_is text f (record {
+complete_parses text d (Err f) short h (inl memory) = inl memory
+complete_parses text d (Err f) short (fine, same) (inr fault) = inr (file_fault_is text f (record {
   short = short;
   said = said_lines text;
   reads = all_said_found (lines_of text);

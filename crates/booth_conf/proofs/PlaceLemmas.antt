@@ -3,7 +3,7 @@ use Rattle.std.proofs.Common.{◌≡◌, ◌<◌, ◌∙◌, ℕ, zero, suc, ari
 use Rattle.std.specs.Prelude.{bytes_eq}
 use Rattle.std.specs.List.{position, prefix_len}
 use Rattle.std.proofs.lemmas.List.{length-map}
-use Rattle.booth_conf.specs.Finish.{ticket_name, is_called, weights_at}
+use Rattle.booth_conf.specs.Lookups.{ticket_name, is_called, weights_at}
 use Rattle.booth_conf.specs.declared.tickets.TicketConf.{TicketConf}
 
 prefix-map : (p : List ℕ → Bool) (ts : List TicketConf) → prefix_len p (map ticket_name ts) ≡ prefix_len (λ t. p t.name) ts

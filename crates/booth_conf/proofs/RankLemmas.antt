@@ -6,7 +6,7 @@ use Rattle.std.proofs.lemmas.Bool.Decides.{nat_tests}
 use Rattle.std.proofs.lemmas.List.Sums.{count_by-le-length, sum_by-cons}
 use Rattle.std.proofs.lemmas.List.FromFn.{length-enumerate_from}
 use Rattle.booth_conf.specs.declared.members.Member.{Member}
-use Rattle.booth_conf.specs.Finish.{comes_before, rank_of}
+use Rattle.booth_conf.specs.Lookups.{comes_before, rank_of}
 
 at_most_one : (b : Bool) → cond b 1 0 ≤ 1
 at_most_one true = omega arith

@@ -13,14 +13,14 @@ use Rattle.booth_conf.specs.Said.{SaysKey, IsSaid}
 use Rattle.booth_conf.specs.SaidReader.{said}
 use Rattle.booth_conf.specs.Sound.{is_within, is_sayable, is_text, is_command, is_extra, is_byte, is_address, is_member, is_weight, are_weights, is_prereq, is_ticket_name}
 use Rattle.booth_conf.specs.SoundDraft.{are_some_weights}
-use Rattle.booth_conf.specs.declared.keys.Key.{Key}
-use Rattle.booth_conf.specs.declared.keys.Key.TheVariants as keys
+use Rattle.booth_conf.specs.declared.keys.ConfKey.{ConfKey}
+use Rattle.booth_conf.specs.declared.keys.ConfKey.TheVariants as keys
 use Rattle.booth_conf.specs.declared.settings.FileSetting.TheVariants.{Port, Transport, Authfile, Skew, Extra}
 use Rattle.booth_conf.specs.declared.settings.TicketSetting.TheVariants.{Expire, After, Timeout, Retries, Renewal, Weights, Handler, Prereq, Mode}
 use Rattle.booth_conf.specs.declared.settings.Setting.{Setting}
 use Rattle.booth_conf.specs.declared.settings.Setting.TheVariants.{File, Member, Ticket, Defaults, Of}
-use Rattle.booth_conf.specs.declared.readings.Said.{Said}
-use Rattle.booth_conf.specs.declared.readings.Said.TheVariants.{Pair}
+use Rattle.booth_conf.specs.declared.line_meaning.Said.{Said}
+use Rattle.booth_conf.specs.declared.line_meaning.Said.TheVariants.{Pair}
 use Rattle.booth_conf.proofs.SayLemmas.{pair_sayable, prereq_sound}
 use Rattle.booth_conf.proofs.SaidLemmas.{said_found}
 use Rattle.booth_conf.specs.declared.limits.TheConstants.{SECONDS}
@@ -112,7 +112,7 @@ ticket_form text s t (inr h) = rw (h.2, h.1, other_name text h.0, t) refl
 made_form : {X : Type 0} (Form : List ℕ → X → Type 0) (make : X → Setting) (text : List ℕ) (s : Setting) → IsSetBy Form make text s → ((x : X) → Form text x → is_setting (make x) ≡ true) → is_setting s ≡ true
 made_form Form make text s h k = rw h.set (k h.value h.spelled)
 
-pub setting_form : (key : Key) (text : List ℕ) (s : Setting) → is_sayable text ≡ true → HasValue key text s → is_setting s ≡ true
+pub setting_form : (key : ConfKey) (text : List ℕ) (s : Setting) → is_sayable text ≡ true → HasValue key text s → is_setting s ≡ true
 setting_form keys.Port text s t h = made_form _ _ text s h (λ n k. within 1 65535 text n k)
 setting_form keys.Transport text s t h = made_form _ _ text s h (λ n k. refl)
 setting_form keys.Authfile text s t h = made_form _ _ text s h (λ v k. text_form 1 text v t k)
@@ -136,10 +136,10 @@ setting_form keys.AttrPrereq text s t h = made_form _ _ text s h (λ q k. prereq
 setting_form keys.Mode text s t h = made_form _ _ text s h (λ kind k. refl)
 
 -- the setting of a line
-said_form : (line : List ℕ) (t : Said) (key : Key) (s : Setting) → IsSaid line t → t ≡ Pair key (Some s) → is_setting s ≡ true
+said_form : (line : List ℕ) (t : Said) (key : ConfKey) (s : Setting) → IsSaid line t → t ≡ Pair key (Some s) → is_setting s ≡ true
 said_form line t key s h e =
     let k : SaysKey line key (Some s) = subst (λ x. IsSaid line x) e h in
     setting_form key k.value s (pair_sayable line _ k.value k.pair) k.makes
 
-pub line_form : (line : List ℕ) (key : Key) (s : Setting) → said line ≡ Pair key (Some s) → is_setting s ≡ true
+pub line_form : (line : List ℕ) (key : ConfKey) (s : Setting) → said line ≡ Pair key (Some s) → is_setting s ≡ true
 line_form line key s e = said_form line (said line) key s (said_found line) e

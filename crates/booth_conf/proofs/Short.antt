@@ -14,8 +14,8 @@ use Rattle.booth_conf.specs.Print.{kind_word, test_word, prereq_text, weights_te
 use Rattle.booth_conf.specs.Sound.{is_within, is_sayable, is_text, is_extra, is_address, is_weight, are_weights, is_prereq, is_ticket, are_new, same_key, IsSound}
 use Rattle.booth_conf.specs.declared.limits.TheConstants.{MEMBERS, PREREQS, SECONDS, TEXT_BYTES, WEIGHT}
 use Rattle.booth_conf.specs.declared.keys.KeyNo.{KeyNo}
-use Rattle.booth_conf.specs.declared.keys.Key.{Key}
-use Rattle.booth_conf.specs.declared.keys.Key.TheVariants as keys
+use Rattle.booth_conf.specs.declared.keys.ConfKey.{ConfKey}
+use Rattle.booth_conf.specs.declared.keys.ConfKey.TheVariants as keys
 use Rattle.booth_conf.specs.declared.members.Member.{Member as MemberOf}
 use Rattle.booth_conf.specs.declared.tickets.GrantKind.{GrantKind}
 use Rattle.booth_conf.specs.declared.tickets.GrantKind.TheVariants.{Auto, Manual}
@@ -29,7 +29,7 @@ use Rattle.booth_conf.specs.declared.settings.TicketSetting.{TicketSetting}
 use Rattle.booth_conf.specs.declared.settings.TicketSetting.TheVariants.{Expire, After, Timeout, Retries, Renewal, Weights, Handler, Prereq, Mode}
 use Rattle.booth_conf.specs.declared.settings.Setting.{Setting}
 use Rattle.booth_conf.specs.declared.settings.Setting.TheVariants.{File, Member, Ticket, Defaults, Of}
-use Rattle.booth_conf.proofs.FinishLemmas.{both_true}
+use Rattle.booth_conf.proofs.DefaultLemmas.{both_true}
 use Rattle.booth_conf.proofs.SettingLemmas.{is_setting}
 use Rattle.booth_conf.proofs.SettingAgain.{is_printed, extra_key, extra_facts}
 use Rattle.booth_conf.proofs.ValueAgain.{PrereqFacts, prereq_facts}
@@ -113,7 +113,7 @@ line_len name value =
     let w : length (written value) ≤ length value + 2 = written_by value (list_all (is_other 0x22) value) (list_all (is_other 0x27) value) in
     omega (arith, w, length-append (pair_line name value) (0x0A ∷ []), length-append name (codes " = " ++ written value), length-append (codes " = ") (written value))
 
-name_most : (key : Key) → length (row_of key).name ≤ 22
+name_most : (key : ConfKey) → length (row_of key).name ≤ 22
 name_most keys.Port = lit≤ tt
 name_most keys.Transport = lit≤ tt
 name_most keys.Authfile = lit≤ tt
@@ -222,22 +222,22 @@ role_len : (site : Bool) → length (role_name site) ≤ 22
 role_len true = lit≤ tt
 role_len false = lit≤ tt
 
-part_len : (p : TicketSetting) → is_printed (Of p) ≡ true → length (line_text (setting_name (Of p)) (setting_value (Of p))) ≤ key_most p
-part_len (Expire n) h = omega (arith, line_len (row_of keys.Expire).name (decimal n), number_len 1 SECONDS n (lit< tt) h)
-part_len (After n) h = omega (arith, line_len (row_of keys.AcquireAfter).name (decimal n), number_len 0 SECONDS n (lit< tt) h)
-part_len (Timeout n) h = omega (arith, line_len (row_of keys.Timeout).name (decimal n), number_len 1 SECONDS n (lit< tt) h)
-part_len (Retries n) h = omega (arith, line_len (row_of keys.Retries).name (decimal n), number_len 3 100 n (lit< tt) h)
-part_len (Renewal n) h = omega (arith, line_len (row_of keys.RenewalFreq).name (decimal n), number_len 1 SECONDS n (lit< tt) h)
-part_len (Weights ws) h =
+section_len : (p : TicketSetting) → is_printed (Of p) ≡ true → length (line_text (setting_name (Of p)) (setting_value (Of p))) ≤ key_most p
+section_len (Expire n) h = omega (arith, line_len (row_of keys.Expire).name (decimal n), number_len 1 SECONDS n (lit< tt) h)
+section_len (After n) h = omega (arith, line_len (row_of keys.AcquireAfter).name (decimal n), number_len 0 SECONDS n (lit< tt) h)
+section_len (Timeout n) h = omega (arith, line_len (row_of keys.Timeout).name (decimal n), number_len 1 SECONDS n (lit< tt) h)
+section_len (Retries n) h = omega (arith, line_len (row_of keys.Retries).name (decimal n), number_len 3 100 n (lit< tt) h)
+section_len (Renewal n) h = omega (arith, line_len (row_of keys.RenewalFreq).name (decimal n), number_len 1 SECONDS n (lit< tt) h)
+section_len (Weights ws) h =
     let b = both_true (not (length ws.items == 0)) (are_weights ws.items) h in
     let c = both_true (nat_le (length ws.items) MEMBERS) (list_all is_weight ws.items) b.1 in
     let few : length ws.items ≤ MEMBERS = grind (arith, nat_tests, c.0) in
     omega (arith, line_len (row_of keys.Weights).name (weights_text ws.items), weights_len ws.items c.1)
-part_len (Handler text) h =
+section_len (Handler text) h =
     let b = both_true (is_text 1 text) _ h in
     omega (arith, line_len (row_of keys.BeforeAcquireHandler).name text, text_len 1 text b.0)
-part_len (Prereq q) h = omega (arith, line_len (row_of keys.AttrPrereq).name (prereq_text q), prereq_len q h)
-part_len (Mode kind) h = omega (arith, line_len (row_of keys.Mode).name (kind_word kind), kind_len kind)
+section_len (Prereq q) h = omega (arith, line_len (row_of keys.AttrPrereq).name (prereq_text q), prereq_len q h)
+section_len (Mode kind) h = omega (arith, line_len (row_of keys.Mode).name (kind_word kind), kind_len kind)
 
 setting_len : (s : Setting) → is_printed s ≡ true → length (line_text (setting_name s) (setting_value s)) ≤ line_most s
 setting_len (File f) h = file_len f h
@@ -248,7 +248,7 @@ setting_len (Ticket name) h =
     let a = both_true (is_name name) _ h in
     omega (arith, line_len (row_of keys.Ticket).name name, name_len name a.0)
 setting_len Defaults h = cc
-setting_len (Of p) h = part_len p h
+setting_len (Of p) h = section_len p h
 
 -- TOTALS
 

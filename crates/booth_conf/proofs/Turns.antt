@@ -6,8 +6,8 @@ use Rattle.booth_conf.specs.Steps.{said_added}
 use Rattle.booth_conf.specs.SaidReader.{said}
 use Rattle.booth_conf.specs.Answers.{Answers}
 use Rattle.booth_conf.specs.Reads.{ReadsLines, at_line}
-use Rattle.booth_conf.specs.declared.readings.Said.{Said}
-use Rattle.booth_conf.specs.declared.readings.Said.TheVariants.{Empty}
+use Rattle.booth_conf.specs.declared.line_meaning.Said.{Said}
+use Rattle.booth_conf.specs.declared.line_meaning.Said.TheVariants.{Empty}
 use Rattle.booth_conf.specs.declared.faults.LineFault.{LineFault}
 use Rattle.booth_conf.specs.declared.faults.Stop.{Stop}
 use Rattle.booth_conf.specs.declared.faults.Stop.TheVariants as stops

@@ -18,7 +18,7 @@ use Rattle.booth_conf.specs.declared.tickets.GrantKind.{GrantKind}
 use Rattle.booth_conf.specs.declared.tickets.GrantKind.TheVariants.{Auto, Manual}
 use Rattle.booth_conf.specs.declared.tickets.Prereq.{Prereq}
 use Rattle.booth_conf.specs.declared.settings.Setting.TheVariants.{Ticket}
-use Rattle.booth_conf.proofs.FinishLemmas.{both_true}
+use Rattle.booth_conf.proofs.DefaultLemmas.{both_true}
 use Rattle.booth_conf.proofs.Forms.{weights_only, prereq_only}
 use Rattle.booth_conf.proofs.SayLemmas.{name_bytes}
 use Rattle.booth_base.specs.declared.text.TheConstants.{PATH_BYTES}
@@ -230,7 +230,7 @@ prereq_words q n v =
     spaced q.name (0x20 ∷ (test_word q.equal ++ (0x20 ∷ q.value))) (test_word q.equal ∷ q.value ∷ []) (name_some q.name n) refl third in
     ([], 0x20 ∷ (q.name ++ (0x20 ∷ (test_word q.equal ++ (0x20 ∷ q.value)))), refl, refl, kind_some q.kind, refl, second)
 
--- what the test of a prerequisite says of its parts
+-- what the test of a prerequisite says of its words
 pub record PrereqFacts (q : Prereq) : Type 0 where
   pub name : is_name q.name ≡ true
   pub value : is_value q.value ≡ true

@@ -3,7 +3,7 @@ use Rattle.std.specs.Prelude.{◌≡◌, ◌==◌, ◌+◌, ℕ, List, map, Resu
 use Rattle.std.specs.List.{slice_split}
 use Rattle.booth_conf.specs.SaidReader.{said}
 use Rattle.booth_conf.specs.Rules.{Summary, summary, settings, AreFine, IsFirstFault}
-use Rattle.booth_conf.specs.declared.readings.Said.{Said}
+use Rattle.booth_conf.specs.declared.line_meaning.Said.{Said}
 use Rattle.booth_conf.specs.declared.faults.ConfFault.{ConfFault}
 use Rattle.booth_conf.specs.declared.faults.ConfFault.TheVariants as conf
 use Rattle.booth_conf.specs.declared.faults.LineFault.{LineFault}

@@ -13,8 +13,8 @@ use Rattle.booth_conf.specs.Keys.{number_of}
 use Rattle.booth_conf.specs.Values.{is_digit, worth, is_gap, is_word_byte, default_name, member_at}
 use Rattle.booth_conf.specs.declared.limits.TheConstants.{MEMBERS, SECONDS, WEIGHT}
 use Rattle.booth_conf.specs.declared.words.FourWords.{FourWords}
-use Rattle.booth_conf.specs.declared.keys.Key.{Key}
-use Rattle.booth_conf.specs.declared.keys.Key.TheVariants as keys
+use Rattle.booth_conf.specs.declared.keys.ConfKey.{ConfKey}
+use Rattle.booth_conf.specs.declared.keys.ConfKey.TheVariants as keys
 use Rattle.booth_conf.specs.declared.tickets.GrantKind.{GrantKind}
 use Rattle.booth_conf.specs.declared.tickets.GrantKind.TheVariants.{Auto, Manual}
 use Rattle.booth_conf.specs.declared.tickets.Prereq.{Prereq as PrereqOf}
@@ -152,10 +152,10 @@ prereq_in text = option_and_then prereq_of (four_words text)
 
 -- THE VALUE OF EACH KEY
 
-abbrev pub extra_in : Key → List ℕ → Option Setting
+abbrev pub extra_in : ConfKey → List ℕ → Option Setting
 extra_in key text = option_map (λ value. File (Extra (number_of key) value)) (text_in 0 text)
 
-abbrev pub setting_in : Key → List ℕ → Option Setting
+abbrev pub setting_in : ConfKey → List ℕ → Option Setting
 setting_in keys.Port text = option_map (λ n. File (Port n)) (number_within 1 65535 text)
 setting_in keys.Transport text = option_map (λ t. File (Transport t)) (transport_in text)
 setting_in keys.Authfile text = option_map (λ value. File (Authfile value)) (text_in 1 text)

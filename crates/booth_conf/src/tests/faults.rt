@@ -1,6 +1,6 @@
 //! Small texts and their first faults.
 use super::{bad, clash, fault, repeated, syntax};
-use crate::{ConfFault, KeyNo};
+use crate::ConfFault;
 use std::test::Fail;
 
 const SMALL: &str =
@@ -105,32 +105,4 @@ fn only_a_comment_may_hold_any_bytes(rt: HostRuntime) {
         fault(rt.alloc(), b"site=10.0.0.1\nticket=a\n\xff"),
         syntax(3)
     );
-}
-
-#[test]
-fn a_fault_is_told_in_words(rt: HostRuntime) -> Result<(), Fail> {
-    let key = KeyNo(13);
-    let table = [
-        (ConfFault::TooLarge, "too large"),
-        (ConfFault::Syntax { line: 5 }, "line 5: syntax"),
-        (ConfFault::UnknownKey { line: 5 }, "line 5: unknown key"),
-        (ConfFault::Misplaced { line: 5 }, "line 5: misplaced key"),
-        (
-            ConfFault::BadValue { line: 5, key },
-            "line 5: bad value for expire",
-        ),
-        (ConfFault::Repeated { line: 5 }, "line 5: repeated"),
-        (
-            ConfFault::DefaultLate { line: 5 },
-            "line 5: __default__ must come first",
-        ),
-        (ConfFault::TooMany { line: 5 }, "line 5: too many"),
-        (ConfFault::NoSite, "no site"),
-        (ConfFault::NoTicket, "no ticket"),
-    ];
-    for (fault, want) in table {
-        let shown = format!(in rt.alloc(); "{fault}")?;
-        assert_eq!(rt; shown.as_str(), want);
-    }
-    Ok(())
 }

@@ -5,7 +5,7 @@ use Rattle.std.proofs.lemmas.Iterator.Consumers.{YieldsList-turn, YieldsList-end
 use Rattle.booth_conf.specs.Rules.{summary, settings}
 use Rattle.booth_conf.specs.SaidReader.{said}
 use Rattle.booth_conf.specs.Reads.{lines_of, said_lines}
-use Rattle.booth_conf.specs.declared.readings.Said.{Said}
+use Rattle.booth_conf.specs.declared.line_meaning.Said.{Said}
 use Rattle.booth_conf.proofs.Turns.{AtLine, at_line_of, draft_more, fine_more, reads_err}
 use Rattle.booth_conf.proofs.lines.read.Goals as goal
 

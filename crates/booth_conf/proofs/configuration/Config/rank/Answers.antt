@@ -1,6 +1,6 @@
 use Rattle.std.proofs.Common.{◌≡◌, ◌<◌, ◌≤◌, length, arith, ap, ◌∙◌, IsTrue, subst, sym}
 use Rattle.booth_conf.specs.Config.{ConfigSays}
-use Rattle.booth_conf.specs.Finish.{rank_of, weights_at}
+use Rattle.booth_conf.specs.Lookups.{rank_of, weights_at}
 use Rattle.booth_conf.specs.declared.limits.TheConstants.{MEMBERS}
 use Rattle.booth_conf.proofs.PlaceLemmas.{weights_here}
 use Rattle.booth_conf.proofs.RankLemmas.{rank_below}
