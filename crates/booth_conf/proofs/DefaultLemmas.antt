@@ -16,33 +16,39 @@ use Rattle.booth_conf.specs.declared.sections.NamedSection.{NamedSection}
 use Rattle.booth_conf.specs.declared.limits.TheConstants.{SECONDS}
 
 -- a value that is chosen passes the test that each choice passes
-each_chosen : {X : Type 0} (p : X → Bool) (own default : Option X) (table : X) → each p own ≡ true → each p default ≡ true → p table ≡ true → p (chosen own default table) ≡ true
+each_chosen : {X : Type 0} (p : X → Bool) (own default : Option X) (table : X) → each p own ≡ true →
+    each p default ≡ true → p table ≡ true → p (chosen own default table) ≡ true
 each_chosen p None None table h k t = t
 each_chosen p None (Some x) table h k t = k
 each_chosen p (Some x) default table h k t = h
 
-each_or : {X : Type 0} (p : X → Bool) (own default : Option X) → each p own ≡ true → each p default ≡ true → each p (option_or own default) ≡ true
+each_or : {X : Type 0} (p : X → Bool) (own default : Option X) → each p own ≡ true →
+    each p default ≡ true → each p (option_or own default) ≡ true
 each_or p None default h k = k
 each_or p (Some x) default h k = h
 
-each_unwrap : {X : Type 0} (p : X → Bool) (o : Option X) (table : X) → each p o ≡ true → p table ≡ true → p (unwrap_or o table) ≡ true
+each_unwrap : {X : Type 0} (p : X → Bool) (o : Option X) (table : X) → each p o ≡ true →
+    p table ≡ true → p (unwrap_or o table) ≡ true
 each_unwrap p None table h t = t
 each_unwrap p (Some x) table h t = h
 
 -- TIMES
 
-whole_seconds : (least n : ℕ) → is_within least SECONDS n ≡ true → is_seconds least (1000 * n) ≡ true
+whole_seconds : (least n : ℕ) → is_within least SECONDS n ≡ true →
+    is_seconds least (1000 * n) ≡ true
 whole_seconds least n h =
     let e : 1000 * n / 1000 ≡ n = omega arith in
     rw (e, h) (grind (arith, nat_tests))
 
-renewal_sound : (o : Option ℕ) (times : Times) → times.renewal ≡ renewal_of o times.expire → each (is_within 1 SECONDS) o ≡ true → is_renewal times ≡ true
+renewal_sound : (o : Option ℕ) (times : Times) → times.renewal ≡ renewal_of o times.expire →
+    each (is_within 1 SECONDS) o ≡ true → is_renewal times ≡ true
 renewal_sound None times e h = grind (arith, nat_tests)
 renewal_sound (Some n) times e h =
     let s : is_seconds 1 times.renewal ≡ true = rw e (whole_seconds 1 n h) in
     grind (arith, nat_tests)
 
-all_five : (a b c d e : Bool) → a ≡ true → b ≡ true → c ≡ true → d ≡ true → e ≡ true → (a && (b && (c && (d && e)))) ≡ true
+all_five : (a b c d e : Bool) → a ≡ true → b ≡ true → c ≡ true → d ≡ true → e ≡ true →
+    (a && (b && (c && (d && e)))) ≡ true
 all_five a b c d e f g h i j = rw (f, g, h, i, j) refl
 
 -- what the test of a section says of each of its keys
@@ -71,7 +77,8 @@ section_facts p h =
     let g = both_true _ _ f.1 in
     record { expire = a.0; after = b.0; timeout = c.0; retries = d.0; renewal = e.0; weights = f.0; handler = g.0; prereqs = g.1 }
 
-times_sound : (defaults own : SectionSays) → SectionFacts defaults → SectionFacts own → are_times (times_of defaults own) ≡ true
+times_sound : (defaults own : SectionSays) → SectionFacts defaults → SectionFacts own →
+    are_times (times_of defaults own) ≡ true
 times_sound defaults own d o =
     all_five _ _ _ _ _
     (whole_seconds 1 (chosen own.expire defaults.expire 600) (each_chosen (is_within 1 SECONDS) own.expire defaults.expire 600 o.expire d.expire refl))
@@ -82,7 +89,8 @@ times_sound defaults own d o =
 
 -- TICKETS
 
-ticket_sound : (defaults : SectionSays) (t : NamedSection) → SectionFacts defaults → is_named_section t ≡ true → is_ticket (ticket_of defaults t) ≡ true
+ticket_sound : (defaults : SectionSays) (t : NamedSection) → SectionFacts defaults →
+    is_named_section t ≡ true → is_ticket (ticket_of defaults t) ≡ true
 ticket_sound defaults t d h =
     let n = both_true (is_ticket_name t.name) (is_section t.section) h in
     let o : SectionFacts t.section = section_facts t.section n.1 in
@@ -93,29 +101,36 @@ ticket_sound defaults t d h =
     (each_or is_command t.section.handler defaults.handler o.handler d.handler)
     o.prereqs
 
-tickets_sound : (defaults : SectionSays) (ts : List NamedSection) → SectionFacts defaults → list_all is_named_section ts ≡ true → list_all is_ticket (map (ticket_of defaults) ts) ≡ true
+tickets_sound : (defaults : SectionSays) (ts : List NamedSection) → SectionFacts defaults →
+    list_all is_named_section ts ≡ true → list_all is_ticket (map (ticket_of defaults) ts) ≡ true
 tickets_sound defaults [] d h = refl
 tickets_sound defaults (t ∷ ts) d h =
     let b = both_true (is_named_section t) (list_all is_named_section ts) h in
     rw (ticket_sound defaults t d b.0) (tickets_sound defaults ts d b.1)
 
-same_any : (defaults : SectionSays) (t : NamedSection) (before : List NamedSection) → list_any (same_ticket (ticket_of defaults t)) (map (ticket_of defaults) before) ≡ list_any (same_section t) before
+same_any : (defaults : SectionSays) (t : NamedSection) (before : List NamedSection) →
+    list_any (same_ticket (ticket_of defaults t)) (map (ticket_of defaults) before) ≡ list_any (same_section t) before
 same_any defaults t [] = refl
 same_any defaults t (u ∷ us) = rw (same_any defaults t us) refl
 
-new_sound : (defaults : SectionSays) (before ts : List NamedSection) → are_new same_section before ts ≡ true → are_new same_ticket (map (ticket_of defaults) before) (map (ticket_of defaults) ts) ≡ true
+new_sound : (defaults : SectionSays) (before ts : List NamedSection) →
+    are_new same_section before ts ≡ true →
+    are_new same_ticket (map (ticket_of defaults) before) (map (ticket_of defaults) ts) ≡ true
 new_sound defaults before [] h = refl
 new_sound defaults before (t ∷ ts) h =
-    let b = both_true (not (list_any (same_section t) before)) (are_new same_section (before ++ t ∷ []) ts) h in
+    let b =
+    both_true (not (list_any (same_section t) before)) (are_new same_section (before ++ t ∷ []) ts) h in
     rw (same_any defaults t before, b.0, ← map-append (ticket_of defaults) before (t ∷ [])) (new_sound defaults (before ++ t ∷ []) ts b.1)
 
 empty_section : is_section (section_of [] []) ≡ true
 empty_section = refl
 
 defaults_facts : (d : Summary) → IsSoundDraft d → SectionFacts (defaults_of d)
-defaults_facts d h = section_facts (defaults_of d) (each_unwrap is_section d.defaults (section_of [] []) h.defaults empty_section)
+defaults_facts d h =
+    section_facts (defaults_of d) (each_unwrap is_section d.defaults (section_of [] []) h.defaults empty_section)
 
-pub config_sound : (d : Summary) → IsSoundDraft d → file_fault (config_of d).members (config_of d).tickets ≡ None → IsSound (config_of d)
+pub config_sound : (d : Summary) → IsSoundDraft d →
+    file_fault (config_of d).members (config_of d).tickets ≡ None → IsSound (config_of d)
 config_sound d h none =
     let facts : SectionFacts (defaults_of d) = defaults_facts d h in
     record {
@@ -133,6 +148,7 @@ config_sound d h none =
       no_fault = ap is_some none;
     }
 
-pub names_of : (defaults : SectionSays) (ts : List NamedSection) → map name_of ts ≡ map ticket_name (map (ticket_of defaults) ts)
+pub names_of : (defaults : SectionSays) (ts : List NamedSection) →
+    map name_of ts ≡ map ticket_name (map (ticket_of defaults) ts)
 names_of defaults [] = refl
 names_of defaults (t ∷ ts) = ap (λ ns. t.name ∷ ns) (names_of defaults ts)

@@ -41,7 +41,8 @@ extra_key key = unwrap_or (key_numbered key) keys.Debug
 -- what is known of one of the five keys without effect
 pub record ExtraFacts (key : KeyNo) : Type 0 where
   pub name : unwrap_or (name_at key) [] ≡ (row_of (extra_key key)).name
-  pub reads : (text : List ℕ) → is_text 0 text ≡ true → setting_in (extra_key key) text ≡ Some (File (Extra key text))
+  pub reads : (text : List ℕ) → is_text 0 text ≡ true →
+      setting_in (extra_key key) text ≡ Some (File (Extra key text))
 
 extra_five : ExtraFacts (record { 0 = 5 })
 extra_five = record { name = refl; reads = λ text h. ap (option_map (λ v. File (Extra (record { 0 = 5 }) v))) (text_again 0 text h) }
@@ -65,7 +66,8 @@ facts_at : (n : ℕ) → (n ≡ 5) ⊎ (n ≡ 6) ⊎ (n ≡ 7) ⊎ (n ≡ 8) ⊎
 facts_at n (inl e) = subst (λ m. ExtraFacts (record { 0 = m })) (sym e) extra_five
 facts_at n (inr (inl e)) = subst (λ m. ExtraFacts (record { 0 = m })) (sym e) extra_six
 facts_at n (inr (inr (inl e))) = subst (λ m. ExtraFacts (record { 0 = m })) (sym e) extra_seven
-facts_at n (inr (inr (inr (inl e)))) = subst (λ m. ExtraFacts (record { 0 = m })) (sym e) extra_eight
+facts_at n (inr (inr (inr (inl e)))) =
+    subst (λ m. ExtraFacts (record { 0 = m })) (sym e) extra_eight
 facts_at n (inr (inr (inr (inr e)))) = subst (λ m. ExtraFacts (record { 0 = m })) (sym e) extra_nine
 
 pub extra_facts : (key : KeyNo) → is_within 5 9 key.0 ≡ true → ExtraFacts key
@@ -110,7 +112,9 @@ pub record IsRead (s : Setting) : Type 0 where
   pub reads : setting_in (key_of s) (setting_value s) ≡ Some s
 
 pub line_said : (s : Setting) → IsRead s → said (setting_line s) ≡ Pair (key_of s) (Some s)
-line_said s r = ap (λ n. said (n ++ (codes " = " ++ written (setting_value s)))) r.name ∙ key_said (key_of s) (setting_value s) s r.sayable r.reads
+line_said s r =
+    ap (λ n. said (n ++ (codes " = " ++ written (setting_value s)))) r.name
+    ∙ key_said (key_of s) (setting_value s) s r.sayable r.reads
 
 -- a setting of which a line can be printed: weights have to be there
 abbrev pub is_printed : Setting → Bool
@@ -128,7 +132,9 @@ is_printed (Of (Handler text)) = is_setting (Of (Handler text))
 is_printed (Of (Prereq q)) = is_setting (Of (Prereq q))
 is_printed (Of (Mode kind)) = true
 
-number_read : (least most n : ℕ) (make : ℕ → Setting) → most < 10000000000 → is_within least most n ≡ true → option_map make (number_within least most (decimal n)) ≡ Some (make n)
+number_read : (least most n : ℕ) (make : ℕ → Setting) → most < 10000000000 →
+    is_within least most n ≡ true →
+    option_map make (number_within least most (decimal n)) ≡ Some (make n)
 number_read least most n make top h = ap (option_map make) (within_again least most n top h)
 
 file_read : (f : FileSetting) → is_setting (File f) ≡ true → IsRead (File f)
@@ -145,20 +151,26 @@ role_name_is : (site : Bool) → role_name site ≡ (row_of (role_key site)).nam
 role_name_is true = refl
 role_name_is false = refl
 
-member_read_at : (site : Bool) (m : MemberOf) → m.site ≡ site → is_member m ≡ true → setting_in (role_key site) (address_text m.address) ≡ Some (Member m)
+member_read_at : (site : Bool) (m : MemberOf) → m.site ≡ site → is_member m ≡ true →
+    setting_in (role_key site) (address_text m.address) ≡ Some (Member m)
 member_read_at true m e h =
     let b = both_true (is_address m.address) (m.id.0 == id_of m.address) h in
-    ap (option_map (λ a. Member (member_at true a))) (address_again m.address b.0) ∙ ap (λ s. Some (Member (member_at s m.address))) (sym e) ∙ ap (λ x. Some (Member x)) (member_again m h)
+    ap (option_map (λ a. Member (member_at true a))) (address_again m.address b.0)
+    ∙ ap (λ s. Some (Member (member_at s m.address))) (sym e)
+    ∙ ap (λ x. Some (Member x)) (member_again m h)
 member_read_at false m e h =
     let b = both_true (is_address m.address) (m.id.0 == id_of m.address) h in
-    ap (option_map (λ a. Member (member_at false a))) (address_again m.address b.0) ∙ ap (λ s. Some (Member (member_at s m.address))) (sym e) ∙ ap (λ x. Some (Member x)) (member_again m h)
+    ap (option_map (λ a. Member (member_at false a))) (address_again m.address b.0)
+    ∙ ap (λ s. Some (Member (member_at s m.address))) (sym e)
+    ∙ ap (λ x. Some (Member x)) (member_again m h)
 
 member_read : (m : MemberOf) → is_member m ≡ true → IsRead (Member m)
 member_read m h =
     let b = both_true (is_address m.address) (m.id.0 == id_of m.address) h in
     record { name = role_name_is m.site; sayable = address_sayable m.address b.0; reads = member_read_at m.site m refl h }
 
-weights_read : (ws : List ℕ) → (not (length ws == 0) && are_weights ws) ≡ true → IsRead (Of (Weights (record { items = ws })))
+weights_read : (ws : List ℕ) → (not (length ws == 0) && are_weights ws) ≡ true →
+    IsRead (Of (Weights (record { items = ws })))
 weights_read [] h = cc
 weights_read (n ∷ ns) h =
     let b = both_true (not (length (n ∷ ns) == 0)) (are_weights (n ∷ ns)) h in
@@ -189,27 +201,37 @@ setting_read (Of p) h = section_read p h
 -- NO FAULT
 
 -- a setting that does not clash makes no fault of its line
-extra_file : (n : ℕ) → (n ≡ 5) ⊎ (n ≡ 6) ⊎ (n ≡ 7) ⊎ (n ≡ 8) ⊎ (n ≡ 9) → is_of_ticket (row_of (extra_key (record { 0 = n }))).scope ≡ false
-extra_file n (inl e) = subst (λ m. is_of_ticket (row_of (extra_key (record { 0 = m }))).scope ≡ false) (sym e) refl
-extra_file n (inr (inl e)) = subst (λ m. is_of_ticket (row_of (extra_key (record { 0 = m }))).scope ≡ false) (sym e) refl
-extra_file n (inr (inr (inl e))) = subst (λ m. is_of_ticket (row_of (extra_key (record { 0 = m }))).scope ≡ false) (sym e) refl
-extra_file n (inr (inr (inr (inl e)))) = subst (λ m. is_of_ticket (row_of (extra_key (record { 0 = m }))).scope ≡ false) (sym e) refl
-extra_file n (inr (inr (inr (inr e)))) = subst (λ m. is_of_ticket (row_of (extra_key (record { 0 = m }))).scope ≡ false) (sym e) refl
+extra_file : (n : ℕ) → (n ≡ 5) ⊎ (n ≡ 6) ⊎ (n ≡ 7) ⊎ (n ≡ 8) ⊎ (n ≡ 9) →
+    is_of_ticket (row_of (extra_key (record { 0 = n }))).scope ≡ false
+extra_file n (inl e) =
+    subst (λ m. is_of_ticket (row_of (extra_key (record { 0 = m }))).scope ≡ false) (sym e) refl
+extra_file n (inr (inl e)) =
+    subst (λ m. is_of_ticket (row_of (extra_key (record { 0 = m }))).scope ≡ false) (sym e) refl
+extra_file n (inr (inr (inl e))) =
+    subst (λ m. is_of_ticket (row_of (extra_key (record { 0 = m }))).scope ≡ false) (sym e) refl
+extra_file n (inr (inr (inr (inl e)))) =
+    subst (λ m. is_of_ticket (row_of (extra_key (record { 0 = m }))).scope ≡ false) (sym e) refl
+extra_file n (inr (inr (inr (inr e)))) =
+    subst (λ m. is_of_ticket (row_of (extra_key (record { 0 = m }))).scope ≡ false) (sym e) refl
 
-file_fine : (d : Summary) (f : FileSetting) → is_setting (File f) ≡ true → clash d (File f) ≡ None → said_fault d (Pair (file_key f) (Some (File f))) ≡ None
+file_fine : (d : Summary) (f : FileSetting) → is_setting (File f) ≡ true → clash d (File f) ≡ None →
+    said_fault d (Pair (file_key f) (Some (File f))) ≡ None
 file_fine d (Port n) w h = h
 file_fine d (Transport t) w h = h
 file_fine d (Authfile text) w h = h
 file_fine d (Skew n) w h = h
 file_fine d (Extra key text) w h =
-    let e : is_of_ticket (row_of (extra_key key)).scope ≡ false = extra_file key.0 (one_of_five key.0 (both_true (is_within 5 9 key.0) (is_text 0 text) w).0) in
+    let e : is_of_ticket (row_of (extra_key key)).scope ≡ false =
+    extra_file key.0 (one_of_five key.0 (both_true (is_within 5 9 key.0) (is_text 0 text) w).0) in
     rw e h
 
-member_fine : (d : Summary) (m : MemberOf) (site : Bool) → clash d (Member m) ≡ None → said_fault d (Pair (role_key site) (Some (Member m))) ≡ None
+member_fine : (d : Summary) (m : MemberOf) (site : Bool) → clash d (Member m) ≡ None →
+    said_fault d (Pair (role_key site) (Some (Member m))) ≡ None
 member_fine d m true h = h
 member_fine d m false h = h
 
-section_placed : (d : Summary) (p : TicketSetting) (o : Option SectionSays) → open_section d.defaults d.tickets ≡ o → placed_clash o p ≡ None → is_some o ≡ true
+section_placed : (d : Summary) (p : TicketSetting) (o : Option SectionSays) →
+    open_section d.defaults d.tickets ≡ o → placed_clash o p ≡ None → is_some o ≡ true
 section_placed d p None e h = cc
 section_placed d p (Some section) e h = refl
 
@@ -224,12 +246,15 @@ of_ticket_key (Handler text) = refl
 of_ticket_key (Prereq q) = refl
 of_ticket_key (Mode kind) = refl
 
-section_fine : (d : Summary) (p : TicketSetting) → clash d (Of p) ≡ None → said_fault d (Pair (section_key p) (Some (Of p))) ≡ None
+section_fine : (d : Summary) (p : TicketSetting) → clash d (Of p) ≡ None →
+    said_fault d (Pair (section_key p) (Some (Of p))) ≡ None
 section_fine d p h =
-    let placed : is_some (open_section d.defaults d.tickets) ≡ true = section_placed d p (open_section d.defaults d.tickets) refl h in
+    let placed : is_some (open_section d.defaults d.tickets) ≡ true =
+    section_placed d p (open_section d.defaults d.tickets) refl h in
     rw (of_ticket_key p, placed) h
 
-pub setting_fine : (d : Summary) (s : Setting) → is_printed s ≡ true → clash d s ≡ None → said_fault d (Pair (key_of s) (Some s)) ≡ None
+pub setting_fine : (d : Summary) (s : Setting) → is_printed s ≡ true → clash d s ≡ None →
+    said_fault d (Pair (key_of s) (Some s)) ≡ None
 setting_fine d (File f) w h = file_fine d f w h
 setting_fine d (Member m) w h = member_fine d m m.site h
 setting_fine d (Ticket name) w h = h

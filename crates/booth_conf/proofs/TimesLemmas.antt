@@ -22,7 +22,8 @@ none_given f n x xs (Some y) e h =
     let some : true ≡ false = ap is_some (sym (given_cons f n x xs (Some y) e)) ∙ h in
     cc
 
-none_behind : {Y : Type 0} (xs ys : List Y) → is_some (first (xs ++ ys)) ≡ false → is_some (first ys) ≡ false
+none_behind : {Y : Type 0} (xs ys : List Y) → is_some (first (xs ++ ys)) ≡ false →
+    is_some (first ys) ≡ false
 none_behind [] ys h = h
 none_behind (x ∷ xs) ys h = cc
 

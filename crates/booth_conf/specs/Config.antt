@@ -98,7 +98,7 @@ reserved_id p = if is_reserved p.1.id then Some (IdClash p.0 p.0) else None
 abbrev pub has_id : MemberId → Member → Bool
 has_id id m = m.id.0 == id.0
 
--- a member, and the next one behind it with the same id
+-- a member, and the next one after it with the same id
 abbrev pub same_id : List Member → ℕ × Member → Option ConfFault
 same_id members p =
     option_map (λ k. IdClash p.0 (p.0 + 1 + k)) (position (has_id p.1.id) (drop (p.0 + 1) members))
@@ -107,9 +107,10 @@ abbrev pub time_fault : ℕ × TicketConf → Option ConfFault
 time_fault p =
     let times : Times = p.1.times in
     if not (nat_lt times.renewal times.expire) then Some (Renewal p.0)
-    else (if not (nat_lt (times.timeout * (times.retries + 1)) times.renewal) then Some (RetryTime p.0) else None)
+    else (if not (nat_lt (times.timeout * (times.retries + 1)) times.renewal)
+    then Some (RetryTime p.0) else None)
 
--- what is wrong with the whole file, in the order in which it is told
+-- what is wrong with the whole file, in the order in which it is reported
 abbrev pub file_faults : List Member → List TicketConf → List ConfFault
 file_faults members tickets =
     no_site members
@@ -124,4 +125,5 @@ file_fault members tickets = first (file_faults members tickets)
 -- the configuration of the draft, or the first fault of the whole file
 abbrev pub Completes : Summary → Result ConfigSays ConfFault → Type 0
 Completes d (Ok config) = (config ≡ config_of d) × (file_fault config.members config.tickets ≡ None)
-Completes d (Err fault) = (fault ≡ OutOfMemory) ⊎ (file_fault (config_of d).members (config_of d).tickets ≡ Some fault)
+Completes d (Err fault) =
+    (fault ≡ OutOfMemory) ⊎ (file_fault (config_of d).members (config_of d).tickets ≡ Some fault)

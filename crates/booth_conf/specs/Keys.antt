@@ -1,4 +1,4 @@
--- The table of keys: the number, the name and the scope of each. The form of each key's value stands in `Values`.
+-- The table of keys: the number, the name and the scope of each. `Values` has the forms of their values.
 use Rattle.std.specs.Prelude.{◌≡◌, ◌==◌, ℕ, Bool, List, [], ◌∷◌, Option, Some, None, option_map, codes, bytes_eq}
 use Rattle.std.specs.List.{find}
 use Rattle.std.specs.Borrow.{Bor}

@@ -40,7 +40,7 @@ pub record IsLineFault (lines : List Said) (error : ConfFault) : Type 0 where
   pub is : error ≡ fault_at (place + 1) fault
   pub first_one : IsFirstFault lines place fault
 
--- each line is fine and the draft is what they set, or the first line with a fault is told
+-- each line is fine and the draft is what they set, or the first line with a fault is reported
 abbrev pub ReadsLines : Result Summary ConfFault → List Said → Type 0
 ReadsLines (Ok draft) lines = AreFine lines × (draft ≡ summary (settings lines))
 ReadsLines (Err error) lines = (error ≡ conf.OutOfMemory) ⊎ IsLineFault lines error

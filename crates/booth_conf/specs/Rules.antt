@@ -123,7 +123,7 @@ clash d Defaults =
     else (if nat_lt 0 (length d.tickets) then Some DefaultLate else None)
 clash d (Of p) = placed_clash (open_section d.defaults d.tickets) p
 
--- what is wrong with a line, in the order in which it is told
+-- what is wrong with a line, in the order in which it is reported
 
 abbrev pub value_fault : ConfKey → Summary → Option Setting → Option LineFault
 value_fault key d None = Some (BadValue (number_of key))
@@ -134,15 +134,17 @@ is_of_ticket scopes.File = false
 is_of_ticket scopes.Ticket = true
 
 abbrev pub is_misplaced : ConfKey → Summary → Bool
-is_misplaced key d = is_of_ticket (row_of key).scope && not (is_some (open_section d.defaults d.tickets))
+is_misplaced key d =
+    is_of_ticket (row_of key).scope && not (is_some (open_section d.defaults d.tickets))
 
 abbrev pub said_fault : Summary → Said → Option LineFault
 said_fault d Empty = None
 said_fault d Broken = Some Syntax
 said_fault d Unknown = Some UnknownKey
-said_fault d (Pair key setting) = if is_misplaced key d then Some Misplaced else value_fault key d setting
+said_fault d (Pair key setting) =
+    if is_misplaced key d then Some Misplaced else value_fault key d setting
 
--- what is wrong with a line that stands behind these lines
+-- what is wrong with a line that stands after these lines
 abbrev pub line_fault : List Said → Said → Option LineFault
 line_fault before line = said_fault (summary (settings before)) line
 
@@ -154,4 +156,5 @@ pub record IsFirstFault (lines : List Said) (n : ℕ) (fault : LineFault) : Type
 
 -- no line is faulty
 abbrev pub AreFine : List Said → Type 0
-AreFine lines = (m : ℕ) → m < length lines → line_fault (take m lines) (slice_index_or lines m Empty) ≡ None
+AreFine lines =
+    (m : ℕ) → m < length lines → line_fault (take m lines) (slice_index_or lines m Empty) ≡ None

@@ -31,7 +31,8 @@ each p (Some x) = p x
 abbrev pub is_sayable : List ℕ → Bool
 is_sayable value =
     list_all is_value_byte value
-    && (list_all (is_other 0x22) value || (list_all (is_other 0x27) value || (begins_bare value && stays_bare value [])))
+    && (list_all (is_other 0x22) value
+    || (list_all (is_other 0x27) value || (begins_bare value && stays_bare value [])))
 
 abbrev pub is_text : ℕ → List ℕ → Bool
 is_text least value = is_sayable value && is_within least PATH_BYTES (length value)

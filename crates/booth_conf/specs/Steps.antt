@@ -1,4 +1,4 @@
--- One more setting: what the reader makes of what it has read. The proofs show that it is what the settings say together.
+-- One more setting: what the reader makes of what it has read, which is what the settings say together.
 use Rattle.std.specs.Prelude.{ℕ, nat_lt, List, [], ◌∷◌, ◌++◌, length, Option, Some, None, option_map, if◌then◌else◌}
 use Rattle.booth_conf.specs.Sections.{TopSays, SectionSays, section_of}
 use Rattle.booth_conf.specs.Rules.{Summary, prereqs_of}

@@ -61,8 +61,8 @@ begins_gap (b ∷ bs) = is_gap b
 abbrev pub AreWords : List ℕ → List (List ℕ) → Type 0
 AreWords text [] = list_all is_gap text ≡ true
 AreWords text (word ∷ words) =
-    (gap rest : List ℕ) × (text ≡ gap ++ (word ++ rest)) × (list_all is_gap gap ≡ true) × (is_word word ≡ true)
-    × (begins_gap rest ≡ true) × AreWords rest words
+    (gap rest : List ℕ) × (text ≡ gap ++ (word ++ rest)) × (list_all is_gap gap ≡ true)
+    × (is_word word ≡ true) × (begins_gap rest ≡ true) × AreWords rest words
 
 -- FORMS
 
@@ -119,7 +119,8 @@ pub record IsPrereq (text : List ℕ) (prereq : PrereqOf) : Type 0 where
 -- THE FORM OF EACH KEY
 
 -- the setting that this maker makes of a value that the text spells
-pub record IsSetBy {X : Type 0} (Form : List ℕ → X → Type 0) (make : X → Setting) (text : List ℕ) (setting : Setting) : Type 0 where
+pub record IsSetBy {X : Type 0} (Form : List ℕ → X → Type 0) (make : X → Setting) (text : List ℕ)
+    (setting : Setting) : Type 0 where
   pub value : X
   pub spelled : Form text value
   pub set : setting ≡ make value

@@ -43,15 +43,15 @@ fn place_of(members: &[Member], id: MemberId) -> Option<usize>
     members.iter().position(|member| member.id.0 == id.0)
 }
 
-// The next member behind this place with the same id.
+// The next member after this place with the same id.
 fn same_id(members: &[Member], place: usize, member: Member) -> Option<ConfFault>
     requires { place < length members.now }
     ensures { result ≡ same_id members.now (place, member) }
 {
     match place_of(&members[place + 1..], member.id) {
-        Some(behind) => Some(ConfFault::IdClash {
+        Some(after) => Some(ConfFault::IdClash {
             first: place,
-            second: place + 1 + behind,
+            second: place + 1 + after,
         }),
         None => None,
     }

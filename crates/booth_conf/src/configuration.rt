@@ -191,8 +191,8 @@ impl Config {
         self.names.get_index_of(name)
     }
 
-    /// How many sites come before this one at this ticket: those of greater weight, and those of equal weight that
-    /// stand earlier in the file. The ticket and the member are places.
+    /// How many sites come before this one at this ticket: those of greater weight, and those of
+    /// equal weight that stand earlier in the file. The ticket and the member are places.
     pub fn rank(&self, ticket: usize, member: usize) -> u32
         requires ticket { ticket < length self.now.tickets }
         requires site { IsSomeAnd (slice_get self.now.members member) (λ m. IsTrue m.site) }

@@ -89,7 +89,8 @@ impl SectionList {
     // Adds a key to the last ticket, or says what is wrong with it.
     fn add(&mut self, setting: TicketSetting) -> Result<(), LineFault>
         requires { 0 < length self.old }
-        ensures { AnswersAt result self.new (placed_clash (open_section None self.old) setting) self.old (last_added self.old setting) }
+        ensures { AnswersAt result self.new (placed_clash (open_section None self.old) setting)
+            self.old (last_added self.old setting) }
     {
         add_to_last(&mut self.sections, setting)
     }
@@ -107,7 +108,9 @@ impl SectionList {
 #[tactic(auto, using(crate::proofs::LastLemmas::open_last, crate::proofs::LastLemmas::added_last))]
 fn add_to_last(sections: &mut Vec<NamedSection>, setting: TicketSetting) -> Result<(), LineFault>
     requires { 0 < vec_len sections.old }
-    ensures { AnswersAt result sections.new.items (placed_clash (open_section None sections.old.items) setting) sections.old.items (last_added sections.old.items setting) }
+    ensures { AnswersAt result sections.new.items
+        (placed_clash (open_section None sections.old.items) setting)
+        sections.old.items (last_added sections.old.items setting) }
 {
     let last = sections.len() - 1;
     sections[last].section.add(setting)
@@ -143,7 +146,8 @@ impl Draft {
     }
 
     fn add_member(&mut self, member: Member) -> Result<(), Stop>
-        ensures { Answers result self.new (clash self.old (Setting.Member member)) self.old (added self.old (Setting.Member member)) }
+        ensures { Answers result self.new (clash self.old (Setting.Member member))
+            self.old (added self.old (Setting.Member member)) }
     {
         if self.members.has(member.address) {
             return Err(Stop::Line(LineFault::Repeated));
@@ -165,7 +169,8 @@ impl Draft {
     }
 
     fn add_ticket(&mut self, name: Name) -> Result<(), Stop>
-        ensures { Answers result self.new (clash self.old (Setting.Ticket name)) self.old (added self.old (Setting.Ticket name)) }
+        ensures { Answers result self.new (clash self.old (Setting.Ticket name))
+            self.old (added self.old (Setting.Ticket name)) }
     {
         if self.tickets.has(&name) {
             return Err(Stop::Line(LineFault::Repeated));
@@ -178,7 +183,8 @@ impl Draft {
     }
 
     fn add_defaults(&mut self) -> Result<(), LineFault>
-        ensures { AnswersAt result self.new (clash self.old Setting.Defaults) self.old (added self.old Setting.Defaults) }
+        ensures { AnswersAt result self.new (clash self.old Setting.Defaults)
+            self.old (added self.old Setting.Defaults) }
     {
         if self.defaults.is_some() {
             return Err(LineFault::Repeated);
@@ -191,7 +197,8 @@ impl Draft {
     }
 
     fn add_of_ticket(&mut self, setting: TicketSetting) -> Result<(), LineFault>
-        ensures { AnswersAt result self.new (clash self.old (Setting.Of setting)) self.old (added self.old (Setting.Of setting)) }
+        ensures { AnswersAt result self.new (clash self.old (Setting.Of setting))
+            self.old (added self.old (Setting.Of setting)) }
     {
         if self.tickets.len() > 0 {
             return self.tickets.add(setting);
@@ -204,7 +211,8 @@ impl Draft {
 
     // Adds one setting, or says what is wrong with it.
     fn add(&mut self, setting: Setting) -> Result<(), Stop>
-        ensures { Answers result self.new (clash self.old setting) self.old (added self.old setting) }
+        ensures { Answers result self.new (clash self.old setting)
+            self.old (added self.old setting) }
     {
         match setting {
             Setting::File(setting) => self.top.add(setting),
@@ -216,7 +224,8 @@ impl Draft {
     }
 
     fn add_value(&mut self, key: ConfKey, setting: Option<Setting>) -> Result<(), Stop>
-        ensures { Answers result self.new (value_fault key self.old setting) self.old (value_added self.old setting) }
+        ensures { Answers result self.new (value_fault key self.old setting)
+            self.old (value_added self.old setting) }
     {
         match setting {
             Some(setting) => self.add(setting),
@@ -237,7 +246,8 @@ impl Draft {
 
     /// Takes one line, or says what is wrong with it. It is linear in the line's bytes.
     pub fn line(&mut self, line: &[u8]) -> Result<(), Stop>
-        ensures { Answers result self.new (said_fault self.old (said line.now)) self.old (said_added self.old (said line.now)) }
+        ensures { Answers result self.new (said_fault self.old (said line.now))
+            self.old (said_added self.old (said line.now)) }
     {
         match read_line(line) {
             Said::Empty => Ok(()),

@@ -35,8 +35,8 @@ fn name_at(text: &[u8], place: usize) -> Option<Name>
     None
 }
 
-/// The name on the `ticket` line of this place, counted from 0 and without `__default__`: so a fault of a whole
-/// file can be reported with its ticket's name.
+/// The name on the `ticket` line of this place, counted from 0 and without `__default__`: so a fault
+/// of a whole file can be reported with its ticket's name.
 #[tactic(auto, using(crate::proofs::NameLemmas::names_ticket))]
 pub fn ticket_name(text: &[u8], place: usize) -> Option<Name>
     ensures { NamesTicket text.now place result }

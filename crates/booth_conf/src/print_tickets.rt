@@ -136,7 +136,8 @@ pub fn push_tickets(
     out: &mut Vec<u8>,
     tickets: &[TicketConf],
 ) -> Result<(), AllocError>
-    ensures { Grows result out.old.items out.new.items (lines_text (flat_map ticket_settings tickets.now)) }
+    ensures { Grows result out.old.items out.new.items
+        (lines_text (flat_map ticket_settings tickets.now)) }
 {
     for ticket in tickets {
         push_ticket(alloc, out, ticket)?;

@@ -178,7 +178,8 @@ fn extra_name(key: KeyNo) -> &'static str
 }
 
 fn push_extra(out: &mut Vec<u8>, extra: &Extra) -> Result<(), AllocError>
-    ensures { Grows result out.old.items out.new.items (lines_text (extra_setting (extra.now.0, extra.now.1) ∷ [])) }
+    ensures { Grows result out.old.items out.new.items
+        (lines_text (extra_setting (extra.now.0, extra.now.1) ∷ [])) }
 {
     push_line(out, extra_name(extra.0), extra.1.as_str().as_bytes())
 }
@@ -202,7 +203,8 @@ pub fn push_top(
     skew: u64,
     extras: &[Extra],
 ) -> Result<(), AllocError>
-    ensures { Grows result out.old.items out.new.items (lines_text (top_settings port authfile.now skew extras.now)) }
+    ensures { Grows result out.old.items out.new.items
+        (lines_text (top_settings port authfile.now skew extras.now)) }
 {
     push_number(out, ConfKey::Port, u64::from(port))?;
     push_line(out, ConfKey::Transport.row().name, b"UDP")?;

@@ -67,7 +67,8 @@ impl Top {
     }
 
     fn add_extra(&mut self, key: KeyNo, text: PathText) -> Result<(), Stop>
-        ensures { Answers result self.new (top_clash self.old (FileSetting.Extra key text)) self.old (top_added self.old (FileSetting.Extra key text)) }
+        ensures { Answers result self.new (top_clash self.old (FileSetting.Extra key text))
+            self.old (top_added self.old (FileSetting.Extra key text)) }
     {
         if self.has_extra(key) {
             return Err(Stop::Line(LineFault::Repeated));
@@ -80,7 +81,8 @@ impl Top {
 
     /// Adds a key, or says what is wrong with it.
     pub fn add(&mut self, setting: FileSetting) -> Result<(), Stop>
-        ensures { Answers result self.new (top_clash self.old setting) self.old (top_added self.old setting) }
+        ensures { Answers result self.new (top_clash self.old setting)
+            self.old (top_added self.old setting) }
     {
         match setting {
             FileSetting::Port(port) => set_once(&mut self.port, port).map_err(Stop::Line),
@@ -157,7 +159,8 @@ impl Section {
 
     /// Adds a key, or says what is wrong with it.
     pub fn add(&mut self, setting: TicketSetting) -> Result<(), LineFault>
-        ensures { AnswersAt result self.new (section_clash self.old setting) self.old (section_added self.old setting) }
+        ensures { AnswersAt result self.new (section_clash self.old setting)
+            self.old (section_added self.old setting) }
     {
         match setting {
             TicketSetting::Expire(seconds) => set_once(&mut self.expire, seconds),

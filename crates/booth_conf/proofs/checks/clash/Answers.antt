@@ -10,5 +10,6 @@ returns-then-is_some c =
 
 pub loop-place-preserved : goal.loop-place-preserved
 loop-place-preserved c =
-    c.loop-place.invariant ∙ given_at (same_id c.args.members.now) c.args.members.now c.loop-place.place _ c.same_id-found.result c.loop-place-test.true (sym c.same_id-found.ensures)
+    c.loop-place.invariant
+    ∙ given_at (same_id c.args.members.now) c.args.members.now c.loop-place.place _ c.same_id-found.result c.loop-place-test.true (sym c.same_id-found.ensures)
     ∙ or_none c.same_id-found.result _ (sym c.if-is_some.ensures)

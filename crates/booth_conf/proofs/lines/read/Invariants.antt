@@ -9,5 +9,6 @@ abbrev pub invariant-loop-line : goal.invariant-loop-line
 invariant-loop-line l = record {
   count : l.number ≡ length l.yielded;
   draft : l.draft ≡ summary (settings (take (length l.yielded) (said_lines l.text)));
-  fine : (m : ℕ) → m < length l.yielded → line_fault (take m (said_lines l.text)) (slice_index_or (said_lines l.text) m Empty) ≡ None;
+  fine : (m : ℕ) → m < length l.yielded →
+      line_fault (take m (said_lines l.text)) (slice_index_or (said_lines l.text) m Empty) ≡ None;
 }

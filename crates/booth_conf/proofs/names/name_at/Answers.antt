@@ -17,7 +17,8 @@ loop-line-preserved-in-Some-2 c =
     let t : (length c.loop-line.yielded < length (lines_of c.args.text.now)) × (c.in-Some.line.now ≡ get_or (lines_of c.args.text.now) (length c.loop-line.yielded) c.in-Some.line.now) = YieldsList-turn (YieldsList-at c.into_iter-line-iterator.ensures.into_iter_gives (YieldsList-from_slice_split _ (λ b. eqb b 10) c.args.text.now c.split-line-items.ensures.rest c.split-line-items.ensures.done c.split-line-items.ensures.closure (λ x r q k. search (rules, tests)))) c.loop-line.yielded _ c.loop-line.yielded_by _ _ c.in-Some.line c.in-Some.is c.next.ensures.steps in
     rw (length_push c.loop-line.yielded c.in-Some.line) (record {
       rest = after_counted (lines_of c.args.text.now) (length c.loop-line.yielded) c.in-Some.line.now t.0 t.1 c.loop-line.left c.in-Some-name_in.name
-          (sym c.name_in.ensures ∙ c.in-Some-name_in.is) c.if-left-eq0.false ∙ c.loop-line.invariant.rest;
+          (sym c.name_in.ensures ∙ c.in-Some-name_in.is) c.if-left-eq0.false
+          ∙ c.loop-line.invariant.rest;
     })
 
 pub loop-line-preserved : goal.loop-line-preserved
@@ -30,5 +31,7 @@ loop-line-preserved c =
 
 pub returns : goal.returns
 returns c =
-    let t = YieldsList-end (YieldsList-at c.into_iter-line-iterator.ensures.into_iter_gives (YieldsList-from_slice_split _ (λ b. eqb b 10) c.args.text.now c.split-line-items.ensures.rest c.split-line-items.ensures.done c.split-line-items.ensures.closure (λ x r q k. search (rules, tests)))) c.loop-line.yielded _ c.loop-line.yielded_by _ _ c.in-None.is c.next.ensures.steps in
-    sym (none_left (lines_of c.args.text.now) (length c.loop-line.yielded) c.loop-line.left (omega (arith, t.1))) ∙ c.loop-line.invariant.rest
+    let t =
+    YieldsList-end (YieldsList-at c.into_iter-line-iterator.ensures.into_iter_gives (YieldsList-from_slice_split _ (λ b. eqb b 10) c.args.text.now c.split-line-items.ensures.rest c.split-line-items.ensures.done c.split-line-items.ensures.closure (λ x r q k. search (rules, tests)))) c.loop-line.yielded _ c.loop-line.yielded_by _ _ c.in-None.is c.next.ensures.steps in
+    sym (none_left (lines_of c.args.text.now) (length c.loop-line.yielded) c.loop-line.left (omega (arith, t.1)))
+    ∙ c.loop-line.invariant.rest

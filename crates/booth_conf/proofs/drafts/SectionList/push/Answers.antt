@@ -13,4 +13,6 @@ invariant_of-self-2 c =
     let added : c.push.new.self.items ≡ old ++ named ∷ [] =
     rw c.unwrap.ensures at c.push.ensures.items ∙ ap (λ (ts : List NamedSection). ts ++ (record { name = c.copy.result; section = c.args.section }) ∷ []) c.reserve.ensures.items
     ∙ ap (λ (n : List ℕ). old ++ (record { name = n; section = c.args.section }) ∷ []) c.copy.ensures in
-    c.in_ok-insert.ensures.keys ∙ name_pushed named c.self.inside.names.keys old c.self.invariant new ∙ ap (map name_of) (sym added)
+    c.in_ok-insert.ensures.keys
+    ∙ name_pushed named c.self.inside.names.keys old c.self.invariant new
+    ∙ ap (map name_of) (sym added)
