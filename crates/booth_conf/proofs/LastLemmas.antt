@@ -44,13 +44,13 @@ pub place_answer : (r : Result (Unit {0}) LineFault) (ts : List NamedSection) (t
 place_answer (Ok done) ts t new p i l e g a =
     let here : t ≡ get_or ts (length ts - 1) t = g ∙ ap (λ k. get_or ts k t) e in (
       ap (λ o. placed_clash o p) (open_last None ts t l ∙ ap (λ x. Some x.section) (sym here))
-      ∙ a.0,
+          ∙ a.0,
       ap (λ q. set ts i (record t { section = q })) a.1 ∙ ap (λ k. set ts k (with_key t p)) e ∙ ap (λ x. set ts (length ts - 1) (with_key x p)) here ∙ sym (added_last ts p t l),
     )
 place_answer (Err kind) ts t new p i l e g a =
     let here : t ≡ get_or ts (length ts - 1) t = g ∙ ap (λ k. get_or ts k t) e in (
       ap (λ o. placed_clash o p) (open_last None ts t l ∙ ap (λ x. Some x.section) (sym here))
-      ∙ a.0,
+          ∙ a.0,
       ap (λ q. set ts i (record t { section = q })) a.1 ∙ ap (λ x. set ts i x) g ∙ set-get_or ts i t,
     )
 

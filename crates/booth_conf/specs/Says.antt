@@ -9,7 +9,7 @@ use Rattle.booth_conf.specs.Sound.{IsSound}
 use Rattle.booth_conf.specs.declared.limits.TheConstants.{TEXT_BYTES}
 use Rattle.booth_conf.specs.declared.line_meaning.Said.{Said}
 use Rattle.booth_conf.specs.declared.faults.ConfFault.{ConfFault}
-use Rattle.booth_conf.specs.declared.faults.ConfFault.TheVariants.{TooLarge, Syntax, UnknownKey, Misplaced, BadValue, Repeated, DefaultLate, TooMany, NoSite, NoTicket, IdClash, Renewal, RetryTime, OutOfMemory}
+use Rattle.booth_conf.specs.declared.faults.ConfFault.TheVariants.{TooLarge, Syntax, UnknownKey, Misplaced, BadValue, Repeated, DefaultLate, TooMany, OutOfMemory}
 use Rattle.booth_conf.specs.declared.faults.LineFault.{LineFault}
 use Rattle.booth_conf.specs.declared.faults.LineFault.TheVariants as faults
 

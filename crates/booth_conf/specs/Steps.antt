@@ -10,7 +10,7 @@ use Rattle.booth_conf.specs.declared.settings.TicketSetting.TheVariants.{Expire,
 use Rattle.booth_conf.specs.declared.settings.Setting.{Setting}
 use Rattle.booth_conf.specs.declared.settings.Setting.TheVariants.{File, Member, Ticket, Defaults, Of}
 use Rattle.booth_conf.specs.declared.line_meaning.Said.{Said}
-use Rattle.booth_conf.specs.declared.line_meaning.Said.TheVariants.{Empty, Broken, Unknown, Pair}
+use Rattle.booth_conf.specs.declared.line_meaning.Said.TheVariants.{Pair}
 
 abbrev pub top_added : TopSays → FileSetting → TopSays
 top_added top (Port x) = record top { port = Some x }

@@ -10,18 +10,18 @@ ghost use Rattle.booth_conf.specs.Says.{Parses, Says};
 ghost use Rattle.booth_conf.specs.Sound.{HasTimes, IsSound};
 ghost use Rattle.booth_conf.specs.SoundDraft.{IsSoundDraft};
 
+use crate::checks::file_fault;
+use crate::defaults::tickets;
 use crate::drafts::{Draft, NamesAndSections};
 use crate::faults::ConfFault;
-use crate::defaults::tickets;
 use crate::limits::{MEMBERS, TEXT_BYTES, TICKETS};
 use crate::lines::read_lines;
 use crate::members::Member;
-use crate::sections::{Extra, Section};
 use crate::print_tickets::{push_members, push_tickets};
 use crate::prints::push_top;
 use crate::ranks::rank;
+use crate::sections::{Extra, Section};
 use crate::tickets::{TicketConf, copy_path};
-use crate::checks::file_fault;
 use booth_base::{ByteText, MemberId, Name, PathText};
 use indexmap::IndexSet;
 use std::alloc::{AllocError, Global};
@@ -223,13 +223,7 @@ impl Config {
         ensures exact { OnOk result (text.new.items ≡ printed self.now) }
         ensures sound { IsSound self.now }
     {
-        push_top(
-            text,
-            self.port,
-            &self.authfile,
-            self.skew,
-            &self.extras,
-        )?;
+        push_top(text, self.port, &self.authfile, self.skew, &self.extras)?;
         push_members(text, &self.members)?;
         push_tickets(alloc, text, &self.tickets)
     }

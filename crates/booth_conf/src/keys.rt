@@ -144,7 +144,10 @@ impl ConfKey {
     fn numbered(number: KeyNo) -> Option<ConfKey>
         ensures { result ≡ key_numbered number }
     {
-        ConfKey::ALL.iter().copied().find(|key| key.has_number(number))
+        ConfKey::ALL
+            .iter()
+            .copied()
+            .find(|key| key.has_number(number))
     }
 }
 

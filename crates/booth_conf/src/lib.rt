@@ -1,23 +1,24 @@
 //! The configuration that all members share: `booth.conf` as a text and as a value.
 #![tactic(auto)]
 
+mod checks;
 mod configuration;
+mod defaults;
 mod digits;
 mod drafts;
 mod faults;
-mod defaults;
 mod grammar;
 mod keys;
 pub mod laws;
 mod limits;
+mod line_meaning;
 mod lines;
 mod members;
 mod names;
-mod sections;
 mod print_tickets;
 mod prints;
 mod ranks;
-mod line_meaning;
+mod sections;
 mod settings;
 #[cfg(test)]
 mod tests;
@@ -25,7 +26,6 @@ mod texts;
 mod tickets;
 mod values;
 mod weights;
-mod checks;
 mod words;
 
 pub use configuration::Config;

@@ -17,7 +17,10 @@ pub enum Said {
     /// No key has this name.
     Unknown,
     /// A key, and the setting where its value has the key's form.
-    Pair { key: ConfKey, setting: Option<Setting> },
+    Pair {
+        key: ConfKey,
+        setting: Option<Setting>,
+    },
 }
 
 fn read(line: &[u8]) -> Said

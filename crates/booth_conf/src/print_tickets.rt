@@ -126,7 +126,11 @@ fn push_ticket(alloc: Global, out: &mut Vec<u8>, ticket: &TicketConf) -> Result<
     push_weights(alloc, out, &ticket.weights)?;
     push_handler(out, &ticket.handler)?;
     push_prereqs(alloc, out, &ticket.prereqs)?;
-    push_line(out, ConfKey::Mode.row().name, kind_word(kind_of(ticket.manual)))
+    push_line(
+        out,
+        ConfKey::Mode.row().name,
+        kind_word(kind_of(ticket.manual)),
+    )
 }
 
 /// Prints the tickets.

@@ -107,8 +107,12 @@ impl ConfKey {
     {
         match self {
             ConfKey::Port => port(value),
-            ConfKey::Transport => transport(value).map(|t| Setting::File(FileSetting::Transport(t))),
-            ConfKey::Authfile => text(value, 1).map(|text| Setting::File(FileSetting::Authfile(text))),
+            ConfKey::Transport => transport(value).map(|t| Setting::File(FileSetting::Transport(
+                t,
+            ))),
+            ConfKey::Authfile => text(value, 1).map(|text| Setting::File(FileSetting::Authfile(
+                text,
+            ))),
             ConfKey::Maxtimeskew => {
                 number_within(value, 1, SECONDS).map(|n| Setting::File(FileSetting::Skew(n)))
             }

@@ -119,7 +119,10 @@ fn numbers_have_their_ranges(rt: HostRuntime) -> Result<(), Fail> {
         ("weights = 1000000000", None),
         ("weights = 1000000001", bad(3, 18)),
         ("weights = 1,2,3,4,5,6,7,8,9,10,11,12,13,14,15,16", None),
-        ("weights = 1,2,3,4,5,6,7,8,9,10,11,12,13,14,15,16,17", bad(3, 18)),
+        (
+            "weights = 1,2,3,4,5,6,7,8,9,10,11,12,13,14,15,16,17",
+            bad(3, 18),
+        ),
     ];
     for (line, want) in table {
         let text = format!(in rt.alloc(); "{SITE}ticket=a\n{line}")?;

@@ -19,7 +19,7 @@ invariant_of-result c =
     let fine : file_fault made.members made.tickets ≡ None = search rules in
     let items : c.in-Ok.tickets.items ≡ map (ticket_of c.defaults-defaults.result) c.draft.inside.tickets = search rules in (
       c.into_sections-names.ensures.names
-      ∙ names_of c.defaults-defaults.result c.draft.inside.tickets
-      ∙ ap (map ticket_name) (sym items),
+          ∙ names_of c.defaults-defaults.result c.draft.inside.tickets
+          ∙ ap (map ticket_name) (sym items),
       subst IsSound (sym same) (config_sound c.args.draft c.requires (ap (λ (x : ConfigSays). file_fault x.members x.tickets) (sym same) ∙ fine)),
     )

@@ -1,4 +1,4 @@
-use Rattle.std.proofs.Common.{rules, tests, arith, ◌≡◌, ◌<◌, ℕ, length, get_or, eqb, sym, ◌∙◌}
+use Rattle.std.proofs.Common.{rules, tests, arith, ◌≡◌, ◌<◌, length, get_or, eqb, sym, ◌∙◌}
 use Rattle.std.proofs.lemmas.List.{length_push}
 use Rattle.std.proofs.lemmas.Iterator.Splits.{YieldsList-from_slice_split}
 use Rattle.std.proofs.lemmas.Iterator.Consumers.{YieldsList-turn, YieldsList-end, YieldsList-at}
