@@ -29,5 +29,5 @@ $(PROVED): $(SOURCES)
 	@mkdir -p out
 	@echo "proving and building boothd, some minutes at first (out/build.log)"
 	@rm -f $@
-	@(cd crates/boothd && rt run) >out/build.log 2>&1 </dev/null; \
+	@(cd crates/boothd && rt run) 2>&1 </dev/null | tee out/build.log | tools/progress.sh; \
 	  test -x $@ || { tail -n 30 out/build.log; exit 1; }

@@ -155,7 +155,7 @@ def usage(room):
 
 @check
 def bad_words(room):
-    """an address or a path that is none is told, the address first"""
+    """an address or a path that is none is reported, the address first"""
     path = room.file(LEAST)
     no_address = ("", "localhost", "127.0.0", "127.0.0.256", "127.0.0.01", "127.0.0.1 ", "::1%lo")
     no_path = ("", "booth.conf", "./" + "x" * 254)
@@ -176,13 +176,13 @@ def unread_file(room):
 
 @check
 def faulty_lines(room):
-    """the first faulty line of a file is told with its number and its fault"""
+    """the first faulty line of a file is reported with its number and its fault"""
     default_late = b"__default__ must come first"
     prereqs = b"".join(b"attr-prereq = auto a eq %d\n" % number for number in range(9))
     sites = b"".join(b"site = 10.0.0.%d\n" % number for number in range(17))
     tickets = b"".join(b"ticket = t%d\n" % number for number in range(65))
-    # one behind the file of four lines: its number in that, and what is said
-    behind = [
+    # one after the file of four lines: its number in that, and what is said
+    after = [
         *((line, 5, b"syntax") for line in SYNTAX),
         *((line, 5, b"unknown key") for line in UNKNOWN),
         *((line, 5 + line.count(b"\n"), b"repeated") for line in REPEATED),
@@ -193,7 +193,7 @@ def faulty_lines(room):
         (b"\n\nexpires = 3\nport = 0\nx", 7, b"unknown key"),
         (b"# x\nport = 0\nticket = ticket-db8", 6, b"bad value for port"),
     ]
-    for lines, number, what in behind:
+    for lines, number, what in after:
         is_faulty(room, FILE + lines, b"line %d: %s" % (number, what))
     for key, values in BAD.items():
         for value in values:
@@ -216,7 +216,7 @@ def faulty_lines(room):
 
 @check
 def faulty_files(room):
-    """a fault of the whole file is told when no line has one, with the ticket's name"""
+    """a fault of the whole file is reported when no line has one, with the ticket's name"""
     require(len(set(map(frames.member_id, CLASHING))) == 1, "the test's two ids differ")
     for text, what in WHOLE:
         is_faulty(room, text, what)
@@ -257,7 +257,7 @@ def rich_file(room):
 
 @check
 def not_a_member(room):
-    """an address that is no member's is told as one writes it, before what is not built"""
+    """an address that is no member's is reported as one writes it, before what is not built"""
     path = room.file(LEAST + b"mode = manual\nauthfile = /missing")
     for word, written in (
         ("10.0.0.2", "10.0.0.2"),
@@ -272,7 +272,7 @@ def not_a_member(room):
 
 @check
 def not_built(room):
-    """a ticket that needs what is not built is told by its first key, before the key file"""
+    """a ticket that needs what is not built is reported by its first key, before the key file"""
     mode, handler, prereq = b"mode", b"before-acquire-handler", b"attr-prereq"
     values = {mode: b"manual", handler: b"/bin/true", prereq: b"auto a eq b"}
     lines = {key: b"%s = %s\n" % (key, value) for key, value in values.items()}
@@ -300,7 +300,7 @@ def with_key(room, path):
 
 @check
 def bad_keys(room):
-    """a key that cannot be read, or is too short or too long, is told"""
+    """a key that cannot be read, or is too short or too long, is reported"""
     for text, what in (
         (b"", b"key too short"),
         (b"1234567", b"key too short"),

@@ -181,7 +181,7 @@ def sender_drops(room):
                     asker.is_dropped(reply, STRANGER, letters)
             for letters in MEMBERS_SAY:
                 for sender in (0, NO_ONE, "192.168.202.101"):
-                    # (a ticket and a leader that may not be are told later)
+                    # (a ticket and a leader that may not be are faults that come later)
                     frame = said(letters, sender, b"other", VOTER, key)
                     asker.is_dropped(frame, STRANGER, f"{letters} from {sender}")
                 own = said(letters, me, b"other", VOTER, key)

@@ -128,7 +128,7 @@ def key_in(text):
 
 
 def auth_part(key, before):
-    """The authentication part behind these bytes: the hash id, the MAC, and four zeros."""
+    """The authentication part after these bytes: the hash id, the MAC, and four zeros."""
     return numbers(2) + hmac.digest(key, before, "sha1") + bytes(4)
 
 

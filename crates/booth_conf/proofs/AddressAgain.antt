@@ -18,7 +18,7 @@ use Rattle.booth_conf.specs.Values.{member_at}
 use Rattle.booth_conf.specs.ValueReader.{address_in}
 use Rattle.booth_conf.specs.Sound.{is_byte, is_address, is_member, is_sayable}
 use Rattle.booth_conf.specs.declared.members.Member.{Member}
-use Rattle.booth_conf.proofs.FinishLemmas.{both_true}
+use Rattle.booth_conf.proofs.DefaultLemmas.{both_true}
 use Rattle.booth_conf.proofs.AddressLemmas.{address_only}
 use Rattle.booth_conf.proofs.SegmentLemmas.{segments_below, segments_len}
 use Rattle.booth_conf.proofs.ValueAgain.{plain_sayable}
@@ -49,7 +49,8 @@ member_again m h =
 
 -- BYTES
 
-all_pass : (P : ℕ → Type 0) (p : ℕ → Bool) (xs : List ℕ) → ((b : ℕ) → P b → p b ≡ true) → All P xs → list_all p xs ≡ true
+all_pass : (P : ℕ → Type 0) (p : ℕ → Bool) (xs : List ℕ) → ((b : ℕ) → P b → p b ≡ true) → All P xs →
+    list_all p xs ≡ true
 all_pass P p xs f h = list_all-from_AllPass p xs (λ k d l. f _ (h k d l))
 
 dotted_plain : (b : ℕ) → IsDigitOrDot b → is_value_byte b ≡ true
@@ -74,7 +75,8 @@ text_sayable (V4 bytes) h =
     plain_sayable (ipv4_text bytes) (all_pass IsDigitOrDot is_value_byte (ipv4_text bytes) dotted_plain all) (all_pass IsDigitOrDot (is_other 0x22) (ipv4_text bytes) dotted_other all)
 text_sayable (V6 bytes) h =
     let text : List ℕ = hex_groups_text (segments_of bytes) in
-    let all : All IsHexOrColon text = All-hex_groups_text (segments_of bytes) (segments_below bytes h.1) in
+    let all : All IsHexOrColon text =
+    All-hex_groups_text (segments_of bytes) (segments_below bytes h.1) in
     plain_sayable text (all_pass IsHexOrColon is_value_byte text hex_plain all) (all_pass IsHexOrColon (is_other 0x22) text hex_other all)
 
 pub address_sayable : (a : Address) → is_address a ≡ true → is_sayable (address_text a) ≡ true
@@ -87,18 +89,23 @@ short_decimal n h = length-decimal-le 3 n (omega arith) (omega arith) (omega ari
 
 short_hex : (n : ℕ) → length (hex n) ≤ 4
 unfolding hex
-short_hex n = omega (arith, length-drop (leading_zero_digits n) (digit_char (n / 0x1000) ∷ digit_char (n / 0x100 % 16) ∷ digit_char (n / 0x10 % 16) ∷ digit_char (n % 16) ∷ []))
+short_hex n =
+    omega (arith, length-drop (leading_zero_digits n) (digit_char (n / 0x1000) ∷ digit_char (n / 0x100 % 16) ∷ digit_char (n / 0x10 % 16) ∷ digit_char (n % 16) ∷ []))
 
 short_more : (xs : List ℕ) → length (flat_map (λ t. codes ":" ++ hex t) xs) ≤ 5 * length xs
 short_more [] = omega arith
-short_more (x ∷ xs) = omega (arith, short_hex x, short_more xs, length-append (hex x) (flat_map (λ t. codes ":" ++ hex t) xs))
+short_more (x ∷ xs) =
+    omega (arith, short_hex x, short_more xs, length-append (hex x) (flat_map (λ t. codes ":" ++ hex t) xs))
 
 short_groups : (xs : List ℕ) → length (groups_text xs) ≤ 5 * length xs
 short_groups [] = omega arith
-short_groups (x ∷ xs) = omega (arith, short_hex x, short_more xs, length-append (hex x) (flat_map (λ t. codes ":" ++ hex t) xs))
+short_groups (x ∷ xs) =
+    omega (arith, short_hex x, short_more xs, length-append (hex x) (flat_map (λ t. codes ":" ++ hex t) xs))
 
-short_by : (b : Bool) (xs ys zs : List ℕ) (most : ℕ) → length xs + (2 + length ys) ≤ most → length zs ≤ most → length (cond b (xs ++ codes "::" ++ ys) zs) ≤ most
-short_by true xs ys zs most h k = omega (arith, h, length-append (xs ++ codes "::") ys, length-append xs (codes "::"))
+short_by : (b : Bool) (xs ys zs : List ℕ) (most : ℕ) → length xs + (2 + length ys) ≤ most →
+    length zs ≤ most → length (cond b (xs ++ codes "::" ++ ys) zs) ≤ most
+short_by true xs ys zs most h k =
+    omega (arith, h, length-append (xs ++ codes "::") ys, length-append xs (codes "::"))
 short_by false xs ys zs most h k = k
 
 short_v6 : (xs : List ℕ) → length xs ≡ 8 → length (hex_groups_text xs) ≤ 82
@@ -106,7 +113,8 @@ unfolding hex_groups_text
 short_v6 xs h =
     let run : ℕ × ℕ = longest_zero_run xs in
     let front : length (take run.0 xs) ≤ 8 = omega (arith, length-take run.0 xs, h) in
-    let back : length (drop (run.0 + run.1) xs) ≤ 8 = omega (arith, length-drop (run.0 + run.1) xs, h) in
+    let back : length (drop (run.0 + run.1) xs) ≤ 8 =
+    omega (arith, length-drop (run.0 + run.1) xs, h) in
     short_by (nat_lt 1 run.1) (groups_text (take run.0 xs)) (groups_text (drop (run.0 + run.1) xs)) (groups_text xs) 82
     (omega (arith, front, back, short_groups (take run.0 xs), short_groups (drop (run.0 + run.1) xs)))
     (omega (arith, h, short_groups xs))
@@ -121,4 +129,5 @@ short_v4 xs h =
 
 pub address_short : (a : Address) → is_address a ≡ true → length (address_text a) ≤ 82
 address_short (V4 bytes) h = short_v4 bytes (address_is (V4 bytes) h).1
-address_short (V6 bytes) h = short_v6 (segments_of bytes) (segments_len bytes (address_is (V6 bytes) h).0)
+address_short (V6 bytes) h =
+    short_v6 (segments_of bytes) (segments_len bytes (address_is (V6 bytes) h).0)

@@ -15,7 +15,8 @@ use Rattle.booth_conf.proofs.SegmentLemmas.{octets_again, segments_again, octets
 use Rattle.booth_conf.specs.ValueReader.{address_in, address_by, are_segments, is_segment}
 
 -- a whole text that is read leaves nothing
-whole_at : {A : Type 0} (a : A) (rest : List ℕ) (x : A) → whole_value (Some (a, rest)) ≡ Some x → ◌≡◌ {A = Read A} (Some (a, rest)) (Some (x, []))
+whole_at : {A : Type 0} (a : A) (rest : List ℕ) (x : A) → whole_value (Some (a, rest)) ≡ Some x →
+    ◌≡◌ {A = Read A} (Some (a, rest)) (Some (x, []))
 whole_at a [] x e = cc
 whole_at a (b ∷ rest) x e = grind (arith, nat_tests)
 
@@ -23,21 +24,29 @@ whole_found : {A : Type 0} (r : Read A) (x : A) → whole_value r ≡ Some x →
 whole_found None x e = cc
 whole_found (Some p) x e = whole_at p.0 p.1 x e
 
-dotted_found : (text octets : List ℕ) → whole_value (read_ipv4 text) ≡ Some octets → IsDotted text octets
+dotted_found : (text octets : List ℕ) → whole_value (read_ipv4 text) ≡ Some octets →
+    IsDotted text octets
 dotted_found text octets e =
-    let (front, split, dotted) = read_ipv4_sound text octets [] (whole_found (read_ipv4 text) octets e) in
+    let (front, split, dotted) =
+    read_ipv4_sound text octets [] (whole_found (read_ipv4 text) octets e) in
     subst (λ t. IsDotted t octets) (sym (split ∙ append-nil front)) dotted
 
-colons_found : (text segments : List ℕ) → whole_value (read_ipv6 text) ≡ Some segments → IsColonHex text segments
+colons_found : (text segments : List ℕ) → whole_value (read_ipv6 text) ≡ Some segments →
+    IsColonHex text segments
 colons_found text segments e =
-    let (front, split, groups) = read_ipv6_sound text segments [] (whole_found (read_ipv6 text) segments e) in
+    let (front, split, groups) =
+    read_ipv6_sound text segments [] (whole_found (read_ipv6 text) segments e) in
     subst (λ t. IsColonHex t segments) (sym (split ∙ append-nil front)) groups
 
-dotted_only : (text octets : List ℕ) → IsDotted text octets → whole_value (read_ipv4 text) ≡ Some octets
-dotted_only text octets h = ap whole_value (ap read_ipv4 (sym (append-nil text)) ∙ read_ipv4_complete text octets [] h (lit≤ tt))
+dotted_only : (text octets : List ℕ) → IsDotted text octets →
+    whole_value (read_ipv4 text) ≡ Some octets
+dotted_only text octets h =
+    ap whole_value (ap read_ipv4 (sym (append-nil text)) ∙ read_ipv4_complete text octets [] h (lit≤ tt))
 
-colons_only : (text segments : List ℕ) → IsColonHex text segments → whole_value (read_ipv6 text) ≡ Some segments
-colons_only text segments h = ap whole_value (ap read_ipv6 (sym (append-nil text)) ∙ read_ipv6_complete text segments [] h EndsGroups-nil)
+colons_only : (text segments : List ℕ) → IsColonHex text segments →
+    whole_value (read_ipv6 text) ≡ Some segments
+colons_only text segments h =
+    ap whole_value (ap read_ipv6 (sym (append-nil text)) ∙ read_ipv6_complete text segments [] h EndsGroups-nil)
 
 -- SEGMENTS
 
@@ -53,7 +62,8 @@ below_segments (x ∷ xs) h =
     let rest : list_all is_segment xs ≡ true = below_segments xs (λ k. h (suc k)) in
     grind (arith, nat_tests)
 
-v6_spelled : (text segments : List ℕ) → are_segments segments ≡ true → IsColonHex text segments → Spells text (V6 (octets_of segments))
+v6_spelled : (text segments : List ℕ) → are_segments segments ≡ true → IsColonHex text segments →
+    Spells text (V6 (octets_of segments))
 v6_spelled text segments h groups =
     let eight : length segments ≡ 8 = grind (arith, nat_tests) in
     let small : list_all is_segment segments ≡ true = grind (arith, nat_tests) in (
@@ -63,23 +73,32 @@ v6_spelled text segments h groups =
 
 -- BOTH WAYS
 
-v6_found : (text segments : List ℕ) (b : Bool) (a : Address) → are_segments segments ≡ b → IsColonHex text segments → cond b (Some (V6 (octets_of segments))) None ≡ Some a → Spells text a
+v6_found : (text segments : List ℕ) (b : Bool) (a : Address) → are_segments segments ≡ b →
+    IsColonHex text segments → cond b (Some (V6 (octets_of segments))) None ≡ Some a → Spells text a
 v6_found text segments true a h groups e = let same : V6 (octets_of segments) ≡ a = cc in subst (λ x. Spells text x) same (v6_spelled text segments h groups)
 v6_found text segments false a h groups e = cc
 
-by_found : (text : List ℕ) (v4 v6 : Option (List ℕ)) (a : Address) → whole_value (read_ipv4 text) ≡ v4 → whole_value (read_ipv6 text) ≡ v6 → address_by v4 v6 ≡ Some a → Spells text a
+by_found : (text : List ℕ) (v4 v6 : Option (List ℕ)) (a : Address) →
+    whole_value (read_ipv4 text) ≡ v4 → whole_value (read_ipv6 text) ≡ v6 →
+    address_by v4 v6 ≡ Some a → Spells text a
 by_found text (Some octets) v6 a e f h = let same : V4 octets ≡ a = cc in subst (λ x. Spells text x) same (dotted_found text octets e)
-by_found text None (Some segments) a e f h = v6_found text segments (are_segments segments) a refl (colons_found text segments f) h
+by_found text None (Some segments) a e f h =
+    v6_found text segments (are_segments segments) a refl (colons_found text segments f) h
 by_found text None None a e f h = cc
 
 pub address_found : (text : List ℕ) (a : Address) → address_in text ≡ Some a → Spells text a
-address_found text a h = by_found text (whole_value (read_ipv4 text)) (whole_value (read_ipv6 text)) a refl refl h
+address_found text a h =
+    by_found text (whole_value (read_ipv4 text)) (whole_value (read_ipv6 text)) a refl refl h
 
-v6_only : (text octets : List ℕ) (v4 : Option (List ℕ)) → Spells text (V6 octets) → whole_value (read_ipv4 text) ≡ v4 → address_by v4 (whole_value (read_ipv6 text)) ≡ Some (V6 octets)
-v6_only text octets (Some other) h e = absurd (IsDotted-not_colon_hex text other (segments_of octets) (dotted_found text other e) h.1)
+v6_only : (text octets : List ℕ) (v4 : Option (List ℕ)) → Spells text (V6 octets) →
+    whole_value (read_ipv4 text) ≡ v4 →
+    address_by v4 (whole_value (read_ipv6 text)) ≡ Some (V6 octets)
+v6_only text octets (Some other) h e =
+    absurd (IsDotted-not_colon_hex text other (segments_of octets) (dotted_found text other e) h.1)
 v6_only text octets None h e =
     let eight : length (segments_of octets) ≡ 8 = segments_len octets h.0.0 in
-    let small : list_all is_segment (segments_of octets) ≡ true = below_segments (segments_of octets) (segments_below octets h.0.1) in
+    let small : list_all is_segment (segments_of octets) ≡ true =
+    below_segments (segments_of octets) (segments_below octets h.0.1) in
     let good : are_segments (segments_of octets) ≡ true = grind (arith, nat_tests) in
     rw (colons_only text (segments_of octets) h.1, good, octets_again octets h.0.0 h.0.1) refl
 
@@ -93,10 +112,12 @@ abbrev pub ok_of : {A E : Type 0} → Result A E → Option A
 ok_of (Ok a) = Some a
 ok_of (Err e) = None
 
-none_in : (text : List ℕ) (o : Option Address) → address_in text ≡ o → ((a : Address) → Spells text a → ⊥) → None ≡ o
+none_in : (text : List ℕ) (o : Option Address) → address_in text ≡ o →
+    ((a : Address) → Spells text a → ⊥) → None ≡ o
 none_in text None e none = refl
 none_in text (Some a) e none = absurd (none a (address_found text a e))
 
-pub address_read : (text : List ℕ) (result : Result Address AddressFault) → ReadsAddress text result → ok_of result ≡ address_in text
+pub address_read : (text : List ℕ) (result : Result Address AddressFault) →
+    ReadsAddress text result → ok_of result ≡ address_in text
 address_read text (Ok a) h = sym (address_only text a h)
 address_read text (Err e) h = none_in text (address_in text) refl h

@@ -17,13 +17,13 @@ use Rattle.booth_conf.specs.declared.members.Member.{Member as MemberOf}
 use Rattle.booth_conf.specs.declared.tickets.Prereq.{Prereq as PrereqOf}
 use Rattle.booth_conf.specs.declared.tickets.TicketConf.{TicketConf}
 use Rattle.booth_conf.specs.declared.faults.ConfFault.{ConfFault}
-use Rattle.booth_conf.specs.declared.readings.Said.{Said}
-use Rattle.booth_conf.specs.declared.readings.Said.TheVariants.{Empty, Pair}
+use Rattle.booth_conf.specs.declared.line_meaning.Said.{Said}
+use Rattle.booth_conf.specs.declared.line_meaning.Said.TheVariants.{Empty, Pair}
 use Rattle.booth_conf.specs.declared.settings.FileSetting.TheVariants.{Skew}
 use Rattle.booth_conf.specs.declared.settings.TicketSetting.TheVariants.{Renewal}
 use Rattle.booth_conf.specs.declared.settings.Setting.{Setting}
 use Rattle.booth_conf.specs.declared.settings.Setting.TheVariants.{File, Member, Of}
-use Rattle.booth_conf.proofs.FinishLemmas.{both_true}
+use Rattle.booth_conf.proofs.DefaultLemmas.{both_true}
 use Rattle.booth_conf.proofs.SaidLemmas.{all_said_found}
 use Rattle.booth_conf.proofs.LineAgain.{line_cut}
 use Rattle.booth_conf.proofs.SettingAgain.{is_printed, key_of, IsRead, setting_read, line_said, setting_fine}
@@ -39,17 +39,22 @@ abbrev said_of_lines : List Setting → List Said
 said_of_lines [] = Empty ∷ []
 said_of_lines (s ∷ ss) = Pair (key_of s) (Some s) ∷ said_of_lines ss
 
-cut_setting : (s : Setting) (rest : List ℕ) → IsRead s → lines_of (line_text (setting_name s) (setting_value s) ++ rest) ≡ setting_line s ∷ lines_of rest
+cut_setting : (s : Setting) (rest : List ℕ) → IsRead s →
+    lines_of (line_text (setting_name s) (setting_value s) ++ rest) ≡ setting_line s ∷ lines_of rest
 cut_setting s rest r = rw r.name (line_cut (key_of s) (setting_value s) rest r.sayable)
 
-lines_said : (ss : List Setting) → list_all is_printed ss ≡ true → said_lines (lines_text ss) ≡ said_of_lines ss
+lines_said : (ss : List Setting) → list_all is_printed ss ≡ true →
+    said_lines (lines_text ss) ≡ said_of_lines ss
 lines_said [] h = refl
 lines_said (s ∷ ss) h =
     let b = both_true (is_printed s) (list_all is_printed ss) h in
     let r : IsRead s = setting_read s b.0 in
-    ap (map said) (cut_setting s (lines_text ss) r) ∙ ap (λ x. x ∷ said_lines (lines_text ss)) (line_said s r) ∙ ap (λ xs. Pair (key_of s) (Some s) ∷ xs) (lines_said ss b.1)
+    ap (map said) (cut_setting s (lines_text ss) r)
+    ∙ ap (λ x. x ∷ said_lines (lines_text ss)) (line_said s r)
+    ∙ ap (λ xs. Pair (key_of s) (Some s) ∷ xs) (lines_said ss b.1)
 
-takes_runs : (d : Summary) (ss : List Setting) (e : Summary) → list_all is_printed ss ≡ true → Runs d ss e → Takes d (said_of_lines ss) e
+takes_runs : (d : Summary) (ss : List Setting) (e : Summary) → list_all is_printed ss ≡ true →
+    Runs d ss e → Takes d (said_of_lines ss) e
 takes_runs d [] e w r = (refl, r)
 takes_runs d (s ∷ ss) e w r =
     let b = both_true (is_printed s) (list_all is_printed ss) w in
@@ -57,48 +62,62 @@ takes_runs d (s ∷ ss) e w r =
 
 -- EACH SETTING CAN BE PRINTED
 
-all_both : (xs ys : List Setting) → list_all is_printed xs ≡ true → list_all is_printed ys ≡ true → list_all is_printed (xs ++ ys) ≡ true
+all_both : (xs ys : List Setting) → list_all is_printed xs ≡ true → list_all is_printed ys ≡ true →
+    list_all is_printed (xs ++ ys) ≡ true
 all_both [] ys h k = k
 all_both (x ∷ xs) ys h k = let b = both_true (is_printed x) (list_all is_printed xs) h in rw (b.0, all_both xs ys b.1 k) refl
 
-extras_printed : (es : List (KeyNo × List ℕ)) → list_all is_extra es ≡ true → list_all is_printed (map extra_setting es) ≡ true
+extras_printed : (es : List (KeyNo × List ℕ)) → list_all is_extra es ≡ true →
+    list_all is_printed (map extra_setting es) ≡ true
 extras_printed [] h = refl
 extras_printed (e ∷ es) h = let b = both_true (is_extra e) (list_all is_extra es) h in rw (b.0, extras_printed es b.1) refl
 
-members_printed : (ms : List MemberOf) → list_all is_member ms ≡ true → list_all is_printed (map Member ms) ≡ true
+members_printed : (ms : List MemberOf) → list_all is_member ms ≡ true →
+    list_all is_printed (map Member ms) ≡ true
 members_printed [] h = refl
 members_printed (m ∷ ms) h = let b = both_true (is_member m) (list_all is_member ms) h in rw (b.0, members_printed ms b.1) refl
 
-prereqs_printed : (qs : List PrereqOf) → list_all is_prereq qs ≡ true → list_all is_printed (map prereq_setting qs) ≡ true
+prereqs_printed : (qs : List PrereqOf) → list_all is_prereq qs ≡ true →
+    list_all is_printed (map prereq_setting qs) ≡ true
 prereqs_printed [] h = refl
 prereqs_printed (q ∷ qs) h = let b = both_true (is_prereq q) (list_all is_prereq qs) h in rw (b.0, prereqs_printed qs b.1) refl
 
-authfile_printed : (o : Option (List ℕ)) → each (is_text 1) o ≡ true → list_all is_printed (authfile_settings o) ≡ true
+authfile_printed : (o : Option (List ℕ)) → each (is_text 1) o ≡ true →
+    list_all is_printed (authfile_settings o) ≡ true
 authfile_printed None h = refl
 authfile_printed (Some text) h = rw h refl
 
-handler_printed : (o : Option (List ℕ)) → each is_command o ≡ true → list_all is_printed (handler_settings o) ≡ true
+handler_printed : (o : Option (List ℕ)) → each is_command o ≡ true →
+    list_all is_printed (handler_settings o) ≡ true
 handler_printed None h = refl
 handler_printed (Some text) h = rw h refl
 
-weights_printed : (ws : List ℕ) → are_weights ws ≡ true → list_all is_printed (weights_settings ws) ≡ true
+weights_printed : (ws : List ℕ) → are_weights ws ≡ true →
+    list_all is_printed (weights_settings ws) ≡ true
 weights_printed [] h = refl
 weights_printed (n ∷ ns) h = let some : (length (n ∷ ns) == 0) ≡ false = grind (arith, nat_tests) in rw (some, h) refl
 
-seconds_within : (least ms : ℕ) → is_seconds least ms ≡ true → is_within least SECONDS (ms / 1000) ≡ true
-seconds_within least ms h = (both_true (1000 * (ms / 1000) == ms) (is_within least SECONDS (ms / 1000)) h).1
+seconds_within : (least ms : ℕ) → is_seconds least ms ≡ true →
+    is_within least SECONDS (ms / 1000) ≡ true
+seconds_within least ms h =
+    (both_true (1000 * (ms / 1000) == ms) (is_within least SECONDS (ms / 1000)) h).1
 
-renewal_printed : (times : Times) (b : Bool) → (times.renewal == times.expire / 2) ≡ b → is_renewal times ≡ true → list_all is_printed (if b then [] else Of (Renewal (times.renewal / 1000)) ∷ []) ≡ true
+renewal_printed : (times : Times) (b : Bool) → (times.renewal == times.expire / 2) ≡ b →
+    is_renewal times ≡ true →
+    list_all is_printed (if b then [] else Of (Renewal (times.renewal / 1000)) ∷ []) ≡ true
 renewal_printed times true e h = refl
 renewal_printed times false e h =
-    let w : is_within 1 SECONDS (times.renewal / 1000) ≡ true = seconds_within 1 times.renewal (grind (arith, nat_tests)) in
+    let w : is_within 1 SECONDS (times.renewal / 1000) ≡ true =
+    seconds_within 1 times.renewal (grind (arith, nat_tests)) in
     rw w refl
 
-times_printed : (times : Times) → TimesFacts times → list_all is_printed (times_settings times) ≡ true
+times_printed : (times : Times) → TimesFacts times →
+    list_all is_printed (times_settings times) ≡ true
 times_printed times f =
     rw (seconds_within 1 times.expire f.expire, seconds_within 0 times.after f.after, seconds_within 1 times.timeout f.timeout, f.retries) (renewal_printed times (times.renewal == times.expire / 2) refl f.renewal)
 
-ticket_printed : (t : TicketConf) → is_ticket t ≡ true → list_all is_printed (ticket_settings t) ≡ true
+ticket_printed : (t : TicketConf) → is_ticket t ≡ true →
+    list_all is_printed (ticket_settings t) ≡ true
 ticket_printed t h =
     let f : TicketFacts t = ticket_facts t h in
     let qs = both_true _ (list_all is_prereq t.prereqs.items) f.prereqs in
@@ -108,15 +127,18 @@ ticket_printed t h =
     (all_both (handler_settings t.handler) _ (handler_printed t.handler f.handler)
     (all_both (map prereq_setting t.prereqs.items) _ (prereqs_printed t.prereqs.items qs.1) refl))))
 
-tickets_printed : (ts : List TicketConf) → list_all is_ticket ts ≡ true → list_all is_printed (flat_map ticket_settings ts) ≡ true
+tickets_printed : (ts : List TicketConf) → list_all is_ticket ts ≡ true →
+    list_all is_printed (flat_map ticket_settings ts) ≡ true
 tickets_printed [] h = refl
 tickets_printed (t ∷ ts) h =
     let b = both_true (is_ticket t) (list_all is_ticket ts) h in
     all_both (ticket_settings t) (flat_map ticket_settings ts) (ticket_printed t b.0) (tickets_printed ts b.1)
 
-top_printed : (c : ConfigSays) → IsSound c → list_all is_printed (top_settings c.port c.authfile c.skew c.extras) ≡ true
+top_printed : (c : ConfigSays) → IsSound c →
+    list_all is_printed (top_settings c.port c.authfile c.skew c.extras) ≡ true
 top_printed c s =
-    let rest : list_all is_printed (File (Skew c.skew) ∷ map extra_setting c.extras) ≡ true = rw (s.skew, extras_printed c.extras s.extras) refl in
+    let rest : list_all is_printed (File (Skew c.skew) ∷ map extra_setting c.extras) ≡ true =
+    rw (s.skew, extras_printed c.extras s.extras) refl in
     rw s.port (all_both (authfile_settings c.authfile) (File (Skew c.skew) ∷ map extra_setting c.extras) (authfile_printed c.authfile s.authfile) rest)
 
 config_printed : (c : ConfigSays) → IsSound c → list_all is_printed (settings_of c) ≡ true
@@ -135,7 +157,8 @@ print_is_read c s =
     let ss : List Setting = settings_of c in
     let can : list_all is_printed ss ≡ true = config_printed c s in
     let lines : said_lines (printed c) ≡ said_of_lines ss = lines_said ss can in
-    let taken : Takes (summary []) (said_of_lines ss) (printed_summary c) = takes_runs (summary []) ss (printed_summary c) can (config_run c s) in
+    let taken : Takes (summary []) (said_of_lines ss) (printed_summary c) =
+    takes_runs (summary []) ss (printed_summary c) can (config_run c s) in
     record {
       short = config_short c s can;
       said = said_lines (printed c);

@@ -26,11 +26,13 @@ front_is p (b ∷ bs) = elim (p b) as (λ t. cond t (b ∷ front p bs) [] ≡ ta
 pub prefix_within : (p : ℕ → Bool) (xs : List ℕ) → prefix_len p xs ≤ length xs
 prefix_within p xs = prefix_len-le-length p xs
 
-pub past_more : (p : ℕ → Bool) (xs ys : List ℕ) → list_all p xs ≡ true → past p (xs ++ ys) ≡ past p ys
+pub past_more : (p : ℕ → Bool) (xs ys : List ℕ) → list_all p xs ≡ true →
+    past p (xs ++ ys) ≡ past p ys
 past_more p [] ys h = refl
 past_more p (x ∷ xs) ys h = grind (arith, nat_tests, past_more p xs ys)
 
-pub front_more : (p : ℕ → Bool) (xs ys : List ℕ) → list_all p xs ≡ true → front p (xs ++ ys) ≡ xs ++ front p ys
+pub front_more : (p : ℕ → Bool) (xs ys : List ℕ) → list_all p xs ≡ true →
+    front p (xs ++ ys) ≡ xs ++ front p ys
 front_more p [] ys h = refl
 front_more p (x ∷ xs) ys h = grind (arith, nat_tests, front_more p xs ys)
 

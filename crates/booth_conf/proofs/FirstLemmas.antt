@@ -3,21 +3,26 @@ use Rattle.std.proofs.Common.{◌≡◌, ◌<◌, ◌+◌, ℕ, List, [], ◌∷
 use Rattle.std.specs.List.{filter_map, enumerate_from}
 use Rattle.std.specs.Option.{option_or, is_some}
 use Rattle.std.proofs.lemmas.List.{drop_more}
-use Rattle.booth_conf.specs.Parts.{first}
+use Rattle.booth_conf.specs.Sections.{first}
 
 -- what f gives first of the elements with their places
 abbrev pub given : {X Y : Type 0} → (ℕ × X → Option Y) → ℕ → List X → Option Y
 given f n xs = first (filter_map f (enumerate_from n xs))
 
-pub given_cons : {X Y : Type 0} (f : ℕ × X → Option Y) (n : ℕ) (x : X) (xs : List X) (o : Option Y) → f (n, x) ≡ o → given f n (x ∷ xs) ≡ option_or o (given f (n + 1) xs)
+pub given_cons : {X Y : Type 0} (f : ℕ × X → Option Y) (n : ℕ) (x : X) (xs : List X) (o : Option Y) →
+    f (n, x) ≡ o → given f n (x ∷ xs) ≡ option_or o (given f (n + 1) xs)
 given_cons f n x xs None e = rw e refl
 given_cons f n x xs (Some y) e = rw e refl
 
 -- what is given from place i on: of the element there, or else from the next place on
-pub given_at : {X Y : Type 0} (f : ℕ × X → Option Y) (xs : List X) (i : ℕ) (d : X) (o : Option Y) → i < length xs → f (i, get_or xs i d) ≡ o → given f i (drop i xs) ≡ option_or o (given f (i + 1) (drop (i + 1) xs))
-given_at f xs i d o lt e = ap (given f i) (drop_more xs i d lt) ∙ given_cons f i (get_or xs i d) (drop (i + 1) xs) o e
+pub given_at : {X Y : Type 0} (f : ℕ × X → Option Y) (xs : List X) (i : ℕ) (d : X) (o : Option Y) →
+    i < length xs → f (i, get_or xs i d) ≡ o →
+    given f i (drop i xs) ≡ option_or o (given f (i + 1) (drop (i + 1) xs))
+given_at f xs i d o lt e =
+    ap (given f i) (drop_more xs i d lt) ∙ given_cons f i (get_or xs i d) (drop (i + 1) xs) o e
 
-pub first_append : {Y : Type 0} (xs ys : List Y) → first (xs ++ ys) ≡ option_or (first xs) (first ys)
+pub first_append : {Y : Type 0} (xs ys : List Y) →
+    first (xs ++ ys) ≡ option_or (first xs) (first ys)
 first_append [] ys = refl
 first_append (x ∷ xs) ys = refl
 

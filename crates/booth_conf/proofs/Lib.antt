@@ -15,8 +15,8 @@ pub mod More
 pub mod NameLemmas
 pub mod Turns
 pub mod FirstLemmas
-pub mod WholeLemmas
-pub mod FinishLemmas
+pub mod CheckLemmas
+pub mod DefaultLemmas
 pub mod SayLemmas
 pub mod SettingLemmas
 pub mod SoundLemmas

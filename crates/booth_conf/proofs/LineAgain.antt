@@ -13,12 +13,12 @@ use Rattle.booth_conf.specs.SaidReader.{said, said_of, said_by}
 use Rattle.booth_conf.specs.Reads.{lines_of}
 use Rattle.booth_conf.specs.Print.{written, pair_line, line_text}
 use Rattle.booth_conf.specs.Sound.{is_sayable}
-use Rattle.booth_conf.specs.declared.keys.Key.{Key}
-use Rattle.booth_conf.specs.declared.keys.Key.TheVariants as keys
+use Rattle.booth_conf.specs.declared.keys.ConfKey.{ConfKey}
+use Rattle.booth_conf.specs.declared.keys.ConfKey.TheVariants as keys
 use Rattle.booth_conf.specs.declared.settings.Setting.{Setting}
-use Rattle.booth_conf.specs.declared.readings.Said.TheVariants.{Pair}
+use Rattle.booth_conf.specs.declared.line_meaning.Said.TheVariants.{Pair}
 use Rattle.booth_conf.proofs.BothWays.{pair_only}
-use Rattle.booth_conf.proofs.FinishLemmas.{both_true}
+use Rattle.booth_conf.proofs.DefaultLemmas.{both_true}
 use Rattle.booth_conf.proofs.SaidLemmas.{named_only}
 use Rattle.booth_conf.proofs.SayLemmas.{is_formed}
 
@@ -26,12 +26,17 @@ bare_is : (value : List ℕ) → (begins_bare value && stays_bare value []) ≡ 
 bare_is value h = let b = both_true (begins_bare value) (stays_bare value []) h in
     record { tail = []; spelled = sym (append-nil value); begins = b.0; stays = b.1; ends = refl }
 
-written_is : (value : List ℕ) (a b : Bool) → list_all (is_other 0x22) value ≡ a → list_all (is_other 0x27) value ≡ b → (a || (b || (begins_bare value && stays_bare value []))) ≡ true → IsWritten (cond a (0x22 ∷ (value ++ 0x22 ∷ [])) (cond b (0x27 ∷ (value ++ 0x27 ∷ [])) value)) value
+written_is : (value : List ℕ) (a b : Bool) → list_all (is_other 0x22) value ≡ a →
+    list_all (is_other 0x27) value ≡ b →
+    (a || (b || (begins_bare value && stays_bare value []))) ≡ true →
+    IsWritten (cond a (0x22 ∷ (value ++ 0x22 ∷ [])) (cond b (0x27 ∷ (value ++ 0x27 ∷ [])) value)) value
 written_is value true b e f v = inl (record { tail = []; spelled = refl; plain = e; ends = refl })
-written_is value false true e f v = inr (inl (record { tail = []; spelled = refl; plain = f; ends = refl }))
+written_is value false true e f v =
+    inr (inl (record { tail = []; spelled = refl; plain = f; ends = refl }))
 written_is value false false e f v = inr (inr (bare_is value v))
 
-pub pair_again : (name value : List ℕ) → is_key name ≡ true → is_sayable value ≡ true → line_read (pair_line name value) ≡ reads.Pair name value
+pub pair_again : (name value : List ℕ) → is_key name ≡ true → is_sayable value ≡ true →
+    line_read (pair_line name value) ≡ reads.Pair name value
 pair_again name value named s =
     let b = both_true (list_all is_value_byte value) (is_formed value) s in
     pair_only (pair_line name value) name value (record {
@@ -48,7 +53,7 @@ pair_again name value named s =
       plain = b.0;
     })
 
-key_name : (key : Key) → is_key (row_of key).name ≡ true
+key_name : (key : ConfKey) → is_key (row_of key).name ≡ true
 key_name keys.Port = refl
 key_name keys.Transport = refl
 key_name keys.Authfile = refl
@@ -71,23 +76,28 @@ key_name keys.BeforeAcquireHandler = refl
 key_name keys.AttrPrereq = refl
 key_name keys.Mode = refl
 
-pub key_said : (key : Key) (value : List ℕ) (s : Setting) → is_sayable value ≡ true → setting_in key value ≡ Some s → said (pair_line (row_of key).name value) ≡ Pair key (Some s)
+pub key_said : (key : ConfKey) (value : List ℕ) (s : Setting) → is_sayable value ≡ true →
+    setting_in key value ≡ Some s → said (pair_line (row_of key).name value) ≡ Pair key (Some s)
 key_said key value s say is =
-    ap said_of (pair_again (row_of key).name value (key_name key) say) ∙ ap (said_by value) (named_only key) ∙ ap (λ o. Pair key o) is
+    ap said_of (pair_again (row_of key).name value (key_name key) say)
+    ∙ ap (said_by value) (named_only key) ∙ ap (λ o. Pair key o) is
 
 -- CUTTING
 
 abbrev pub has_no_end : List ℕ → Bool
 has_no_end bs = list_all (λ b. not (b == 0x0A)) bs
 
-pub cut_line : (line rest : List ℕ) → has_no_end line ≡ true → lines_of (line ++ 0x0A ∷ rest) ≡ line ∷ lines_of rest
+pub cut_line : (line rest : List ℕ) → has_no_end line ≡ true →
+    lines_of (line ++ 0x0A ∷ rest) ≡ line ∷ lines_of rest
 cut_line [] rest h = refl
 cut_line (b ∷ bs) rest h =
     let t : (b == 0x0A) ≡ false = grind (arith, nat_tests) in
     let u : has_no_end bs ≡ true = grind (arith, nat_tests) in
-    slice_split-cons_no (λ x. x == 0x0A) b (bs ++ 0x0A ∷ rest) t ∙ ap (onto_first b) (cut_line bs rest u)
+    slice_split-cons_no (λ x. x == 0x0A) b (bs ++ 0x0A ∷ rest) t
+    ∙ ap (onto_first b) (cut_line bs rest u)
 
-no_end_both : (xs ys : List ℕ) → has_no_end xs ≡ true → has_no_end ys ≡ true → has_no_end (xs ++ ys) ≡ true
+no_end_both : (xs ys : List ℕ) → has_no_end xs ≡ true → has_no_end ys ≡ true →
+    has_no_end (xs ++ ys) ≡ true
 no_end_both [] ys h k = k
 no_end_both (x ∷ xs) ys h k = grind (arith, nat_tests, no_end_both xs ys)
 
@@ -99,7 +109,8 @@ key_no_end : (name : List ℕ) → list_all is_key_byte name ≡ true → has_no
 key_no_end [] h = refl
 key_no_end (b ∷ bs) h = grind (arith, nat_tests, key_no_end bs)
 
-written_no_end : (value : List ℕ) (a b : Bool) → has_no_end value ≡ true → has_no_end (cond a (0x22 ∷ (value ++ 0x22 ∷ [])) (cond b (0x27 ∷ (value ++ 0x27 ∷ [])) value)) ≡ true
+written_no_end : (value : List ℕ) (a b : Bool) → has_no_end value ≡ true →
+    has_no_end (cond a (0x22 ∷ (value ++ 0x22 ∷ [])) (cond b (0x27 ∷ (value ++ 0x27 ∷ [])) value)) ≡ true
 written_no_end value true b h = no_end_both value (0x22 ∷ []) h refl
 written_no_end value false true h = no_end_both value (0x27 ∷ []) h refl
 written_no_end value false false h = h
@@ -108,13 +119,16 @@ name_bytes : (name : List ℕ) → is_key name ≡ true → list_all is_key_byte
 name_bytes [] h = cc
 name_bytes (b ∷ bs) h = h
 
-pair_no_end : (name value : List ℕ) → is_key name ≡ true → is_sayable value ≡ true → has_no_end (pair_line name value) ≡ true
+pair_no_end : (name value : List ℕ) → is_key name ≡ true → is_sayable value ≡ true →
+    has_no_end (pair_line name value) ≡ true
 pair_no_end name value named s =
-    let v : has_no_end value ≡ true = value_no_end value (both_true (list_all is_value_byte value) (is_formed value) s).0 in
+    let v : has_no_end value ≡ true =
+    value_no_end value (both_true (list_all is_value_byte value) (is_formed value) s).0 in
     no_end_both name (codes " = " ++ written value) (key_no_end name (name_bytes name named)) (written_no_end value (list_all (is_other 0x22) value) (list_all (is_other 0x27) value) v)
 
 -- a line with its end, in front of a text
-pub line_cut : (key : Key) (value rest : List ℕ) → is_sayable value ≡ true → lines_of (line_text (row_of key).name value ++ rest) ≡ pair_line (row_of key).name value ∷ lines_of rest
+pub line_cut : (key : ConfKey) (value rest : List ℕ) → is_sayable value ≡ true →
+    lines_of (line_text (row_of key).name value ++ rest) ≡ pair_line (row_of key).name value ∷ lines_of rest
 unfolding line_text
 line_cut key value rest s =
     ap lines_of (append_assoc (pair_line (row_of key).name value) (0x0A ∷ []) rest)

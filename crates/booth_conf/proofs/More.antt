@@ -5,23 +5,23 @@ use Rattle.std.specs.List.{filter_map, cons_option}
 use Rattle.std.specs.Prelude.{is_some, option_map}
 use Rattle.std.proofs.lemmas.Bool.Decides.{nat_tests}
 use Rattle.std.proofs.lemmas.List.Elements.{filter_map-append}
-use Rattle.booth_conf.specs.Parts.{PartSays, part_of, part_clash}
-use Rattle.booth_conf.specs.Rules.{OwnKeys, own, owns, default_own, file_in, member_in, prereqs_of, named_part, Summary, summary, open_part, placed_clash, clash, said_fault, setting_said, settings, line_fault, is_misplaced, value_fault}
+use Rattle.booth_conf.specs.Sections.{SectionSays, section_of, section_clash}
+use Rattle.booth_conf.specs.Rules.{OwnKeys, own, owns, default_own, file_in, member_in, prereqs_of, named_section, Summary, summary, open_section, placed_clash, clash, said_fault, setting_said, settings, line_fault, is_misplaced, value_fault}
 use Rattle.booth_conf.specs.Steps.{added, last_added, said_added}
-use Rattle.booth_conf.specs.declared.parts.NamedPart.{NamedPart}
-use Rattle.booth_conf.specs.declared.keys.Key.{Key}
+use Rattle.booth_conf.specs.declared.sections.NamedSection.{NamedSection}
+use Rattle.booth_conf.specs.declared.keys.ConfKey.{ConfKey}
 use Rattle.booth_conf.specs.declared.members.Member.{Member as MemberOf}
 use Rattle.booth_conf.specs.declared.tickets.Prereq.{Prereq as PrereqOf}
-use Rattle.booth_conf.specs.declared.readings.Said.{Said}
-use Rattle.booth_conf.specs.declared.readings.Said.TheVariants.{Empty, Broken, Unknown, Pair}
+use Rattle.booth_conf.specs.declared.line_meaning.Said.{Said}
+use Rattle.booth_conf.specs.declared.line_meaning.Said.TheVariants.{Empty, Broken, Unknown, Pair}
 use Rattle.booth_conf.specs.declared.faults.LineFault.TheVariants.{Misplaced, Repeated, DefaultLate}
 use Rattle.booth_conf.specs.declared.settings.FileSetting.{FileSetting}
 use Rattle.booth_conf.specs.declared.settings.TicketSetting.{TicketSetting}
 use Rattle.booth_conf.specs.declared.settings.Setting.{Setting}
 use Rattle.booth_conf.specs.declared.settings.Setting.TheVariants.{File, Member, Ticket, Defaults, Of}
-use Rattle.booth_conf.proofs.KeyLemmas.{kept, grows, top_more, part_more}
+use Rattle.booth_conf.proofs.KeyLemmas.{kept, grows, top_more, section_more}
 
--- one ticket's keys, with more behind them
+-- one ticket's keys, with more after them
 abbrev pub with_more : List TicketSetting → OwnKeys → OwnKeys
 with_more q o = record o { keys = o.keys ++ q }
 
@@ -31,7 +31,8 @@ on_last q [] = []
 on_last q (o ∷ []) = with_more q o ∷ []
 on_last q (o ∷ r ∷ rs) = o ∷ on_last q (r ∷ rs)
 
-own_more_none : (ss : List Setting) (s : Setting) → owns ss ≡ [] → own (ss ++ s ∷ []) ≡ own ss ++ own (s ∷ [])
+own_more_none : (ss : List Setting) (s : Setting) → owns ss ≡ [] →
+    own (ss ++ s ∷ []) ≡ own ss ++ own (s ∷ [])
 own_more_none [] s h = refl
 own_more_none (File f ∷ ss) s h = own_more_none ss s h
 own_more_none (Member m ∷ ss) s h = own_more_none ss s h
@@ -39,7 +40,8 @@ own_more_none (Ticket n ∷ ss) s h = cc
 own_more_none (Defaults ∷ ss) s h = own_more_none ss s h
 own_more_none (Of p ∷ ss) s h = ap (λ xs. p ∷ xs) (own_more_none ss s h)
 
-own_more_some : (ss : List Setting) (s : Setting) (o : OwnKeys) (os : List OwnKeys) → owns ss ≡ o ∷ os → own (ss ++ s ∷ []) ≡ own ss
+own_more_some : (ss : List Setting) (s : Setting) (o : OwnKeys) (os : List OwnKeys) →
+    owns ss ≡ o ∷ os → own (ss ++ s ∷ []) ≡ own ss
 own_more_some [] s o os h = cc
 own_more_some (File f ∷ ss) s o os h = own_more_some ss s o os h
 own_more_some (Member m ∷ ss) s o os h = own_more_some ss s o os h
@@ -50,11 +52,14 @@ own_more_some (Of p ∷ ss) s o os h = ap (λ xs. p ∷ xs) (own_more_some ss s 
 abbrev titled : List ℕ → List TicketSetting → OwnKeys
 titled n ks = record { name = n; keys = ks }
 
-owns_ticket : (n : List ℕ) (ss : List Setting) (s : Setting) (os : List OwnKeys) → owns ss ≡ os → owns (ss ++ s ∷ []) ≡ on_last (own (s ∷ [])) os ++ owns (s ∷ []) → titled n (own (ss ++ s ∷ [])) ∷ owns (ss ++ s ∷ []) ≡ on_last (own (s ∷ [])) (titled n (own ss) ∷ os) ++ owns (s ∷ [])
+owns_ticket : (n : List ℕ) (ss : List Setting) (s : Setting) (os : List OwnKeys) → owns ss ≡ os →
+    owns (ss ++ s ∷ []) ≡ on_last (own (s ∷ [])) os ++ owns (s ∷ []) →
+    titled n (own (ss ++ s ∷ [])) ∷ owns (ss ++ s ∷ []) ≡ on_last (own (s ∷ [])) (titled n (own ss) ∷ os) ++ owns (s ∷ [])
 owns_ticket n ss s [] e h = rw (own_more_none ss s e, h) refl
 owns_ticket n ss s (o ∷ os) e h = rw (own_more_some ss s o os e, h) refl
 
-pub owns_more : (ss : List Setting) (s : Setting) → owns (ss ++ s ∷ []) ≡ on_last (own (s ∷ [])) (owns ss) ++ owns (s ∷ [])
+pub owns_more : (ss : List Setting) (s : Setting) →
+    owns (ss ++ s ∷ []) ≡ on_last (own (s ∷ [])) (owns ss) ++ owns (s ∷ [])
 owns_more [] s = refl
 owns_more (File f ∷ ss) s = owns_more ss s
 owns_more (Member m ∷ ss) s = owns_more ss s
@@ -62,12 +67,13 @@ owns_more (Ticket n ∷ ss) s = owns_ticket n ss s (owns ss) refl (owns_more ss 
 owns_more (Defaults ∷ ss) s = owns_more ss s
 owns_more (Of p ∷ ss) s = owns_more ss s
 
--- the default's keys, where no ticket stands behind them
+-- the default's keys, where no ticket stands after them
 abbrev pub default_more : Option (List TicketSetting) → Setting → Option (List TicketSetting)
 default_more None s = default_own (s ∷ [])
 default_more (Some o) s = Some (o ++ own (s ∷ []))
 
-default_none : (ss : List Setting) (s : Setting) → owns ss ≡ [] → default_own (ss ++ s ∷ []) ≡ default_more (default_own ss) s
+default_none : (ss : List Setting) (s : Setting) → owns ss ≡ [] →
+    default_own (ss ++ s ∷ []) ≡ default_more (default_own ss) s
 default_none [] s h = refl
 default_none (File f ∷ ss) s h = default_none ss s h
 default_none (Member m ∷ ss) s h = default_none ss s h
@@ -75,7 +81,8 @@ default_none (Ticket n ∷ ss) s h = cc
 default_none (Defaults ∷ ss) s h = ap (λ o. Some o) (own_more_none ss s h)
 default_none (Of p ∷ ss) s h = default_none ss s h
 
-default_some : (ss : List Setting) (s : Setting) (o : OwnKeys) (os : List OwnKeys) → owns ss ≡ o ∷ os → default_own (ss ++ s ∷ []) ≡ default_own ss
+default_some : (ss : List Setting) (s : Setting) (o : OwnKeys) (os : List OwnKeys) →
+    owns ss ≡ o ∷ os → default_own (ss ++ s ∷ []) ≡ default_own ss
 default_some [] s o os h = cc
 default_some (File f ∷ ss) s o os h = default_some ss s o os h
 default_some (Member m ∷ ss) s o os h = default_some ss s o os h
@@ -88,81 +95,108 @@ on_last_nil [] = refl
 on_last_nil (o ∷ []) = ap (λ ks. titled o.name ks ∷ []) (append-nil o.keys)
 on_last_nil (o ∷ r ∷ rs) = ap (λ xs. o ∷ xs) (on_last_nil (r ∷ rs))
 
-default_more_nil : (o : Option (List TicketSetting)) (s : Setting) → own (s ∷ []) ≡ [] → default_own (s ∷ []) ≡ None → default_more o s ≡ o
+default_more_nil : (o : Option (List TicketSetting)) (s : Setting) → own (s ∷ []) ≡ [] →
+    default_own (s ∷ []) ≡ None → default_more o s ≡ o
 default_more_nil None s h d = d
 default_more_nil (Some o) s h d = ap (λ q. Some (o ++ q)) h ∙ ap (λ x. Some x) (append-nil o)
 
 -- a setting that is no ticket's and no default leaves the default as it is
-default_kept_at : (ss : List Setting) (s : Setting) (os : List OwnKeys) → owns ss ≡ os → own (s ∷ []) ≡ [] → default_own (s ∷ []) ≡ None → default_own (ss ++ s ∷ []) ≡ default_own ss
+default_kept_at : (ss : List Setting) (s : Setting) (os : List OwnKeys) → owns ss ≡ os →
+    own (s ∷ []) ≡ [] → default_own (s ∷ []) ≡ None → default_own (ss ++ s ∷ []) ≡ default_own ss
 default_kept_at ss s [] e h d = default_none ss s e ∙ default_more_nil (default_own ss) s h d
 default_kept_at ss s (o ∷ os) e h d = default_some ss s o os e
 
-default_kept : (ss : List Setting) (s : Setting) → own (s ∷ []) ≡ [] → default_own (s ∷ []) ≡ None → default_own (ss ++ s ∷ []) ≡ default_own ss
+default_kept : (ss : List Setting) (s : Setting) → own (s ∷ []) ≡ [] → default_own (s ∷ []) ≡ None →
+    default_own (ss ++ s ∷ []) ≡ default_own ss
 default_kept ss s h d = default_kept_at ss s (owns ss) refl h d
 
-owns_kept : (ss : List Setting) (s : Setting) → own (s ∷ []) ≡ [] → owns (ss ++ s ∷ []) ≡ owns ss ++ owns (s ∷ [])
-owns_kept ss s h = owns_more ss s ∙ ap (λ q. on_last q (owns ss) ++ owns (s ∷ [])) h ∙ ap (λ xs. xs ++ owns (s ∷ [])) (on_last_nil (owns ss))
+owns_kept : (ss : List Setting) (s : Setting) → own (s ∷ []) ≡ [] →
+    owns (ss ++ s ∷ []) ≡ owns ss ++ owns (s ∷ [])
+owns_kept ss s h =
+    owns_more ss s ∙ ap (λ q. on_last q (owns ss) ++ owns (s ∷ [])) h
+    ∙ ap (λ xs. xs ++ owns (s ∷ [])) (on_last_nil (owns ss))
 
 none_of : {K : Type 0} (b : Bool) (k : K) → cond b (Some k) None ≡ None → b ≡ false
 none_of true k e = cc
 none_of false k e = refl
 
-then_none : {K : Type 0} (b : Bool) (k : K) (o : Option K) → cond b (Some k) o ≡ None → (b ≡ false) × (o ≡ None)
+then_none : {K : Type 0} (b : Bool) (k : K) (o : Option K) → cond b (Some k) o ≡ None →
+    (b ≡ false) × (o ≡ None)
 then_none true k o e = cc
 then_none false k o e = (refl, e)
 
-parts_more : (inherited : List PrereqOf) (defaults : Option PartSays) (o : OwnKeys) (os : List OwnKeys) (p : TicketSetting) → placed_clash (open_part defaults (map (named_part inherited) (o ∷ os))) p ≡ None → map (named_part inherited) (on_last (p ∷ []) (o ∷ os)) ≡ last_added (map (named_part inherited) (o ∷ os)) p
-parts_more inherited defaults o [] p h = ap (λ (x : PartSays). (record { name = o.name; part = x }) ∷ []) (part_more inherited o.keys p h)
-parts_more inherited defaults o (r ∷ rs) p h = ap (λ xs. named_part inherited o ∷ xs) (parts_more inherited defaults r rs p h)
+sections_more : (inherited : List PrereqOf) (defaults : Option SectionSays) (o : OwnKeys) (os : List OwnKeys) (p : TicketSetting) →
+    placed_clash (open_section defaults (map (named_section inherited) (o ∷ os))) p ≡ None →
+    map (named_section inherited) (on_last (p ∷ []) (o ∷ os)) ≡ last_added (map (named_section inherited) (o ∷ os)) p
+sections_more inherited defaults o [] p h =
+    ap (λ (x : SectionSays). (record { name = o.name; section = x }) ∷ []) (section_more inherited o.keys p h)
+sections_more inherited defaults o (r ∷ rs) p h =
+    ap (λ xs. named_section inherited o ∷ xs) (sections_more inherited defaults r rs p h)
 
-summary_file : (ss : List Setting) (f : FileSetting) → clash (summary ss) (File f) ≡ None → summary (ss ++ File f ∷ []) ≡ added (summary ss) (File f)
+summary_file : (ss : List Setting) (f : FileSetting) → clash (summary ss) (File f) ≡ None →
+    summary (ss ++ File f ∷ []) ≡ added (summary ss) (File f)
 summary_file ss f h =
     rw (grows file_in ss (File f) f refl, top_more (filter_map file_in ss) f h, kept member_in ss (File f) refl, default_kept ss (File f) refl refl, owns_kept ss (File f) refl, append-nil (owns ss)) refl
 
-summary_member : (ss : List Setting) (m : MemberOf) → summary (ss ++ Member m ∷ []) ≡ added (summary ss) (Member m)
+summary_member : (ss : List Setting) (m : MemberOf) →
+    summary (ss ++ Member m ∷ []) ≡ added (summary ss) (Member m)
 summary_member ss m =
     rw (kept file_in ss (Member m) refl, grows member_in ss (Member m) m refl, default_kept ss (Member m) refl refl, owns_kept ss (Member m) refl, append-nil (owns ss)) refl
 
-summary_ticket : (ss : List Setting) (n : List ℕ) → summary (ss ++ Ticket n ∷ []) ≡ added (summary ss) (Ticket n)
+summary_ticket : (ss : List Setting) (n : List ℕ) →
+    summary (ss ++ Ticket n ∷ []) ≡ added (summary ss) (Ticket n)
 summary_ticket ss n =
-    rw (kept file_in ss (Ticket n) refl, kept member_in ss (Ticket n) refl, default_kept ss (Ticket n) refl refl, owns_kept ss (Ticket n) refl, map-append (named_part (prereqs_of (option_map (part_of []) (default_own ss)))) (owns ss) (titled n [] ∷ [])) refl
+    rw (kept file_in ss (Ticket n) refl, kept member_in ss (Ticket n) refl, default_kept ss (Ticket n) refl refl, owns_kept ss (Ticket n) refl, map-append (named_section (prereqs_of (option_map (section_of []) (default_own ss)))) (owns ss) (titled n [] ∷ [])) refl
 
-no_parts : (f : OwnKeys → NamedPart) (os : List OwnKeys) → nat_lt 0 (length (map f os)) ≡ false → os ≡ []
-no_parts f [] h = refl
-no_parts f (o ∷ os) h = grind (arith, nat_tests)
+no_sections : (f : OwnKeys → NamedSection) (os : List OwnKeys) →
+    nat_lt 0 (length (map f os)) ≡ false → os ≡ []
+no_sections f [] h = refl
+no_sections f (o ∷ os) h = grind (arith, nat_tests)
 
-no_default : (f : List TicketSetting → PartSays) (o : Option (List TicketSetting)) → is_some (option_map f o) ≡ false → o ≡ None
+no_default : (f : List TicketSetting → SectionSays) (o : Option (List TicketSetting)) →
+    is_some (option_map f o) ≡ false → o ≡ None
 no_default f None h = refl
 no_default f (Some o) h = cc
 
-summary_defaults : (ss : List Setting) → clash (summary ss) Defaults ≡ None → summary (ss ++ Defaults ∷ []) ≡ added (summary ss) Defaults
+summary_defaults : (ss : List Setting) → clash (summary ss) Defaults ≡ None →
+    summary (ss ++ Defaults ∷ []) ≡ added (summary ss) Defaults
 summary_defaults ss h =
-    let defaults : Option PartSays = option_map (part_of []) (default_own ss) in
-    let t = then_none (is_some defaults) Repeated (cond (nat_lt 0 (length (map (named_part (prereqs_of defaults)) (owns ss)))) (Some DefaultLate) None) h in
-    let none : owns ss ≡ [] = no_parts (named_part (prereqs_of defaults)) (owns ss) (none_of _ DefaultLate t.1) in
-    let was : default_own ss ≡ None = no_default (part_of []) (default_own ss) t.0 in
+    let defaults : Option SectionSays = option_map (section_of []) (default_own ss) in
+    let t =
+    then_none (is_some defaults) Repeated (cond (nat_lt 0 (length (map (named_section (prereqs_of defaults)) (owns ss)))) (Some DefaultLate) None) h in
+    let none : owns ss ≡ [] =
+    no_sections (named_section (prereqs_of defaults)) (owns ss) (none_of _ DefaultLate t.1) in
+    let was : default_own ss ≡ None = no_default (section_of []) (default_own ss) t.0 in
     rw (kept file_in ss Defaults refl, kept member_in ss Defaults refl, default_none ss Defaults none, owns_kept ss Defaults refl, none, was) refl
 
-of_default : (ss : List Setting) (p : TicketSetting) (d : Option (List TicketSetting)) → owns ss ≡ [] → default_own ss ≡ d → clash (summary ss) (Of p) ≡ None → summary (ss ++ Of p ∷ []) ≡ added (summary ss) (Of p)
+of_default : (ss : List Setting) (p : TicketSetting) (d : Option (List TicketSetting)) →
+    owns ss ≡ [] → default_own ss ≡ d → clash (summary ss) (Of p) ≡ None →
+    summary (ss ++ Of p ∷ []) ≡ added (summary ss) (Of p)
 of_default ss p None none was h = let e : Some Misplaced ≡ None = rw (none, was) at h in cc
 of_default ss p (Some o) none was h =
-    let c : part_clash (part_of [] o) p ≡ None = rw (none, was) at h in
-    rw (kept file_in ss (Of p) refl, kept member_in ss (Of p) refl, default_none ss (Of p) none, owns_more ss (Of p), none, was, part_more [] o p c) refl
+    let c : section_clash (section_of [] o) p ≡ None = rw (none, was) at h in
+    rw (kept file_in ss (Of p) refl, kept member_in ss (Of p) refl, default_none ss (Of p) none, owns_more ss (Of p), none, was, section_more [] o p c) refl
 
-of_ticket : (ss : List Setting) (p : TicketSetting) (o : OwnKeys) (os : List OwnKeys) → owns ss ≡ o ∷ os → clash (summary ss) (Of p) ≡ None → summary (ss ++ Of p ∷ []) ≡ added (summary ss) (Of p)
+of_ticket : (ss : List Setting) (p : TicketSetting) (o : OwnKeys) (os : List OwnKeys) →
+    owns ss ≡ o ∷ os → clash (summary ss) (Of p) ≡ None →
+    summary (ss ++ Of p ∷ []) ≡ added (summary ss) (Of p)
 of_ticket ss p o os some h =
-    let defaults : Option PartSays = option_map (part_of []) (default_own ss) in
+    let defaults : Option SectionSays = option_map (section_of []) (default_own ss) in
     let inherited : List PrereqOf = prereqs_of defaults in
-    let c : placed_clash (open_part defaults (map (named_part inherited) (o ∷ os))) p ≡ None = rw some at h in
-    let t : nat_lt 0 (length (map (named_part inherited) (o ∷ os))) ≡ true = grind (arith, nat_tests) in
-    rw (kept file_in ss (Of p) refl, kept member_in ss (Of p) refl, default_some ss (Of p) o os some, owns_more ss (Of p), some, append-nil (on_last (p ∷ []) (o ∷ os)), parts_more inherited defaults o os p c, t) refl
+    let c : placed_clash (open_section defaults (map (named_section inherited) (o ∷ os))) p ≡ None =
+    rw some at h in
+    let t : nat_lt 0 (length (map (named_section inherited) (o ∷ os))) ≡ true =
+    grind (arith, nat_tests) in
+    rw (kept file_in ss (Of p) refl, kept member_in ss (Of p) refl, default_some ss (Of p) o os some, owns_more ss (Of p), some, append-nil (on_last (p ∷ []) (o ∷ os)), sections_more inherited defaults o os p c, t) refl
 
-of_at : (ss : List Setting) (p : TicketSetting) (os : List OwnKeys) → owns ss ≡ os → clash (summary ss) (Of p) ≡ None → summary (ss ++ Of p ∷ []) ≡ added (summary ss) (Of p)
+of_at : (ss : List Setting) (p : TicketSetting) (os : List OwnKeys) → owns ss ≡ os →
+    clash (summary ss) (Of p) ≡ None → summary (ss ++ Of p ∷ []) ≡ added (summary ss) (Of p)
 of_at ss p [] e h = of_default ss p (default_own ss) e refl h
 of_at ss p (o ∷ os) e h = of_ticket ss p o os e h
 
 -- a setting that does not clash is added
-pub summary_more : (ss : List Setting) (s : Setting) → clash (summary ss) s ≡ None → summary (ss ++ s ∷ []) ≡ added (summary ss) s
+pub summary_more : (ss : List Setting) (s : Setting) → clash (summary ss) s ≡ None →
+    summary (ss ++ s ∷ []) ≡ added (summary ss) s
 summary_more ss (File f) h = summary_file ss f h
 summary_more ss (Member m) h = summary_member ss m
 summary_more ss (Ticket n) h = summary_ticket ss n
@@ -172,15 +206,20 @@ summary_more ss (Of p) h = of_at ss p (owns ss) refl h
 -- LINES
 
 -- the setting of a line without a fault does not clash
-pub pair_fine : (d : Summary) (key : Key) (o : Option Setting) → said_fault d (Pair key o) ≡ None → value_fault key d o ≡ None
+pub pair_fine : (d : Summary) (key : ConfKey) (o : Option Setting) →
+    said_fault d (Pair key o) ≡ None → value_fault key d o ≡ None
 pair_fine d key o h = (then_none (is_misplaced key d) Misplaced (value_fault key d o) h).1
 
-said_more : (ss : List Setting) (s : Said) → said_fault (summary ss) s ≡ None → summary (ss ++ cons_option (setting_said s) []) ≡ said_added (summary ss) s
+said_more : (ss : List Setting) (s : Said) → said_fault (summary ss) s ≡ None →
+    summary (ss ++ cons_option (setting_said s) []) ≡ said_added (summary ss) s
 said_more ss Empty h = ap summary (append-nil ss)
 said_more ss Broken h = cc
 said_more ss Unknown h = cc
 said_more ss (Pair key None) h = let t = pair_fine (summary ss) key None h in cc
 said_more ss (Pair key (Some s)) h = summary_more ss s (pair_fine (summary ss) key (Some s) h)
 
-pub line_more : (lines : List Said) (line : Said) → line_fault lines line ≡ None → summary (settings (lines ++ line ∷ [])) ≡ said_added (summary (settings lines)) line
-line_more lines line h = ap summary (filter_map-append setting_said lines (line ∷ [])) ∙ said_more (settings lines) line h
+pub line_more : (lines : List Said) (line : Said) → line_fault lines line ≡ None →
+    summary (settings (lines ++ line ∷ [])) ≡ said_added (summary (settings lines)) line
+line_more lines line h =
+    ap summary (filter_map-append setting_said lines (line ∷ []))
+    ∙ said_more (settings lines) line h

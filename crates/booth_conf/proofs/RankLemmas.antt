@@ -6,7 +6,7 @@ use Rattle.std.proofs.lemmas.Bool.Decides.{nat_tests}
 use Rattle.std.proofs.lemmas.List.Sums.{count_by-le-length, sum_by-cons}
 use Rattle.std.proofs.lemmas.List.FromFn.{length-enumerate_from}
 use Rattle.booth_conf.specs.declared.members.Member.{Member}
-use Rattle.booth_conf.specs.Finish.{comes_before, rank_of}
+use Rattle.booth_conf.specs.Lookups.{comes_before, rank_of}
 
 at_most_one : (b : Bool) → cond b 1 0 ≤ 1
 at_most_one true = omega arith
@@ -19,7 +19,8 @@ nothing false e = omega arith
 not_before_itself : (ws : List ℕ) (i n : ℕ) (m : Member) → n ≡ i → comes_before ws i (n, m) ≡ false
 not_before_itself ws i n m e = rw e (grind (arith, nat_tests))
 
-count_cons : {X : Type 0} (p : X → Bool) (x : X) (xs : List X) → count_by p (x ∷ xs) ≡ cond (p x) 1 0 + count_by p xs
+count_cons : {X : Type 0} (p : X → Bool) (x : X) (xs : List X) →
+    count_by p (x ∷ xs) ≡ cond (p x) 1 0 + count_by p xs
 count_cons p x xs = sum_by-cons (λ y. cond (p y) 1 0) x xs
 
 counted_from : (P : Member → Type 0) (ms : List Member) (ws : List ℕ) (n k i : ℕ)

@@ -23,7 +23,8 @@ pairs (a ∷ b ∷ os) e h =
     let y : (a * 256 + b) % 256 ≡ b = omega arith in
     rw (x, y, pairs os e (λ k. h (suc (suc k)))) refl
 
-pub octets_again : (os : List ℕ) → length os ≡ 16 → Below (2 ^ 8) os → octets_of (segments_of os) ≡ os
+pub octets_again : (os : List ℕ) → length os ≡ 16 → Below (2 ^ 8) os →
+    octets_of (segments_of os) ≡ os
 octets_again os l h = pairs os (even_16 os l) h
 
 pub segments_again : (xs : List ℕ) → segments_of (octets_of xs) ≡ xs

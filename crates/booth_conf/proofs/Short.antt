@@ -14,8 +14,8 @@ use Rattle.booth_conf.specs.Print.{kind_word, test_word, prereq_text, weights_te
 use Rattle.booth_conf.specs.Sound.{is_within, is_sayable, is_text, is_extra, is_address, is_weight, are_weights, is_prereq, is_ticket, are_new, same_key, IsSound}
 use Rattle.booth_conf.specs.declared.limits.TheConstants.{MEMBERS, PREREQS, SECONDS, TEXT_BYTES, WEIGHT}
 use Rattle.booth_conf.specs.declared.keys.KeyNo.{KeyNo}
-use Rattle.booth_conf.specs.declared.keys.Key.{Key}
-use Rattle.booth_conf.specs.declared.keys.Key.TheVariants as keys
+use Rattle.booth_conf.specs.declared.keys.ConfKey.{ConfKey}
+use Rattle.booth_conf.specs.declared.keys.ConfKey.TheVariants as keys
 use Rattle.booth_conf.specs.declared.members.Member.{Member as MemberOf}
 use Rattle.booth_conf.specs.declared.tickets.GrantKind.{GrantKind}
 use Rattle.booth_conf.specs.declared.tickets.GrantKind.TheVariants.{Auto, Manual}
@@ -29,7 +29,7 @@ use Rattle.booth_conf.specs.declared.settings.TicketSetting.{TicketSetting}
 use Rattle.booth_conf.specs.declared.settings.TicketSetting.TheVariants.{Expire, After, Timeout, Retries, Renewal, Weights, Handler, Prereq, Mode}
 use Rattle.booth_conf.specs.declared.settings.Setting.{Setting}
 use Rattle.booth_conf.specs.declared.settings.Setting.TheVariants.{File, Member, Ticket, Defaults, Of}
-use Rattle.booth_conf.proofs.FinishLemmas.{both_true}
+use Rattle.booth_conf.proofs.DefaultLemmas.{both_true}
 use Rattle.booth_conf.proofs.SettingLemmas.{is_setting}
 use Rattle.booth_conf.proofs.SettingAgain.{is_printed, extra_key, extra_facts}
 use Rattle.booth_conf.proofs.ValueAgain.{PrereqFacts, prereq_facts}
@@ -51,13 +51,18 @@ kinds es = flag 5 es + flag 6 es + flag 7 es + flag 8 es + flag 9 es
 flag_most : (n : ℕ) (es : List (KeyNo × List ℕ)) → flag n es ≤ 1
 flag_most n es = elim (list_any (has_number n) es) as (λ b. cond b 1 0 ≤ 1) [ true ↦ lit≤ tt | false ↦ lit≤ tt ]
 
-flag_push : (n : ℕ) (es : List (KeyNo × List ℕ)) (e : KeyNo × List ℕ) (b : Bool) → (e.0.0 == n) ≡ b → flag n (es ++ e ∷ []) ≡ cond (list_any (has_number n) es || b) 1 0
-flag_push n es e true h = ap (λ t. cond t 1 0) (list_any-append (has_number n) es (e ∷ []) ∙ ap (λ t. list_any (has_number n) es || (t || false)) h)
-flag_push n es e false h = ap (λ t. cond t 1 0) (list_any-append (has_number n) es (e ∷ []) ∙ ap (λ t. list_any (has_number n) es || (t || false)) h)
+flag_push : (n : ℕ) (es : List (KeyNo × List ℕ)) (e : KeyNo × List ℕ) (b : Bool) →
+    (e.0.0 == n) ≡ b → flag n (es ++ e ∷ []) ≡ cond (list_any (has_number n) es || b) 1 0
+flag_push n es e true h =
+    ap (λ t. cond t 1 0) (list_any-append (has_number n) es (e ∷ []) ∙ ap (λ t. list_any (has_number n) es || (t || false)) h)
+flag_push n es e false h =
+    ap (λ t. cond t 1 0) (list_any-append (has_number n) es (e ∷ []) ∙ ap (λ t. list_any (has_number n) es || (t || false)) h)
 
-flag_new : (n : ℕ) (es : List (KeyNo × List ℕ)) (e : KeyNo × List ℕ) → e.0.0 ≡ n → list_any (same_key e) es ≡ false → (flag n es ≡ 0) × (flag n (es ++ e ∷ []) ≡ 1)
+flag_new : (n : ℕ) (es : List (KeyNo × List ℕ)) (e : KeyNo × List ℕ) → e.0.0 ≡ n →
+    list_any (same_key e) es ≡ false → (flag n es ≡ 0) × (flag n (es ++ e ∷ []) ≡ 1)
 flag_new n es e is new =
-    let none : list_any (has_number n) es ≡ false = ap (λ m. list_any (has_number m) es) (sym is) ∙ new in
+    let none : list_any (has_number n) es ≡ false =
+    ap (λ m. list_any (has_number m) es) (sym is) ∙ new in
     let here : (e.0.0 == n) ≡ true = grind (arith, nat_tests) in
     (rw none refl, flag_push n es e true here ∙ rw none refl)
 
@@ -65,13 +70,17 @@ or_nothing : (b : Bool) → (b || false) ≡ b
 or_nothing true = refl
 or_nothing false = refl
 
-flag_old : (n : ℕ) (es : List (KeyNo × List ℕ)) (e : KeyNo × List ℕ) → (e.0.0 == n) ≡ false → flag n (es ++ e ∷ []) ≡ flag n es
-flag_old n es e h = flag_push n es e false h ∙ ap (λ t. cond t 1 0) (or_nothing (list_any (has_number n) es))
+flag_old : (n : ℕ) (es : List (KeyNo × List ℕ)) (e : KeyNo × List ℕ) → (e.0.0 == n) ≡ false →
+    flag n (es ++ e ∷ []) ≡ flag n es
+flag_old n es e h =
+    flag_push n es e false h ∙ ap (λ t. cond t 1 0) (or_nothing (list_any (has_number n) es))
 
 one_of_five : (n : ℕ) → is_within 5 9 n ≡ true → (n ≡ 5) ⊎ (n ≡ 6) ⊎ (n ≡ 7) ⊎ (n ≡ 8) ⊎ (n ≡ 9)
 one_of_five n h = grind (arith, nat_tests)
 
-kinds_push : (es : List (KeyNo × List ℕ)) (e : KeyNo × List ℕ) → list_any (same_key e) es ≡ false → (e.0.0 ≡ 5) ⊎ (e.0.0 ≡ 6) ⊎ (e.0.0 ≡ 7) ⊎ (e.0.0 ≡ 8) ⊎ (e.0.0 ≡ 9) → kinds (es ++ e ∷ []) ≡ kinds es + 1
+kinds_push : (es : List (KeyNo × List ℕ)) (e : KeyNo × List ℕ) → list_any (same_key e) es ≡ false →
+    (e.0.0 ≡ 5) ⊎ (e.0.0 ≡ 6) ⊎ (e.0.0 ≡ 7) ⊎ (e.0.0 ≡ 8) ⊎ (e.0.0 ≡ 9) →
+    kinds (es ++ e ∷ []) ≡ kinds es + 1
 kinds_push es e new (inl is) =
     let f = flag_new 5 es e is new in
     omega (arith, f.0, f.1, flag_old 6 es e (rw is refl), flag_old 7 es e (rw is refl), flag_old 8 es e (rw is refl), flag_old 9 es e (rw is refl))
@@ -88,21 +97,26 @@ kinds_push es e new (inr (inr (inr (inr is)))) =
     let f = flag_new 9 es e is new in
     omega (arith, f.0, f.1, flag_old 5 es e (rw is refl), flag_old 6 es e (rw is refl), flag_old 7 es e (rw is refl), flag_old 8 es e (rw is refl))
 
-few_kinds : (before es : List (KeyNo × List ℕ)) → list_all is_extra es ≡ true → are_new same_key before es ≡ true → length es + kinds before ≤ 5
-few_kinds before [] h new = omega (arith, flag_most 5 before, flag_most 6 before, flag_most 7 before, flag_most 8 before, flag_most 9 before)
+few_kinds : (before es : List (KeyNo × List ℕ)) → list_all is_extra es ≡ true →
+    are_new same_key before es ≡ true → length es + kinds before ≤ 5
+few_kinds before [] h new =
+    omega (arith, flag_most 5 before, flag_most 6 before, flag_most 7 before, flag_most 8 before, flag_most 9 before)
 few_kinds before (e ∷ es) h new =
     let b = both_true (is_extra e) (list_all is_extra es) h in
     let w = both_true (is_within 5 9 e.0.0) (is_text 0 e.1) b.0 in
-    let n = both_true (not (list_any (same_key e) before)) (are_new same_key (before ++ e ∷ []) es) new in
+    let n =
+    both_true (not (list_any (same_key e) before)) (are_new same_key (before ++ e ∷ []) es) new in
     let fresh : list_any (same_key e) before ≡ false = grind (arith, nat_tests, n.0) in
     omega (arith, few_kinds (before ++ e ∷ []) es b.1 n.1, kinds_push before e fresh (one_of_five e.0.0 w.0))
 
-few_extras : (es : List (KeyNo × List ℕ)) → list_all is_extra es ≡ true → are_new same_key [] es ≡ true → length es ≤ 5
+few_extras : (es : List (KeyNo × List ℕ)) → list_all is_extra es ≡ true →
+    are_new same_key [] es ≡ true → length es ≤ 5
 few_extras es h new = omega (arith, few_kinds [] es h new)
 
 -- LINES
 
-written_by : (value : List ℕ) (a b : Bool) → length (cond a (0x22 ∷ (value ++ 0x22 ∷ [])) (cond b (0x27 ∷ (value ++ 0x27 ∷ [])) value)) ≤ length value + 2
+written_by : (value : List ℕ) (a b : Bool) →
+    length (cond a (0x22 ∷ (value ++ 0x22 ∷ [])) (cond b (0x27 ∷ (value ++ 0x27 ∷ [])) value)) ≤ length value + 2
 written_by value true b = omega (arith, length-append value (0x22 ∷ []))
 written_by value false true = omega (arith, length-append value (0x27 ∷ []))
 written_by value false false = omega arith
@@ -110,10 +124,11 @@ written_by value false false = omega arith
 line_len : (name value : List ℕ) → length (line_text name value) ≤ length name + length value + 6
 unfolding line_text
 line_len name value =
-    let w : length (written value) ≤ length value + 2 = written_by value (list_all (is_other 0x22) value) (list_all (is_other 0x27) value) in
+    let w : length (written value) ≤ length value + 2 =
+    written_by value (list_all (is_other 0x22) value) (list_all (is_other 0x27) value) in
     omega (arith, w, length-append (pair_line name value) (0x0A ∷ []), length-append name (codes " = " ++ written value), length-append (codes " = ") (written value))
 
-name_most : (key : Key) → length (row_of key).name ≤ 22
+name_most : (key : ConfKey) → length (row_of key).name ≤ 22
 name_most keys.Port = lit≤ tt
 name_most keys.Transport = lit≤ tt
 name_most keys.Authfile = lit≤ tt
@@ -155,7 +170,8 @@ line_most (Ticket name) = 80
 line_most Defaults = 300
 line_most (Of p) = key_most p
 
-number_len : (least most n : ℕ) → most < 10000000000 → is_within least most n ≡ true → length (decimal n) ≤ 10
+number_len : (least most n : ℕ) → most < 10000000000 → is_within least most n ≡ true →
+    length (decimal n) ≤ 10
 number_len least most n top h =
     let le : n ≤ most = grind (arith, nat_tests) in
     length-decimal-le 10 n (omega arith) (omega arith) (omega arith)
@@ -174,13 +190,15 @@ weight_len n h =
     let le : n ≤ WEIGHT = grind (arith, nat_tests) in
     length-decimal-le 10 n (omega arith) (omega arith) (omega arith)
 
-more_len : (ns : List ℕ) → list_all is_weight ns ≡ true → length (flat_map (λ m. 0x2C ∷ decimal m) ns) ≤ 11 * length ns
+more_len : (ns : List ℕ) → list_all is_weight ns ≡ true →
+    length (flat_map (λ m. 0x2C ∷ decimal m) ns) ≤ 11 * length ns
 more_len [] h = omega arith
 more_len (n ∷ ns) h =
     let b = both_true (is_weight n) (list_all is_weight ns) h in
     omega (arith, weight_len n b.0, more_len ns b.1, length-append (decimal n) (flat_map (λ m. 0x2C ∷ decimal m) ns))
 
-weights_len : (ws : List ℕ) → list_all is_weight ws ≡ true → length (weights_text ws) ≤ 11 * length ws
+weights_len : (ws : List ℕ) → list_all is_weight ws ≡ true →
+    length (weights_text ws) ≤ 11 * length ws
 weights_len [] h = omega arith
 weights_len (n ∷ ns) h =
     let b = both_true (is_weight n) (list_all is_weight ns) h in
@@ -208,38 +226,53 @@ prereq_len q h =
       length-append (test_word q.equal) (0x20 ∷ q.value),
     )
 
-file_len : (f : FileSetting) → is_setting (File f) ≡ true → length (line_text (setting_name (File f)) (setting_value (File f))) ≤ 300
-file_len (Port n) h = omega (arith, line_len (row_of keys.Port).name (decimal n), name_most keys.Port, number_len 1 65535 n (lit< tt) h)
-file_len (Transport Udp) h = omega (arith, line_len (row_of keys.Transport).name (codes "UDP"), name_most keys.Transport)
-file_len (Authfile text) h = omega (arith, line_len (row_of keys.Authfile).name text, name_most keys.Authfile, text_len 1 text h)
-file_len (Skew n) h = omega (arith, line_len (row_of keys.Maxtimeskew).name (decimal n), name_most keys.Maxtimeskew, number_len 1 SECONDS n (lit< tt) h)
+file_len : (f : FileSetting) → is_setting (File f) ≡ true →
+    length (line_text (setting_name (File f)) (setting_value (File f))) ≤ 300
+file_len (Port n) h =
+    omega (arith, line_len (row_of keys.Port).name (decimal n), name_most keys.Port, number_len 1 65535 n (lit< tt) h)
+file_len (Transport Udp) h =
+    omega (arith, line_len (row_of keys.Transport).name (codes "UDP"), name_most keys.Transport)
+file_len (Authfile text) h =
+    omega (arith, line_len (row_of keys.Authfile).name text, name_most keys.Authfile, text_len 1 text h)
+file_len (Skew n) h =
+    omega (arith, line_len (row_of keys.Maxtimeskew).name (decimal n), name_most keys.Maxtimeskew, number_len 1 SECONDS n (lit< tt) h)
 file_len (Extra key text) h =
     let b = both_true (is_within 5 9 key.0) (is_text 0 text) h in
-    let name : unwrap_or (name_at key) [] ≡ (row_of (extra_key key)).name = (extra_facts key b.0).name in
+    let name : unwrap_or (name_at key) [] ≡ (row_of (extra_key key)).name =
+    (extra_facts key b.0).name in
     omega (arith, line_len (unwrap_or (name_at key) []) text, ap length name, name_most (extra_key key), text_len 0 text b.1)
 
 role_len : (site : Bool) → length (role_name site) ≤ 22
 role_len true = lit≤ tt
 role_len false = lit≤ tt
 
-part_len : (p : TicketSetting) → is_printed (Of p) ≡ true → length (line_text (setting_name (Of p)) (setting_value (Of p))) ≤ key_most p
-part_len (Expire n) h = omega (arith, line_len (row_of keys.Expire).name (decimal n), number_len 1 SECONDS n (lit< tt) h)
-part_len (After n) h = omega (arith, line_len (row_of keys.AcquireAfter).name (decimal n), number_len 0 SECONDS n (lit< tt) h)
-part_len (Timeout n) h = omega (arith, line_len (row_of keys.Timeout).name (decimal n), number_len 1 SECONDS n (lit< tt) h)
-part_len (Retries n) h = omega (arith, line_len (row_of keys.Retries).name (decimal n), number_len 3 100 n (lit< tt) h)
-part_len (Renewal n) h = omega (arith, line_len (row_of keys.RenewalFreq).name (decimal n), number_len 1 SECONDS n (lit< tt) h)
-part_len (Weights ws) h =
+section_len : (p : TicketSetting) → is_printed (Of p) ≡ true →
+    length (line_text (setting_name (Of p)) (setting_value (Of p))) ≤ key_most p
+section_len (Expire n) h =
+    omega (arith, line_len (row_of keys.Expire).name (decimal n), number_len 1 SECONDS n (lit< tt) h)
+section_len (After n) h =
+    omega (arith, line_len (row_of keys.AcquireAfter).name (decimal n), number_len 0 SECONDS n (lit< tt) h)
+section_len (Timeout n) h =
+    omega (arith, line_len (row_of keys.Timeout).name (decimal n), number_len 1 SECONDS n (lit< tt) h)
+section_len (Retries n) h =
+    omega (arith, line_len (row_of keys.Retries).name (decimal n), number_len 3 100 n (lit< tt) h)
+section_len (Renewal n) h =
+    omega (arith, line_len (row_of keys.RenewalFreq).name (decimal n), number_len 1 SECONDS n (lit< tt) h)
+section_len (Weights ws) h =
     let b = both_true (not (length ws.items == 0)) (are_weights ws.items) h in
     let c = both_true (nat_le (length ws.items) MEMBERS) (list_all is_weight ws.items) b.1 in
     let few : length ws.items ≤ MEMBERS = grind (arith, nat_tests, c.0) in
     omega (arith, line_len (row_of keys.Weights).name (weights_text ws.items), weights_len ws.items c.1)
-part_len (Handler text) h =
+section_len (Handler text) h =
     let b = both_true (is_text 1 text) _ h in
     omega (arith, line_len (row_of keys.BeforeAcquireHandler).name text, text_len 1 text b.0)
-part_len (Prereq q) h = omega (arith, line_len (row_of keys.AttrPrereq).name (prereq_text q), prereq_len q h)
-part_len (Mode kind) h = omega (arith, line_len (row_of keys.Mode).name (kind_word kind), kind_len kind)
+section_len (Prereq q) h =
+    omega (arith, line_len (row_of keys.AttrPrereq).name (prereq_text q), prereq_len q h)
+section_len (Mode kind) h =
+    omega (arith, line_len (row_of keys.Mode).name (kind_word kind), kind_len kind)
 
-setting_len : (s : Setting) → is_printed s ≡ true → length (line_text (setting_name s) (setting_value s)) ≤ line_most s
+setting_len : (s : Setting) → is_printed s ≡ true →
+    length (line_text (setting_name s) (setting_value s)) ≤ line_most s
 setting_len (File f) h = file_len f h
 setting_len (Member m) h =
     let b = both_true (is_address m.address) (m.id.0 == id_of m.address) h in
@@ -248,7 +281,7 @@ setting_len (Ticket name) h =
     let a = both_true (is_name name) _ h in
     omega (arith, line_len (row_of keys.Ticket).name name, name_len name a.0)
 setting_len Defaults h = cc
-setting_len (Of p) h = part_len p h
+setting_len (Of p) h = section_len p h
 
 -- TOTALS
 
@@ -296,7 +329,8 @@ total_handler (Some text) = omega arith
 abbrev ticket_most : ℕ
 ticket_most = 553 + 11 * MEMBERS + 225 * PREREQS
 
-total_ticket : (t : TicketConf) → length t.prereqs.items ≤ PREREQS → total (ticket_settings t) ≤ ticket_most
+total_ticket : (t : TicketConf) → length t.prereqs.items ≤ PREREQS →
+    total (ticket_settings t) ≤ ticket_most
 total_ticket t few =
     let mode : List Setting = Of (Mode (kind_of t.manual)) ∷ [] in
     let prereqs : List Setting = map prereq_setting t.prereqs.items in
@@ -314,14 +348,17 @@ total_ticket t few =
       total_prereqs t.prereqs.items,
     )
 
-total_tickets : (ts : List TicketConf) → list_all is_ticket ts ≡ true → total (flat_map ticket_settings ts) ≤ ticket_most * length ts
+total_tickets : (ts : List TicketConf) → list_all is_ticket ts ≡ true →
+    total (flat_map ticket_settings ts) ≤ ticket_most * length ts
 total_tickets [] h = omega arith
 total_tickets (t ∷ ts) h =
     let b = both_true (is_ticket t) (list_all is_ticket ts) h in
     omega (arith, total_append (ticket_settings t) (flat_map ticket_settings ts), total_ticket t (ticket_few t b.0), total_tickets ts b.1)
 
-total_top : (c : ConfigSays) → length c.extras ≤ 5 → total (top_settings c.port c.authfile c.skew c.extras) ≤ 2700
-total_top c few = omega (arith, total_append (authfile_settings c.authfile) (File (Skew c.skew) ∷ map extra_setting c.extras), total_authfile c.authfile, total_extras c.extras)
+total_top : (c : ConfigSays) → length c.extras ≤ 5 →
+    total (top_settings c.port c.authfile c.skew c.extras) ≤ 2700
+total_top c few =
+    omega (arith, total_append (authfile_settings c.authfile) (File (Skew c.skew) ∷ map extra_setting c.extras), total_authfile c.authfile, total_extras c.extras)
 
 total_config : (c : ConfigSays) → IsSound c → total (settings_of c) ≤ TEXT_BYTES
 total_config c s =
@@ -336,5 +373,6 @@ total_config c s =
       s.few_tickets,
     )
 
-pub config_short : (c : ConfigSays) → IsSound c → list_all is_printed (settings_of c) ≡ true → length (printed c) ≤ TEXT_BYTES
+pub config_short : (c : ConfigSays) → IsSound c → list_all is_printed (settings_of c) ≡ true →
+    length (printed c) ≤ TEXT_BYTES
 config_short c s h = omega (arith, lines_len (settings_of c) h, total_config c s)

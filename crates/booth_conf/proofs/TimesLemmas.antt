@@ -3,14 +3,14 @@ use Rattle.std.proofs.Common.{◌≡◌, ◌<◌, ◌≤◌, ◌+◌, ◌*◌, �
 use Rattle.std.specs.Prelude.{if◌then◌else◌, is_some, nat_lt}
 use Rattle.std.specs.List.{All, list_all, filter_map, enumerate_from}
 use Rattle.std.proofs.lemmas.Bool.Decides.{nat_tests}
-use Rattle.booth_conf.specs.Parts.{first}
+use Rattle.booth_conf.specs.Sections.{first}
 use Rattle.booth_conf.specs.Config.{ConfigSays, no_site, no_ticket, reserved_id, same_id, time_fault}
 use Rattle.booth_conf.specs.Sound.{is_seconds, is_ticket, IsSound, HasTimes}
 use Rattle.booth_conf.specs.declared.limits.TheConstants.{SECONDS}
 use Rattle.booth_conf.specs.declared.tickets.TicketConf.{TicketConf}
 use Rattle.booth_conf.specs.declared.faults.ConfFault.{ConfFault}
 use Rattle.booth_conf.specs.declared.faults.ConfFault.TheVariants.{Renewal, RetryTime}
-use Rattle.booth_conf.proofs.FinishLemmas.{both_true}
+use Rattle.booth_conf.proofs.DefaultLemmas.{both_true}
 use Rattle.booth_conf.proofs.FirstLemmas.{given, given_cons}
 use Rattle.booth_conf.proofs.ConfigRuns.{TimesFacts, times_facts, ticket_facts}
 
@@ -22,7 +22,8 @@ none_given f n x xs (Some y) e h =
     let some : true ≡ false = ap is_some (sym (given_cons f n x xs (Some y) e)) ∙ h in
     cc
 
-none_behind : {Y : Type 0} (xs ys : List Y) → is_some (first (xs ++ ys)) ≡ false → is_some (first ys) ≡ false
+none_behind : {Y : Type 0} (xs ys : List Y) → is_some (first (xs ++ ys)) ≡ false →
+    is_some (first ys) ≡ false
 none_behind [] ys h = h
 none_behind (x ∷ xs) ys h = cc
 

@@ -18,7 +18,7 @@ use Rattle.booth_conf.specs.declared.tickets.GrantKind.{GrantKind}
 use Rattle.booth_conf.specs.declared.tickets.GrantKind.TheVariants.{Auto, Manual}
 use Rattle.booth_conf.specs.declared.tickets.Prereq.{Prereq}
 use Rattle.booth_conf.specs.declared.settings.Setting.TheVariants.{Ticket}
-use Rattle.booth_conf.proofs.FinishLemmas.{both_true}
+use Rattle.booth_conf.proofs.DefaultLemmas.{both_true}
 use Rattle.booth_conf.proofs.Forms.{weights_only, prereq_only}
 use Rattle.booth_conf.proofs.SayLemmas.{name_bytes}
 use Rattle.booth_base.specs.declared.text.TheConstants.{PATH_BYTES}
@@ -32,10 +32,12 @@ pub record Spelled (n : ℕ) (ds : List ℕ) : Type 0 where
 digit_worth : (n : ℕ) → n < 10 → Spelled n ((48 + n) ∷ [])
 digit_worth n h = record { digits = grind (arith, nat_tests); value = omega arith }
 
-more_worth : (n : ℕ) (ds : List ℕ) → 10 ≤ n → Spelled (n / 10) ds → Spelled n (ds ++ (48 + n % 10) ∷ [])
+more_worth : (n : ℕ) (ds : List ℕ) → 10 ≤ n → Spelled (n / 10) ds →
+    Spelled n (ds ++ (48 + n % 10) ∷ [])
 more_worth n ds l s =
     let d : is_digit (48 + n % 10) ≡ true = grind (arith, nat_tests) in
-    let more : worth (ds ++ (48 + n % 10) ∷ []) ≡ worth ds * 10 + (48 + n % 10 - 48) = fold-append (λ m b. m * 10 + (b - 48)) 0 ds ((48 + n % 10) ∷ []) in
+    let more : worth (ds ++ (48 + n % 10) ∷ []) ≡ worth ds * 10 + (48 + n % 10 - 48) =
+    fold-append (λ m b. m * 10 + (b - 48)) 0 ds ((48 + n % 10) ∷ []) in
     let all : list_all is_digit ((48 + n % 10) ∷ []) ≡ true = rw d refl in
     record {
       digits = list_all-append is_digit ds ((48 + n % 10) ∷ []) ∙ rw (s.digits, all) refl;
@@ -48,14 +50,17 @@ digits_of n h = decimal_by_steps Spelled digit_worth more_worth n (omega arith)
 number_again : (n : ℕ) → n < 10000000000 → number_in (decimal n) ≡ Some n
 number_again n h =
     let s : Spelled n (decimal n) = digits_of n h in
-    let some : nat_lt 0 (length (decimal n)) ≡ true = grind (arith, nat_tests, decimal_nonempty n) in
-    let few : nat_le (length (decimal n)) 10 ≡ true = grind (arith, nat_tests, length-decimal-le 10 n) in
+    let some : nat_lt 0 (length (decimal n)) ≡ true =
+    grind (arith, nat_tests, decimal_nonempty n) in
+    let few : nat_le (length (decimal n)) 10 ≡ true =
+    grind (arith, nat_tests, length-decimal-le 10 n) in
     rw (some, few, s.digits, s.value) refl
 
 within_most : (least most n : ℕ) → is_within least most n ≡ true → n ≤ most
 within_most least most n h = grind (arith, nat_tests)
 
-pub within_again : (least most n : ℕ) → most < 10000000000 → is_within least most n ≡ true → number_within least most (decimal n) ≡ Some n
+pub within_again : (least most n : ℕ) → most < 10000000000 → is_within least most n ≡ true →
+    number_within least most (decimal n) ≡ Some n
 within_again least most n top h =
     let le : n ≤ most = within_most least most n h in
     rw (number_again n (omega arith), h) refl
@@ -69,10 +74,12 @@ digits_other [] h = refl
 digits_other (d ∷ ds) h = grind (arith, nat_tests, digits_other ds)
 
 -- printing bytes without `"` can be said
-pub plain_sayable : (value : List ℕ) → list_all is_value_byte value ≡ true → list_all (is_other 0x22) value ≡ true → is_sayable value ≡ true
+pub plain_sayable : (value : List ℕ) → list_all is_value_byte value ≡ true →
+    list_all (is_other 0x22) value ≡ true → is_sayable value ≡ true
 plain_sayable value h k = rw (h, k) refl
 
-pub number_sayable : (least most n : ℕ) → most < 10000000000 → is_within least most n ≡ true → is_sayable (decimal n) ≡ true
+pub number_sayable : (least most n : ℕ) → most < 10000000000 → is_within least most n ≡ true →
+    is_sayable (decimal n) ≡ true
 number_sayable least most n top h =
     let le : n ≤ most = within_most least most n h in
     let s : Spelled n (decimal n) = digits_of n (omega arith) in
@@ -80,19 +87,25 @@ number_sayable least most n top h =
 
 -- TEXTS
 
-pub text_again : (least : ℕ) (value : List ℕ) → is_text least value ≡ true → text_in least value ≡ Some value
-text_again least value h = rw (both_true (is_sayable value) (is_within least PATH_BYTES (length value)) h).1 refl
+pub text_again : (least : ℕ) (value : List ℕ) → is_text least value ≡ true →
+    text_in least value ≡ Some value
+text_again least value h =
+    rw (both_true (is_sayable value) (is_within least PATH_BYTES (length value)) h).1 refl
 
-pub text_sayable : (least : ℕ) (value : List ℕ) → is_text least value ≡ true → is_sayable value ≡ true
-text_sayable least value h = (both_true (is_sayable value) (is_within least PATH_BYTES (length value)) h).0
+pub text_sayable : (least : ℕ) (value : List ℕ) → is_text least value ≡ true →
+    is_sayable value ≡ true
+text_sayable least value h =
+    (both_true (is_sayable value) (is_within least PATH_BYTES (length value)) h).0
 
 pub command_again : (value : List ℕ) → is_command value ≡ true → command_in value ≡ Some value
 command_again value h = let b = both_true (is_text 1 value) (list_any is_word_byte value) h in rw b.1 (text_again 1 value b.0)
 
 pub command_sayable : (value : List ℕ) → is_command value ≡ true → is_sayable value ≡ true
-command_sayable value h = text_sayable 1 value (both_true (is_text 1 value) (list_any is_word_byte value) h).0
+command_sayable value h =
+    text_sayable 1 value (both_true (is_text 1 value) (list_any is_word_byte value) h).0
 
-pub ticket_again : (name : List ℕ) → is_ticket_name name ≡ true → ticket_in name ≡ Some (Ticket name)
+pub ticket_again : (name : List ℕ) → is_ticket_name name ≡ true →
+    ticket_in name ≡ Some (Ticket name)
 ticket_again name h =
     let a = both_true (is_name name) (not (bytes_eq name default_name) && is_sayable name) h in
     let b = both_true (not (bytes_eq name default_name)) (is_sayable name) a.1 in
@@ -100,7 +113,8 @@ ticket_again name h =
     rw (n, a.0) refl
 
 pub ticket_sayable : (name : List ℕ) → is_ticket_name name ≡ true → is_sayable name ≡ true
-ticket_sayable name h = (both_true (not (bytes_eq name default_name)) (is_sayable name) (both_true (is_name name) (not (bytes_eq name default_name) && is_sayable name) h).1).1
+ticket_sayable name h =
+    (both_true (not (bytes_eq name default_name)) (is_sayable name) (both_true (is_name name) (not (bytes_eq name default_name) && is_sayable name) h).1).1
 
 -- WEIGHTS
 
@@ -114,17 +128,20 @@ digits_no_comma (d ∷ ds) h = grind (arith, nat_tests, digits_no_comma ds)
 abbrev cut : List ℕ → List (List ℕ)
 cut text = slice_split (λ b. b == 0x2C) text
 
-cut_piece : (piece rest : List ℕ) → list_all is_no_comma piece ≡ true → cut (piece ++ 0x2C ∷ rest) ≡ piece ∷ cut rest
+cut_piece : (piece rest : List ℕ) → list_all is_no_comma piece ≡ true →
+    cut (piece ++ 0x2C ∷ rest) ≡ piece ∷ cut rest
 cut_piece [] rest h = refl
 cut_piece (b ∷ bs) rest h =
     let t : (b == 0x2C) ≡ false = grind (arith, nat_tests) in
-    slice_split-cons_no (λ x. x == 0x2C) b (bs ++ 0x2C ∷ rest) t ∙ ap (onto_first b) (cut_piece bs rest (both_true (is_no_comma b) (list_all is_no_comma bs) h).1)
+    slice_split-cons_no (λ x. x == 0x2C) b (bs ++ 0x2C ∷ rest) t
+    ∙ ap (onto_first b) (cut_piece bs rest (both_true (is_no_comma b) (list_all is_no_comma bs) h).1)
 
 cut_last : (piece : List ℕ) → list_all is_no_comma piece ≡ true → cut piece ≡ piece ∷ []
 cut_last [] h = refl
 cut_last (b ∷ bs) h =
     let t : (b == 0x2C) ≡ false = grind (arith, nat_tests) in
-    slice_split-cons_no (λ x. x == 0x2C) b bs t ∙ ap (onto_first b) (cut_last bs (both_true (is_no_comma b) (list_all is_no_comma bs) h).1)
+    slice_split-cons_no (λ x. x == 0x2C) b bs t
+    ∙ ap (onto_first b) (cut_last bs (both_true (is_no_comma b) (list_all is_no_comma bs) h).1)
 
 weight_most : (n : ℕ) → is_weight n ≡ true → n ≤ WEIGHT
 weight_most n h = grind (arith, nat_tests)
@@ -156,10 +173,13 @@ weight_again n h =
 abbrev more_weights : List ℕ → List ℕ
 more_weights ns = flat_map (λ m. 0x2C ∷ decimal m) ns
 
-pieces_again : (n : ℕ) (ns : List ℕ) → list_all is_weight (n ∷ ns) ≡ true → AreWeights (cut (decimal n ++ more_weights ns)) (n ∷ ns)
+pieces_again : (n : ℕ) (ns : List ℕ) → list_all is_weight (n ∷ ns) ≡ true →
+    AreWeights (cut (decimal n ++ more_weights ns)) (n ∷ ns)
 pieces_again n [] h =
     let w : is_weight n ≡ true = (both_true (is_weight n) true h).0 in
-    let pieces : cut (decimal n ++ []) ≡ decimal n ∷ [] = ap cut (append-nil (decimal n)) ∙ cut_last (decimal n) (digits_no_comma (decimal n) (weight_digits n w).digits) in
+    let pieces : cut (decimal n ++ []) ≡ decimal n ∷ [] =
+    ap cut (append-nil (decimal n))
+    ∙ cut_last (decimal n) (digits_no_comma (decimal n) (weight_digits n w).digits) in
     subst (λ ps. AreWeights ps (n ∷ [])) (sym pieces) (weight_again n w, tt)
 pieces_again n (m ∷ ms) h =
     let b = both_true (is_weight n) (list_all is_weight (m ∷ ms)) h in
@@ -169,24 +189,30 @@ pieces_again n (m ∷ ms) h =
 weights_most : (ws : List ℕ) → are_weights ws ≡ true → length ws ≤ MEMBERS
 weights_most ws h = let b = both_true (nat_le (length ws) MEMBERS) (list_all is_weight ws) h in grind (arith, nat_tests, b.0)
 
-pub weights_again : (n : ℕ) (ns : List ℕ) → are_weights (n ∷ ns) ≡ true → weights_in (weights_text (n ∷ ns)) ≡ Some (n ∷ ns)
+pub weights_again : (n : ℕ) (ns : List ℕ) → are_weights (n ∷ ns) ≡ true →
+    weights_in (weights_text (n ∷ ns)) ≡ Some (n ∷ ns)
 weights_again n ns h =
     let b = both_true (nat_le (length (n ∷ ns)) MEMBERS) (list_all is_weight (n ∷ ns)) h in
     weights_only (weights_text (n ∷ ns)) (n ∷ ns) (record { numbers = pieces_again n ns b.1; few = weights_most (n ∷ ns) h })
 
 -- a test of the bytes of numbers and commas
-weights_all : (p : ℕ → Bool) → p 0x2C ≡ true → ((ds : List ℕ) → list_all is_digit ds ≡ true → list_all p ds ≡ true) → (ns : List ℕ) → list_all is_weight ns ≡ true → list_all p (more_weights ns) ≡ true
+weights_all : (p : ℕ → Bool) → p 0x2C ≡ true →
+    ((ds : List ℕ) → list_all is_digit ds ≡ true → list_all p ds ≡ true) → (ns : List ℕ) →
+    list_all is_weight ns ≡ true → list_all p (more_weights ns) ≡ true
 weights_all p c f [] h = refl
 weights_all p c f (m ∷ ms) h =
     let b = both_true (is_weight m) (list_all is_weight ms) h in
     rw (c, list_all-append p (decimal m) (more_weights ms), f (decimal m) (weight_digits m b.0).digits, weights_all p c f ms b.1) refl
 
-text_weights : (p : ℕ → Bool) → p 0x2C ≡ true → ((ds : List ℕ) → list_all is_digit ds ≡ true → list_all p ds ≡ true) → (n : ℕ) (ns : List ℕ) → list_all is_weight (n ∷ ns) ≡ true → list_all p (weights_text (n ∷ ns)) ≡ true
+text_weights : (p : ℕ → Bool) → p 0x2C ≡ true →
+    ((ds : List ℕ) → list_all is_digit ds ≡ true → list_all p ds ≡ true) → (n : ℕ) (ns : List ℕ) →
+    list_all is_weight (n ∷ ns) ≡ true → list_all p (weights_text (n ∷ ns)) ≡ true
 text_weights p c f n ns h =
     let b = both_true (is_weight n) (list_all is_weight ns) h in
     rw (list_all-append p (decimal n) (more_weights ns), f (decimal n) (weight_digits n b.0).digits, weights_all p c f ns b.1) refl
 
-pub weights_sayable : (n : ℕ) (ns : List ℕ) → are_weights (n ∷ ns) ≡ true → is_sayable (weights_text (n ∷ ns)) ≡ true
+pub weights_sayable : (n : ℕ) (ns : List ℕ) → are_weights (n ∷ ns) ≡ true →
+    is_sayable (weights_text (n ∷ ns)) ≡ true
 weights_sayable n ns h =
     let b = both_true (nat_le (length (n ∷ ns)) MEMBERS) (list_all is_weight (n ∷ ns)) h in
     plain_sayable (weights_text (n ∷ ns)) (text_weights is_value_byte refl digits_plain n ns b.1) (text_weights (is_other 0x22) refl digits_other n ns b.1)
@@ -219,18 +245,21 @@ name_some name h =
     some_word name l (name_words name (name_bytes name h))
 
 -- a space and a word
-spaced : (word rest : List ℕ) (words : List (List ℕ)) → is_word word ≡ true → begins_gap rest ≡ true → AreWords rest words → AreWords (0x20 ∷ (word ++ rest)) (word ∷ words)
+spaced : (word rest : List ℕ) (words : List (List ℕ)) → is_word word ≡ true →
+    begins_gap rest ≡ true → AreWords rest words → AreWords (0x20 ∷ (word ++ rest)) (word ∷ words)
 spaced word rest words w g more = (0x20 ∷ [], rest, refl, refl, w, g, more)
 
-prereq_words : (q : Prereq) → is_name q.name ≡ true → is_word q.value ≡ true → AreWords (prereq_text q) (kind_word q.kind ∷ q.name ∷ test_word q.equal ∷ q.value ∷ [])
+prereq_words : (q : Prereq) → is_name q.name ≡ true → is_word q.value ≡ true →
+    AreWords (prereq_text q) (kind_word q.kind ∷ q.name ∷ test_word q.equal ∷ q.value ∷ [])
 prereq_words q n v =
-    let last : AreWords (0x20 ∷ q.value) (q.value ∷ []) = subst (λ xs. AreWords (0x20 ∷ xs) (q.value ∷ [])) (append-nil q.value) (spaced q.value [] [] v refl refl) in
+    let last : AreWords (0x20 ∷ q.value) (q.value ∷ []) =
+    subst (λ xs. AreWords (0x20 ∷ xs) (q.value ∷ [])) (append-nil q.value) (spaced q.value [] [] v refl refl) in
     let third : AreWords (0x20 ∷ (test_word q.equal ++ (0x20 ∷ q.value))) (test_word q.equal ∷ q.value ∷ []) = spaced (test_word q.equal) (0x20 ∷ q.value) (q.value ∷ []) (test_some q.equal) refl last in
     let second : AreWords (0x20 ∷ (q.name ++ (0x20 ∷ (test_word q.equal ++ (0x20 ∷ q.value))))) (q.name ∷ test_word q.equal ∷ q.value ∷ []) =
     spaced q.name (0x20 ∷ (test_word q.equal ++ (0x20 ∷ q.value))) (test_word q.equal ∷ q.value ∷ []) (name_some q.name n) refl third in
     ([], 0x20 ∷ (q.name ++ (0x20 ∷ (test_word q.equal ++ (0x20 ∷ q.value)))), refl, refl, kind_some q.kind, refl, second)
 
--- what the test of a prerequisite says of its parts
+-- what the test of a prerequisite says of its words
 pub record PrereqFacts (q : Prereq) : Type 0 where
   pub name : is_name q.name ≡ true
   pub value : is_value q.value ≡ true
@@ -239,7 +268,8 @@ pub record PrereqFacts (q : Prereq) : Type 0 where
 
 pub prereq_facts : (q : Prereq) → is_prereq q ≡ true → PrereqFacts q
 prereq_facts q h =
-    let a = both_true (is_name q.name) (is_value q.value && (is_word q.value && is_sayable (prereq_text q))) h in
+    let a =
+    both_true (is_name q.name) (is_value q.value && (is_word q.value && is_sayable (prereq_text q))) h in
     let b = both_true (is_value q.value) (is_word q.value && is_sayable (prereq_text q)) a.1 in
     let c = both_true (is_word q.value) (is_sayable (prereq_text q)) b.1 in
     record { name = a.0; value = b.0; word = c.0; sayable = c.1 }

@@ -18,7 +18,8 @@ pub record IsFirst (text word rest : List ℕ) : Type 0 where
   pub some : is_word word ≡ true
   pub ends : begins_gap rest ≡ true
 
-front_word : (b : ℕ) (bs : List ℕ) → stops is_gap (b ∷ bs) ≡ true → is_word (front is_word_byte (b ∷ bs)) ≡ true
+front_word : (b : ℕ) (bs : List ℕ) → stops is_gap (b ∷ bs) ≡ true →
+    is_word (front is_word_byte (b ∷ bs)) ≡ true
 front_word b bs h = grind (arith, nat_tests, front_all is_word_byte bs)
 
 stops_gap : (xs : List ℕ) → stops is_word_byte xs ≡ true → begins_gap xs ≡ true
@@ -33,20 +34,29 @@ word_stops : (word rest : List ℕ) → is_word word ≡ true → stops is_gap (
 word_stops [] rest h = cc
 word_stops (b ∷ bs) rest h = grind (arith, nat_tests)
 
-word_at : (word rest : List ℕ) → is_word word ≡ true → begins_gap rest ≡ true → word_of (word ++ rest) ≡ Some (word, rest)
+word_at : (word rest : List ℕ) → is_word word ≡ true → begins_gap rest ≡ true →
+    word_of (word ++ rest) ≡ Some (word, rest)
 word_at [] rest h e = cc
 word_at (b ∷ bs) rest h e =
     let all : list_all is_word_byte (b ∷ bs) ≡ true = h in
-    let f : front is_word_byte ((b ∷ bs) ++ rest) ≡ b ∷ bs = front_more is_word_byte (b ∷ bs) rest all ∙ ap (λ xs. (b ∷ bs) ++ xs) (front_none is_word_byte rest (gap_stops rest e)) ∙ append-nil (b ∷ bs) in
-    let p : past is_word_byte ((b ∷ bs) ++ rest) ≡ rest = past_more is_word_byte (b ∷ bs) rest all ∙ past_none is_word_byte rest (gap_stops rest e) in
+    let f : front is_word_byte ((b ∷ bs) ++ rest) ≡ b ∷ bs =
+    front_more is_word_byte (b ∷ bs) rest all
+    ∙ ap (λ xs. (b ∷ bs) ++ xs) (front_none is_word_byte rest (gap_stops rest e))
+    ∙ append-nil (b ∷ bs) in
+    let p : past is_word_byte ((b ∷ bs) ++ rest) ≡ rest =
+    past_more is_word_byte (b ∷ bs) rest all ∙ past_none is_word_byte rest (gap_stops rest e) in
     rw (f, p) refl
 
-pub word_only : (text word rest : List ℕ) → IsFirst text word rest → word_in text ≡ Some (word, rest)
+pub word_only : (text word rest : List ℕ) → IsFirst text word rest →
+    word_in text ≡ Some (word, rest)
 word_only text word rest h =
-    let start : past is_gap text ≡ word ++ rest = ap (past is_gap) h.spelled ∙ past_more is_gap h.gap (word ++ rest) h.gaps ∙ past_none is_gap (word ++ rest) (word_stops word rest h.some) in
+    let start : past is_gap text ≡ word ++ rest =
+    ap (past is_gap) h.spelled ∙ past_more is_gap h.gap (word ++ rest) h.gaps
+    ∙ past_none is_gap (word ++ rest) (word_stops word rest h.some) in
     rw start (word_at word rest h.some h.ends)
 
-first_of : (text start : List ℕ) (w : List ℕ × List ℕ) → past is_gap text ≡ start → stops is_gap start ≡ true → word_of start ≡ Some w → IsFirst text w.0 w.1
+first_of : (text start : List ℕ) (w : List ℕ × List ℕ) → past is_gap text ≡ start →
+    stops is_gap start ≡ true → word_of start ≡ Some w → IsFirst text w.0 w.1
 first_of text [] w p s e = cc
 first_of text (b ∷ bs) w p s e =
     let f : front is_word_byte (b ∷ bs) ≡ w.0 = cc in
@@ -59,7 +69,8 @@ first_of text (b ∷ bs) w p s e =
       ends = subst (λ xs. begins_gap xs ≡ true) q (stops_gap (past is_word_byte (b ∷ bs)) (past_stops is_word_byte (b ∷ bs)));
     }
 
-pub word_found : (text : List ℕ) (w : List ℕ × List ℕ) → word_in text ≡ Some w → IsFirst text w.0 w.1
+pub word_found : (text : List ℕ) (w : List ℕ × List ℕ) → word_in text ≡ Some w →
+    IsFirst text w.0 w.1
 word_found text w e = first_of text (past is_gap text) w refl (past_stops is_gap text) e
 
 -- gaps alone
@@ -71,21 +82,27 @@ no_word (b ∷ bs) h = cc
 gaps_found : (text : List ℕ) → is_some (word_in text) ≡ false → list_all is_gap text ≡ true
 gaps_found text h =
     let none : past is_gap text ≡ [] = no_word (past is_gap text) h in
-    let all : text ≡ front is_gap text = front_past is_gap text ∙ ap (λ xs. front is_gap text ++ xs) none ∙ append-nil (front is_gap text) in
+    let all : text ≡ front is_gap text =
+    front_past is_gap text ∙ ap (λ xs. front is_gap text ++ xs) none
+    ∙ append-nil (front is_gap text) in
     subst (λ xs. list_all is_gap xs ≡ true) (sym all) (front_all is_gap text)
 
 gaps_only : (text : List ℕ) → list_all is_gap text ≡ true → is_some (word_in text) ≡ false
 gaps_only text h =
-    let none : past is_gap text ≡ [] = ap (past is_gap) (sym (append-nil text)) ∙ past_more is_gap text [] h in
+    let none : past is_gap text ≡ [] =
+    ap (past is_gap) (sym (append-nil text)) ∙ past_more is_gap text [] h in
     rw none refl
 
 -- LISTS OF WORDS
 
-then_found : {A P : Type 0} (text : List ℕ) (o : Option (List ℕ × List ℕ)) (f : List ℕ → List ℕ → Option A) (y : A) → word_in text ≡ o → then_word o f ≡ Some y → ((w rest : List ℕ) → IsFirst text w rest → f w rest ≡ Some y → P) → P
+then_found : {A P : Type 0} (text : List ℕ) (o : Option (List ℕ × List ℕ)) (f : List ℕ → List ℕ → Option A) (y : A) →
+    word_in text ≡ o → then_word o f ≡ Some y →
+    ((w rest : List ℕ) → IsFirst text w rest → f w rest ≡ Some y → P) → P
 then_found text None f y e h k = cc
 then_found text (Some w) f y e h k = k w.0 w.1 (word_found text w e) h
 
-more_words : (text word rest : List ℕ) (words : List (List ℕ)) → IsFirst text word rest → AreWords rest words → AreWords text (word ∷ words)
+more_words : (text word rest : List ℕ) (words : List (List ℕ)) → IsFirst text word rest →
+    AreWords rest words → AreWords text (word ∷ words)
 more_words text word rest words h more = (h.gap, rest, h.spelled, h.gaps, h.some, h.ends, more)
 
 pub one_found : (text word : List ℕ) → one_word text ≡ Some word → AreWords text (word ∷ [])
@@ -96,10 +113,12 @@ one_found text word e = then_found text (word_in text) last_word word refl e (λ
 
 pub one_only : (text word : List ℕ) → AreWords text (word ∷ []) → one_word text ≡ Some word
 one_only text word (gap, rest, spelled, gaps, some, ends, last) =
-    let w : word_in text ≡ Some (word, rest) = word_only text word rest (record { gap = gap; spelled = spelled; gaps = gaps; some = some; ends = ends }) in
+    let w : word_in text ≡ Some (word, rest) =
+    word_only text word rest (record { gap = gap; spelled = spelled; gaps = gaps; some = some; ends = ends }) in
     rw (w, gaps_only rest last) refl
 
-pub four_found : (text : List ℕ) (w : Words) → four_words text ≡ Some w → AreWords text (w.0 ∷ w.1 ∷ w.2 ∷ w.3 ∷ [])
+pub four_found : (text : List ℕ) (w : Words) → four_words text ≡ Some w →
+    AreWords text (w.0 ∷ w.1 ∷ w.2 ∷ w.3 ∷ [])
 four_found text w e =
     then_found text (word_in text) _ w refl e (λ a after_a first_a in_a.
     then_found after_a (word_in after_a) _ w refl in_a (λ b after_b first_b in_b.
@@ -113,10 +132,15 @@ four_found text w e =
     (more_words after_b c after_c (d ∷ []) first_c
     (more_words after_c d after_d [] first_d (gaps_found after_d n.0)))))))))
 
-pub four_only : (text a b c d : List ℕ) → AreWords text (a ∷ b ∷ c ∷ d ∷ []) → four_words text ≡ Some (a, b, c, d)
+pub four_only : (text a b c d : List ℕ) → AreWords text (a ∷ b ∷ c ∷ d ∷ []) →
+    four_words text ≡ Some (a, b, c, d)
 four_only text a b c d (ga, ra, sa, aa, wa, ea, (gb, rb, sb, ab, wb, eb, (gc, rc, sc, ac, wc, ec, (gd, rd, sd, ad, wd, ed, last)))) =
-    let a_is : word_in text ≡ Some (a, ra) = word_only text a ra (record { gap = ga; spelled = sa; gaps = aa; some = wa; ends = ea }) in
-    let b_is : word_in ra ≡ Some (b, rb) = word_only ra b rb (record { gap = gb; spelled = sb; gaps = ab; some = wb; ends = eb }) in
-    let c_is : word_in rb ≡ Some (c, rc) = word_only rb c rc (record { gap = gc; spelled = sc; gaps = ac; some = wc; ends = ec }) in
-    let d_is : word_in rc ≡ Some (d, rd) = word_only rc d rd (record { gap = gd; spelled = sd; gaps = ad; some = wd; ends = ed }) in
+    let a_is : word_in text ≡ Some (a, ra) =
+    word_only text a ra (record { gap = ga; spelled = sa; gaps = aa; some = wa; ends = ea }) in
+    let b_is : word_in ra ≡ Some (b, rb) =
+    word_only ra b rb (record { gap = gb; spelled = sb; gaps = ab; some = wb; ends = eb }) in
+    let c_is : word_in rb ≡ Some (c, rc) =
+    word_only rb c rc (record { gap = gc; spelled = sc; gaps = ac; some = wc; ends = ec }) in
+    let d_is : word_in rc ≡ Some (d, rd) =
+    word_only rc d rd (record { gap = gd; spelled = sd; gaps = ad; some = wd; ends = ed }) in
     rw (a_is, b_is, c_is, d_is, gaps_only rd last) refl

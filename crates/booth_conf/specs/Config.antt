@@ -1,20 +1,20 @@
 -- The configuration that settings say together, and what may be wrong with the whole file.
-use Rattle.std.specs.Prelude.{ℕ, Bool, true, false, not, nat_lt, ◌==◌, ◌||◌, ◌+◌, ◌*◌, ◌/◌, List, [], ◌∷◌, ◌++◌, map, drop, position, Option, Some, None, option_map, unwrap_or, if◌then◌else◌}
+use Rattle.std.specs.Prelude.{◌≡◌, ◌⊎◌, ℕ, Bool, true, false, not, nat_lt, ◌==◌, ◌||◌, ◌+◌, ◌*◌, ◌/◌, List, [], ◌∷◌, ◌++◌, map, drop, position, Option, Some, None, option_map, unwrap_or, Result, Ok, Err, if◌then◌else◌}
 use Rattle.std.specs.List.{list_any, filter_map, enumerate_from}
 use Rattle.std.specs.Option.{option_or}
 use Rattle.booth_base.specs.declared.address.MemberId.{MemberId}
 use Rattle.booth_base.specs.declared.address.TheConstants.{NO_ONE}
 use Rattle.booth_base.specs.declared.times.Times.{Times}
-use Rattle.booth_conf.specs.Parts.{PartSays, first, part_of}
+use Rattle.booth_conf.specs.Sections.{SectionSays, first, section_of}
 use Rattle.booth_conf.specs.Rules.{Summary}
 use Rattle.booth_conf.specs.declared.keys.KeyNo.{KeyNo}
 use Rattle.booth_conf.specs.declared.members.Member.{Member}
 use Rattle.booth_conf.specs.declared.tickets.GrantKind.{GrantKind}
 use Rattle.booth_conf.specs.declared.tickets.GrantKind.TheVariants.{Auto, Manual}
 use Rattle.booth_conf.specs.declared.tickets.TicketConf.{TicketConf}
-use Rattle.booth_conf.specs.declared.parts.NamedPart.{NamedPart}
+use Rattle.booth_conf.specs.declared.sections.NamedSection.{NamedSection}
 use Rattle.booth_conf.specs.declared.faults.ConfFault.{ConfFault}
-use Rattle.booth_conf.specs.declared.faults.ConfFault.TheVariants.{NoSite, NoTicket, IdClash, Renewal, RetryTime}
+use Rattle.booth_conf.specs.declared.faults.ConfFault.TheVariants.{NoSite, NoTicket, IdClash, Renewal, RetryTime, OutOfMemory}
 
 -- a configuration: the members and the tickets in the order of the file
 pub record ConfigSays : Type 0 where
@@ -37,7 +37,7 @@ renewal_of None expire = expire / 2
 renewal_of (Some seconds) expire = 1000 * seconds
 
 -- the times in milliseconds
-abbrev pub times_of : PartSays → PartSays → Times
+abbrev pub times_of : SectionSays → SectionSays → Times
 times_of defaults own =
     let expire : ℕ = 1000 * chosen own.expire defaults.expire 600 in
     record {
@@ -52,19 +52,19 @@ abbrev pub is_manual : GrantKind → Bool
 is_manual Auto = false
 is_manual Manual = true
 
-abbrev pub ticket_of : PartSays → NamedPart → TicketConf
+abbrev pub ticket_of : SectionSays → NamedSection → TicketConf
 ticket_of defaults t = record {
   name = t.name;
-  manual = is_manual (chosen t.part.mode defaults.mode Auto);
-  times = times_of defaults t.part;
-  weights = chosen t.part.weights defaults.weights (record { items = [] });
-  handler = option_or t.part.handler defaults.handler;
-  prereqs = record { items = t.part.prereqs };
+  manual = is_manual (chosen t.section.mode defaults.mode Auto);
+  times = times_of defaults t.section;
+  weights = chosen t.section.weights defaults.weights (record { items = [] });
+  handler = option_or t.section.handler defaults.handler;
+  prereqs = record { items = t.section.prereqs };
 }
 
 -- the defaults, which are empty where there is no `__default__`
-abbrev pub defaults_of : Summary → PartSays
-defaults_of d = unwrap_or d.defaults (part_of [] [])
+abbrev pub defaults_of : Summary → SectionSays
+defaults_of d = unwrap_or d.defaults (section_of [] [])
 
 abbrev pub config_of : Summary → ConfigSays
 config_of d = record {
@@ -98,7 +98,7 @@ reserved_id p = if is_reserved p.1.id then Some (IdClash p.0 p.0) else None
 abbrev pub has_id : MemberId → Member → Bool
 has_id id m = m.id.0 == id.0
 
--- a member, and the next one behind it with the same id
+-- a member, and the next one after it with the same id
 abbrev pub same_id : List Member → ℕ × Member → Option ConfFault
 same_id members p =
     option_map (λ k. IdClash p.0 (p.0 + 1 + k)) (position (has_id p.1.id) (drop (p.0 + 1) members))
@@ -107,9 +107,10 @@ abbrev pub time_fault : ℕ × TicketConf → Option ConfFault
 time_fault p =
     let times : Times = p.1.times in
     if not (nat_lt times.renewal times.expire) then Some (Renewal p.0)
-    else (if not (nat_lt (times.timeout * (times.retries + 1)) times.renewal) then Some (RetryTime p.0) else None)
+    else (if not (nat_lt (times.timeout * (times.retries + 1)) times.renewal)
+    then Some (RetryTime p.0) else None)
 
--- what is wrong with the whole file, in the order in which it is told
+-- what is wrong with the whole file, in the order in which it is reported
 abbrev pub file_faults : List Member → List TicketConf → List ConfFault
 file_faults members tickets =
     no_site members
@@ -120,3 +121,9 @@ file_faults members tickets =
 
 abbrev pub file_fault : List Member → List TicketConf → Option ConfFault
 file_fault members tickets = first (file_faults members tickets)
+
+-- the configuration of the draft, or the first fault of the whole file
+abbrev pub Completes : Summary → Result ConfigSays ConfFault → Type 0
+Completes d (Ok config) = (config ≡ config_of d) × (file_fault config.members config.tickets ≡ None)
+Completes d (Err fault) =
+    (fault ≡ OutOfMemory) ⊎ (file_fault (config_of d).members (config_of d).tickets ≡ Some fault)

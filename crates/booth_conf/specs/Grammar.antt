@@ -22,7 +22,7 @@ is_value_byte b = (nat_le 0x20 b && nat_le b 0x7E) || b == 0x09
 abbrev pub is_other : ℕ → ℕ → Bool
 is_other byte b = not (b == byte)
 
--- what stands behind the bytes in front that pass the test
+-- what stands after the bytes in front that pass the test
 abbrev pub past : (ℕ → Bool) → List ℕ → List ℕ
 past p [] = []
 past p (b ∷ bs) = if p b then past p bs else b ∷ bs

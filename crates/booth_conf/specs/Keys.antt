@@ -1,4 +1,4 @@
--- The table of keys: the number, the name and the scope of each. The form of each key's value stands in `Values`.
+-- The table of keys: the number, the name and the scope of each. `Values` has the forms of their values.
 use Rattle.std.specs.Prelude.{◌≡◌, ◌==◌, ℕ, Bool, List, [], ◌∷◌, Option, Some, None, option_map, codes, bytes_eq}
 use Rattle.std.specs.List.{find}
 use Rattle.std.specs.Borrow.{Bor}
@@ -6,8 +6,8 @@ use Rattle.booth_conf.specs.declared.keys.KeyNo.{KeyNo}
 use Rattle.booth_conf.specs.declared.keys.Row.{Row}
 use Rattle.booth_conf.specs.declared.keys.Scope.{Scope}
 use Rattle.booth_conf.specs.declared.keys.Scope.TheVariants.{File, Ticket as OfTicket}
-use Rattle.booth_conf.specs.declared.keys.Key.{Key}
-use Rattle.booth_conf.specs.declared.keys.Key.TheVariants.{Port, Transport, Authfile, Maxtimeskew, Debug, SiteUser, SiteGroup, ArbitratorUser, ArbitratorGroup, Site, Arbitrator, Ticket, Expire, AcquireAfter, Timeout, Retries, RenewalFreq, Weights, BeforeAcquireHandler, AttrPrereq, Mode}
+use Rattle.booth_conf.specs.declared.keys.ConfKey.{ConfKey}
+use Rattle.booth_conf.specs.declared.keys.ConfKey.TheVariants.{Port, Transport, Authfile, Maxtimeskew, Debug, SiteUser, SiteGroup, ArbitratorUser, ArbitratorGroup, Site, Arbitrator, Ticket, Expire, AcquireAfter, Timeout, Retries, RenewalFreq, Weights, BeforeAcquireHandler, AttrPrereq, Mode}
 
 -- what the table says of a key
 pub record KeyRow : Type 0 where
@@ -19,7 +19,7 @@ abbrev pub row : ℕ → List ℕ → Scope → KeyRow
 row number name scope = record { number = number; name = name; scope = scope }
 
 -- THE TABLE
-abbrev pub row_of : Key → KeyRow
+abbrev pub row_of : ConfKey → KeyRow
 row_of Port = row 1 (codes "port") File
 row_of Transport = row 2 (codes "transport") File
 row_of Authfile = row 3 (codes "authfile") File
@@ -42,27 +42,27 @@ row_of BeforeAcquireHandler = row 19 (codes "before-acquire-handler") OfTicket
 row_of AttrPrereq = row 20 (codes "attr-prereq") OfTicket
 row_of Mode = row 21 (codes "mode") OfTicket
 
-abbrev pub all_keys : List Key
+abbrev pub all_keys : List ConfKey
 all_keys =
     Port ∷ Transport ∷ Authfile ∷ Maxtimeskew ∷ Debug ∷ SiteUser ∷ SiteGroup ∷ ArbitratorUser
     ∷ ArbitratorGroup ∷ Site ∷ Arbitrator ∷ Ticket ∷ Expire ∷ AcquireAfter ∷ Timeout ∷ Retries
     ∷ RenewalFreq ∷ Weights ∷ BeforeAcquireHandler ∷ AttrPrereq ∷ Mode ∷ []
 
-abbrev pub is_named : List ℕ → Key → Bool
+abbrev pub is_named : List ℕ → ConfKey → Bool
 is_named name key = bytes_eq (row_of key).name name
 
 -- the key of this name
-abbrev pub key_named : List ℕ → Option Key
+abbrev pub key_named : List ℕ → Option ConfKey
 key_named name = find (is_named name) all_keys
 
-abbrev pub number_of : Key → KeyNo
+abbrev pub number_of : ConfKey → KeyNo
 number_of key = record { 0 = (row_of key).number }
 
-abbrev pub has_number : KeyNo → Key → Bool
+abbrev pub has_number : KeyNo → ConfKey → Bool
 has_number number key = (row_of key).number == number.0
 
 -- the key with this number
-abbrev pub key_numbered : KeyNo → Option Key
+abbrev pub key_numbered : KeyNo → Option ConfKey
 key_numbered number = find (has_number number) all_keys
 
 -- the name of the key with this number

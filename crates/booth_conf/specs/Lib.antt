@@ -2,7 +2,7 @@ pub mod Grammar
 pub mod Keys
 pub mod Values
 pub mod Said
-pub mod Parts
+pub mod Sections
 pub mod Rules
 pub mod LineReader
 pub mod ValueReader
@@ -17,4 +17,4 @@ pub mod Grows
 pub mod Sound
 pub mod SoundDraft
 pub mod Says
-pub mod Finish
+pub mod Lookups

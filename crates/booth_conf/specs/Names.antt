@@ -1,24 +1,27 @@
 -- The names of a text's tickets.
-use Rattle.std.specs.Prelude.{ℕ, List, Option, Some, None}
+use Rattle.std.specs.Prelude.{◌≡◌, ℕ, List, Option, Some, None, slice_get}
 use Rattle.std.specs.List.{filter_map}
-use Rattle.booth_conf.specs.Reads.{said_lines}
+use Rattle.booth_conf.specs.Reads.{lines_of}
 use Rattle.booth_conf.specs.Rules.{setting_said}
-use Rattle.booth_conf.specs.declared.readings.Said.{Said}
+use Rattle.booth_conf.specs.Said.{AreSaid}
+use Rattle.booth_conf.specs.declared.line_meaning.Said.{Said}
 use Rattle.booth_conf.specs.declared.settings.Setting.{Setting}
-use Rattle.booth_conf.specs.declared.settings.Setting.TheVariants.{File, Member, Ticket, Defaults, Of}
+use Rattle.booth_conf.specs.declared.settings.Setting.TheVariants.{Ticket}
 
 abbrev pub ticket_set : Option Setting → Option (List ℕ)
-ticket_set None = None
-ticket_set (Some (File f)) = None
-ticket_set (Some (Member m)) = None
 ticket_set (Some (Ticket name)) = Some name
-ticket_set (Some Defaults) = None
-ticket_set (Some (Of p)) = None
+ticket_set setting = None
 
 -- the name of the ticket whose line says this
 abbrev pub name_said : Said → Option (List ℕ)
 name_said line = ticket_set (setting_said line)
 
 -- the names on the `ticket` lines, in their order and without `__default__`
-abbrev pub ticket_names : List ℕ → List (List ℕ)
-ticket_names text = filter_map name_said (said_lines text)
+abbrev pub names_said : List Said → List (List ℕ)
+names_said lines = filter_map name_said lines
+
+-- the name on the text's `ticket` line of this place, counted from 0, where there is such a line
+pub record NamesTicket (text : List ℕ) (place : ℕ) (name : Option (List ℕ)) : Type 0 where
+  pub said : List Said
+  pub reads : AreSaid (lines_of text) said
+  pub at_place : name ≡ slice_get (names_said said) place

@@ -8,7 +8,7 @@ use Rattle.booth_conf.specs.Keys.{row_of, name_at}
 use Rattle.booth_conf.specs.Values.{default_name}
 use Rattle.booth_conf.specs.Config.{ConfigSays}
 use Rattle.booth_conf.specs.declared.keys.KeyNo.{KeyNo}
-use Rattle.booth_conf.specs.declared.keys.Key.TheVariants as keys
+use Rattle.booth_conf.specs.declared.keys.ConfKey.TheVariants as keys
 use Rattle.booth_conf.specs.declared.tickets.GrantKind.{GrantKind}
 use Rattle.booth_conf.specs.declared.tickets.GrantKind.TheVariants.{Auto, Manual}
 use Rattle.booth_conf.specs.declared.tickets.Prereq.{Prereq as PrereqOf}
@@ -63,7 +63,8 @@ test_word false = codes "ne"
 
 -- four words with one space between them
 abbrev pub prereq_text : PrereqOf → List ℕ
-prereq_text q = kind_word q.kind ++ (0x20 ∷ (q.name ++ (0x20 ∷ (test_word q.equal ++ (0x20 ∷ q.value)))))
+prereq_text q =
+    kind_word q.kind ++ (0x20 ∷ (q.name ++ (0x20 ∷ (test_word q.equal ++ (0x20 ∷ q.value)))))
 
 -- numbers with a comma between them
 abbrev pub weights_text : List ℕ → List ℕ
@@ -128,7 +129,8 @@ extra_setting e = File (Extra e.0 e.1)
 
 -- a renewal that is half of expire is left out
 abbrev pub renewal_settings : Times → List Setting
-renewal_settings times = if times.renewal == times.expire / 2 then [] else Of (Renewal (times.renewal / 1000)) ∷ []
+renewal_settings times =
+    if times.renewal == times.expire / 2 then [] else Of (Renewal (times.renewal / 1000)) ∷ []
 
 abbrev pub weights_settings : List ℕ → List Setting
 weights_settings [] = []
@@ -148,8 +150,8 @@ kind_of false = Auto
 -- the times in seconds
 abbrev pub times_settings : Times → List Setting
 times_settings times =
-    Of (Expire (times.expire / 1000)) ∷ Of (After (times.after / 1000)) ∷ Of (Timeout (times.timeout / 1000))
-    ∷ Of (Retries times.retries) ∷ renewal_settings times
+    Of (Expire (times.expire / 1000)) ∷ Of (After (times.after / 1000))
+    ∷ Of (Timeout (times.timeout / 1000)) ∷ Of (Retries times.retries) ∷ renewal_settings times
 
 -- the keys of a ticket
 abbrev pub key_settings : TicketConf → List Setting
@@ -162,12 +164,14 @@ ticket_settings t = Ticket t.name ∷ key_settings t
 
 abbrev pub top_settings : ℕ → Option (List ℕ) → ℕ → List (KeyNo × List ℕ) → List Setting
 top_settings port authfile skew extras =
-    File (Port port) ∷ File (Transport Udp) ∷ (authfile_settings authfile ++ (File (Skew skew) ∷ map extra_setting extras))
+    File (Port port) ∷ File (Transport Udp)
+    ∷ (authfile_settings authfile ++ (File (Skew skew) ∷ map extra_setting extras))
 
 -- the keys of the whole file, the members, and the tickets with all their keys
 abbrev pub settings_of : ConfigSays → List Setting
 settings_of c =
-    top_settings c.port c.authfile c.skew c.extras ++ (map Member c.members ++ flat_map ticket_settings c.tickets)
+    top_settings c.port c.authfile c.skew c.extras
+    ++ (map Member c.members ++ flat_map ticket_settings c.tickets)
 
 abbrev pub printed : ConfigSays → List ℕ
 printed c = lines_text (settings_of c)

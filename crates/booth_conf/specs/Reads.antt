@@ -3,7 +3,7 @@ use Rattle.std.specs.Prelude.{◌≡◌, ◌==◌, ◌+◌, ℕ, List, map, Resu
 use Rattle.std.specs.List.{slice_split}
 use Rattle.booth_conf.specs.SaidReader.{said}
 use Rattle.booth_conf.specs.Rules.{Summary, summary, settings, AreFine, IsFirstFault}
-use Rattle.booth_conf.specs.declared.readings.Said.{Said}
+use Rattle.booth_conf.specs.declared.line_meaning.Said.{Said}
 use Rattle.booth_conf.specs.declared.faults.ConfFault.{ConfFault}
 use Rattle.booth_conf.specs.declared.faults.ConfFault.TheVariants as conf
 use Rattle.booth_conf.specs.declared.faults.LineFault.{LineFault}
@@ -40,7 +40,7 @@ pub record IsLineFault (lines : List Said) (error : ConfFault) : Type 0 where
   pub is : error ≡ fault_at (place + 1) fault
   pub first_one : IsFirstFault lines place fault
 
--- each line is fine and the draft is what they set, or the first line with a fault is told
+-- each line is fine and the draft is what they set, or the first line with a fault is reported
 abbrev pub ReadsLines : Result Summary ConfFault → List Said → Type 0
 ReadsLines (Ok draft) lines = AreFine lines × (draft ≡ summary (settings lines))
 ReadsLines (Err error) lines = (error ≡ conf.OutOfMemory) ⊎ IsLineFault lines error

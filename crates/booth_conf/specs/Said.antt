@@ -3,18 +3,18 @@ use Rattle.std.specs.Prelude.{◌≢◌, ℕ, List, [], ◌∷◌, Option, Some,
 use Rattle.booth_conf.specs.Grammar.{IsEmptyLine, IsPair}
 use Rattle.booth_conf.specs.Keys.{row_of}
 use Rattle.booth_conf.specs.Values.{HasValue}
-use Rattle.booth_conf.specs.declared.keys.Key.{Key}
+use Rattle.booth_conf.specs.declared.keys.ConfKey.{ConfKey}
 use Rattle.booth_conf.specs.declared.settings.Setting.{Setting}
-use Rattle.booth_conf.specs.declared.readings.Said.{Said}
-use Rattle.booth_conf.specs.declared.readings.Said.TheVariants.{Empty, Broken, Unknown, Pair}
+use Rattle.booth_conf.specs.declared.line_meaning.Said.{Said}
+use Rattle.booth_conf.specs.declared.line_meaning.Said.TheVariants.{Empty, Broken, Unknown, Pair}
 
 -- the setting that the value makes, or none where the value has not the key's form
-abbrev pub MakesSetting : Key → List ℕ → Option Setting → Type 0
+abbrev pub MakesSetting : ConfKey → List ℕ → Option Setting → Type 0
 MakesSetting key value None = (setting : Setting) → HasValue key value setting → ⊥
 MakesSetting key value (Some setting) = HasValue key value setting
 
 -- a key of the table, with its value
-pub record SaysKey (line : List ℕ) (key : Key) (setting : Option Setting) : Type 0 where
+pub record SaysKey (line : List ℕ) (key : ConfKey) (setting : Option Setting) : Type 0 where
   pub value : List ℕ
   pub pair : IsPair line (row_of key).name value
   pub makes : MakesSetting key value setting
@@ -24,7 +24,7 @@ pub record SaysUnknown (line : List ℕ) : Type 0 where
   pub name : List ℕ
   pub value : List ℕ
   pub pair : IsPair line name value
-  pub unknown : (key : Key) → (row_of key).name ≢ name
+  pub unknown : (key : ConfKey) → (row_of key).name ≢ name
 
 -- neither empty nor a key with a value
 pub record IsBroken (line : List ℕ) : Type 0 where
@@ -40,6 +40,5 @@ IsSaid line (Pair key setting) = SaysKey line key setting
 -- what each line says
 abbrev pub AreSaid : List (List ℕ) → List Said → Type 0
 AreSaid [] [] = Unit {0}
-AreSaid [] (s ∷ said) = ⊥
-AreSaid (l ∷ lines) [] = ⊥
 AreSaid (l ∷ lines) (s ∷ said) = IsSaid l s × AreSaid lines said
+AreSaid lines said = ⊥

@@ -4,11 +4,11 @@ use Rattle.booth_conf.specs.LineReader.{Reading, line_read}
 use Rattle.booth_conf.specs.LineReader as reads
 use Rattle.booth_conf.specs.Keys.{key_named}
 use Rattle.booth_conf.specs.ValueReader.{setting_in}
-use Rattle.booth_conf.specs.declared.keys.Key.{Key}
-use Rattle.booth_conf.specs.declared.readings.Said.{Said}
-use Rattle.booth_conf.specs.declared.readings.Said.TheVariants.{Empty, Broken, Unknown, Pair}
+use Rattle.booth_conf.specs.declared.keys.ConfKey.{ConfKey}
+use Rattle.booth_conf.specs.declared.line_meaning.Said.{Said}
+use Rattle.booth_conf.specs.declared.line_meaning.Said.TheVariants.{Empty, Broken, Unknown, Pair}
 
-abbrev pub said_by : List ℕ → Option Key → Said
+abbrev pub said_by : List ℕ → Option ConfKey → Said
 said_by value None = Unknown
 said_by value (Some key) = Pair key (setting_in key value)
 

@@ -7,9 +7,9 @@ use Rattle.booth_conf.specs.Config.{ConfigSays, config_of, file_fault}
 use Rattle.booth_conf.specs.Print.{printed}
 use Rattle.booth_conf.specs.Sound.{IsSound}
 use Rattle.booth_conf.specs.declared.limits.TheConstants.{TEXT_BYTES}
-use Rattle.booth_conf.specs.declared.readings.Said.{Said}
+use Rattle.booth_conf.specs.declared.line_meaning.Said.{Said}
 use Rattle.booth_conf.specs.declared.faults.ConfFault.{ConfFault}
-use Rattle.booth_conf.specs.declared.faults.ConfFault.TheVariants.{TooLarge, Syntax, UnknownKey, Misplaced, BadValue, Repeated, DefaultLate, TooMany, NoSite, NoTicket, IdClash, Renewal, RetryTime, OutOfMemory}
+use Rattle.booth_conf.specs.declared.faults.ConfFault.TheVariants.{TooLarge, Syntax, UnknownKey, Misplaced, BadValue, Repeated, DefaultLate, TooMany, OutOfMemory}
 use Rattle.booth_conf.specs.declared.faults.LineFault.{LineFault}
 use Rattle.booth_conf.specs.declared.faults.LineFault.TheVariants as faults
 
@@ -53,12 +53,8 @@ IsFault text (BadValue line key) = HasLineFault text line (faults.BadValue key)
 IsFault text (Repeated line) = HasLineFault text line faults.Repeated
 IsFault text (DefaultLate line) = HasLineFault text line faults.DefaultLate
 IsFault text (TooMany line) = HasLineFault text line faults.TooMany
-IsFault text NoSite = HasFileFault text NoSite
-IsFault text NoTicket = HasFileFault text NoTicket
-IsFault text (IdClash first second) = HasFileFault text (IdClash first second)
-IsFault text (Renewal ticket) = HasFileFault text (Renewal ticket)
-IsFault text (RetryTime ticket) = HasFileFault text (RetryTime ticket)
 IsFault text OutOfMemory = ⊥
+IsFault text fault = HasFileFault text fault
 
 -- the configuration that the text says, or its first fault, or want of memory
 abbrev pub Parses : List ℕ → Result ConfigSays ConfFault → Type 0

@@ -8,7 +8,7 @@ use Rattle.booth_base.specs.declared.address.Address.TheVariants.{V4, V6}
 use Rattle.booth_base.specs.declared.times.Times.{Times}
 use Rattle.booth_conf.specs.Grammar.{is_value_byte, is_other, begins_bare, stays_bare}
 use Rattle.booth_conf.specs.Values.{is_word_byte, is_word, default_name}
-use Rattle.booth_conf.specs.Parts.{has_key}
+use Rattle.booth_conf.specs.Sections.{has_key}
 use Rattle.booth_conf.specs.Rules.{is_at}
 use Rattle.booth_conf.specs.Config.{ConfigSays, file_fault}
 use Rattle.booth_conf.specs.Print.{prereq_text}
@@ -31,7 +31,8 @@ each p (Some x) = p x
 abbrev pub is_sayable : List ℕ → Bool
 is_sayable value =
     list_all is_value_byte value
-    && (list_all (is_other 0x22) value || (list_all (is_other 0x27) value || (begins_bare value && stays_bare value [])))
+    && (list_all (is_other 0x22) value
+    || (list_all (is_other 0x27) value || (begins_bare value && stays_bare value [])))
 
 abbrev pub is_text : ℕ → List ℕ → Bool
 is_text least value = is_sayable value && is_within least PATH_BYTES (length value)

@@ -13,8 +13,8 @@ use Rattle.booth_conf.specs.Keys.{number_of}
 use Rattle.booth_conf.specs.Values.{is_digit, worth, is_gap, is_word_byte, default_name, member_at}
 use Rattle.booth_conf.specs.declared.limits.TheConstants.{MEMBERS, SECONDS, WEIGHT}
 use Rattle.booth_conf.specs.declared.words.FourWords.{FourWords}
-use Rattle.booth_conf.specs.declared.keys.Key.{Key}
-use Rattle.booth_conf.specs.declared.keys.Key.TheVariants as keys
+use Rattle.booth_conf.specs.declared.keys.ConfKey.{ConfKey}
+use Rattle.booth_conf.specs.declared.keys.ConfKey.TheVariants as keys
 use Rattle.booth_conf.specs.declared.tickets.GrantKind.{GrantKind}
 use Rattle.booth_conf.specs.declared.tickets.GrantKind.TheVariants.{Auto, Manual}
 use Rattle.booth_conf.specs.declared.tickets.Prereq.{Prereq as PrereqOf}
@@ -45,7 +45,7 @@ abbrev pub word_of : List ℕ → Option (List ℕ × List ℕ)
 word_of [] = None
 word_of (b ∷ bs) = Some (front is_word_byte (b ∷ bs), past is_word_byte (b ∷ bs))
 
--- the first word, and what stands behind it
+-- the first word, and what stands after it
 abbrev pub word_in : List ℕ → Option (List ℕ × List ℕ)
 word_in text = word_of (past is_gap text)
 
@@ -81,7 +81,8 @@ GivesFour (Some w) read = read ≡ Some (w.kind.now, w.name.now, w.test.now, w.v
 -- FORMS
 
 abbrev pub text_in : ℕ → List ℕ → Option (List ℕ)
-text_in least text = if nat_le least (length text) && nat_le (length text) PATH_BYTES then Some text else None
+text_in least text =
+    if nat_le least (length text) && nat_le (length text) PATH_BYTES then Some text else None
 
 abbrev pub command_in : List ℕ → Option (List ℕ)
 command_in text = if list_any is_word_byte text then text_in 1 text else None
@@ -103,7 +104,8 @@ are_segments segments = length segments == 8 && list_all is_segment segments
 abbrev pub address_by : Option (List ℕ) → Option (List ℕ) → Option Address
 address_by (Some octets) v6 = Some (V4 octets)
 address_by None None = None
-address_by None (Some segments) = if are_segments segments then Some (V6 (octets_of segments)) else None
+address_by None (Some segments) =
+    if are_segments segments then Some (V6 (octets_of segments)) else None
 
 abbrev pub address_in : List ℕ → Option Address
 address_in text = address_by (whole_value (read_ipv4 text)) (whole_value (read_ipv6 text))
@@ -123,7 +125,8 @@ weight_in piece = option_and_then (number_within 0 WEIGHT) (one_word piece)
 -- one more weight, where the piece spells one and there is room for it
 abbrev pub weight_added : List ℕ → List ℕ → Option (List ℕ)
 weight_added weights piece =
-    option_and_then (λ n. if nat_lt (length weights) MEMBERS then Some (weights ++ n ∷ []) else None) (weight_in piece)
+    option_and_then (λ n. if nat_lt (length weights) MEMBERS then Some (weights ++ n ∷ []) else None)
+    (weight_in piece)
 
 -- these weights, and those of the pieces that are left
 abbrev pub weights_from : List ℕ → List (List ℕ) → Option (List ℕ)
@@ -134,10 +137,14 @@ abbrev pub weights_in : List ℕ → Option (List ℕ)
 weights_in text = weights_from [] (slice_split (λ b. b == 0x2C) text)
 
 abbrev pub kind_in : List ℕ → Option GrantKind
-kind_in word = if bytes_eq word (codes "auto") then Some Auto else (if bytes_eq word (codes "manual") then Some Manual else None)
+kind_in word =
+    if bytes_eq word (codes "auto") then Some Auto
+    else (if bytes_eq word (codes "manual") then Some Manual else None)
 
 abbrev pub test_in : List ℕ → Option Bool
-test_in word = if bytes_eq word (codes "eq") then Some true else (if bytes_eq word (codes "ne") then Some false else None)
+test_in word =
+    if bytes_eq word (codes "eq") then Some true
+    else (if bytes_eq word (codes "ne") then Some false else None)
 
 abbrev pub prereq_of : Words → Option PrereqOf
 prereq_of w =
@@ -152,10 +159,10 @@ prereq_in text = option_and_then prereq_of (four_words text)
 
 -- THE VALUE OF EACH KEY
 
-abbrev pub extra_in : Key → List ℕ → Option Setting
+abbrev pub extra_in : ConfKey → List ℕ → Option Setting
 extra_in key text = option_map (λ value. File (Extra (number_of key) value)) (text_in 0 text)
 
-abbrev pub setting_in : Key → List ℕ → Option Setting
+abbrev pub setting_in : ConfKey → List ℕ → Option Setting
 setting_in keys.Port text = option_map (λ n. File (Port n)) (number_within 1 65535 text)
 setting_in keys.Transport text = option_map (λ t. File (Transport t)) (transport_in text)
 setting_in keys.Authfile text = option_map (λ value. File (Authfile value)) (text_in 1 text)
@@ -173,7 +180,8 @@ setting_in keys.AcquireAfter text = option_map (λ n. Of (After n)) (number_with
 setting_in keys.Timeout text = option_map (λ n. Of (Timeout n)) (number_within 1 SECONDS text)
 setting_in keys.Retries text = option_map (λ n. Of (Retries n)) (number_within 3 100 text)
 setting_in keys.RenewalFreq text = option_map (λ n. Of (Renewal n)) (number_within 1 SECONDS text)
-setting_in keys.Weights text = option_map (λ ws. Of (Weights (record { items = ws }))) (weights_in text)
+setting_in keys.Weights text =
+    option_map (λ ws. Of (Weights (record { items = ws }))) (weights_in text)
 setting_in keys.BeforeAcquireHandler text = option_map (λ value. Of (Handler value)) (command_in text)
 setting_in keys.AttrPrereq text = option_map (λ q. Of (Prereq q)) (prereq_in text)
 setting_in keys.Mode text = option_map (λ kind. Of (Mode kind)) (mode_in text)

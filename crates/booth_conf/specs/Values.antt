@@ -6,8 +6,8 @@ use Rattle.booth_base.specs.Address.{Spells, id_of}
 use Rattle.booth_base.specs.declared.address.Address.{Address}
 use Rattle.booth_conf.specs.Keys.{number_of}
 use Rattle.booth_conf.specs.declared.limits.TheConstants.{MEMBERS, SECONDS, WEIGHT}
-use Rattle.booth_conf.specs.declared.keys.Key.{Key}
-use Rattle.booth_conf.specs.declared.keys.Key.TheVariants as keys
+use Rattle.booth_conf.specs.declared.keys.ConfKey.{ConfKey}
+use Rattle.booth_conf.specs.declared.keys.ConfKey.TheVariants as keys
 use Rattle.booth_conf.specs.declared.members.Member.{Member as MemberOf}
 use Rattle.booth_conf.specs.declared.tickets.GrantKind.{GrantKind}
 use Rattle.booth_conf.specs.declared.tickets.GrantKind.TheVariants as kinds
@@ -61,8 +61,8 @@ begins_gap (b ∷ bs) = is_gap b
 abbrev pub AreWords : List ℕ → List (List ℕ) → Type 0
 AreWords text [] = list_all is_gap text ≡ true
 AreWords text (word ∷ words) =
-    (gap rest : List ℕ) × (text ≡ gap ++ (word ++ rest)) × (list_all is_gap gap ≡ true) × (is_word word ≡ true)
-    × (begins_gap rest ≡ true) × AreWords rest words
+    (gap rest : List ℕ) × (text ≡ gap ++ (word ++ rest)) × (list_all is_gap gap ≡ true)
+    × (is_word word ≡ true) × (begins_gap rest ≡ true) × AreWords rest words
 
 -- FORMS
 
@@ -90,9 +90,8 @@ IsWeight piece n = (word : List ℕ) × AreWords piece (word ∷ []) × IsNumber
 
 abbrev pub AreWeights : List (List ℕ) → List ℕ → Type 0
 AreWeights [] [] = Unit {0}
-AreWeights [] (n ∷ ns) = ⊥
-AreWeights (p ∷ ps) [] = ⊥
 AreWeights (p ∷ ps) (n ∷ ns) = IsWeight p n × AreWeights ps ns
+AreWeights pieces numbers = ⊥
 
 -- numbers between commas, at most one a member
 pub record IsWeightList (text weights : List ℕ) : Type 0 where
@@ -120,7 +119,8 @@ pub record IsPrereq (text : List ℕ) (prereq : PrereqOf) : Type 0 where
 -- THE FORM OF EACH KEY
 
 -- the setting that this maker makes of a value that the text spells
-pub record IsSetBy {X : Type 0} (Form : List ℕ → X → Type 0) (make : X → Setting) (text : List ℕ) (setting : Setting) : Type 0 where
+pub record IsSetBy {X : Type 0} (Form : List ℕ → X → Type 0) (make : X → Setting) (text : List ℕ)
+    (setting : Setting) : Type 0 where
   pub value : X
   pub spelled : Form text value
   pub set : setting ≡ make value
@@ -137,10 +137,10 @@ IsTicketLine text setting =
 abbrev pub member_at : Bool → Address → MemberOf
 member_at site address = record { site = site; address = address; id = record { 0 = id_of address } }
 
-abbrev pub IsExtra : Key → List ℕ → Setting → Type 0
+abbrev pub IsExtra : ConfKey → List ℕ → Setting → Type 0
 IsExtra key = IsSetBy (IsText 0 PATH_BYTES) (λ text. File (Extra (number_of key) text))
 
-abbrev pub HasValue : Key → List ℕ → Setting → Type 0
+abbrev pub HasValue : ConfKey → List ℕ → Setting → Type 0
 HasValue keys.Port = IsSetBy (IsNumber 1 65535) (λ n. File (Port n))
 HasValue keys.Transport = IsSetBy IsTransport (λ t. File (Transport t))
 HasValue keys.Authfile = IsSetBy (IsText 1 PATH_BYTES) (λ text. File (Authfile text))

@@ -1,27 +1,27 @@
 //! The configuration as a value.
-ghost use Rattle.std.specs.Prelude.{◌≡◌, ◌≤◌, ◌<◌, true, length, position, slice_get, IfOk, OnOk, IsTrue, IsSomeAnd, List, ℕ, [], unwrap_or};
+ghost use Rattle.std.specs.Prelude.{◌≡◌, ◌≤◌, ◌<◌, true, length, position, slice_get, IfOk, IfSome, OnOk, IsTrue, IsSomeAnd, List, ℕ, [], unwrap_or};
 ghost use Rattle.std.specs.List.{All};
 ghost use Rattle.std.specs.Option.{option_copied};
-ghost use Rattle.booth_conf.specs.Config.{ConfigSays, has_id};
-ghost use Rattle.booth_conf.specs.Finish.{Finishes, is_called, rank_of, weights_at};
-ghost use Rattle.booth_conf.specs.Parts.{part_of};
+ghost use Rattle.booth_conf.specs.Config.{Completes, ConfigSays, has_id};
+ghost use Rattle.booth_conf.specs.Lookups.{is_called, rank_of, weights_at};
+ghost use Rattle.booth_conf.specs.Sections.{section_of};
 ghost use Rattle.booth_conf.specs.Print.{printed};
 ghost use Rattle.booth_conf.specs.Says.{Parses, Says};
 ghost use Rattle.booth_conf.specs.Sound.{HasTimes, IsSound};
 ghost use Rattle.booth_conf.specs.SoundDraft.{IsSoundDraft};
 
-use crate::drafts::{Draft, NamesAndParts};
+use crate::checks::file_fault;
+use crate::defaults::tickets;
+use crate::drafts::{Draft, NamesAndSections};
 use crate::faults::ConfFault;
-use crate::finishes::tickets;
 use crate::limits::{MEMBERS, TEXT_BYTES, TICKETS};
 use crate::lines::read_lines;
 use crate::members::Member;
-use crate::parts::{Extra, Part};
 use crate::print_tickets::{push_members, push_tickets};
 use crate::prints::push_top;
 use crate::ranks::rank;
+use crate::sections::{Extra, Section};
 use crate::tickets::{TicketConf, copy_path};
-use crate::wholes::file_fault;
 use booth_base::{ByteText, MemberId, Name, PathText};
 use indexmap::IndexSet;
 use std::alloc::{AllocError, Global};
@@ -42,7 +42,7 @@ pub struct Config {
 impl Model for Config {
     ghost use Rattle.std.specs.Prelude.{◌≡◌, map};
     ghost use Rattle.booth_conf.specs.Config.{ConfigSays};
-    ghost use Rattle.booth_conf.specs.Finish.{ticket_name};
+    ghost use Rattle.booth_conf.specs.Lookups.{ticket_name};
     ghost use Rattle.booth_conf.specs.Sound.{IsSound};
 
     ghost Value = { ConfigSays };
@@ -52,30 +52,30 @@ impl Model for Config {
     ghost invariant = { λ c. (c.names.keys ≡ map ticket_name c.tickets.items) × IsSound (record { port = c.port; authfile = c.authfile; skew = c.skew; extras = c.extras.items; members = c.members.items; tickets = c.tickets.items }) };
 }
 
-fn defaults(draft: Option<Part>) -> Part
-    ensures { result ≡ unwrap_or draft (part_of [] []) }
+fn defaults(draft: Option<Section>) -> Section
+    ensures { result ≡ unwrap_or draft (section_of [] []) }
 {
     match draft {
-        Some(part) => part,
-        None => Part::new(),
+        Some(section) => section,
+        None => Section::new(),
     }
 }
 
 // The configuration of a draft, or the first fault of the whole file.
-fn finish(alloc: Global, draft: Draft) -> Result<Config, ConfFault>
+fn complete(alloc: Global, draft: Draft) -> Result<Config, ConfFault>
     requires { IsSoundDraft draft }
-    ensures { Finishes draft result }
+    ensures { Completes draft result }
 {
     let Draft {
         top,
         members,
         defaults: default,
-        tickets: parts,
+        tickets: sections,
     } = draft;
     let defaults = defaults(default);
-    let NamesAndParts { names, parts } = parts.into_parts();
+    let NamesAndSections { names, sections } = sections.into_sections();
     let members = members.into_vec();
-    let tickets = match tickets(alloc, &defaults, &parts) {
+    let tickets = match tickets(alloc, &defaults, &sections) {
         Ok(tickets) => tickets,
         Err(_) => return Err(ConfFault::OutOfMemory),
     };
@@ -117,7 +117,7 @@ impl Config {
     /// The configuration that a text of `booth.conf` says, or the first fault of the text.
     ///
     /// It takes time linear in the bytes of the text.
-    #[tactic(auto, using(crate::proofs::ParseLemmas::finish_parses, crate::proofs::ParseLemmas::read_parses))]
+    #[tactic(auto, using(crate::proofs::ParseLemmas::complete_parses, crate::proofs::ParseLemmas::read_parses))]
     pub fn parse(alloc: Global, text: &[u8]) -> Result<Config, ConfFault>
         ensures { Parses text.now result }
     {
@@ -125,7 +125,7 @@ impl Config {
             return Err(ConfFault::TooLarge);
         }
         match read_lines(alloc, text) {
-            Ok(draft) => finish(alloc, draft),
+            Ok(draft) => complete(alloc, draft),
             Err(fault) => Err(fault),
         }
     }
@@ -177,9 +177,11 @@ impl Config {
 
     /// The place of the member with this id.
     pub fn member(&self, id: MemberId) -> Option<usize>
-        ensures { result ≡ position (has_id id) self.now.members }
+        ensures place { result ≡ position (has_id id) self.now.members }
+        ensures few { IfSome result (λ place. place < MEMBERS) }
     {
-        self.members.iter().position(|member| member.id.0 == id.0)
+        let members = self.members();
+        members.iter().position(|member| member.id.0 == id.0)
     }
 
     /// The place of the ticket of this name.
@@ -189,8 +191,8 @@ impl Config {
         self.names.get_index_of(name)
     }
 
-    /// How many sites come before this one at this ticket: those of greater weight, and those of equal weight that
-    /// stand earlier in the file. The ticket and the member are places.
+    /// How many sites come before this one at this ticket: those of greater weight, and those of
+    /// equal weight that stand earlier in the file. The ticket and the member are places.
     pub fn rank(&self, ticket: usize, member: usize) -> u32
         requires ticket { ticket < length self.now.tickets }
         requires site { IsSomeAnd (slice_get self.now.members member) (λ m. IsTrue m.site) }
@@ -221,14 +223,7 @@ impl Config {
         ensures exact { OnOk result (text.new.items ≡ printed self.now) }
         ensures sound { IsSound self.now }
     {
-        push_top(
-            alloc,
-            text,
-            self.port,
-            &self.authfile,
-            self.skew,
-            &self.extras,
-        )?;
+        push_top(text, self.port, &self.authfile, self.skew, &self.extras)?;
         push_members(text, &self.members)?;
         push_tickets(alloc, text, &self.tickets)
     }

@@ -2,18 +2,18 @@
 ghost use Rattle.std.specs.Prelude.{◌≡◌, ◌++◌, ◌∷◌, [], ◌≤◌, ◌<◌, false, length, is_some, vec_len, map, OnOk, OnErr};
 ghost use Rattle.std.specs.List.{list_any};
 ghost use Rattle.booth_conf.specs.Answers.{Answers, AnswersAt};
-ghost use Rattle.booth_conf.specs.Parts.{PartSays};
-ghost use Rattle.booth_conf.specs.Rules.{clash, has_name, is_misplaced, name_of, open_part, placed_clash, prereqs_of, said_fault, summary, value_fault};
+ghost use Rattle.booth_conf.specs.Sections.{SectionSays};
+ghost use Rattle.booth_conf.specs.Rules.{clash, has_name, is_misplaced, name_of, open_section, placed_clash, prereqs_of, said_fault, summary, value_fault};
 ghost use Rattle.booth_conf.specs.SaidReader.{said};
 ghost use Rattle.booth_conf.specs.Steps.{added, last_added, said_added, value_added};
-ghost use Rattle.booth_conf.specs.declared.parts.NamedPart.{NamedPart as NamedPartOf};
+ghost use Rattle.booth_conf.specs.declared.sections.NamedSection.{NamedSection as NamedSectionOf};
 
 use crate::faults::{LineFault, Stop};
-use crate::keys::{Key, Scope};
+use crate::keys::{ConfKey, Scope};
 use crate::limits::{MEMBERS, PREREQS, TICKETS};
+use crate::line_meaning::{Said, read_line};
 use crate::members::{Member, MemberList};
-use crate::parts::{NamedPart, Part, Top};
-use crate::readings::{Said, read_line};
+use crate::sections::{NamedSection, Section, Top};
 use crate::settings::{Setting, TicketSetting};
 use crate::tickets::Prereq;
 use booth_base::Name;
@@ -23,44 +23,44 @@ use std::marker::Model;
 
 /// Tickets of different names, in the order of the file.
 #[derive(Drop)]
-pub struct PartList {
+pub struct SectionList {
     names: IndexSet<Name>,
-    parts: Vec<NamedPart>,
+    sections: Vec<NamedSection>,
 }
 
-impl Model for PartList {
+impl Model for SectionList {
     ghost use Rattle.std.specs.Prelude.{◌≡◌, List, map};
     ghost use Rattle.booth_conf.specs.Rules.{name_of};
-    ghost use Rattle.booth_conf.specs.declared.parts.NamedPart.{NamedPart};
+    ghost use Rattle.booth_conf.specs.declared.sections.NamedSection.{NamedSection};
 
-    ghost Value = { List NamedPart };
+    ghost Value = { List NamedSection };
 
-    ghost view = { λ l. l.parts.items };
+    ghost view = { λ l. l.sections.items };
 
-    ghost invariant = { λ l. l.names.keys ≡ map name_of l.parts.items };
+    ghost invariant = { λ l. l.names.keys ≡ map name_of l.sections.items };
 }
 
-/// The names of tickets, and their parts, in one order.
+/// The names of tickets, and their sections, in one order.
 #[derive(Drop)]
-pub struct NamesAndParts {
+pub struct NamesAndSections {
     pub names: IndexSet<Name>,
-    pub parts: Vec<NamedPart>,
+    pub sections: Vec<NamedSection>,
 }
 
-impl PartList {
-    fn new(alloc: Global) -> PartList
+impl SectionList {
+    fn new(alloc: Global) -> SectionList
         ensures { result ≡ [] }
     {
-        PartList {
+        SectionList {
             names: IndexSet::new(alloc),
-            parts: Vec::new(alloc),
+            sections: Vec::new(alloc),
         }
     }
 
     fn len(&self) -> usize
         ensures { result ≡ length self.now }
     {
-        self.parts.len()
+        self.sections.len()
     }
 
     // Whether a ticket has this name.
@@ -71,46 +71,49 @@ impl PartList {
     }
 
     // Adds a ticket of a name that none has. Where there is no memory, nothing changes.
-    fn push(&mut self, name: Name, part: Part) -> Result<(), AllocError>
+    fn push(&mut self, name: Name, section: Section) -> Result<(), AllocError>
         requires { list_any (has_name name) self.old ≡ false }
-        ensures ok { OnOk result (self.new ≡ self.old ++ (record { name = name; part = part }) ∷ []) }
+        ensures ok { OnOk result (self.new ≡ self.old ++ (record { name = name; section = section }) ∷ []) }
         ensures err { OnErr result (self.new ≡ self.old) }
     {
-        self.parts.reserve(1)?;
-        let named = NamedPart {
+        self.sections.reserve(1)?;
+        let named = NamedSection {
             name: name.copy(),
-            part,
+            section,
         };
         self.names.insert(name)?;
-        self.parts.push(named).unwrap();
+        self.sections.push(named).unwrap();
         Ok(())
     }
 
     // Adds a key to the last ticket, or says what is wrong with it.
     fn add(&mut self, setting: TicketSetting) -> Result<(), LineFault>
         requires { 0 < length self.old }
-        ensures { AnswersAt result self.new (placed_clash (open_part None self.old) setting) self.old (last_added self.old setting) }
+        ensures { AnswersAt result self.new (placed_clash (open_section None self.old) setting)
+            self.old (last_added self.old setting) }
     {
-        add_to_last(&mut self.parts, setting)
+        add_to_last(&mut self.sections, setting)
     }
 
-    /// The names and the parts.
-    pub fn into_parts(self) -> NamesAndParts
-        ensures parts { result.parts.items ≡ self }
+    /// The names and the sections.
+    pub fn into_sections(self) -> NamesAndSections
+        ensures sections { result.sections.items ≡ self }
         ensures names { result.names.keys ≡ map name_of self }
     {
-        let PartList { names, parts } = self;
-        NamesAndParts { names, parts }
+        let SectionList { names, sections } = self;
+        NamesAndSections { names, sections }
     }
 }
 
 #[tactic(auto, using(crate::proofs::LastLemmas::open_last, crate::proofs::LastLemmas::added_last))]
-fn add_to_last(parts: &mut Vec<NamedPart>, setting: TicketSetting) -> Result<(), LineFault>
-    requires { 0 < vec_len parts.old }
-    ensures { AnswersAt result parts.new.items (placed_clash (open_part None parts.old.items) setting) parts.old.items (last_added parts.old.items setting) }
+fn add_to_last(sections: &mut Vec<NamedSection>, setting: TicketSetting) -> Result<(), LineFault>
+    requires { 0 < vec_len sections.old }
+    ensures { AnswersAt result sections.new.items
+        (placed_clash (open_section None sections.old.items) setting)
+        sections.old.items (last_added sections.old.items setting) }
 {
-    let last = parts.len() - 1;
-    parts[last].part.add(setting)
+    let last = sections.len() - 1;
+    sections[last].section.add(setting)
 }
 
 /// What the lines so far say.
@@ -118,8 +121,8 @@ fn add_to_last(parts: &mut Vec<NamedPart>, setting: TicketSetting) -> Result<(),
 pub struct Draft {
     pub top: Top,
     pub members: MemberList,
-    pub defaults: Option<Part>,
-    pub tickets: PartList,
+    pub defaults: Option<Section>,
+    pub tickets: SectionList,
 }
 
 impl Model for Draft {
@@ -138,12 +141,13 @@ impl Draft {
             top: Top::new(alloc),
             members: MemberList::new(alloc),
             defaults: None,
-            tickets: PartList::new(alloc),
+            tickets: SectionList::new(alloc),
         }
     }
 
     fn add_member(&mut self, member: Member) -> Result<(), Stop>
-        ensures { Answers result self.new (clash self.old (Setting.Member member)) self.old (added self.old (Setting.Member member)) }
+        ensures { Answers result self.new (clash self.old (Setting.Member member))
+            self.old (added self.old (Setting.Member member)) }
     {
         if self.members.has(member.address) {
             return Err(Stop::Line(LineFault::Repeated));
@@ -159,13 +163,14 @@ impl Draft {
         ensures few { length result.now ≤ PREREQS }
     {
         match &self.defaults {
-            Some(part) => part.prereqs(),
+            Some(section) => section.prereqs(),
             None => &[],
         }
     }
 
     fn add_ticket(&mut self, name: Name) -> Result<(), Stop>
-        ensures { Answers result self.new (clash self.old (Setting.Ticket name)) self.old (added self.old (Setting.Ticket name)) }
+        ensures { Answers result self.new (clash self.old (Setting.Ticket name))
+            self.old (added self.old (Setting.Ticket name)) }
     {
         if self.tickets.has(&name) {
             return Err(Stop::Line(LineFault::Repeated));
@@ -173,12 +178,13 @@ impl Draft {
         if self.tickets.len() >= TICKETS {
             return Err(Stop::Line(LineFault::TooMany));
         }
-        let part = Part::inheriting(self.default_prereqs());
-        self.tickets.push(name, part).map_err(|_| Stop::Memory)
+        let section = Section::inheriting(self.default_prereqs());
+        self.tickets.push(name, section).map_err(|_| Stop::Memory)
     }
 
     fn add_defaults(&mut self) -> Result<(), LineFault>
-        ensures { AnswersAt result self.new (clash self.old Setting.Defaults) self.old (added self.old Setting.Defaults) }
+        ensures { AnswersAt result self.new (clash self.old Setting.Defaults)
+            self.old (added self.old Setting.Defaults) }
     {
         if self.defaults.is_some() {
             return Err(LineFault::Repeated);
@@ -186,25 +192,27 @@ impl Draft {
         if self.tickets.len() > 0 {
             return Err(LineFault::DefaultLate);
         }
-        self.defaults = Some(Part::new());
+        self.defaults = Some(Section::new());
         Ok(())
     }
 
     fn add_of_ticket(&mut self, setting: TicketSetting) -> Result<(), LineFault>
-        ensures { AnswersAt result self.new (clash self.old (Setting.Of setting)) self.old (added self.old (Setting.Of setting)) }
+        ensures { AnswersAt result self.new (clash self.old (Setting.Of setting))
+            self.old (added self.old (Setting.Of setting)) }
     {
         if self.tickets.len() > 0 {
             return self.tickets.add(setting);
         }
         match &mut self.defaults {
-            Some(part) => part.add(setting),
+            Some(section) => section.add(setting),
             None => Err(LineFault::Misplaced),
         }
     }
 
     // Adds one setting, or says what is wrong with it.
     fn add(&mut self, setting: Setting) -> Result<(), Stop>
-        ensures { Answers result self.new (clash self.old setting) self.old (added self.old setting) }
+        ensures { Answers result self.new (clash self.old setting)
+            self.old (added self.old setting) }
     {
         match setting {
             Setting::File(setting) => self.top.add(setting),
@@ -215,8 +223,9 @@ impl Draft {
         }
     }
 
-    fn add_value(&mut self, key: Key, setting: Option<Setting>) -> Result<(), Stop>
-        ensures { Answers result self.new (value_fault key self.old setting) self.old (value_added self.old setting) }
+    fn add_value(&mut self, key: ConfKey, setting: Option<Setting>) -> Result<(), Stop>
+        ensures { Answers result self.new (value_fault key self.old setting)
+            self.old (value_added self.old setting) }
     {
         match setting {
             Some(setting) => self.add(setting),
@@ -226,7 +235,7 @@ impl Draft {
 
     // Whether a key of a ticket stands below no `ticket` line.
     #[tactic(auto, using(crate::proofs::LastLemmas::open_is))]
-    fn is_misplaced(&self, key: Key) -> bool
+    fn is_misplaced(&self, key: ConfKey) -> bool
         ensures { result ≡ is_misplaced key self.now }
     {
         match key.row().scope {
@@ -237,7 +246,8 @@ impl Draft {
 
     /// Takes one line, or says what is wrong with it. It is linear in the line's bytes.
     pub fn line(&mut self, line: &[u8]) -> Result<(), Stop>
-        ensures { Answers result self.new (said_fault self.old (said line.now)) self.old (said_added self.old (said line.now)) }
+        ensures { Answers result self.new (said_fault self.old (said line.now))
+            self.old (said_added self.old (said line.now)) }
     {
         match read_line(line) {
             Said::Empty => Ok(()),

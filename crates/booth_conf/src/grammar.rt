@@ -58,7 +58,7 @@ fn skip_blanks(bytes: &[u8]) -> &[u8]
     &bytes[blanks_len(bytes)..]
 }
 
-// The key in front, and what stands behind it.
+// The key in front, and what stands after it.
 #[tactic(auto, using(crate::proofs::Cuts::past_is, crate::proofs::Cuts::front_is, crate::proofs::Cuts::prefix_within))]
 fn split_key(bytes: &[u8]) -> (&[u8], &[u8])
     ensures front { result.0.now ≡ front is_key_byte bytes.now }

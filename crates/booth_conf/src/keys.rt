@@ -2,15 +2,13 @@
 ghost use Rattle.std.specs.Prelude.{◌≡◌, ◌≤◌, ◌==◌, bytes_eq, length, IfSome};
 ghost use Rattle.booth_conf.specs.Keys.{IsRow, has_number, row, is_named, key_named, key_numbered, name_at, number_of, row_of, Names};
 
-use std::fmt;
-
 /// The number of a key: 1 to 21.
 #[derive(Clone, Copy, Debug, PartialEq, Eq)]
 pub struct KeyNo(pub u8);
 
 /// A key.
 #[derive(Clone, Copy, Debug)]
-pub enum Key {
+pub enum ConfKey {
     Port,
     Transport,
     Authfile,
@@ -61,30 +59,30 @@ impl Row {
     }
 }
 
-impl Key {
+impl ConfKey {
     /// Each key, in the order of their numbers.
-    const ALL: [Key; 21] = [
-        Key::Port,
-        Key::Transport,
-        Key::Authfile,
-        Key::Maxtimeskew,
-        Key::Debug,
-        Key::SiteUser,
-        Key::SiteGroup,
-        Key::ArbitratorUser,
-        Key::ArbitratorGroup,
-        Key::Site,
-        Key::Arbitrator,
-        Key::Ticket,
-        Key::Expire,
-        Key::AcquireAfter,
-        Key::Timeout,
-        Key::Retries,
-        Key::RenewalFreq,
-        Key::Weights,
-        Key::BeforeAcquireHandler,
-        Key::AttrPrereq,
-        Key::Mode,
+    const ALL: [ConfKey; 21] = [
+        ConfKey::Port,
+        ConfKey::Transport,
+        ConfKey::Authfile,
+        ConfKey::Maxtimeskew,
+        ConfKey::Debug,
+        ConfKey::SiteUser,
+        ConfKey::SiteGroup,
+        ConfKey::ArbitratorUser,
+        ConfKey::ArbitratorGroup,
+        ConfKey::Site,
+        ConfKey::Arbitrator,
+        ConfKey::Ticket,
+        ConfKey::Expire,
+        ConfKey::AcquireAfter,
+        ConfKey::Timeout,
+        ConfKey::Retries,
+        ConfKey::RenewalFreq,
+        ConfKey::Weights,
+        ConfKey::BeforeAcquireHandler,
+        ConfKey::AttrPrereq,
+        ConfKey::Mode,
     ];
 
     /// The table.
@@ -93,27 +91,27 @@ impl Key {
         ensures short { length result.name.now ≤ 22 }
     {
         match self {
-            Key::Port => Row::new(1, "port", Scope::File),
-            Key::Transport => Row::new(2, "transport", Scope::File),
-            Key::Authfile => Row::new(3, "authfile", Scope::File),
-            Key::Maxtimeskew => Row::new(4, "maxtimeskew", Scope::File),
-            Key::Debug => Row::new(5, "debug", Scope::File),
-            Key::SiteUser => Row::new(6, "site-user", Scope::File),
-            Key::SiteGroup => Row::new(7, "site-group", Scope::File),
-            Key::ArbitratorUser => Row::new(8, "arbitrator-user", Scope::File),
-            Key::ArbitratorGroup => Row::new(9, "arbitrator-group", Scope::File),
-            Key::Site => Row::new(10, "site", Scope::File),
-            Key::Arbitrator => Row::new(11, "arbitrator", Scope::File),
-            Key::Ticket => Row::new(12, "ticket", Scope::File),
-            Key::Expire => Row::new(13, "expire", Scope::Ticket),
-            Key::AcquireAfter => Row::new(14, "acquire-after", Scope::Ticket),
-            Key::Timeout => Row::new(15, "timeout", Scope::Ticket),
-            Key::Retries => Row::new(16, "retries", Scope::Ticket),
-            Key::RenewalFreq => Row::new(17, "renewal-freq", Scope::Ticket),
-            Key::Weights => Row::new(18, "weights", Scope::Ticket),
-            Key::BeforeAcquireHandler => Row::new(19, "before-acquire-handler", Scope::Ticket),
-            Key::AttrPrereq => Row::new(20, "attr-prereq", Scope::Ticket),
-            Key::Mode => Row::new(21, "mode", Scope::Ticket),
+            ConfKey::Port => Row::new(1, "port", Scope::File),
+            ConfKey::Transport => Row::new(2, "transport", Scope::File),
+            ConfKey::Authfile => Row::new(3, "authfile", Scope::File),
+            ConfKey::Maxtimeskew => Row::new(4, "maxtimeskew", Scope::File),
+            ConfKey::Debug => Row::new(5, "debug", Scope::File),
+            ConfKey::SiteUser => Row::new(6, "site-user", Scope::File),
+            ConfKey::SiteGroup => Row::new(7, "site-group", Scope::File),
+            ConfKey::ArbitratorUser => Row::new(8, "arbitrator-user", Scope::File),
+            ConfKey::ArbitratorGroup => Row::new(9, "arbitrator-group", Scope::File),
+            ConfKey::Site => Row::new(10, "site", Scope::File),
+            ConfKey::Arbitrator => Row::new(11, "arbitrator", Scope::File),
+            ConfKey::Ticket => Row::new(12, "ticket", Scope::File),
+            ConfKey::Expire => Row::new(13, "expire", Scope::Ticket),
+            ConfKey::AcquireAfter => Row::new(14, "acquire-after", Scope::Ticket),
+            ConfKey::Timeout => Row::new(15, "timeout", Scope::Ticket),
+            ConfKey::Retries => Row::new(16, "retries", Scope::Ticket),
+            ConfKey::RenewalFreq => Row::new(17, "renewal-freq", Scope::Ticket),
+            ConfKey::Weights => Row::new(18, "weights", Scope::Ticket),
+            ConfKey::BeforeAcquireHandler => Row::new(19, "before-acquire-handler", Scope::Ticket),
+            ConfKey::AttrPrereq => Row::new(20, "attr-prereq", Scope::Ticket),
+            ConfKey::Mode => Row::new(21, "mode", Scope::Ticket),
         }
     }
 
@@ -137,37 +135,31 @@ impl Key {
     }
 
     /// The key of this name.
-    pub fn named(name: &[u8]) -> Option<Key>
+    pub fn named(name: &[u8]) -> Option<ConfKey>
         ensures { result ≡ key_named name.now }
     {
-        Key::ALL.iter().copied().find(|key| key.is_named(name))
+        ConfKey::ALL.iter().copied().find(|key| key.is_named(name))
     }
 
-    fn numbered(number: KeyNo) -> Option<Key>
+    fn numbered(number: KeyNo) -> Option<ConfKey>
         ensures { result ≡ key_numbered number }
     {
-        Key::ALL.iter().copied().find(|key| key.has_number(number))
+        ConfKey::ALL
+            .iter()
+            .copied()
+            .find(|key| key.has_number(number))
     }
 }
 
 impl KeyNo {
-    /// The name of the key, as a text of a configuration writes it. None is told where no key has this number.
+    /// The name of the key, as a text of a configuration writes it; none where no key has this number.
     pub fn name(self) -> Option<&'static str>
         ensures name { Names result (name_at self) }
         ensures short { IfSome result (λ name. length name.now ≤ 22) }
     {
-        match Key::numbered(self) {
+        match ConfKey::numbered(self) {
             Some(key) => Some(key.row().name),
             None => None,
-        }
-    }
-}
-
-impl fmt::Display for KeyNo {
-    fn fmt<W: fmt::Write>(&self, f: &mut fmt::Formatter<W>) -> fmt::Result {
-        match self.name() {
-            Some(name) => f.write_str(name),
-            None => write!(f, "key {}", self.0),
         }
     }
 }

@@ -1,23 +1,24 @@
 //! The configuration that all members share: `booth.conf` as a text and as a value.
 #![tactic(auto)]
 
+mod checks;
 mod configuration;
+mod defaults;
 mod digits;
 mod drafts;
 mod faults;
-mod finishes;
 mod grammar;
 mod keys;
 pub mod laws;
 mod limits;
+mod line_meaning;
 mod lines;
 mod members;
 mod names;
-mod parts;
 mod print_tickets;
 mod prints;
 mod ranks;
-mod readings;
+mod sections;
 mod settings;
 #[cfg(test)]
 mod tests;
@@ -25,14 +26,13 @@ mod texts;
 mod tickets;
 mod values;
 mod weights;
-mod wholes;
 mod words;
 
 pub use configuration::Config;
 pub use faults::ConfFault;
-pub use keys::{Key, KeyNo};
+pub use keys::{ConfKey, KeyNo};
 pub use limits::{MEMBERS, PREREQS, TEXT_BYTES, TICKETS};
 pub use members::Member;
 pub use names::ticket_name;
-pub use parts::Extra;
+pub use sections::Extra;
 pub use tickets::{GrantKind, Prereq, TicketConf};

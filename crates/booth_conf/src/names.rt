@@ -1,9 +1,10 @@
 //! The names of a text's tickets, also where the text says no configuration.
 ghost use Rattle.std.specs.Prelude.{◌≡◌, slice_get};
-ghost use Rattle.booth_conf.specs.Names.{name_said, ticket_names};
+ghost use Rattle.booth_conf.specs.Names.{name_said, names_said, NamesTicket};
+ghost use Rattle.booth_conf.specs.Reads.{said_lines};
 ghost use Rattle.booth_conf.specs.SaidReader.{said};
 
-use crate::readings::{Said, read_line};
+use crate::line_meaning::{Said, read_line};
 use crate::settings::Setting;
 use booth_base::Name;
 
@@ -20,10 +21,8 @@ fn name_in(line: &[u8]) -> Option<Name>
     }
 }
 
-/// The name on the `ticket` line of this place, counted from 0 and without `__default__`: so a fault of a whole
-/// file can be told with its ticket's name.
-pub fn ticket_name(text: &[u8], place: usize) -> Option<Name>
-    ensures { result ≡ slice_get (ticket_names text.now) place }
+fn name_at(text: &[u8], place: usize) -> Option<Name>
+    ensures { result ≡ slice_get (names_said (said_lines text.now)) place }
 {
     let mut left = place;
     for line in text.split(|b| *b == b'\n') {
@@ -34,4 +33,13 @@ pub fn ticket_name(text: &[u8], place: usize) -> Option<Name>
         }
     }
     None
+}
+
+/// The name on the `ticket` line of this place, counted from 0 and without `__default__`: so a fault
+/// of a whole file can be reported with its ticket's name.
+#[tactic(auto, using(crate::proofs::NameLemmas::names_ticket))]
+pub fn ticket_name(text: &[u8], place: usize) -> Option<Name>
+    ensures { NamesTicket text.now place result }
+{
+    name_at(text, place)
 }

@@ -5,7 +5,7 @@ ghost use Rattle.booth_conf.specs.Grows.{Grows};
 ghost use Rattle.booth_conf.specs.Print.{handler_settings, kind_of, line_text, lines_text, prereq_setting, renewal_settings, role_name, ticket_settings, times_settings, weights_settings};
 ghost use Rattle.booth_conf.specs.declared.settings.Setting.TheVariants.{Member as MemberSetting};
 
-use crate::keys::Key;
+use crate::keys::ConfKey;
 use crate::members::Member;
 use crate::prints::{kind_word, prereq_text, push_line, push_number, weights_text};
 use crate::tickets::{GrantKind, Prereq, TicketConf};
@@ -16,9 +16,9 @@ fn role_name(site: bool) -> &'static str
     ensures { result.now ≡ role_name site }
 {
     if site {
-        Key::Site.row().name
+        ConfKey::Site.row().name
     } else {
-        Key::Arbitrator.row().name
+        ConfKey::Arbitrator.row().name
     }
 }
 
@@ -44,24 +44,24 @@ pub fn push_members(out: &mut Vec<u8>, members: &[Member]) -> Result<(), AllocEr
 }
 
 // A renewal that is half of expire is left out.
-fn push_renewal(alloc: Global, out: &mut Vec<u8>, times: &Times) -> Result<(), AllocError>
+fn push_renewal(out: &mut Vec<u8>, times: &Times) -> Result<(), AllocError>
     ensures { Grows result out.old.items out.new.items (lines_text (renewal_settings times.now)) }
 {
     if times.renewal == times.expire / 2 {
         return Ok(());
     }
-    push_number(alloc, out, Key::RenewalFreq, times.renewal / 1000)
+    push_number(out, ConfKey::RenewalFreq, times.renewal / 1000)
 }
 
 #[tactic(auto, using(crate::proofs::PushLemmas::five_pushed))]
-fn push_times(alloc: Global, out: &mut Vec<u8>, times: &Times) -> Result<(), AllocError>
+fn push_times(out: &mut Vec<u8>, times: &Times) -> Result<(), AllocError>
     ensures { Grows result out.old.items out.new.items (lines_text (times_settings times.now)) }
 {
-    push_number(alloc, out, Key::Expire, times.expire / 1000)?;
-    push_number(alloc, out, Key::AcquireAfter, times.after / 1000)?;
-    push_number(alloc, out, Key::Timeout, times.timeout / 1000)?;
-    push_number(alloc, out, Key::Retries, u64::from(times.retries))?;
-    push_renewal(alloc, out, times)
+    push_number(out, ConfKey::Expire, times.expire / 1000)?;
+    push_number(out, ConfKey::AcquireAfter, times.after / 1000)?;
+    push_number(out, ConfKey::Timeout, times.timeout / 1000)?;
+    push_number(out, ConfKey::Retries, u64::from(times.retries))?;
+    push_renewal(out, times)
 }
 
 // Weights that are empty are left out.
@@ -72,7 +72,7 @@ fn push_weights(alloc: Global, out: &mut Vec<u8>, weights: &[u32]) -> Result<(),
         [] => Ok(()),
         [first, rest @ ..] => {
             let text = weights_text(alloc, *first, rest)?;
-            push_line(out, Key::Weights.row().name, &text)
+            push_line(out, ConfKey::Weights.row().name, &text)
         }
     }
 }
@@ -83,7 +83,7 @@ fn push_handler(out: &mut Vec<u8>, handler: &Option<PathText>) -> Result<(), All
     match handler {
         Some(command) => push_line(
             out,
-            Key::BeforeAcquireHandler.row().name,
+            ConfKey::BeforeAcquireHandler.row().name,
             command.as_str().as_bytes(),
         ),
         None => Ok(()),
@@ -94,7 +94,7 @@ fn push_prereq(alloc: Global, out: &mut Vec<u8>, prereq: &Prereq) -> Result<(), 
     ensures { Grows result out.old.items out.new.items (lines_text (prereq_setting prereq.now ∷ [])) }
 {
     let text = prereq_text(alloc, prereq)?;
-    push_line(out, Key::AttrPrereq.row().name, &text)
+    push_line(out, ConfKey::AttrPrereq.row().name, &text)
 }
 
 #[tactic(auto, using(crate::proofs::LineLemmas::lines_more, std::proofs::lemmas::List::map_more, crate::proofs::LineLemmas::lines_append))]
@@ -121,12 +121,16 @@ fn kind_of(manual: bool) -> GrantKind
 fn push_ticket(alloc: Global, out: &mut Vec<u8>, ticket: &TicketConf) -> Result<(), AllocError>
     ensures { Grows result out.old.items out.new.items (lines_text (ticket_settings ticket.now)) }
 {
-    push_line(out, Key::Ticket.row().name, ticket.name.bytes())?;
-    push_times(alloc, out, &ticket.times)?;
+    push_line(out, ConfKey::Ticket.row().name, ticket.name.bytes())?;
+    push_times(out, &ticket.times)?;
     push_weights(alloc, out, &ticket.weights)?;
     push_handler(out, &ticket.handler)?;
     push_prereqs(alloc, out, &ticket.prereqs)?;
-    push_line(out, Key::Mode.row().name, kind_word(kind_of(ticket.manual)))
+    push_line(
+        out,
+        ConfKey::Mode.row().name,
+        kind_word(kind_of(ticket.manual)),
+    )
 }
 
 /// Prints the tickets.
@@ -136,7 +140,8 @@ pub fn push_tickets(
     out: &mut Vec<u8>,
     tickets: &[TicketConf],
 ) -> Result<(), AllocError>
-    ensures { Grows result out.old.items out.new.items (lines_text (flat_map ticket_settings tickets.now)) }
+    ensures { Grows result out.old.items out.new.items
+        (lines_text (flat_map ticket_settings tickets.now)) }
 {
     for ticket in tickets {
         push_ticket(alloc, out, ticket)?;

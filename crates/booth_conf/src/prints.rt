@@ -6,10 +6,11 @@ ghost use Rattle.booth_conf.specs.Grows.{Grows, quote_of};
 ghost use Rattle.booth_conf.specs.Keys.{name_at, row_of};
 ghost use Rattle.booth_conf.specs.Print.{authfile_settings, extra_setting, kind_word, line_text, lines_text, prereq_text, test_word, top_settings, weights_text, written};
 
-use crate::keys::{Key, KeyNo};
-use crate::parts::Extra;
+use crate::keys::{ConfKey, KeyNo};
+use crate::sections::Extra;
 use crate::tickets::{GrantKind, Prereq};
 use booth_base::PathText;
+use itoa::Buffer;
 use std::alloc::{AllocError, Global};
 
 /// What a value is put in.
@@ -74,18 +75,18 @@ pub fn push_line(out: &mut Vec<u8>, name: &str, value: &[u8]) -> Result<(), Allo
     push(out, b"\n")
 }
 
-fn push_decimal(alloc: Global, out: &mut Vec<u8>, n: u64) -> Result<(), AllocError>
+fn push_decimal(out: &mut Vec<u8>, n: u64) -> Result<(), AllocError>
     ensures { Grows result out.old.items out.new.items (decimal n) }
 {
-    let digits = format!(in alloc; "{n}")?;
-    push(out, digits.as_bytes())
+    let mut digits = Buffer::new();
+    push(out, digits.format(n).as_bytes())
 }
 
-pub fn push_number(alloc: Global, out: &mut Vec<u8>, key: Key, n: u64) -> Result<(), AllocError>
+pub fn push_number(out: &mut Vec<u8>, key: ConfKey, n: u64) -> Result<(), AllocError>
     ensures { Grows result out.old.items out.new.items (line_text (row_of key).name (decimal n)) }
 {
-    let digits = format!(in alloc; "{n}")?;
-    push_line(out, key.row().name, digits.as_bytes())
+    let mut digits = Buffer::new();
+    push_line(out, key.row().name, digits.format(n).as_bytes())
 }
 
 // A space and a word.
@@ -132,19 +133,19 @@ pub fn prereq_text(alloc: Global, prereq: &Prereq) -> Result<Vec<u8>, AllocError
 
 // A comma and a number.
 #[tactic(auto, using(crate::proofs::PushLemmas::two_pushed))]
-fn push_next_weight(alloc: Global, out: &mut Vec<u8>, weight: u32) -> Result<(), AllocError>
+fn push_next_weight(out: &mut Vec<u8>, weight: u32) -> Result<(), AllocError>
     ensures { Grows result out.old.items out.new.items (0x2C ∷ decimal weight) }
 {
     push(out, b",")?;
-    push_decimal(alloc, out, u64::from(weight))
+    push_decimal(out, u64::from(weight))
 }
 
 #[tactic(auto, using(std::proofs::lemmas::List::flat_map_more))]
-fn push_more_weights(alloc: Global, out: &mut Vec<u8>, weights: &[u32]) -> Result<(), AllocError>
+fn push_more_weights(out: &mut Vec<u8>, weights: &[u32]) -> Result<(), AllocError>
     ensures { Grows result out.old.items out.new.items (flat_map (λ m. 0x2C ∷ decimal m) weights.now) }
 {
     for weight in weights {
-        push_next_weight(alloc, out, *weight)?;
+        push_next_weight(out, *weight)?;
     }
     Ok(())
 }
@@ -153,8 +154,8 @@ pub fn weights_text(alloc: Global, first: u32, rest: &[u32]) -> Result<Vec<u8>, 
     ensures { IfOk result (λ text. text.items ≡ weights_text (first ∷ rest.now)) }
 {
     let mut text = Vec::new(alloc);
-    push_decimal(alloc, &mut text, u64::from(first))?;
-    push_more_weights(alloc, &mut text, rest)?;
+    push_decimal(&mut text, u64::from(first))?;
+    push_more_weights(&mut text, rest)?;
     Ok(text)
 }
 
@@ -162,7 +163,7 @@ fn push_authfile(out: &mut Vec<u8>, path: &Option<PathText>) -> Result<(), Alloc
     ensures { Grows result out.old.items out.new.items (lines_text (authfile_settings path.now)) }
 {
     match path {
-        Some(path) => push_line(out, Key::Authfile.row().name, path.as_str().as_bytes()),
+        Some(path) => push_line(out, ConfKey::Authfile.row().name, path.as_str().as_bytes()),
         None => Ok(()),
     }
 }
@@ -177,7 +178,8 @@ fn extra_name(key: KeyNo) -> &'static str
 }
 
 fn push_extra(out: &mut Vec<u8>, extra: &Extra) -> Result<(), AllocError>
-    ensures { Grows result out.old.items out.new.items (lines_text (extra_setting (extra.now.0, extra.now.1) ∷ [])) }
+    ensures { Grows result out.old.items out.new.items
+        (lines_text (extra_setting (extra.now.0, extra.now.1) ∷ [])) }
 {
     push_line(out, extra_name(extra.0), extra.1.as_str().as_bytes())
 }
@@ -195,18 +197,18 @@ fn push_extras(out: &mut Vec<u8>, extras: &[Extra]) -> Result<(), AllocError>
 /// Prints the keys of the whole file.
 #[tactic(auto, using(crate::proofs::LineLemmas::top_pushed))]
 pub fn push_top(
-    alloc: Global,
     out: &mut Vec<u8>,
     port: u16,
     authfile: &Option<PathText>,
     skew: u64,
     extras: &[Extra],
 ) -> Result<(), AllocError>
-    ensures { Grows result out.old.items out.new.items (lines_text (top_settings port authfile.now skew extras.now)) }
+    ensures { Grows result out.old.items out.new.items
+        (lines_text (top_settings port authfile.now skew extras.now)) }
 {
-    push_number(alloc, out, Key::Port, u64::from(port))?;
-    push_line(out, Key::Transport.row().name, b"UDP")?;
+    push_number(out, ConfKey::Port, u64::from(port))?;
+    push_line(out, ConfKey::Transport.row().name, b"UDP")?;
     push_authfile(out, authfile)?;
-    push_number(alloc, out, Key::Maxtimeskew, skew)?;
+    push_number(out, ConfKey::Maxtimeskew, skew)?;
     push_extras(out, extras)
 }

@@ -1,7 +1,7 @@
 //! Ranks: the order in which sites try to get a ticket.
 ghost use Rattle.std.specs.Prelude.{◌≡◌, ◌≤◌, ◌<◌, length, slice_index, count_by};
 ghost use Rattle.std.specs.List.{enumerate_from};
-ghost use Rattle.booth_conf.specs.Finish.{comes_before, rank_of};
+ghost use Rattle.booth_conf.specs.Lookups.{comes_before, rank_of};
 
 use crate::limits::MEMBERS;
 use crate::members::Member;

@@ -6,7 +6,7 @@ ghost use Rattle.booth_conf.specs.Keys.{number_of};
 ghost use Rattle.booth_conf.specs.ValueReader.{extra_in, kind_in, mode_in, prereq_in, setting_in, test_in, ticket_in, transport_in};
 
 use crate::digits::number_within;
-use crate::keys::Key;
+use crate::keys::ConfKey;
 use crate::limits::SECONDS;
 use crate::members::member_at;
 use crate::settings::{FileSetting, Setting, TicketSetting, Transport};
@@ -83,7 +83,7 @@ fn ticket(bytes: &[u8]) -> Option<Setting>
 }
 
 fn port(bytes: &[u8]) -> Option<Setting>
-    ensures { result ≡ setting_in Key.Port bytes.now }
+    ensures { result ≡ setting_in ConfKey.Port bytes.now }
 {
     match number_within(bytes, 1, 65_535) {
         Some(n) => Some(Setting::File(FileSetting::Port(n as u16))),
@@ -91,7 +91,7 @@ fn port(bytes: &[u8]) -> Option<Setting>
     }
 }
 
-fn extra(key: Key, bytes: &[u8]) -> Option<Setting>
+fn extra(key: ConfKey, bytes: &[u8]) -> Option<Setting>
     requires { list_all is_value_byte bytes.now ≡ true }
     ensures { result ≡ extra_in key bytes.now }
 {
@@ -99,48 +99,52 @@ fn extra(key: Key, bytes: &[u8]) -> Option<Setting>
     text(bytes, 0).map(|text| Setting::File(FileSetting::Extra(number, text)))
 }
 
-impl Key {
+impl ConfKey {
     /// The setting that this value of the key makes, where the value has the key's form.
     pub fn setting(self, value: &[u8]) -> Option<Setting>
         requires { list_all is_value_byte value.now ≡ true }
         ensures { result ≡ setting_in self value.now }
     {
         match self {
-            Key::Port => port(value),
-            Key::Transport => transport(value).map(|t| Setting::File(FileSetting::Transport(t))),
-            Key::Authfile => text(value, 1).map(|text| Setting::File(FileSetting::Authfile(text))),
-            Key::Maxtimeskew => {
+            ConfKey::Port => port(value),
+            ConfKey::Transport => transport(value).map(|t| Setting::File(FileSetting::Transport(
+                t,
+            ))),
+            ConfKey::Authfile => text(value, 1).map(|text| Setting::File(FileSetting::Authfile(
+                text,
+            ))),
+            ConfKey::Maxtimeskew => {
                 number_within(value, 1, SECONDS).map(|n| Setting::File(FileSetting::Skew(n)))
             }
-            Key::Debug
-            | Key::SiteUser
-            | Key::SiteGroup
-            | Key::ArbitratorUser
-            | Key::ArbitratorGroup => extra(self, value),
-            Key::Site => address(value).map(|a| Setting::Member(member_at(true, a))),
-            Key::Arbitrator => address(value).map(|a| Setting::Member(member_at(false, a))),
-            Key::Ticket => ticket(value),
-            Key::Expire => {
+            ConfKey::Debug
+            | ConfKey::SiteUser
+            | ConfKey::SiteGroup
+            | ConfKey::ArbitratorUser
+            | ConfKey::ArbitratorGroup => extra(self, value),
+            ConfKey::Site => address(value).map(|a| Setting::Member(member_at(true, a))),
+            ConfKey::Arbitrator => address(value).map(|a| Setting::Member(member_at(false, a))),
+            ConfKey::Ticket => ticket(value),
+            ConfKey::Expire => {
                 number_within(value, 1, SECONDS).map(|n| Setting::Of(TicketSetting::Expire(n)))
             }
-            Key::AcquireAfter => {
+            ConfKey::AcquireAfter => {
                 number_within(value, 0, SECONDS).map(|n| Setting::Of(TicketSetting::After(n)))
             }
-            Key::Timeout => {
+            ConfKey::Timeout => {
                 number_within(value, 1, SECONDS).map(|n| Setting::Of(TicketSetting::Timeout(n)))
             }
-            Key::Retries => {
+            ConfKey::Retries => {
                 number_within(value, 3, 100).map(|n| Setting::Of(TicketSetting::Retries(n)))
             }
-            Key::RenewalFreq => {
+            ConfKey::RenewalFreq => {
                 number_within(value, 1, SECONDS).map(|n| Setting::Of(TicketSetting::Renewal(n)))
             }
-            Key::Weights => weights(value).map(|ws| Setting::Of(TicketSetting::Weights(ws))),
-            Key::BeforeAcquireHandler => {
+            ConfKey::Weights => weights(value).map(|ws| Setting::Of(TicketSetting::Weights(ws))),
+            ConfKey::BeforeAcquireHandler => {
                 command(value).map(|text| Setting::Of(TicketSetting::Handler(text)))
             }
-            Key::AttrPrereq => prereq(value).map(|q| Setting::Of(TicketSetting::Prereq(q))),
-            Key::Mode => mode(value).map(|kind| Setting::Of(TicketSetting::Mode(kind))),
+            ConfKey::AttrPrereq => prereq(value).map(|q| Setting::Of(TicketSetting::Prereq(q))),
+            ConfKey::Mode => mode(value).map(|kind| Setting::Of(TicketSetting::Mode(kind))),
         }
     }
 }

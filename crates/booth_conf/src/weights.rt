@@ -19,7 +19,8 @@ fn weight(piece: &[u8]) -> Option<u32>
 
 // Adds the weight of one more piece, where it spells one and there is room for it.
 fn add_weight(weights: &mut ArrayVec<u32, MEMBERS>, piece: &[u8]) -> Option<()>
-    ensures { MatchOption result (weight_added weights.old.items piece.now ≡ None) (λ _. weight_added weights.old.items piece.now ≡ Some weights.new.items) }
+    ensures { MatchOption result (weight_added weights.old.items piece.now ≡ None)
+        (λ _. weight_added weights.old.items piece.now ≡ Some weights.new.items) }
 {
     match weight(piece) {
         Some(n) if !weights.is_full() => {

@@ -39,7 +39,7 @@ fn split_word(bytes: &[u8]) -> (&[u8], &[u8])
     bytes.split_at(word_len(bytes))
 }
 
-// The first word, and what stands behind it.
+// The first word, and what stands after it.
 fn next_word(bytes: &[u8]) -> Option<(&[u8], &[u8])>
     ensures { GivesWord result (word_in bytes.now) }
 {

@@ -3,4 +3,5 @@ use Rattle.booth_conf.proofs.LastLemmas.{place_answer}
 use Rattle.booth_conf.proofs.drafts.add_to_last.Goals as goal
 
 pub returns : goal.returns
-returns c = place_answer c.add.result c.args.parts.now.items c.index_mut.result.now c.add.new.self c.args.setting (c.len-last.result - 1) (search rules) (search rules) (search rules) c.add.ensures
+returns c =
+    place_answer c.add.result c.args.sections.now.items c.index_mut.result.now c.add.new.self c.args.setting (c.len-last.result - 1) (search rules) (search rules) (search rules) c.add.ensures

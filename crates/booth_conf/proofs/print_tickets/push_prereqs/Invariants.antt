@@ -3,4 +3,5 @@ use Rattle.booth_conf.specs.Print.{lines_text, prereq_setting}
 use Rattle.booth_conf.proofs.print_tickets.push_prereqs.Given as goal
 
 abbrev pub invariant-loop-prereq : goal.invariant-loop-prereq
-invariant-loop-prereq l = l.out.items ≡ l.fn.out.items ++ lines_text (map prereq_setting (take l.prereq-index l.prereqs))
+invariant-loop-prereq l =
+    l.out.items ≡ l.fn.out.items ++ lines_text (map prereq_setting (take l.prereq-index l.prereqs))

@@ -1,6 +1,6 @@
 use Rattle.std.proofs.Common.{◌≡◌, ◌+◌, ◌≤◌, drop, count_by}
 use Rattle.std.specs.List.{enumerate_from}
-use Rattle.booth_conf.specs.Finish.{comes_before, rank_of}
+use Rattle.booth_conf.specs.Lookups.{comes_before, rank_of}
 use Rattle.booth_conf.proofs.ranks.rank.Given as goal
 
 -- those so far and those that are left are all

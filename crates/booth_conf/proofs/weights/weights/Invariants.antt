@@ -5,4 +5,5 @@ use Rattle.booth_conf.proofs.weights.weights.Given as goal
 
 -- the weights so far and the pieces that are left give the weights of the text
 abbrev pub invariant-loop-piece : goal.invariant-loop-piece
-invariant-loop-piece l = weights_in l.text ≡ weights_from l.weights.items (drop (length l.yielded) (slice_split (λ b. eqb b 44) l.text))
+invariant-loop-piece l =
+    weights_in l.text ≡ weights_from l.weights.items (drop (length l.yielded) (slice_split (λ b. eqb b 44) l.text))

@@ -4,4 +4,5 @@ use Rattle.booth_conf.proofs.PlaceLemmas.{position_named}
 use Rattle.booth_conf.proofs.configuration.Config.ticket.Goals as goal
 
 pub returns : goal.returns
-returns c = rw (← c.self.view_is) (c.get_index_of.ensures.index ∙ ap (position (bytes_eq c.args.name.now)) c.self.invariant.0 ∙ position_named c.args.name.now c.self.inside.tickets.items)
+returns c =
+    rw (← c.self.view_is) (c.get_index_of.ensures.index ∙ ap (position (bytes_eq c.args.name.now)) c.self.invariant.0 ∙ position_named c.args.name.now c.self.inside.tickets.items)

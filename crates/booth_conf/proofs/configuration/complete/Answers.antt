@@ -1,0 +1,25 @@
+use Rattle.std.proofs.Common.{rules, ◌≡◌, None, map, ap, ◌∙◌, sym, subst}
+use Rattle.booth_conf.specs.Config.{ConfigSays, config_of, ticket_of, file_fault}
+use Rattle.booth_conf.specs.Lookups.{ticket_name}
+use Rattle.booth_conf.specs.Sound.{IsSound}
+use Rattle.booth_conf.proofs.DefaultLemmas.{config_sound, names_of}
+use Rattle.booth_conf.proofs.configuration.complete.Goals as goal
+
+pub invariant_of-result : goal.invariant_of-result
+invariant_of-result c =
+    let made : ConfigSays = record {
+      port = c.unwrap_or.result;
+      authfile = c.top.inside.authfile;
+      skew = c.from.result;
+      extras = c.top.inside.extras.items;
+      members = c.into_vec-members.result.items;
+      tickets = c.in-Ok.tickets.items;
+    } in
+    let same : made ≡ config_of c.args.draft = search rules in
+    let fine : file_fault made.members made.tickets ≡ None = search rules in
+    let items : c.in-Ok.tickets.items ≡ map (ticket_of c.defaults-defaults.result) c.draft.inside.tickets = search rules in (
+      c.into_sections-names.ensures.names
+          ∙ names_of c.defaults-defaults.result c.draft.inside.tickets
+          ∙ ap (map ticket_name) (sym items),
+      subst IsSound (sym same) (config_sound c.args.draft c.requires (ap (λ (x : ConfigSays). file_fault x.members x.tickets) (sym same) ∙ fine)),
+    )

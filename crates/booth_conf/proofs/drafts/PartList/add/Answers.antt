@@ -1,6 +1,0 @@
-use Rattle.std.proofs.Common.{◌∙◌, sym}
-use Rattle.booth_conf.proofs.LastLemmas.{names_kept}
-use Rattle.booth_conf.proofs.drafts.PartList.add.Goals as goal
-
-pub invariant_of-self : goal.invariant_of-self
-invariant_of-self c = c.self.invariant ∙ sym (names_kept c.add_to_last.result _ c.self.inside.parts.items c.add_to_last.new.parts.items c.args.setting c.add_to_last.ensures)

@@ -1,6 +1,0 @@
-use Rattle.std.proofs.Common.{◌∙◌}
-use Rattle.booth_conf.proofs.LastLemmas.{any_name}
-use Rattle.booth_conf.proofs.drafts.PartList.has.Goals as goal
-
-pub returns : goal.returns
-returns c = rw (← c.self.view_is) (c.contains.ensures ∙ any_name c.args.name.now c.self.inside.names.keys c.self.inside.parts.items c.self.invariant)

@@ -1,0 +1,49 @@
+//! What a line says: nothing, or a key and the setting that its value makes.
+ghost use Rattle.std.specs.Prelude.{◌≡◌};
+ghost use Rattle.booth_conf.specs.Said.{IsSaid};
+ghost use Rattle.booth_conf.specs.SaidReader.{said};
+
+use crate::grammar::{Line, line_of};
+use crate::keys::ConfKey;
+use crate::settings::Setting;
+
+/// What a line says.
+#[derive(Drop)]
+pub enum Said {
+    /// Nothing, blanks or a comment.
+    Empty,
+    /// The line is neither empty nor a key with a value.
+    Broken,
+    /// No key has this name.
+    Unknown,
+    /// A key, and the setting where its value has the key's form.
+    Pair {
+        key: ConfKey,
+        setting: Option<Setting>,
+    },
+}
+
+fn read(line: &[u8]) -> Said
+    ensures { result ≡ said line.now }
+{
+    match line_of(line) {
+        Line::Empty => Said::Empty,
+        Line::Broken => Said::Broken,
+        Line::Pair { key, value } => match ConfKey::named(key) {
+            Some(key) => Said::Pair {
+                key,
+                setting: key.setting(value),
+            },
+            None => Said::Unknown,
+        },
+    }
+}
+
+/// What the line says. It is linear in the line's bytes.
+#[tactic(auto, using(crate::proofs::SaidLemmas::said_is))]
+pub fn read_line(line: &[u8]) -> Said
+    ensures exact { result ≡ said line.now }
+    ensures grammar { IsSaid line.now result }
+{
+    read(line)
+}
