@@ -1,5 +1,5 @@
 pub use Rattle.booth_conf.specs.Config
-pub use Rattle.booth_conf.specs.Finish
+pub use Rattle.booth_conf.specs.Lookups
 pub use Rattle.booth_wire.specs.Letter
 pub use Rattle.booth_wire.specs.Layout
 pub use Rattle.booth_wire.specs.Reading

@@ -4,7 +4,7 @@ use Rattle.std.specs.List.{list_any}
 use Rattle.booth_base.specs.declared.address.MemberId.{MemberId}
 use Rattle.booth_base.specs.declared.address.TheConstants.{NO_ONE}
 use Rattle.booth_conf.specs.Config.{ConfigSays, has_id}
-use Rattle.booth_conf.specs.Finish.{is_called}
+use Rattle.booth_conf.specs.Lookups.{is_called}
 use Rattle.booth_conf.specs.declared.members.Member.{Member}
 use Rattle.booth_wire.specs.declared.command.Cmd.{Cmd}
 use Rattle.booth_wire.specs.declared.command.Cmd.TheVariants as cmds

@@ -19,21 +19,21 @@ use Rattle.booth_node.specs.Counting.{opened_at}
 use Rattle.booth_cli.specs.declared.outcome.Ended.{Ended}
 use Rattle.booth_cli.specs.declared.outcome.Outcome.{Outcome}
 use Rattle.booth_cli.specs.declared.outcome.Outcome.TheVariants.{ConfUnread, KeyUnread, LockFault, OpenFault, OutOfMemory}
-use Rattle.booth_cli.specs.Texts.{line_of, fault_text, out_of_memory_text}
+use Rattle.booth_cli.specs.Texts.{line_of, IsFaultText, out_of_memory_text}
 use Rattle.booth_cli.specs.Fitness.{IsAdmitted}
 use Rattle.booth_cli.specs.Opening.{IsUnread, IsConfigRead, IsKeyRead, IsLocked, IsNodeOpened, IsUnopened, reads_of, opened as opening_calls, station}
 use Rattle.booth_cli.specs.Serving.{IsNodeRun, HasBlame, IsServing, Refused, Unkeyed, Unlocked, Unopened, Turning, IsOpened}
 use Rattle.booth_cli.specs.Stages.{AreRead, refusal}
 
 -- how a daemon ends at a text with a fault
-pub faulty : (path text said : List ℕ) (fault : ConfFault) → (fault ≡ confs.OutOfMemory) ⊎ IsFault text fault → said ≡ fault_text path text fault →
+pub faulty : (path text said : List ℕ) (fault : ConfFault) → (fault ≡ confs.OutOfMemory) ⊎ IsFault text fault → IsFaultText path text fault said →
     IsUnread path (refusal fault) said (ReadFile path (Ok text) ∷ [])
 faulty path text said confs.OutOfMemory why is = (is, inr (text, refl))
 faulty path text said fault (inl memory) is = cc
 faulty path text said fault (inr wrong) is = (text, wrong, is, refl)
 
 pub faulty_end : (path text said : List ℕ) (fault : ConfFault) (outcome : Outcome) → (fault ≡ confs.OutOfMemory) ⊎ IsFault text fault → outcome ≡ refusal fault →
-    said ≡ fault_text path text fault → IsUnread path outcome said (ReadFile path (Ok text) ∷ [])
+    IsFaultText path text fault said → IsUnread path outcome said (ReadFile path (Ok text) ∷ [])
 faulty_end path text said fault outcome why out is =
     let P : Outcome → Type 0 = λ o. IsUnread path o said (ReadFile path (Ok text) ∷ []) in
     subst P (sym out) (faulty path text said fault why is)

@@ -6,7 +6,7 @@ use Rattle.booth_conf.specs.Config.{ConfigSays}
 use Rattle.booth_conf.specs.Says.{Says}
 use Rattle.booth_conf.specs.Rules.{is_at}
 use Rattle.booth_conf.specs.Keys.{number_of}
-use Rattle.booth_conf.specs.declared.keys.Key.TheVariants.{Mode, BeforeAcquireHandler, AttrPrereq}
+use Rattle.booth_conf.specs.declared.keys.ConfKey.TheVariants.{Mode, BeforeAcquireHandler, AttrPrereq}
 use Rattle.booth_conf.specs.declared.keys.KeyNo.{KeyNo}
 use Rattle.booth_conf.specs.declared.tickets.TicketConf.{TicketConf}
 use Rattle.booth_cli.specs.declared.outcome.Outcome.{Outcome}

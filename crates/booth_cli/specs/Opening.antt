@@ -16,7 +16,7 @@ use Rattle.booth_node.specs.Counting.{opened_at}
 use Rattle.booth_cli.specs.declared.outcome.Outcome.{Outcome}
 use Rattle.booth_cli.specs.declared.outcome.Outcome.TheVariants.{ConfUnread, ConfBad, KeyUnread, KeyBad, LockFault, Running, OpenFault, OutOfMemory}
 use Rattle.booth_cli.specs.declared.outcome.Ended.{Ended}
-use Rattle.booth_cli.specs.Texts.{line_of, unread_text, fault_text, key_fault_text, out_of_memory_text}
+use Rattle.booth_cli.specs.Texts.{line_of, unread_text, IsFaultText, key_fault_text, out_of_memory_text}
 use Rattle.booth_cli.specs.Fitness.{IsFit}
 
 -- ---- the configuration
@@ -26,7 +26,7 @@ abbrev pub IsUnread : List ℕ → Outcome → List ℕ → List Entry → Type 
 IsUnread path ConfUnread said entries = (said ≡ unread_text path)
     × (entries ≡ ReadFile path (Err reads.Failed) ∷ [])
 IsUnread path (ConfBad fault) said entries =
-    (text : List ℕ) × IsFault text fault × (said ≡ fault_text path text fault)
+    (text : List ℕ) × IsFault text fault × IsFaultText path text fault said
     × (entries ≡ ReadFile path (Ok text) ∷ [])
 IsUnread path OutOfMemory said entries = (said ≡ out_of_memory_text)
     × ((entries ≡ ReadFile path (Err reads.NoMemory) ∷ [])

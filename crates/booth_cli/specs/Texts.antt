@@ -1,10 +1,10 @@
 -- What the daemon says on standard error, and its exit status.
-use Rattle.std.specs.Prelude.{◌++◌, ℕ, List, [], codes, decimal, unwrap_or, slice_get}
+use Rattle.std.specs.Prelude.{◌≡◌, ◌++◌, ℕ, List, [], Option, codes, decimal, unwrap_or}
 use Rattle.booth_base.specs.declared.address.Address.{Address}
 use Rattle.booth_base.specs.Address.{printed}
 use Rattle.booth_conf.specs.declared.keys.KeyNo.{KeyNo}
 use Rattle.booth_conf.specs.Keys.{name_at}
-use Rattle.booth_conf.specs.Names.{ticket_names}
+use Rattle.booth_conf.specs.Names.{NamesTicket}
 use Rattle.booth_conf.specs.declared.faults.ConfFault.{ConfFault}
 use Rattle.booth_conf.specs.declared.faults.ConfFault.TheVariants as confs
 use Rattle.booth_auth.specs.declared.key.KeyFault.{KeyFault}
@@ -53,30 +53,38 @@ file_text path what = line_of (path ++ codes ": " ++ what)
 abbrev pub at_line : List ℕ → ℕ → List ℕ → List ℕ
 at_line path line what = file_text path (codes "line " ++ decimal line ++ codes ": " ++ what)
 
--- what is wrong with a ticket of it: the one whose `ticket` line stands at this place
-abbrev pub at_ticket : List ℕ → List ℕ → ℕ → List ℕ → List ℕ
-at_ticket path text ticket what =
-    file_text path (codes "ticket " ++ unwrap_or (slice_get
-    (ticket_names text) ticket) [] ++ codes ": " ++ what)
+-- what is wrong with the ticket of this name
+abbrev pub at_ticket : List ℕ → List ℕ → List ℕ → List ℕ
+at_ticket path name what = file_text path (codes "ticket " ++ name ++ codes ": " ++ what)
 
--- the fault of a text, which stands in the file at this path
-abbrev pub fault_text : List ℕ → List ℕ → ConfFault → List ℕ
-fault_text path text confs.TooLarge = file_text path (codes "too large")
-fault_text path text (confs.Syntax line) = at_line path line (codes "syntax")
-fault_text path text (confs.UnknownKey line) = at_line path line (codes "unknown key")
-fault_text path text (confs.Misplaced line) = at_line path line (codes "misplaced key")
-fault_text path text (confs.BadValue line key) = at_line path line (codes "bad value for " ++ key_name key)
-fault_text path text (confs.Repeated line) = at_line path line (codes "repeated")
-fault_text path text (confs.DefaultLate line) = at_line path line (codes "__default__ must come first")
-fault_text path text (confs.TooMany line) = at_line path line (codes "too many")
-fault_text path text confs.NoSite = file_text path (codes "no site")
-fault_text path text confs.NoTicket = file_text path (codes "no ticket")
-fault_text path text (confs.IdClash first second) = file_text path (codes "member ids clash")
-fault_text path text (confs.Renewal ticket) = at_ticket path text ticket
-    (codes "renewal-freq is not below expire")
-fault_text path text (confs.RetryTime ticket) = at_ticket path text ticket
-    (codes "timeout and retries do not fit renewal-freq")
-fault_text path text confs.OutOfMemory = out_of_memory_text
+-- what is said of the ticket on the text's `ticket` line of this place
+pub record IsTicketText (path text : List ℕ) (ticket : ℕ) (what said : List ℕ) : Type 0 where
+  pub name : Option (List ℕ)
+  pub named : NamesTicket text ticket name
+  pub is : said ≡ at_ticket path (unwrap_or name []) what
+
+-- what is said of the fault of a text, which stands in the file at this path
+abbrev pub IsFaultText : List ℕ → List ℕ → ConfFault → List ℕ → Type 0
+IsFaultText path text confs.TooLarge said = said ≡ file_text path (codes "too large")
+IsFaultText path text (confs.Syntax line) said = said ≡ at_line path line (codes "syntax")
+IsFaultText path text (confs.UnknownKey line) said = said ≡ at_line path line (codes "unknown key")
+IsFaultText path text (confs.Misplaced line) said =
+    said ≡ at_line path line (codes "misplaced key")
+IsFaultText path text (confs.BadValue line key) said =
+    said ≡ at_line path line (codes "bad value for " ++ key_name key)
+IsFaultText path text (confs.Repeated line) said = said ≡ at_line path line (codes "repeated")
+IsFaultText path text (confs.DefaultLate line) said =
+    said ≡ at_line path line (codes "__default__ must come first")
+IsFaultText path text (confs.TooMany line) said = said ≡ at_line path line (codes "too many")
+IsFaultText path text confs.NoSite said = said ≡ file_text path (codes "no site")
+IsFaultText path text confs.NoTicket said = said ≡ file_text path (codes "no ticket")
+IsFaultText path text (confs.IdClash first second) said =
+    said ≡ file_text path (codes "member ids clash")
+IsFaultText path text (confs.Renewal ticket) said = IsTicketText path text ticket
+    (codes "renewal-freq is not below expire") said
+IsFaultText path text (confs.RetryTime ticket) said = IsTicketText path text ticket
+    (codes "timeout and retries do not fit renewal-freq") said
+IsFaultText path text confs.OutOfMemory said = said ≡ out_of_memory_text
 
 abbrev pub status_of : Outcome → ℕ
 status_of Done = 0

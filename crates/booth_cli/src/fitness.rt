@@ -1,23 +1,19 @@
 //! Whether a configuration can be served: it has this member, and asks for no part that is not built yet.
 ghost use Rattle.std.specs.Prelude.{◌≡◌, ℕ, IfErr};
 ghost use Rattle.std.specs.List.{list_any};
-ghost use Rattle.booth_conf.specs.Rules.{is_at, same_address};
+ghost use Rattle.booth_conf.specs.Rules.{is_at};
 ghost use Rattle.booth_cli.specs.Fitness.{has_member, is_manual, has_handler, has_prereqs, unbuilt, IsAdmitted};
 ghost use Rattle.booth_cli.specs.Serving.{HasBlame, IsServed};
 
 use crate::outcome::Ended;
 use crate::{Outcome, texts};
 use booth_base::Address;
-use booth_conf::{Config, Key, KeyNo, Member, TicketConf};
+use booth_conf::{ConfKey, Config, KeyNo, Member, TicketConf};
 
 fn is_at(address: &Address, member: &Member) -> bool
     ensures { result ≡ is_at address.now member.now }
 {
-    match (address, &member.address) {
-        (Address::V4(a), Address::V4(b)) => a == b,
-        (Address::V6(a), Address::V6(b)) => a == b,
-        (Address::V4(_), Address::V6(_)) | (Address::V6(_), Address::V4(_)) => false,
-    }
+    *address == member.address
 }
 
 fn has_member(config: &Config, address: &Address) -> bool
@@ -49,13 +45,13 @@ fn unbuilt(tickets: &[TicketConf]) -> Option<KeyNo>
     ensures { result ≡ unbuilt tickets.now }
 {
     if any_manual(tickets) {
-        return Some(Key::Mode.number());
+        return Some(ConfKey::Mode.number());
     }
     if any_handler(tickets) {
-        return Some(Key::BeforeAcquireHandler.number());
+        return Some(ConfKey::BeforeAcquireHandler.number());
     }
     if any_prereqs(tickets) {
-        return Some(Key::AttrPrereq.number());
+        return Some(ConfKey::AttrPrereq.number());
     }
     None
 }

@@ -3,7 +3,7 @@ ghost use Rattle.std.specs.Prelude.{◌≡◌, ◌≤◌, ℕ, ◌∷◌, [], So
 ghost use Rattle.booth_host.specs.Past.{GrewBy, GrewSome};
 ghost use Rattle.booth_host.specs.Causes.{HasCause};
 ghost use Rattle.booth_host.specs.declared.entry.Entry.{Entry};
-ghost use Rattle.booth_cli.specs.Texts.{fault_text};
+ghost use Rattle.booth_cli.specs.Texts.{IsFaultText};
 ghost use Rattle.booth_cli.specs.Opening.{IsConfigRead, IsLocked, IsNodeOpened};
 ghost use Rattle.booth_cli.specs.Serving.{HasBlame, IsOpened, IsServed};
 ghost use Rattle.booth_cli.specs.Stages.{IsParsed, refusal};
@@ -29,7 +29,7 @@ const RECORDS: &str = "/var/lib/booth";
 // How a daemon ends whose configuration has this fault.
 fn refuse(path: &PathText, text: &[u8], fault: ConfFault) -> Ended
     ensures outcome { result.outcome ≡ refusal fault }
-    ensures said { result.said ≡ fault_text path.now text.now fault }
+    ensures said { IsFaultText path.now text.now fault result.said }
     ensures served { IsServed result.outcome }
 {
     let outcome = match fault {

@@ -1,13 +1,12 @@
 //! What is said on standard error of each outcome.
-ghost use Rattle.std.specs.Prelude.{◌≡◌, ◌≤◌, ◌+◌, ◌++◌, [], codes, decimal, length, unwrap_or, slice_get};
+ghost use Rattle.std.specs.Prelude.{◌≡◌, ◌≤◌, ◌+◌, ◌++◌, [], codes, decimal, length, unwrap_or};
 ghost use Rattle.booth_base.specs.Address.{printed};
-ghost use Rattle.booth_conf.specs.Names.{ticket_names};
-ghost use Rattle.booth_cli.specs.Texts.{line_of, usage_text, bad_word_text, unread_text, not_member_text, key_name, unbuilt_text, key_fault_text, out_of_memory_text, file_text, at_line, at_ticket, fault_text};
+ghost use Rattle.booth_cli.specs.Texts.{line_of, usage_text, bad_word_text, unread_text, not_member_text, key_name, unbuilt_text, key_fault_text, out_of_memory_text, file_text, at_line, IsTicketText, IsFaultText};
 
 use crate::Word;
 use crate::error_line::ErrorLine;
 use booth_auth::KeyFault;
-use booth_base::{Address, PathText};
+use booth_base::{Address, Name, PathText};
 use booth_conf::{ConfFault, KeyNo, ticket_name};
 
 /// A line of this text.
@@ -158,24 +157,25 @@ fn of_value(path: &PathText, number: u32, key: KeyNo) -> ErrorLine
     line
 }
 
-// Appends the name of the ticket at this place of the text.
-fn put_name(text: &[u8], ticket: usize, line: &mut ErrorLine)
+// Appends the name of a ticket, where it has one.
+fn put_name(name: &Option<Name>, line: &mut ErrorLine)
     requires { length line.old ≤ 300 }
-    ensures bytes { line.new ≡ line.old ++ unwrap_or (slice_get (ticket_names text.now) ticket) [] }
+    ensures bytes { line.new ≡ line.old ++ unwrap_or name.now [] }
     ensures len { length line.new ≤ length line.old + 63 }
 {
-    if let Some(name) = ticket_name(text, ticket) {
+    if let Some(name) = name {
         line.put(name.bytes());
     }
 }
 
 fn at_ticket(path: &PathText, text: &[u8], ticket: usize, what: &[u8]) -> ErrorLine
     requires { length what.now ≤ 50 }
-    ensures { result ≡ at_ticket path.now text.now ticket what.now }
+    ensures { IsTicketText path.now text.now ticket what.now result }
 {
+    let name = ticket_name(text, ticket);
     let mut line = begun_with(path);
     line.put(b"ticket ");
-    put_name(text, ticket, &mut line);
+    put_name(&name, &mut line);
     line.put(b": ");
     line.put(what);
     line.put(b"\n");
@@ -184,7 +184,7 @@ fn at_ticket(path: &PathText, text: &[u8], ticket: usize, what: &[u8]) -> ErrorL
 
 /// What is said of the fault of this text, which stands in the file at this path.
 pub(crate) fn fault_text(path: &PathText, text: &[u8], fault: ConfFault) -> ErrorLine
-    ensures { result ≡ fault_text path.now text.now fault }
+    ensures { IsFaultText path.now text.now fault result }
 {
     match fault {
         ConfFault::TooLarge => file_text(path, b"too large"),

@@ -17,10 +17,10 @@ use Rattle.booth_auth.specs.declared.admission.DropFault.{DropFault}
 use Rattle.booth_auth.specs.Verdict.{verdict, is_stranger}
 use Rattle.booth_auth.specs.Sealed.{stamped}
 use Rattle.booth_auth.proofs.GateLemmas.{lets_in}
-use Rattle.booth_node.specs.declared.station.Station.{Station}
+use Rattle.booth_node.specs.declared.node_config.NodeConfig.{NodeConfig}
 use Rattle.booth_node.specs.declared.state.State.{State}
 use Rattle.booth_node.specs.Replies.{Reply, text_for, no_ticket, no_attribute, reply_with, reply_letter, reply_to}
-use Rattle.booth_node.specs.Reaction.{Demand, Drops, Notes, Answers, Rests, answers, routed, demanded, demand}
+use Rattle.booth_node.specs.Reaction.{Action, Drops, Notes, Answers, Rests, answers, routed, demanded, action}
 use Rattle.booth_node.specs.Laws.{IsReplyTo, ClientsAreAnswered, NothingRests}
 
 -- ---- what was read
@@ -118,60 +118,60 @@ has_answer text Rjc c to read = absurd cc
 -- ---- demands
 
 -- what is let in was read, and comes from where its command may
-let_in : (station : Station) (moment : ℕ) (bytes : List ℕ) (l : Letter) →
-    verdict station.config station.key station.me moment bytes ≡ Ok l →
-    (decoded bytes ≡ Ok l) × (is_stranger station.config l.head ≡ false)
-let_in station moment bytes l is =
-    let h = (lets_in station.config station.key station.me moment bytes l).0 is in
+let_in : (node : NodeConfig) (moment : ℕ) (bytes : List ℕ) (l : Letter) →
+    verdict node.config node.key node.me moment bytes ≡ Ok l →
+    (decoded bytes ≡ Ok l) × (is_stranger node.config l.head ≡ false)
+let_in node moment bytes l is =
+    let h = (lets_in node.config node.key node.me moment bytes l).0 is in
     (h.read, h.known)
 
-answered_so : (station : Station) (moment : ℕ) (state : State) (l : Letter) →
+answered_so : (node : NodeConfig) (moment : ℕ) (state : State) (l : Letter) →
     direction_of l.head.cmd ≡ ToDaemon → IsRead l.head.cmd l.content →
-    (reply : Letter) × (routed station moment state l (direction_of l.head.cmd) ≡ Answers reply)
-    × IsReplyTo station l reply
-answered_so station moment state l to read =
-    let found = has_answer (text_for station state l.head.cmd) l.head.cmd l.content to read in
-    let reply : Letter = reply_letter station.me l.head.request found.0 found.2.0 in
-    let is : reply_to station state l ≡ Some reply = rw (found.1, found.2.1) refl in (
-      stamped station.key moment reply,
-      ap (λ d. routed station moment state l d) to ∙ ap (λ r. answers station.key moment r) is,
+    (reply : Letter) × (routed node moment state l (direction_of l.head.cmd) ≡ Answers reply)
+    × IsReplyTo node l reply
+answered_so node moment state l to read =
+    let found = has_answer (text_for node state l.head.cmd) l.head.cmd l.content to read in
+    let reply : Letter = reply_letter node.me l.head.request found.0 found.2.0 in
+    let is : reply_to node state l ≡ Some reply = rw (found.1, found.2.1) refl in (
+      stamped node.key moment reply,
+      ap (λ d. routed node moment state l d) to ∙ ap (λ r. answers node.key moment r) is,
       record { cmd = found.1; request = refl; options = refl; reason = refl; from = refl },
     )
 
 pub clients_answered : ClientsAreAnswered
-clients_answered station moment state bytes l is to =
-    let said = answered_so station moment state l to (content_read bytes l (let_in station moment bytes l is).0) in
-    (said.0, ap (λ v. demanded station moment state v) is ∙ said.1, said.2)
+clients_answered node moment state bytes l is to =
+    let said = answered_so node moment state l to (content_read bytes l (let_in node moment bytes l is).0) in
+    (said.0, ap (λ v. demanded node moment state v) is ∙ said.1, said.2)
 
 is_not : true ≡ false → ⊥
 is_not h = cc
 
 -- a letter to a client comes from nobody
-no_letter_to_clients : (station : Station) (h : Head) → direction_of h.cmd ≡ ToClient → is_stranger station.config h ≡ false → ⊥
-no_letter_to_clients station h to known = is_not (rw to at known)
+no_letter_to_clients : (node : NodeConfig) (h : Head) → direction_of h.cmd ≡ ToClient → is_stranger node.config h ≡ false → ⊥
+no_letter_to_clients node h to known = is_not (rw to at known)
 
-abbrev IsRest : Demand → Type 0
+abbrev IsRest : Action → Type 0
 IsRest (Drops fault) = ⊥
 IsRest (Notes member) = ⊥
 IsRest (Answers letter) = ⊥
 IsRest Rests = Unit {0}
 
-letter_rests_not : (station : Station) (moment : ℕ) (state : State) (bytes : List ℕ) (l : Letter) (d : Direction) →
-    direction_of l.head.cmd ≡ d → verdict station.config station.key station.me moment bytes ≡ Ok l →
-    IsRest (demand station moment state bytes) → ⊥
-letter_rests_not station moment state bytes l ToDaemon to is rest =
-    rw (clients_answered station moment state bytes l is to).1 at rest
-letter_rests_not station moment state bytes l BetweenMembers to is rest = rw (is, to) at rest
-letter_rests_not station moment state bytes l ToClient to is rest =
-    no_letter_to_clients station l.head to (let_in station moment bytes l is).1
+letter_rests_not : (node : NodeConfig) (moment : ℕ) (state : State) (bytes : List ℕ) (l : Letter) (d : Direction) →
+    direction_of l.head.cmd ≡ d → verdict node.config node.key node.me moment bytes ≡ Ok l →
+    IsRest (action node moment state bytes) → ⊥
+letter_rests_not node moment state bytes l ToDaemon to is rest =
+    rw (clients_answered node moment state bytes l is to).1 at rest
+letter_rests_not node moment state bytes l BetweenMembers to is rest = rw (is, to) at rest
+letter_rests_not node moment state bytes l ToClient to is rest =
+    no_letter_to_clients node l.head to (let_in node moment bytes l is).1
 
-verdict_rests_not : (station : Station) (moment : ℕ) (state : State) (bytes : List ℕ) (v : Result Letter DropFault) →
-    verdict station.config station.key station.me moment bytes ≡ v → IsRest (demand station moment state bytes) → ⊥
-verdict_rests_not station moment state bytes (Err fault) is rest = rw is at rest
-verdict_rests_not station moment state bytes (Ok l) is rest =
-    letter_rests_not station moment state bytes l (direction_of l.head.cmd) refl is rest
+verdict_rests_not : (node : NodeConfig) (moment : ℕ) (state : State) (bytes : List ℕ) (v : Result Letter DropFault) →
+    verdict node.config node.key node.me moment bytes ≡ v → IsRest (action node moment state bytes) → ⊥
+verdict_rests_not node moment state bytes (Err fault) is rest = rw is at rest
+verdict_rests_not node moment state bytes (Ok l) is rest =
+    letter_rests_not node moment state bytes l (direction_of l.head.cmd) refl is rest
 
 pub rests_not : NothingRests
-rests_not station moment state bytes rests =
-    verdict_rests_not station moment state bytes (verdict station.config station.key station.me moment bytes) refl
+rests_not node moment state bytes rests =
+    verdict_rests_not node moment state bytes (verdict node.config node.key node.me moment bytes) refl
     (subst IsRest (sym rests) tt)

@@ -6,7 +6,7 @@ use Rattle.booth_auth.specs.declared.admission.DropFault.{DropFault}
 use Rattle.booth_auth.specs.declared.admission.DropFault.TheVariants.{Frame, NoMac, BadMac, TooOld, Stranger, Own, Ticket, Leader}
 use Rattle.booth_node.specs.declared.state.Counters.{Counters}
 use Rattle.booth_node.specs.declared.state.State.{State}
-use Rattle.booth_node.specs.declared.station.Station.{Station}
+use Rattle.booth_node.specs.declared.node_config.NodeConfig.{NodeConfig}
 
 -- a counter that stays at its greatest value
 abbrev pub more : ℕ → ℕ
@@ -44,11 +44,11 @@ counted_at members moment (Some place) =
     slice_set members place (counted (slice_index_or members place no_counts) moment)
 
 -- a command of the member with this id was let in: its counters alone change
-abbrev pub accepted : Station → ℕ → State → MemberId → State
-accepted station moment state from =
+abbrev pub accepted : NodeConfig → ℕ → State → MemberId → State
+accepted node moment state from =
     record state {
       common = record state.common {
-        members = counted_at state.common.members moment (position (has_id from) station.config.members);
+        members = counted_at state.common.members moment (position (has_id from) node.config.members);
       };
     }
 

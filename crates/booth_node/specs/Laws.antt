@@ -4,29 +4,29 @@ use Rattle.booth_wire.specs.declared.command.Direction.TheVariants.{ToDaemon}
 use Rattle.booth_wire.specs.Command.{direction_of, answer_of}
 use Rattle.booth_wire.specs.Letter.{Letter}
 use Rattle.booth_auth.specs.Verdict.{verdict}
-use Rattle.booth_node.specs.declared.station.Station.{Station}
+use Rattle.booth_node.specs.declared.node_config.NodeConfig.{NodeConfig}
 use Rattle.booth_node.specs.declared.state.State.{State}
-use Rattle.booth_node.specs.Reaction.{Answers, Rests, demand}
+use Rattle.booth_node.specs.Reaction.{Answers, Rests, action}
 
 -- This reply answers the letter: its command's answer, with its number and neither options nor a reason, from this
 -- member.
-pub record IsReplyTo (station : Station) (letter reply : Letter) : Type 0 where
+pub record IsReplyTo (node : NodeConfig) (letter reply : Letter) : Type 0 where
   pub cmd : answer_of letter.head.cmd ≡ Some reply.head.cmd
   pub request : reply.head.request ≡ letter.head.request
   pub options : reply.head.options ≡ 0
   pub reason : reply.head.reason ≡ 0
-  pub from : reply.head.from ≡ station.me
+  pub from : reply.head.from ≡ node.me
 
 -- Each request of a client that is let in is answered.
 abbrev pub ClientsAreAnswered : Type 0
 ClientsAreAnswered =
-    (station : Station) (moment : ℕ) (state : State) (bytes : List ℕ) (letter : Letter) →
-    verdict station.config station.key station.me moment bytes ≡ Ok letter →
+    (node : NodeConfig) (moment : ℕ) (state : State) (bytes : List ℕ) (letter : Letter) →
+    verdict node.config node.key node.me moment bytes ≡ Ok letter →
     direction_of letter.head.cmd ≡ ToDaemon →
-    (reply : Letter) × (demand station moment state bytes ≡ Answers reply) × IsReplyTo station letter reply
+    (reply : Letter) × (action node moment state bytes ≡ Answers reply) × IsReplyTo node letter reply
 
 -- No datagram demands nothing: each is dropped, counted for its member, or answered.
 abbrev pub NothingRests : Type 0
 NothingRests =
-    (station : Station) (moment : ℕ) (state : State) (bytes : List ℕ) →
-    demand station moment state bytes ≡ Rests → ⊥
+    (node : NodeConfig) (moment : ℕ) (state : State) (bytes : List ℕ) →
+    action node moment state bytes ≡ Rests → ⊥

@@ -2,7 +2,7 @@ pub mod Clock
 pub mod Counting
 pub mod Replies
 pub mod Reaction
-pub mod Demands
+pub mod Actions
 pub mod Laws
 pub mod Log
 pub mod View

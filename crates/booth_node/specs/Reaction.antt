@@ -19,7 +19,7 @@ use Rattle.booth_host.specs.declared.entry.Entry.TheVariants as calls
 use Rattle.booth_node.specs.declared.state.State.{State}
 use Rattle.booth_node.specs.declared.node.Turn.{Turn}
 use Rattle.booth_node.specs.declared.node.Turn.TheVariants.{Went, Stopped}
-use Rattle.booth_node.specs.declared.station.Station.{Station}
+use Rattle.booth_node.specs.declared.node_config.NodeConfig.{NodeConfig}
 use Rattle.booth_node.specs.Counting.{dropped, accepted}
 use Rattle.booth_node.specs.Replies.{reply_to}
 
@@ -32,61 +32,53 @@ pub data Ask : Type 0 where
 abbrev pub IsDone : Option (List ℕ) → Ask → Bool → Entry → Type 0
 IsDone key (Send peer letter) ok (calls.Send to bytes answer) =
     (to ≡ peer) × (bytes ≡ sealed key letter) × Fits letter × (ok ≡ is_ok answer)
-IsDone key (Send peer letter) ok (calls.Open local port records conf_path answer) = ⊥
-IsDone key (Send peer letter) ok (calls.Next wait answer bytes) = ⊥
-IsDone key (Send peer letter) ok (calls.Now reading) = ⊥
-IsDone key (Send peer letter) ok (calls.ReadFile path answer) = ⊥
-IsDone key (Send peer letter) ok (calls.Lock path answer) = ⊥
-IsDone key (Send peer letter) ok (calls.Kept ticket answer) = ⊥
-IsDone key (Send peer letter) ok (calls.Keep ticket rec answer) = ⊥
-IsDone key (Send peer letter) ok (calls.Out bytes answer) = ⊥
-IsDone key (Send peer letter) ok (calls.Err bytes answer) = ⊥
+IsDone key ask ok entry = ⊥
 
 -- What a datagram demands.
-pub data Demand : Type 0 where
+pub data Action : Type 0 where
   -- it is dropped, for this fault
-  Drops : DropFault → Demand
+  Drops : DropFault → Action
   -- a command of the member with this id was let in
-  Notes : MemberId → Demand
+  Notes : MemberId → Action
   -- a client's request is answered with this letter
-  Answers : Letter → Demand
+  Answers : Letter → Action
   -- nothing
-  Rests : Demand
+  Rests : Action
 
 -- a letter is sent with its time, and sealed
-abbrev pub answers : Option (List ℕ) → ℕ → Option Letter → Demand
+abbrev pub answers : Option (List ℕ) → ℕ → Option Letter → Action
 answers key moment (Some letter) = Answers (stamped key moment letter)
 answers key moment None = Rests
 
 -- what a letter that was let in demands, by whom it is for
-abbrev pub routed : Station → ℕ → State → Letter → Direction → Demand
-routed station moment state letter ToDaemon = answers station.key moment (reply_to station state letter)
-routed station moment state letter BetweenMembers = Notes letter.head.from
-routed station moment state letter ToClient = Rests
+abbrev pub routed : NodeConfig → ℕ → State → Letter → Direction → Action
+routed node moment state letter ToDaemon = answers node.key moment (reply_to node state letter)
+routed node moment state letter BetweenMembers = Notes letter.head.from
+routed node moment state letter ToClient = Rests
 
-abbrev pub demanded : Station → ℕ → State → Result Letter DropFault → Demand
-demanded station moment state (Err fault) = Drops fault
-demanded station moment state (Ok letter) = routed station moment state letter (direction_of letter.head.cmd)
+abbrev pub demanded : NodeConfig → ℕ → State → Result Letter DropFault → Action
+demanded node moment state (Err fault) = Drops fault
+demanded node moment state (Ok letter) = routed node moment state letter (direction_of letter.head.cmd)
 
--- what these bytes demand, by the gate's verdict
-abbrev pub demand : Station → ℕ → State → List ℕ → Demand
-demand station moment state bytes =
-    demanded station moment state (verdict station.config station.key station.me moment bytes)
+-- what these bytes action, by the gate's verdict
+abbrev pub action : NodeConfig → ℕ → State → List ℕ → Action
+action node moment state bytes =
+    demanded node moment state (verdict node.config node.key node.me moment bytes)
 
--- the deeds of a demand: a dropped datagram changes one counter, and a reply is the one send
-abbrev pub met : Station → ℕ → State → Peer → Demand → Deeds Ask State
-met station moment state from (Drops fault) = Ends (dropped state fault)
-met station moment state from (Notes member) = Ends (accepted station moment state member)
-met station moment state from (Answers letter) = Does (Send from letter) (λ ok. Ends state)
-met station moment state from Rests = Ends state
+-- the deeds of an action: a dropped datagram changes one counter, and a reply is the one send
+abbrev pub met : NodeConfig → ℕ → State → Peer → Action → Deeds Ask State
+met node moment state from (Drops fault) = Ends (dropped state fault)
+met node moment state from (Notes member) = Ends (accepted node moment state member)
+met node moment state from (Answers letter) = Does (Send from letter) (λ ok. Ends state)
+met node moment state from Rests = Ends state
 
 -- the row of an arrival; a failed next counts as Quiet
-abbrev pub arrived : Station → ℕ → State → Result Arrival Failed → List ℕ → Deeds Ask State
-arrived station moment state (Ok (arrivals.Datagram from)) bytes =
-    met station moment state from (demand station moment state bytes)
-arrived station moment state (Ok arrivals.Quiet) bytes = Ends state
-arrived station moment state (Ok arrivals.Stop) bytes = Ends state
-arrived station moment state (Err failed) bytes = Ends state
+abbrev pub arrived : NodeConfig → ℕ → State → Result Arrival Failed → List ℕ → Deeds Ask State
+arrived node moment state (Ok (arrivals.Datagram from)) bytes =
+    met node moment state from (action node moment state bytes)
+arrived node moment state (Ok arrivals.Quiet) bytes = Ends state
+arrived node moment state (Ok arrivals.Stop) bytes = Ends state
+arrived node moment state (Err failed) bytes = Ends state
 
 abbrev pub turn_end : Result Arrival Failed → Turn
 turn_end (Ok (arrivals.Datagram from)) = Went
@@ -103,13 +95,13 @@ abbrev pub used : ℕ → ℕ → ℕ
 used last reading = max last (min reading (2 ^ 62 - 1))
 
 -- the whole turn at this moment: the arrival's row, and then the deadlines'
-abbrev pub react : Station → State → ℕ → Result Arrival Failed → List ℕ → Deeds Ask State
-react station state moment arrival bytes =
-    next (arrived station moment (record state { last = moment }) arrival bytes) (dues moment (turn_end arrival))
+abbrev pub react : NodeConfig → State → ℕ → Result Arrival Failed → List ℕ → Deeds Ask State
+react node state moment arrival bytes =
+    next (arrived node moment (record state { last = moment }) arrival bytes) (dues moment (turn_end arrival))
 
--- one next with a wait of 100 ms, one now, and then exactly the deeds that these demand
-abbrev pub IsTurn : Station → State → Turn → List Entry → State → Type 0
-IsTurn station old turn (calls.Next wait answer bytes ∷ calls.Now reading ∷ entries) new =
+-- one next with a wait of 100 ms, one now, and then exactly the deeds that these action
+abbrev pub IsTurn : NodeConfig → State → Turn → List Entry → State → Type 0
+IsTurn node old turn (calls.Next wait answer bytes ∷ calls.Now reading ∷ entries) new =
     (wait ≡ 100) × (turn ≡ turn_end answer)
-    × Leads (IsDone station.key) (react station old (used old.last reading) answer bytes) entries (Ends new)
-IsTurn station old turn entries new = ⊥
+    × Leads (IsDone node.key) (react node old (used old.last reading) answer bytes) entries (Ends new)
+IsTurn node old turn entries new = ⊥

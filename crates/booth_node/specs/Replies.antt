@@ -15,7 +15,7 @@ use Rattle.booth_wire.specs.declared.message.AttrPart.{AttrPart}
 use Rattle.booth_wire.specs.Letter.{Letter, Content, Bare, Ticket, Attr, Text}
 use Rattle.booth_node.specs.declared.state.Counters.{Counters}
 use Rattle.booth_node.specs.declared.state.State.{State}
-use Rattle.booth_node.specs.declared.station.Station.{Station}
+use Rattle.booth_node.specs.declared.node_config.NodeConfig.{NodeConfig}
 
 -- TEXTS
 
@@ -24,8 +24,8 @@ abbrev pub list_line : TicketConf → List ℕ
 list_line ticket = ticket.name ++ codes " none 0\n"
 
 -- a line for each ticket, in the order of the configuration
-abbrev pub list_text : Station → List ℕ
-list_text station = flat_map list_line station.config.tickets
+abbrev pub list_text : NodeConfig → List ℕ
+list_text node = flat_map list_line node.config.tickets
 
 -- a number behind a blank
 abbrev pub spaced : ℕ → List ℕ
@@ -45,39 +45,19 @@ peer_line p =
     ++ flat_map spaced (p.1.last ∷ p.1.accepted ∷ p.1.sent ∷ p.1.errors ∷ []) ++ codes "\n"
 
 -- the line of another member; the node's own has none
-abbrev pub other_line : Station → Member × Counters → List ℕ
-other_line station p = if has_id station.me p.0 then [] else peer_line p
+abbrev pub other_line : NodeConfig → Member × Counters → List ℕ
+other_line node p = if has_id node.me p.0 then [] else peer_line p
 
 -- the drops, and a line for each other member, in the order of the configuration
-abbrev pub peers_text : Station → State → List ℕ
-peers_text station state =
-    drops_line state.common.drops ++ flat_map (other_line station) (zip station.config.members state.common.members)
+abbrev pub peers_text : NodeConfig → State → List ℕ
+peers_text node state =
+    drops_line state.common.drops ++ flat_map (other_line node) (zip node.config.members state.common.members)
 
 -- the text of the reply to a command: where it has none, it is empty
-abbrev pub text_for : Station → State → Cmd → List ℕ
-text_for station state CLst = list_text station
-text_for station state Peer = peers_text station state
-text_for station state CGnt = []
-text_for station state CRvk = []
-text_for station state ASet = []
-text_for station state AGet = []
-text_for station state ADel = []
-text_for station state ALst = []
-text_for station state RLst = []
-text_for station state RPer = []
-text_for station state RALs = []
-text_for station state RGnt = []
-text_for station state RRvk = []
-text_for station state RAtr = []
-text_for station state Stat = []
-text_for station state MIdx = []
-text_for station state RVot = []
-text_for station state VtFr = []
-text_for station state HrtB = []
-text_for station state Ack = []
-text_for station state UpdE = []
-text_for station state Revk = []
-text_for station state Rjc = []
+abbrev pub text_for : NodeConfig → State → Cmd → List ℕ
+text_for node state CLst = list_text node
+text_for node state Peer = peers_text node state
+text_for node state cmd = []
 
 -- REPLIES
 
@@ -117,21 +97,7 @@ reply_with text ASet content = no_attribute content
 reply_with text AGet content = no_attribute content
 reply_with text ADel content = no_attribute content
 reply_with text ALst content = Some (record { result = IARG; content = Text text })
-reply_with text RLst content = None
-reply_with text RPer content = None
-reply_with text RALs content = None
-reply_with text RGnt content = None
-reply_with text RRvk content = None
-reply_with text RAtr content = None
-reply_with text Stat content = None
-reply_with text MIdx content = None
-reply_with text RVot content = None
-reply_with text VtFr content = None
-reply_with text HrtB content = None
-reply_with text Ack content = None
-reply_with text UpdE content = None
-reply_with text Revk content = None
-reply_with text Rjc content = None
+reply_with text cmd content = None
 
 abbrev pub reply_letter : MemberId → ℕ → Cmd → Reply → Letter
 reply_letter me request cmd reply = record {
@@ -156,8 +122,8 @@ answered me request (Some cmd) None = None
 answered me request None reply = None
 
 -- what a client's letter is answered with
-abbrev pub reply_to : Station → State → Letter → Option Letter
-reply_to station state letter =
+abbrev pub reply_to : NodeConfig → State → Letter → Option Letter
+reply_to node state letter =
     let cmd : Cmd = letter.head.cmd in
-    answered station.me letter.head.request (answer_of cmd)
-    (reply_with (text_for station state cmd) cmd letter.content)
+    answered node.me letter.head.request (answer_of cmd)
+    (reply_with (text_for node state cmd) cmd letter.content)

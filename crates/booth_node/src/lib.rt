@@ -1,17 +1,17 @@
 //! The node: one turn of the daemon, from an arrival to the last deed that it demands.
 #![tactic(auto)]
 
-mod demand;
-mod desk;
+mod action;
 pub mod laws;
 mod node;
+mod node_config;
 mod peers;
 mod replies;
+mod reply_buffer;
 mod state;
-mod station;
 #[cfg(test)]
 mod tests;
 
 pub use node::{Node, Turn};
+pub use node_config::NodeConfig;
 pub use state::{Common, Counters, State};
-pub use station::Station;

@@ -5,13 +5,13 @@ ghost use Rattle.booth_base.specs.Tree.{Deeds, Leads};
 ghost use Rattle.booth_auth.specs.declared.admission.DropFault.{DropFault};
 ghost use Rattle.booth_node.specs.declared.state.State.{State};
 ghost use Rattle.booth_node.specs.Counting.{dropped, accepted, no_counts, opened_at};
-ghost use Rattle.booth_node.specs.Reaction.{IsDone, demand, met, arrived, turn_end, used, IsTurn};
-ghost use Rattle.booth_node.specs.Demands.{IsDemand};
+ghost use Rattle.booth_node.specs.Reaction.{IsDone, action, met, arrived, turn_end, used, IsTurn};
+ghost use Rattle.booth_node.specs.Actions.{IsAction};
 
-use crate::demand::Demand;
-use crate::desk::Desk;
+use crate::action::Action;
+use crate::reply_buffer::ReplyBuffer;
 use crate::state::READINGS_END;
-use crate::{Counters, State, Station};
+use crate::{Counters, NodeConfig, State};
 use booth_auth::{DropFault, Key};
 use booth_base::{MemberId, Peer};
 use booth_conf::Config;
@@ -33,15 +33,15 @@ pub enum Turn {
 /// A node, with all the memory of its turns.
 #[derive(Drop)]
 pub struct Node {
-    station: Station,
+    node: NodeConfig,
     state: State,
     datagram: Datagram,
-    desk: Desk,
+    buffer: ReplyBuffer,
     ghost early: { state.last < 2 ^ 62 },
 }
 
 impl Node {
-    ghost use Rattle.booth_node.specs.View.{station_of, state_of};
+    ghost use Rattle.booth_node.specs.View.{node_config, state_of};
 
     /// A node of this configuration, with this key where there is one, at the member with this id.
     ///
@@ -53,15 +53,15 @@ impl Node {
         me: MemberId,
         now: u64,
     ) -> Result<Node, AllocError>
-        ensures station { IfOk result (λ node.
-            station_of node ≡ record { config = config; key = key; me = me }) }
+        ensures node { IfOk result (λ node.
+            node_config node ≡ record { config = config; key = key; me = me }) }
         ensures state { IfOk result (λ node. state_of node ≡ opened_at now) }
     {
         Ok(Node {
-            station: Station { config, key, me },
+            node: NodeConfig { config, key, me },
             state: State::opened(now),
             datagram: Datagram::new(alloc)?,
-            desk: Desk::new(alloc)?,
+            buffer: ReplyBuffer::new(alloc)?,
         })
     }
 
@@ -75,7 +75,7 @@ impl Node {
 
     /// What was counted of the member at this place.
     pub fn counters(&self, member: usize) -> Counters
-        requires { member < length (station_of self.now).config.members }
+        requires { member < length (node_config self.now).config.members }
         ensures { result ≡ slice_index_or (state_of self.now).common.members member no_counts }
     {
         self.state
@@ -87,61 +87,61 @@ impl Node {
     }
 
     // What the datagram demands at this reading. An answer stands in the frame.
-    fn demand(&mut self, now: u64) -> Demand
-        ensures demand { IsDemand (station_of self.old).key
-            (demand (station_of self.old) now (state_of self.old) self.old.datagram)
-            result self.new.desk.frame }
-        ensures station { station_of self.new ≡ station_of self.old }
+    fn action(&mut self, now: u64) -> Action
+        ensures action { IsAction (node_config self.old).key
+            (action (node_config self.old) now (state_of self.old) self.old.datagram)
+            result self.new.buffer.frame }
+        ensures node { node_config self.new ≡ node_config self.old }
         ensures state { state_of self.new ≡ state_of self.old }
     {
-        match self.station.admit(now, self.datagram.bytes()) {
-            Ok(message) => self.desk.route(&self.station, &self.state, &message, now),
-            Err(fault) => Demand::Drop(fault),
+        match self.node.admit(now, self.datagram.bytes()) {
+            Ok(message) => self.buffer.route(&self.node, &self.state, &message, now),
+            Err(fault) => Action::Drop(fault),
         }
     }
 
     // Counts a dropped datagram.
     fn refuse(&mut self, fault: DropFault)
         ensures state { state_of self.new ≡ dropped (state_of self.old) fault }
-        ensures station { station_of self.new ≡ station_of self.old }
+        ensures node { node_config self.new ≡ node_config self.old }
     {
         self.state = self.state.with_drop(fault);
     }
 
     // Counts a datagram of a member.
     fn note(&mut self, member: MemberId, now: u64)
-        ensures state { state_of self.new ≡ accepted (station_of self.old) now (state_of self.old) member }
-        ensures station { station_of self.new ≡ station_of self.old }
+        ensures state { state_of self.new ≡ accepted (node_config self.old) now (state_of self.old) member }
+        ensures node { node_config self.new ≡ node_config self.old }
     {
-        let place = self.station.place(member);
+        let place = self.node.place(member);
         self.state = self.state.with_accepted(place, now);
     }
 
     // Does what a datagram demands.
     fn receive<H: Host>(&mut self, from: &Peer, now: u64, host: &mut H)
-        ensures past { GrewSome (λ es. Leads {S = State} (IsDone (station_of self.old).key)
-            (met (station_of self.old) now (state_of self.old) from.now
-            (demand (station_of self.old) now (state_of self.old) self.old.datagram))
+        ensures past { GrewSome (λ es. Leads {S = State} (IsDone (node_config self.old).key)
+            (met (node_config self.old) now (state_of self.old) from.now
+            (action (node_config self.old) now (state_of self.old) self.old.datagram))
             es (Deeds.Ends (state_of self.new))) (H.past host.old) (H.past host.new) }
-        ensures station { station_of self.new ≡ station_of self.old }
+        ensures node { node_config self.new ≡ node_config self.old }
         ensures later { H.faults host.old ≤ H.faults host.new }
     {
-        match self.demand(now) {
-            Demand::Drop(fault) => self.refuse(fault),
-            Demand::Note(member) => self.note(member, now),
-            Demand::Answer => {
-                let _ = host.send(from, self.desk.frame.bytes());
+        match self.action(now) {
+            Action::Drop(fault) => self.refuse(fault),
+            Action::Note(member) => self.note(member, now),
+            Action::Answer => {
+                let _ = host.send(from, self.buffer.frame.bytes());
             }
-            Demand::Rest => {}
+            Action::Rest => {}
         }
     }
 
     // Does what an arrival demands.
     fn arrive<H: Host>(&mut self, arrival: &Result<Arrival, Failed>, now: u64, host: &mut H)
-        ensures past { GrewSome (λ es. Leads {S = State} (IsDone (station_of self.old).key)
-            (arrived (station_of self.old) now (state_of self.old) arrival.now self.old.datagram)
+        ensures past { GrewSome (λ es. Leads {S = State} (IsDone (node_config self.old).key)
+            (arrived (node_config self.old) now (state_of self.old) arrival.now self.old.datagram)
             es (Deeds.Ends (state_of self.new))) (H.past host.old) (H.past host.new) }
-        ensures station { station_of self.new ≡ station_of self.old }
+        ensures node { node_config self.new ≡ node_config self.old }
         ensures later { H.faults host.old ≤ H.faults host.new }
     {
         let Ok(Arrival::Datagram(from)) = arrival else {
@@ -155,18 +155,18 @@ impl Node {
         ensures value { result ≡ used (state_of self.old).last reading }
         ensures state { state_of self.new ≡
             record (state_of self.old) { last = used (state_of self.old).last reading } }
-        ensures station { station_of self.new ≡ station_of self.old }
+        ensures node { node_config self.new ≡ node_config self.old }
         ensures datagram { self.new.datagram ≡ self.old.datagram }
     {
         self.state.last = self.state.last.max(reading.min(READINGS_END - 1));
         self.state.last
     }
 
-    /// One arrival, one reading of the clock, and what they demand. It takes no memory.
+    /// One arrival, one reading of the clock, and what they action. It takes no memory.
     pub fn turn<H: Host>(&mut self, host: &mut H) -> Turn
-        ensures past { GrewSome (λ es. IsTurn (station_of self.old) (state_of self.old) result es (state_of self.new))
+        ensures past { GrewSome (λ es. IsTurn (node_config self.old) (state_of self.old) result es (state_of self.new))
             (H.past host.old) (H.past host.new) }
-        ensures station { station_of self.new ≡ station_of self.old }
+        ensures node { node_config self.new ≡ node_config self.old }
         ensures later { H.faults host.old ≤ H.faults host.new }
     {
         let answer = host.next(WAIT_MS, &mut self.datagram);

@@ -4,7 +4,7 @@ ghost use Rattle.std.specs.List.{flat_map, zip};
 ghost use Rattle.booth_base.specs.Address.{IsAddress, printed};
 ghost use Rattle.booth_node.specs.Replies.{list_line, list_text, spaced, drops_line, role_of, peer_line, other_line};
 
-use crate::{Common, Counters, Station};
+use crate::{Common, Counters, NodeConfig};
 use booth_base::{Address, TextBuf};
 use booth_conf::{Member, TicketConf};
 use itoa::Buffer;
@@ -21,11 +21,11 @@ fn put_ticket(ticket: &TicketConf, text: &mut TextBuf)
 }
 
 /// Makes the text of a list in which nobody holds any of the tickets.
-pub(crate) fn write_list(station: &Station, text: &mut TextBuf)
-    ensures { text.new ≡ list_text station.now }
+pub(crate) fn write_list(node: &NodeConfig, text: &mut TextBuf)
+    ensures { text.new ≡ list_text node.now }
 {
     text.clear();
-    for ticket in station.config.tickets() {
+    for ticket in node.config.tickets() {
         put_ticket(ticket, text);
     }
 }
@@ -112,24 +112,24 @@ fn put_peer(member: &Member, counters: &Counters, text: &mut TextBuf)
 }
 
 // Appends the line of a member that is another one.
-fn put_other(station: &Station, member: &Member, counters: &Counters, text: &mut TextBuf)
+fn put_other(node: &NodeConfig, member: &Member, counters: &Counters, text: &mut TextBuf)
     requires { length text.old + 135 ≤ 16384 }
-    ensures bytes { text.new ≡ text.old ++ other_line station.now (member.now, counters.now) }
+    ensures bytes { text.new ≡ text.old ++ other_line node.now (member.now, counters.now) }
     ensures len { length text.new ≤ length text.old + 135 }
 {
-    if member.id.0 != station.me.0 {
+    if member.id.0 != node.me.0 {
         put_peer(member, counters, text);
     }
 }
 
 /// Makes the text of the drops and of the other members.
-pub(crate) fn write_peers(station: &Station, common: &Common, text: &mut TextBuf)
+pub(crate) fn write_peers(node: &NodeConfig, common: &Common, text: &mut TextBuf)
     ensures { text.new ≡ drops_line common.now.drops
-        ++ flat_map (other_line station.now) (zip station.now.config.members common.now.members) }
+        ++ flat_map (other_line node.now) (zip node.now.config.members common.now.members) }
 {
     text.clear();
     put_drops(&common.drops, text);
-    for (member, counters) in station.config.members().iter().zip(&common.members) {
-        put_other(station, member, counters, text);
+    for (member, counters) in node.config.members().iter().zip(&common.members) {
+        put_other(node, member, counters, text);
     }
 }

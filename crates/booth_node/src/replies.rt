@@ -3,10 +3,10 @@ ghost use Rattle.std.specs.Prelude.{◌≡◌, true, Option, option_map, IfSome}
 ghost use Rattle.booth_wire.specs.Command.{answer_of};
 ghost use Rattle.booth_wire.specs.Letter.{letter_of, content_of, has_text, Text};
 ghost use Rattle.booth_node.specs.Replies.{text_for, no_ticket, no_attribute, no_attribute_of, reply_with, reply_letter, answered, reply_to};
-ghost use Rattle.booth_node.specs.Demands.{HasForm, reply_of};
+ghost use Rattle.booth_node.specs.Actions.{HasForm, reply_of};
 
 use crate::peers::{write_list, write_peers};
-use crate::{State, Station};
+use crate::{NodeConfig, State};
 use booth_base::{MemberId, NO_ONE, TextBuf};
 use booth_wire::{AttrPart, Body, Cmd, Head, Message, TicketPart, results};
 
@@ -18,12 +18,12 @@ pub(crate) struct Reply<'a> {
 }
 
 /// Makes the text of the reply to this command. Where it has none, it is empty.
-pub(crate) fn write_text(station: &Station, state: &State, cmd: Cmd, text: &mut TextBuf)
-    ensures { text.new ≡ text_for station.now state.now cmd }
+pub(crate) fn write_text(node: &NodeConfig, state: &State, cmd: Cmd, text: &mut TextBuf)
+    ensures { text.new ≡ text_for node.now state.now cmd }
 {
     match cmd {
-        Cmd::CLst => write_list(station, text),
-        Cmd::Peer => write_peers(station, &state.common, text),
+        Cmd::CLst => write_list(node, text),
+        Cmd::Peer => write_peers(node, &state.common, text),
         Cmd::CGnt | Cmd::CRvk | Cmd::ASet | Cmd::AGet | Cmd::ADel | Cmd::ALst => text.clear(),
         Cmd::RLst | Cmd::RPer | Cmd::RALs | Cmd::RGnt | Cmd::RRvk | Cmd::RAtr => text.clear(),
         Cmd::Stat | Cmd::MIdx | Cmd::RVot | Cmd::VtFr | Cmd::HrtB => text.clear(),

@@ -2,7 +2,7 @@
 mod frames;
 
 ghost use Rattle.std.specs.Prelude.{◌≡◌, ◌<◌, length, IfOk};
-ghost use Rattle.booth_node.specs.View.{station_of};
+ghost use Rattle.booth_node.specs.View.{node_config};
 
 use crate::{Counters, Node, Turn};
 use booth_auth::Key;
@@ -36,7 +36,7 @@ const CAME: Result<Arrival, Failed> = Ok(Arrival::Datagram(SENDER));
 
 /// S1, opened at this reading, with the key or without one.
 fn node(alloc: Global, keyed: bool, start: u64) -> Result<Node, Fail>
-    ensures { IfOk result (λ node. 1 < length (station_of node).config.members) }
+    ensures { IfOk result (λ node. 1 < length (node_config node).config.members) }
 {
     let (text, key) = if keyed {
         (KEYED_TEXT, Some(Key::read(b"secret-key")?))
@@ -82,7 +82,7 @@ fn host(
 
 /// What a turn sends to the sender of this datagram: one reply, or nothing.
 fn reply(alloc: Global, node: &mut Node, bytes: &[u8], reading: u64) -> Result<ByteText, Fail>
-    ensures { station_of node.new ≡ station_of node.old }
+    ensures { node_config node.new ≡ node_config node.old }
 {
     let mut host = host(alloc, CAME, bytes, reading)?;
     if node.turn(&mut host) == Turn::Stopped {

@@ -4,7 +4,7 @@ use booth_base::MemberId;
 
 /// What a datagram demands of the node.
 #[derive(Clone, Copy, Debug, PartialEq, Eq)]
-pub(crate) enum Demand {
+pub(crate) enum Action {
     /// It is dropped.
     Drop(DropFault),
     /// A command of this member was let in.

@@ -4,11 +4,11 @@ ghost use Rattle.booth_wire.specs.Command.{direction_of};
 ghost use Rattle.booth_wire.specs.Letter.{letter_of};
 ghost use Rattle.booth_node.specs.Replies.{reply_to};
 ghost use Rattle.booth_node.specs.Reaction.{answers, routed};
-ghost use Rattle.booth_node.specs.Demands.{IsDemand};
+ghost use Rattle.booth_node.specs.Actions.{IsAction};
 
-use crate::demand::Demand;
+use crate::action::Action;
 use crate::replies::{answer, write_text};
-use crate::{State, Station};
+use crate::{NodeConfig, State};
 use booth_auth::seal;
 use booth_base::TextBuf;
 use booth_wire::{Direction, Frame, Message};
@@ -16,17 +16,17 @@ use std::alloc::{AllocError, Global};
 
 /// The text of a reply, and the frame that is sent.
 #[derive(Drop)]
-pub(crate) struct Desk {
+pub(crate) struct ReplyBuffer {
     text: TextBuf,
     pub frame: Frame,
 }
 
-impl Desk {
-    /// An empty desk, with all the memory that it will have.
-    pub fn new(alloc: Global) -> Result<Desk, AllocError>
-        ensures { IfOk result (λ desk. (desk.text ≡ []) × (desk.frame ≡ [])) }
+impl ReplyBuffer {
+    /// An empty buffer, with all the memory that it will have.
+    pub fn new(alloc: Global) -> Result<ReplyBuffer, AllocError>
+        ensures { IfOk result (λ buffer. (buffer.text ≡ []) × (buffer.frame ≡ [])) }
     {
-        Ok(Desk {
+        Ok(ReplyBuffer {
             text: TextBuf::new(alloc)?,
             frame: Frame::new(alloc)?,
         })
@@ -35,41 +35,41 @@ impl Desk {
     // Puts the answer to a client into the frame.
     fn answer(
         &mut self,
-        station: &Station,
+        node: &NodeConfig,
         state: &State,
         message: &Message<'_>,
         now: u64,
-    ) -> Demand
-        ensures { IsDemand station.now.key
-            (answers station.now.key now (reply_to station.now state.now (letter_of message.now)))
+    ) -> Action
+        ensures { IsAction node.now.key
+            (answers node.now.key now (reply_to node.now state.now (letter_of message.now)))
             result self.new.frame }
     {
-        write_text(station, state, message.head.cmd, &mut self.text);
-        match answer(station.me, message, self.text.bytes()) {
+        write_text(node, state, message.head.cmd, &mut self.text);
+        match answer(node.me, message, self.text.bytes()) {
             Some(reply) => {
-                seal(&reply, station.key.as_ref(), now, &mut self.frame);
-                Demand::Answer
+                seal(&reply, node.key.as_ref(), now, &mut self.frame);
+                Action::Answer
             }
-            None => Demand::Rest,
+            None => Action::Rest,
         }
     }
 
     /// What a message that was let in at this reading in ms demands.
     pub fn route(
         &mut self,
-        station: &Station,
+        node: &NodeConfig,
         state: &State,
         message: &Message<'_>,
         now: u64,
-    ) -> Demand
-        ensures { IsDemand station.now.key
-            (routed station.now now state.now (letter_of message.now) (direction_of message.now.head.cmd))
+    ) -> Action
+        ensures { IsAction node.now.key
+            (routed node.now now state.now (letter_of message.now) (direction_of message.now.head.cmd))
             result self.new.frame }
     {
         match message.head.cmd.direction() {
-            Direction::ToDaemon => self.answer(station, state, message, now),
-            Direction::BetweenMembers => Demand::Note(message.head.from),
-            Direction::ToClient => Demand::Rest,
+            Direction::ToDaemon => self.answer(node, state, message, now),
+            Direction::BetweenMembers => Action::Note(message.head.from),
+            Direction::ToClient => Action::Rest,
         }
     }
 }

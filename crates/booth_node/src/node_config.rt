@@ -10,13 +10,13 @@ use booth_wire::Message;
 
 /// A member: the configuration that it shares, its key where there is one, and its own id.
 #[derive(Drop)]
-pub struct Station {
+pub struct NodeConfig {
     pub config: Config,
     pub key: Option<Key>,
     pub me: MemberId,
 }
 
-impl Station {
+impl NodeConfig {
     /// The message of a datagram that is let in at this reading in ms, or why it is dropped.
     pub(crate) fn admit<'a>(&self, now: u64, bytes: &'a [u8]) -> Result<Message<'a>, DropFault>
         ensures { Passes result (verdict self.now.config self.now.key self.now.me now bytes.now) }
@@ -29,7 +29,6 @@ impl Station {
         ensures place { result ≡ position (has_id member) self.now.config.members }
         ensures within { IfSome result (λ p. p < 16) }
     {
-        let members = self.config.members();
-        members.iter().position(|other| other.id.0 == member.0)
+        self.config.member(member)
     }
 }
