@@ -14,14 +14,14 @@ use Rattle.booth_host.specs.Causes.{Rose}
 use Rattle.booth_host.proofs.PastLemmas.{one_more, some_of, some_joined, some_weaker}
 use Rattle.booth_node.specs.declared.state.State.{State}
 use Rattle.booth_node.specs.declared.node.Node.{Node}
-use Rattle.booth_node.specs.View.{station_of, state_of}
+use Rattle.booth_node.specs.View.{node_config, state_of}
 use Rattle.booth_node.specs.Counting.{opened_at}
 use Rattle.booth_cli.specs.declared.outcome.Ended.{Ended}
 use Rattle.booth_cli.specs.declared.outcome.Outcome.{Outcome}
 use Rattle.booth_cli.specs.declared.outcome.Outcome.TheVariants.{ConfUnread, KeyUnread, LockFault, OpenFault, OutOfMemory}
 use Rattle.booth_cli.specs.Texts.{line_of, IsFaultText, out_of_memory_text}
 use Rattle.booth_cli.specs.Fitness.{IsAdmitted}
-use Rattle.booth_cli.specs.Opening.{IsUnread, IsConfigRead, IsKeyRead, IsLocked, IsNodeOpened, IsUnopened, reads_of, opened as opening_calls, station}
+use Rattle.booth_cli.specs.Opening.{IsUnread, IsConfigRead, IsKeyRead, IsLocked, IsNodeOpened, IsUnopened, reads_of, opened as opening_calls, member_config}
 use Rattle.booth_cli.specs.Serving.{IsNodeRun, HasBlame, IsServing, Refused, Unkeyed, Unlocked, Unopened, Turning, IsOpened}
 use Rattle.booth_cli.specs.Stages.{AreRead, refusal}
 
@@ -109,10 +109,10 @@ module _ (address : Address) (path : List ℕ) where
 
       -- a node that was opened
       pub node_opened : {a b c : Option (List Entry)} (reading : ℕ) (node : Node) → GrewBy a b (Now reading ∷ []) →
-          GrewBy b c (Open (Some address) config.port (codes "/var/lib/booth") path (Ok tt) ∷ []) → station_of node ≡ station address config key →
+          GrewBy b c (Open (Some address) config.port (codes "/var/lib/booth") path (Ok tt) ∷ []) → node_config node ≡ member_config address config key →
           state_of node ≡ opened_at reading → GrewSome (IsNodeOpened address path config key (Ok node)) a c
       node_opened reading node now_call open_call same begun =
-          some_of (IsNodeOpened address path config key (Ok node)) (one_more now_call open_call) (reading, record { station = same; state = begun }, refl)
+          some_of (IsNodeOpened address path config key (Ok node)) (one_more now_call open_call) (reading, record { own = same; state = begun }, refl)
 
       -- a socket that was not opened
       pub not_opened : {a b c : Option (List Entry)} (reading : ℕ) (failed : Failed) (said : List ℕ) → GrewBy a b (Now reading ∷ []) →
@@ -161,9 +161,9 @@ module _ (address : Address) (path : List ℕ) where
   -- ---- the turns
 
   pub ran : {a b c : Option (List Entry)} (node : Node) (last : State) (outcome : Outcome) (said : List ℕ) → GrewSome (IsOpened address path (Ok node)) a b →
-      GrewSome (IsNodeRun (station_of node) (state_of node) last outcome said) b c → GrewSome (IsServing address path outcome said) a c
+      GrewSome (IsNodeRun (node_config node) (state_of node) last outcome said) b c → GrewSome (IsServing address path outcome said) a c
   ran node last outcome said opened turns =
-      some_joined (IsOpened address path (Ok node)) (IsNodeRun (station_of node) (state_of node) last outcome said) (IsServing address path outcome said)
+      some_joined (IsOpened address path (Ok node)) (IsNodeRun (node_config node) (state_of node) last outcome said) (IsServing address path outcome said)
       (λ xs ys o t. Turning (record {
         config = o.config;
         key = o.key;
@@ -172,6 +172,6 @@ module _ (address : Address) (path : List ℕ) where
         turns = ys;
         last = last;
         whole = ap (λ zs. zs ++ ys) o.whole ∙ append_assoc (reads_of path o.ready) (opening_calls address path o.config o.reading (Ok tt)) ys;
-        log = subst (λ s. IsNodeRun (station address o.config o.key) s last outcome said ys) o.fresh.state
-            (subst (λ s. IsNodeRun s (state_of node) last outcome said ys) o.fresh.station t);
+        log = subst (λ s. IsNodeRun (member_config address o.config o.key) s last outcome said ys) o.fresh.state
+            (subst (λ s. IsNodeRun s (state_of node) last outcome said ys) o.fresh.own t);
       })) opened turns

@@ -9,9 +9,9 @@ use Rattle.booth_host.specs.declared.host.Failed.{Failed}
 use Rattle.booth_host.specs.declared.host.ReadFault.TheVariants as reads
 use Rattle.booth_host.specs.declared.entry.Entry.{Entry}
 use Rattle.booth_host.specs.declared.entry.Entry.TheVariants.{Open, Now, ReadFile, Lock}
-use Rattle.booth_node.specs.declared.station.Station.{Station}
+use Rattle.booth_node.specs.declared.node_config.NodeConfig.{NodeConfig}
 use Rattle.booth_node.specs.declared.node.Node.{Node}
-use Rattle.booth_node.specs.View.{station_of, state_of}
+use Rattle.booth_node.specs.View.{node_config, state_of}
 use Rattle.booth_node.specs.Counting.{opened_at}
 use Rattle.booth_cli.specs.declared.outcome.Outcome.{Outcome}
 use Rattle.booth_cli.specs.declared.outcome.Outcome.TheVariants.{ConfUnread, ConfBad, KeyUnread, KeyBad, LockFault, Running, OpenFault, OutOfMemory}
@@ -120,13 +120,13 @@ IsUnopened address path config OutOfMemory said entries = (said ≡ out_of_memor
 IsUnopened address path config outcome said entries = ⊥
 
 -- the node of this member
-abbrev pub station : Address → ConfigSays → Option (List ℕ) → Station
-station address config key = record { config = config; key = key; me = record { 0 = id_of address } }
+abbrev pub member_config : Address → ConfigSays → Option (List ℕ) → NodeConfig
+member_config address config key = record { config = config; key = key; me = record { 0 = id_of address } }
 
 -- this node has just been opened, at this reading
 pub record IsFresh (address : Address) (config : ConfigSays) (key : Option (List ℕ)) (reading : ℕ)
     (node : Node) : Type 0 where
-  pub station : station_of node ≡ station address config key
+  pub own : node_config node ≡ member_config address config key
   pub state : state_of node ≡ opened_at reading
 
 -- the calls behind the lock, and the node

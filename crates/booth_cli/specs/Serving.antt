@@ -6,7 +6,7 @@ use Rattle.booth_conf.specs.Says.{Says}
 use Rattle.booth_host.specs.Causes.{Rose}
 use Rattle.booth_host.specs.declared.entry.Entry.{Entry}
 use Rattle.booth_host.specs.declared.entry.Entry.TheVariants.{ReadFile}
-use Rattle.booth_node.specs.declared.station.Station.{Station}
+use Rattle.booth_node.specs.declared.node_config.NodeConfig.{NodeConfig}
 use Rattle.booth_node.specs.declared.state.State.{State}
 use Rattle.booth_node.specs.declared.node.Node.{Node}
 use Rattle.booth_node.specs.Counting.{opened_at}
@@ -16,7 +16,7 @@ use Rattle.booth_cli.specs.declared.outcome.Outcome.TheVariants.{Done, Usage, Ba
 use Rattle.booth_cli.specs.declared.outcome.Ended.{Ended}
 use Rattle.booth_cli.specs.Texts.{line_of}
 use Rattle.booth_cli.specs.Fitness.{IsFit, IsUnserved}
-use Rattle.booth_cli.specs.Opening.{IsUnread, IsKeyless, IsReady, reads_of, IsLockless, opened, IsUnopened, IsFresh, station}
+use Rattle.booth_cli.specs.Opening.{IsUnread, IsKeyless, IsReady, reads_of, IsLockless, opened, IsUnopened, IsFresh, member_config}
 
 -- ---- how far it came
 
@@ -50,11 +50,11 @@ pub record IsStuck (address : Address) (path : List ℕ) (after : ConfigSays →
   pub here : after config rest
 
 -- the turns of a node, from one state to another, by the outcome that they lead to
-abbrev pub IsNodeRun : Station → State → State → Outcome → List ℕ → List Entry → Type 0
-IsNodeRun station old new Done said entries = (said ≡ []) × IsStoppedLog station old new entries
-IsNodeRun station old new TurnsSpent said entries = (said ≡ line_of (codes "turns spent"))
-    × IsNodeLog station old (2 ^ 62) new entries
-IsNodeRun station old new outcome said entries = ⊥
+abbrev pub IsNodeRun : NodeConfig → State → State → Outcome → List ℕ → List Entry → Type 0
+IsNodeRun node old new Done said entries = (said ≡ []) × IsStoppedLog node old new entries
+IsNodeRun node old new TurnsSpent said entries = (said ≡ line_of (codes "turns spent"))
+    × IsNodeLog node old (2 ^ 62) new entries
+IsNodeRun node old new outcome said entries = ⊥
 
 -- the whole opening, and then turns of this configuration, key and member
 pub record IsTurning (address : Address) (path : List ℕ) (outcome : Outcome) (said : List ℕ)
@@ -66,7 +66,7 @@ pub record IsTurning (address : Address) (path : List ℕ) (outcome : Outcome) (
   pub turns : List Entry
   pub last : State
   pub whole : entries ≡ reads_of path ready ++ (opened address path config reading (Ok tt) ++ turns)
-  pub log : IsNodeRun (station address config key) (opened_at reading) last outcome said turns
+  pub log : IsNodeRun (member_config address config key) (opened_at reading) last outcome said turns
 
 -- the first stage of the opening that did not go on, or the turns behind them all
 pub data IsServing (address : Address) (path : List ℕ) (outcome : Outcome) (said : List ℕ)

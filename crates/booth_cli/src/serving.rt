@@ -1,7 +1,7 @@
 //! The daemon: its opening, and then its turns.
 ghost use Rattle.std.specs.Prelude.{◌≡◌, ◌≤◌, ◌^◌, ℕ};
 ghost use Rattle.booth_host.specs.Past.{GrewSome};
-ghost use Rattle.booth_node.specs.View.{station_of, state_of};
+ghost use Rattle.booth_node.specs.View.{node_config, state_of};
 ghost use Rattle.booth_node.specs.Log.{IsNodeLog, IsStoppedLog};
 ghost use Rattle.booth_cli.specs.Ending.{MatchEnding};
 ghost use Rattle.booth_cli.specs.Serving.{HasBlame, IsNodeRun, IsServed, IsServing};
@@ -29,9 +29,9 @@ enum Ending {
 // So many turns, or those up to the first that stops.
 fn make_turns<H: Host>(node: &mut Node, count: u64, host: &mut H) -> Ending
     ensures past { MatchEnding result
-        (GrewSome (λ es. IsStoppedLog (station_of node.old) (state_of node.old) (state_of node.new) es)
+        (GrewSome (λ es. IsStoppedLog (node_config node.old) (state_of node.old) (state_of node.new) es)
         (H.past host.old) (H.past host.new))
-        (GrewSome (λ es. IsNodeLog (station_of node.old) (state_of node.old) count
+        (GrewSome (λ es. IsNodeLog (node_config node.old) (state_of node.old) count
         (state_of node.new) es) (H.past host.old) (H.past host.new)) }
     ensures later { H.faults host.old ≤ H.faults host.new }
 {
@@ -46,7 +46,7 @@ fn make_turns<H: Host>(node: &mut Node, count: u64, host: &mut H) -> Ending
 
 // The turns of a node, and how the daemon ends with them.
 fn run_node<H: Host>(node: &mut Node, host: &mut H) -> Ended
-    ensures past { GrewSome (IsNodeRun (station_of node.old) (state_of node.old)
+    ensures past { GrewSome (IsNodeRun (node_config node.old) (state_of node.old)
         (state_of node.new) result.outcome result.said) (H.past host.old) (H.past host.new) }
     ensures served { IsServed result.outcome }
     ensures blame { (before after : ℕ) → HasBlame result.outcome before after }

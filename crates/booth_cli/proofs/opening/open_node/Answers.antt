@@ -12,7 +12,7 @@ pub returns-in-Ok-open-clause-past : goal.returns-in-Ok-open-clause-past
 returns-in-Ok-open-clause-past g c =
     node_opened c.args.asked.now.address c.args.asked.now.path c.args.config c.args.key c.now-reading.result c.in-Ok-open.node
     c.now-reading.ensures.past (rw c.port.ensures at c.in-Ok.ensures.past)
-    (c.in-Ok-open.ensures.station ∙ ap (λ (id : MemberId). record { config = c.args.config; key = c.args.key; me = id }) c.id.ensures)
+    (c.in-Ok-open.ensures.node ∙ ap (λ (id : MemberId). record { config = c.args.config; key = c.args.key; me = id }) c.id.ensures)
     c.in-Ok-open.ensures.state
 
 pub returns-in-Err-open-clause-past : goal.returns-in-Err-open-clause-past
