@@ -1,6 +1,6 @@
 -- Deadlines and notes leave what is true of every view.
 use Rattle.std.proofs.Common.{◌≡◌, ℕ, true, false, ◌||◌, ◌&&◌, Option, Some, None, refl, sym, ◌∙◌}
-use Rattle.std.specs.Prelude.{nat_lt, nat_le, not}
+use Rattle.std.specs.Prelude.{nat_lt, nat_le, not, is_some}
 use Rattle.booth_wire.specs.declared.message.Setup.{Setup}
 use Rattle.booth_wire.specs.declared.codes.reasons.TheConstants.{LOCF}
 use Rattle.booth_raft.specs.declared.deed.Note.{Note}
@@ -15,36 +15,40 @@ use Rattle.booth_raft.specs.GainReleaseLost.{own_end}
 use Rattle.booth_raft.specs.Members.{is_candidate, is_follower, is_leader, is_promised_elsewhere, is_working}
 use Rattle.booth_raft.specs.Messages.{shown_end}
 use Rattle.booth_raft.specs.Notes.{MayNote, job_started, noted}
-use Rattle.booth_raft.proofs.FactsLemmas.{on_cond, on_test, untrue, no_round, restful, Good, quiet_good, saying_good, wanting_good}
+use Rattle.booth_raft.proofs.FactsLemmas.{on_cond, on_option, on_role, on_test, untrue, no_round, restful, Good, quiet_good, saying_good, wanting_good}
 use Rattle.booth_raft.proofs.KeptLemmas.{release_good, round_ends_good}
 
-candidate_due_good : (setup : Setup) (view : View) (round : Option Round) (now : ℕ) → view.waiting ≡ None → RoundFits view.term view.role view.round
-    → Good setup now (candidate_due setup view round now)
-candidate_due_good setup view None now none fits = round_ends_good setup view now
-candidate_due_good setup view (Some round) now none fits =
-    on_cond (Good setup now) (is_tried setup round now) _ _
+candidate_due_good : (setup : Setup) (view : View) (now : ℕ) → view.waiting ≡ None → RoundFits view.term view.role view.round
+    → Good setup now (candidate_due setup view now)
+candidate_due_good setup view now none fits =
+    on_option (Good setup now) view.round _ _
+    (λ e. round_ends_good setup view now)
+    (λ round e. on_cond (Good setup now) (is_tried setup round now) _ _
     (saying_good setup now _ _ _ none fits)
-    (round_ends_good setup view now)
+    (round_ends_good setup view now))
 
-resends_or_renews_good : (setup : Setup) (view : View) (round : Option Round) (now : ℕ) → view.waiting ≡ None → RoundFits view.term view.role view.round
-    → Good setup now (resends_or_renews setup view round now)
-resends_or_renews_good setup view None now none fits = wanting_good setup now view _ none fits
-resends_or_renews_good setup view (Some round) now none fits =
-    on_cond (Good setup now) (not round.won && is_tried setup round now) _ _
+resends_or_renews_good : (setup : Setup) (view : View) (now : ℕ) → view.waiting ≡ None → RoundFits view.term view.role view.round
+    → Good setup now (resends_or_renews setup view now)
+resends_or_renews_good setup view now none fits =
+    on_option (Good setup now) view.round _ _
+    (λ e. wanting_good setup now view _ none fits)
+    (λ round e. on_cond (Good setup now) (not round.won && is_tried setup round now) _ _
     (saying_good setup now _ _ _ none fits)
-    (wanting_good setup now view _ none fits)
+    (wanting_good setup now view _ none fits))
 
-leader_works_good : (setup : Setup) (view : View) (job : Option ℕ) (now : ℕ) → view.waiting ≡ None → RoundFits view.term view.role view.round
-    → Good setup now (leader_works setup view job now)
-leader_works_good setup view None now none fits = resends_or_renews_good setup view view.round now none fits
-leader_works_good setup view (Some job) now none fits = release_good setup (record view { job = None }) LOCF now fits
+leader_works_good : (setup : Setup) (view : View) (now : ℕ) → view.waiting ≡ None → RoundFits view.term view.role view.round
+    → Good setup now (leader_works setup view now)
+leader_works_good setup view now none fits =
+    on_cond (Good setup now) (is_some view.job) _ _
+    (release_good setup (record view { job = None }) LOCF now fits)
+    (resends_or_renews_good setup view now none fits)
 
 leader_due_good : (setup : Setup) (view : View) (now : ℕ) → view.waiting ≡ None → RoundFits view.term view.role view.round
     → Good setup now (leader_due setup view now)
 leader_due_good setup view now none fits =
     on_cond (Good setup now) (nat_le (own_end view) now) _ _
     (saying_good setup now _ _ _ none (no_round _ _))
-    (leader_works_good setup view view.job now none fits)
+    (leader_works_good setup view now none fits)
 
 waits_or_acquires_good : (setup : Setup) (view : View) (now : ℕ) → view.waiting ≡ None → RoundFits view.term view.role view.round
     → Good setup now (waits_or_acquires setup view now)
@@ -64,12 +68,14 @@ follower_due_good setup view now none fits =
     (waits_or_acquires_good setup view now none fits)
     (quiet_good setup now _ none fits))
 
-pub due_now_good : (setup : Setup) (view : View) (now : ℕ) (role : Role) → view.waiting ≡ None → ViewFacts setup view
-    → Good setup now (due_now setup view now role)
-due_now_good setup view now Follower none facts = follower_due_good setup view now none facts.round_fits
-due_now_good setup view now Working none facts = quiet_good setup now view none facts.round_fits
-due_now_good setup view now Candidate none facts = candidate_due_good setup view view.round now none facts.round_fits
-due_now_good setup view now Leader none facts = leader_due_good setup view now none facts.round_fits
+pub due_now_good : (setup : Setup) (view : View) (now : ℕ) → view.waiting ≡ None → ViewFacts setup view
+    → Good setup now (due_now setup view now)
+due_now_good setup view now none facts =
+    on_role (Good setup now) view.role _ _ _ _
+    (follower_due_good setup view now none facts.round_fits)
+    (quiet_good setup now view none facts.round_fits)
+    (candidate_due_good setup view now none facts.round_fits)
+    (leader_due_good setup view now none facts.round_fits)
 
 pub greeted_facts : (setup : Setup) (view : View) → ViewFacts setup view → ViewFacts setup (greeted view)
 greeted_facts setup view facts = record { round_fits = facts.round_fits; tried = facts.tried }

@@ -13,7 +13,7 @@ use Rattle.booth_raft.specs.declared.view.Rule.{Rule}
 use Rattle.booth_raft.specs.declared.view.Rule.TheVariants as rules
 use Rattle.booth_raft.specs.declared.view.View.{View}
 use Rattle.booth_raft.specs.declared.view.Waiting.{Waiting}
-use Rattle.booth_raft.specs.GainReleaseLost.{due_by_rank, gain, gain_answered, own_end, release_answered, retry_at, round_end_answered}
+use Rattle.booth_raft.specs.GainReleaseLost.{due_by_rank, gain, finish_gain, own_end, finish_release, retry_at, finish_round_end}
 use Rattle.booth_raft.specs.Members.{is_some_member, is_promised_elsewhere, is_leader, is_majority, joined_by, nobody}
 use Rattle.booth_raft.specs.Messages.{asks_all}
 use Rattle.booth_raft.specs.Outcome.{Outcome, keeping, quiet, saying, telling}
@@ -72,47 +72,48 @@ with_round setup view number now =
     record (promised_itself setup view now) { round = Some (new_round setup view number now) }
 
 -- while its round is open a leader stays one, and another is a candidate
-abbrev pub asking_all : Setup → View → ℕ → View
-asking_all setup view now =
+abbrev pub asked_all : Setup → View → ℕ → View
+asked_all setup view now =
     if is_leader view.role
     then record view { due = Some (retry_at setup view now) }
     else record view { role = Candidate; due = Some (now + setup.times.timeout) }
 
 -- a round is opened: where the own answer is a majority, gain follows, else all are asked
-abbrev pub opened : Setup → View → ℕ → ℕ → Outcome
-opened setup view number now =
+abbrev pub begin_round : Setup → View → ℕ → ℕ → Outcome
+begin_round setup view number now =
     let open_view = with_round setup view number now in
     if is_majority setup (own_answer setup view now)
     then gain setup open_view (new_round setup view number now) now
-    else saying (asking_all setup open_view now) (asks_all setup open_view number now) tells.Nothing
+    else saying (asked_all setup open_view now) (asks_all setup open_view number now) tells.Nothing
 
 -- the keep of a new term failed: a leader tries again, and another's acquisition fails
-abbrev pub ask_failed : Setup → View → ℕ → Outcome
-ask_failed setup view now =
+abbrev pub fail_ask : Setup → View → ℕ → Outcome
+fail_ask setup view now =
     if is_leader view.role
     then quiet (record view { sure = false; due = Some (retry_at setup view now) })
     else telling (acquisition_failed setup (record view { sure = false }) now) tells.AskFailed
 
 -- Ask, the keep's answer: where the term is kept, an election is opened in it
-abbrev pub ask_answered : Setup → View → Record → ℕ → Bool → Outcome
-ask_answered setup view tried now true =
-    opened setup (record view { kept = tried; sure = true; bound = Some setup.me }) 0 now
-ask_answered setup view tried now false = ask_failed setup view now
+abbrev pub finish_ask : Setup → View → Record → ℕ → Bool → Outcome
+finish_ask setup view tried now true =
+    begin_round setup (record view { kept = tried; sure = true; bound = Some setup.me }) 0 now
+finish_ask setup view tried now false = fail_ask setup view now
 
 -- ---- the answer of a keep
 
 -- the rule that waits goes on by the answer
 abbrev pub goes_on : Setup → View → Rule → Record → ℕ → Bool → Outcome
-goes_on setup view rules.Gain tried now ok = gain_answered setup view now ok
-goes_on setup view (rules.Ask reason) tried now ok = ask_answered setup view tried now ok
-goes_on setup view (rules.Release reason) tried now ok = release_answered setup view tried reason now ok
-goes_on setup view rules.EndRound tried now ok = round_end_answered setup view tried now ok
+goes_on setup view rules.Gain tried now ok = finish_gain setup view now ok
+goes_on setup view (rules.Ask reason) tried now ok = finish_ask setup view tried now ok
+goes_on setup view (rules.Release reason) tried now ok = finish_release setup view tried reason now ok
+goes_on setup view rules.EndRound tried now ok = finish_round_end setup view tried now ok
 
 -- nothing waits any longer; where nothing waited, nothing follows
-abbrev pub keep_answered : Setup → View → Option Waiting → ℕ → Bool → Outcome
-keep_answered setup view None now ok = quiet view
-keep_answered setup view (Some waiting) now ok =
-    goes_on setup (record view { waiting = None }) waiting.rule waiting.tried now ok
+abbrev pub finish : Setup → View → ℕ → Bool → Outcome
+finish setup view now ok = elim (view.waiting) [
+  | None ↦ quiet view
+  | Some waits ↦ goes_on setup (record view { waiting = None }) waits.rule waits.tried now ok
+]
 
 -- ---- renew
 
@@ -121,8 +122,8 @@ abbrev pub runs_out : View → Outcome
 runs_out view = quiet (record view { due = Some (own_end view) })
 
 -- a leader asks for a new term, while there is one
-abbrev pub renewed_by_term : View → ℕ → Outcome
-renewed_by_term view now = if are_terms_spent view then runs_out view else ask view RACQ now
+abbrev pub renew_by_term : View → ℕ → Outcome
+renew_by_term view now = if are_terms_spent view then runs_out view else ask view RACQ now
 
 -- a renewal needs a new term where the member is no longer bound to itself, or a greater term was seen
 abbrev pub needs_term : Setup → View → Bool
@@ -130,9 +131,11 @@ needs_term setup view = not (is_some_member view.bound setup.me) || nat_lt view.
 
 -- Renew: under a new term where there is no round or one is needed; else by the next round of the term, while there
 -- is a number for it
-abbrev pub renewed : Setup → View → Option Round → ℕ → Outcome
-renewed setup view None now = renewed_by_term view now
-renewed setup view (Some round) now =
-    if needs_term setup view then renewed_by_term view now else
-    if round.number == LAST_NUMBER then runs_out view else
-    opened setup view (round.number + 1) now
+abbrev pub renew : Setup → View → ℕ → Outcome
+renew setup view now = elim (view.round) [
+  | None ↦ renew_by_term view now
+  | Some round ↦
+      if needs_term setup view then renew_by_term view now else
+      if round.number == LAST_NUMBER then runs_out view else
+      begin_round setup view (round.number + 1) now
+]

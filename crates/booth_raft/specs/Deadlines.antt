@@ -1,5 +1,5 @@
 -- The rules at a deadline: hello, and then the rule of the role.
-use Rattle.std.specs.Prelude.{ℕ, ◌+◌, ◌-◌, ◌*◌, Bool, false, not, ◌&&◌, nat_lt, nat_le, ◌==◌, Option, Some, None, if◌then◌else◌}
+use Rattle.std.specs.Prelude.{ℕ, ◌+◌, ◌-◌, ◌*◌, Bool, false, not, ◌&&◌, nat_lt, nat_le, ◌==◌, Option, Some, None, is_some, if◌then◌else◌}
 use Rattle.booth_wire.specs.declared.message.Setup.{Setup}
 use Rattle.booth_wire.specs.declared.message.Say.{Say}
 use Rattle.booth_wire.specs.declared.message.Say.TheVariants as says
@@ -33,34 +33,38 @@ abbrev pub is_tried : Setup → Round → ℕ → Bool
 is_tried setup round now = nat_lt now (round.opened + setup.times.timeout * (setup.times.retries + 1))
 
 -- Candidate's deadline: the round is sent again, or ends
-abbrev pub candidate_due : Setup → View → Option Round → ℕ → Outcome
-candidate_due setup view None now = round_ends view now
-candidate_due setup view (Some round) now =
-    if is_tried setup round now
-    then saying (record view { due = Some (now + setup.times.timeout) }) (asks_again setup view round now) tells.Nothing
-    else round_ends view now
+abbrev pub candidate_due : Setup → View → ℕ → Outcome
+candidate_due setup view now = elim (view.round) [
+  | None ↦ round_ends view now
+  | Some round ↦
+      if is_tried setup round now
+      then saying (record view { due = Some (now + setup.times.timeout) }) (asks_again setup view round now) tells.Nothing
+      else round_ends view now
+]
 
 -- ---- a leader
 
 -- an open round that is not won is sent again; else the lease is to be renewed
-abbrev pub resends_or_renews : Setup → View → Option Round → ℕ → Outcome
-resends_or_renews setup view None now = wanting view wants.Renew
-resends_or_renews setup view (Some round) now =
-    if not round.won && is_tried setup round now
-    then saying (record view { due = Some (retry_at setup view now) }) (asks_again setup view round now) tells.Nothing
-    else wanting view wants.Renew
+abbrev pub resends_or_renews : Setup → View → ℕ → Outcome
+resends_or_renews setup view now = elim (view.round) [
+  | None ↦ wanting view wants.Renew
+  | Some round ↦
+      if not round.won && is_tried setup round now
+      then saying (record view { due = Some (retry_at setup view now) }) (asks_again setup view round now) tells.Nothing
+      else wanting view wants.Renew
+]
 
 -- a handler that still runs has failed, and the lease is given back
-abbrev pub leader_works : Setup → View → Option ℕ → ℕ → Outcome
-leader_works setup view None now = resends_or_renews setup view view.round now
-leader_works setup view (Some job) now = release (record view { job = None }) LOCF now
+abbrev pub leader_works : Setup → View → ℕ → Outcome
+leader_works setup view now =
+    if is_some view.job then release (record view { job = None }) LOCF now else resends_or_renews setup view now
 
 -- Leader's deadline: the lease is lost where it is over
 abbrev pub leader_due : Setup → View → ℕ → Outcome
 leader_due setup view now =
     if nat_le (own_end view) now
     then telling (lost setup view now) tells.Lost
-    else leader_works setup view view.job now
+    else leader_works setup view now
 
 -- ---- a follower
 
@@ -90,8 +94,10 @@ follower_due setup view now =
 -- ---- by role
 
 -- at the deadline of a handler's job before the acquisition it is noted that it failed
-abbrev pub due_now : Setup → View → ℕ → Role → Outcome
-due_now setup view now Follower = follower_due setup view now
-due_now setup view now Working = quiet view
-due_now setup view now Candidate = candidate_due setup view view.round now
-due_now setup view now Leader = leader_due setup view now
+abbrev pub due_now : Setup → View → ℕ → Outcome
+due_now setup view now = elim (view.role) [
+  | Follower ↦ follower_due setup view now
+  | Working ↦ quiet view
+  | Candidate ↦ candidate_due setup view now
+  | Leader ↦ leader_due setup view now
+]

@@ -10,13 +10,13 @@ use Rattle.booth_wire.specs.declared.message.Setup.{Setup}
 use Rattle.booth_raft.specs.declared.deed.Note.{Note}
 use Rattle.booth_raft.specs.declared.view.Role.{Role}
 use Rattle.booth_raft.specs.declared.view.View.{View}
-use Rattle.booth_raft.specs.AskAndRenew.{ask, keep_answered, renewed}
+use Rattle.booth_raft.specs.AskAndRenew.{ask, finish, renew}
 use Rattle.booth_raft.specs.Deadlines.{due_now, greeted}
 use Rattle.booth_raft.specs.Facts.{Leaves, ViewFacts}
 use Rattle.booth_raft.specs.GainReleaseLost.{release}
 use Rattle.booth_raft.specs.Members.{is_unanswered, unanswered}
 use Rattle.booth_raft.specs.Notes.{MayNote, noted}
-use Rattle.booth_raft.specs.OtherMessages.{heard}
+use Rattle.booth_raft.specs.OtherMessages.{hear}
 use Rattle.booth_raft.specs.Outcome.{Outcome}
 use Rattle.booth_raft.specs.RoundsAndAnswers.{MayAnswer, may_answer}
 use Rattle.booth_raft.specs.StartAndLearn.{started}
@@ -39,15 +39,15 @@ IsLeft setup now outcome = Leaves setup now outcome.view outcome.deed
 pub record KeepFacts : Type 0 where
   pub start : (setup : Setup) (kept : Record) (now : ℕ) → ViewFacts setup (started setup kept now)
   pub heard_leaves : (setup : Setup) (view : View) (place : ℕ) (head : Head) (part : TicketPart) (now : ℕ) (cmd : Cmd)
-      → view.waiting ≡ None → ViewFacts setup view → IsLeft setup now (heard setup view place head part now cmd)
+      → view.waiting ≡ None → ViewFacts setup view → IsLeft setup now (hear setup view place head part now cmd)
   pub ask_leaves : (setup : Setup) (view : View) (reason now : ℕ) → IsLeft setup now (ask view reason now)
   pub release_leaves : (setup : Setup) (view : View) (reason now : ℕ) → ViewFacts setup view → IsLeft setup now (release view reason now)
   pub answer_leaves : (setup : Setup) (view : View) (now : ℕ) (ok : Bool) → now < 2 ^ 62
-      → ViewFacts setup view → IsLeft setup now (keep_answered setup view view.waiting now ok)
+      → ViewFacts setup view → IsLeft setup now (finish setup view now ok)
   pub renew_leaves : (setup : Setup) (view : View) (now : ℕ) → now < 2 ^ 62
-      → view.waiting ≡ None → ViewFacts setup view → IsLeft setup now (renewed setup view view.round now)
-  pub due_leaves : (setup : Setup) (view : View) (now : ℕ) (role : Role)
-      → view.waiting ≡ None → ViewFacts setup view → IsLeft setup now (due_now setup view now role)
+      → view.waiting ≡ None → ViewFacts setup view → IsLeft setup now (renew setup view now)
+  pub due_leaves : (setup : Setup) (view : View) (now : ℕ)
+      → view.waiting ≡ None → ViewFacts setup view → IsLeft setup now (due_now setup view now)
   pub hello_keeps : (setup : Setup) (view : View) → ViewFacts setup view → ViewFacts setup (greeted view)
   pub note_keeps : (setup : Setup) (view : View) (now : ℕ) (note : Note)
       → view.waiting ≡ None → MayNote view note → ViewFacts setup view → ViewFacts setup (noted setup view now note)

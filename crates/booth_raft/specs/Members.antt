@@ -30,27 +30,19 @@ others_until (Some promise) member = if is_same promise.to member then 0 else pr
 
 abbrev pub is_follower : Role → Bool
 is_follower Follower = true
-is_follower Working = false
-is_follower Candidate = false
-is_follower Leader = false
+is_follower role = false
 
 abbrev pub is_working : Role → Bool
-is_working Follower = false
 is_working Working = true
-is_working Candidate = false
-is_working Leader = false
+is_working role = false
 
 abbrev pub is_candidate : Role → Bool
-is_candidate Follower = false
-is_candidate Working = false
 is_candidate Candidate = true
-is_candidate Leader = false
+is_candidate role = false
 
 abbrev pub is_leader : Role → Bool
-is_leader Follower = false
-is_leader Working = false
-is_leader Candidate = false
 is_leader Leader = true
+is_leader role = false
 
 -- ---- sets of members: a list that is true at the places of its members
 

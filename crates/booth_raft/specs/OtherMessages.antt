@@ -15,8 +15,8 @@ use Rattle.booth_raft.specs.declared.view.View.{View}
 use Rattle.booth_raft.specs.Members.{is_same, is_follower}
 use Rattle.booth_raft.specs.Messages.{tells_state}
 use Rattle.booth_raft.specs.Outcome.{Outcome, quiet, saying}
-use Rattle.booth_raft.specs.RoundsAndAnswers.{round_heard, answer_heard}
-use Rattle.booth_raft.specs.StartAndLearn.{learned, seeing}
+use Rattle.booth_raft.specs.RoundsAndAnswers.{hear_round, hear_answer}
+use Rattle.booth_raft.specs.StartAndLearn.{learned, with_seen}
 
 -- ---- a revocation is heard
 
@@ -32,23 +32,30 @@ abbrev pub is_owner : Option Shown → MemberId → Bool
 is_owner None member = false
 is_owner (Some shown) member = is_same shown.owner member
 
--- where its owner's handler failed, the other sites acquire the ticket in their turn; else it is left alone
-abbrev pub unmanaged : Setup → View → ℕ → ℕ → View
-unmanaged setup view reason now =
-    if reason == LOCF
-    then (if is_follower view.role && setup.site
+-- its owner's handler failed: a site that follows acquires the ticket in its turn
+abbrev pub handed_on : Setup → View → ℕ → View
+handed_on setup view now =
+    if is_follower view.role && setup.site
     then record view { managed = true; due = Some (now + (setup.rank + 1) * setup.times.timeout) }
-    else view)
-    else (if is_follower view.role && view.repeat == 0
+    else view
+
+-- it was given back by will: nobody acquires it
+abbrev pub left_alone : View → View
+left_alone view =
+    if is_follower view.role && view.repeat == 0
     then record view { managed = false; due = None }
-    else record view { managed = false })
+    else record view { managed = false }
+
+-- what a member does about a ticket that its owner gave back
+abbrev pub given_back : Setup → View → ℕ → ℕ → View
+given_back setup view reason now = if reason == LOCF then handed_on setup view now else left_alone view
 
 -- a revocation by the shown owner, not below our term: nothing is shown; but the end of a round is no revocation
 abbrev pub revoked : Setup → View → MemberId → ℕ → ℕ → ℕ → View
 revoked setup view site term reason now =
     let free = freed view site term in
     if nat_le view.term term && is_owner view.shown site && not (reason == SPLT)
-    then unmanaged setup (record free { shown = None }) reason now
+    then given_back setup (record free { shown = None }) reason now
     else free
 
 -- ---- by command
@@ -56,32 +63,19 @@ revoked setup view site term reason now =
 -- Each member message raises the term that was seen. An election has number 0 and a renewal another, and so have
 -- their answers; a round or an answer of the other kind of number is not heard. Other messages of state are learned.
 -- What clients ask is none of the lease rules'.
-abbrev pub heard : Setup → View → ℕ → Head → TicketPart → ℕ → Cmd → Outcome
-heard setup view place head part now cmds.RVot =
-    if head.options == 0 then round_heard setup (seeing view part.term) Election head part now else quiet (seeing view part.term)
-heard setup view place head part now cmds.HrtB =
-    if head.options == 0 then quiet (seeing view part.term) else round_heard setup (seeing view part.term) Renewal head part now
-heard setup view place head part now cmds.VtFr =
-    if head.options == 0 then answer_heard setup (seeing view part.term) view.round place head part now else quiet (seeing view part.term)
-heard setup view place head part now cmds.Ack =
-    if head.options == 0 then quiet (seeing view part.term) else answer_heard setup (seeing view part.term) view.round place head part now
-heard setup view place head part now cmds.Stat =
+abbrev pub hear : Setup → View → ℕ → Head → TicketPart → ℕ → Cmd → Outcome
+hear setup view place head part now cmds.RVot =
+    if head.options == 0 then hear_round setup (with_seen view part.term) Election head part now else quiet (with_seen view part.term)
+hear setup view place head part now cmds.HrtB =
+    if head.options == 0 then quiet (with_seen view part.term) else hear_round setup (with_seen view part.term) Renewal head part now
+hear setup view place head part now cmds.VtFr =
+    if head.options == 0 then hear_answer setup (with_seen view part.term) place head part now else quiet (with_seen view part.term)
+hear setup view place head part now cmds.Ack =
+    if head.options == 0 then quiet (with_seen view part.term) else hear_answer setup (with_seen view part.term) place head part now
+hear setup view place head part now cmds.Stat =
     saying (learned setup view part now) (tells_state setup (learned setup view part now) head now) tells.Nothing
-heard setup view place head part now cmds.MIdx = quiet (learned setup view part now)
-heard setup view place head part now cmds.Rjc = quiet (learned setup view part now)
-heard setup view place head part now cmds.UpdE = quiet (learned setup view part now)
-heard setup view place head part now cmds.Revk = quiet (revoked setup (seeing view part.term) head.from part.term head.reason now)
-heard setup view place head part now cmds.CLst = quiet view
-heard setup view place head part now cmds.Peer = quiet view
-heard setup view place head part now cmds.CGnt = quiet view
-heard setup view place head part now cmds.CRvk = quiet view
-heard setup view place head part now cmds.ASet = quiet view
-heard setup view place head part now cmds.AGet = quiet view
-heard setup view place head part now cmds.ADel = quiet view
-heard setup view place head part now cmds.ALst = quiet view
-heard setup view place head part now cmds.RLst = quiet view
-heard setup view place head part now cmds.RPer = quiet view
-heard setup view place head part now cmds.RALs = quiet view
-heard setup view place head part now cmds.RGnt = quiet view
-heard setup view place head part now cmds.RRvk = quiet view
-heard setup view place head part now cmds.RAtr = quiet view
+hear setup view place head part now cmds.MIdx = quiet (learned setup view part now)
+hear setup view place head part now cmds.Rjc = quiet (learned setup view part now)
+hear setup view place head part now cmds.UpdE = quiet (learned setup view part now)
+hear setup view place head part now cmds.Revk = quiet (revoked setup (with_seen view part.term) head.from part.term head.reason now)
+hear setup view place head part now cmd = quiet view

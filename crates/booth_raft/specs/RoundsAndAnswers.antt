@@ -20,7 +20,7 @@ use Rattle.booth_raft.specs.Members.{is_same, is_promised_elsewhere, is_candidat
 use Rattle.booth_raft.specs.Messages.{answers_round, refuses_round}
 use Rattle.booth_raft.specs.Numbers.{later}
 use Rattle.booth_raft.specs.Outcome.{Outcome, quiet, saying}
-use Rattle.booth_raft.specs.StartAndLearn.{awaits_failover, failover_time, showing}
+use Rattle.booth_raft.specs.StartAndLearn.{awaits_failover, failover_time, with_shown}
 
 -- ---- may answer
 
@@ -60,11 +60,12 @@ promised setup view site term now = record view {
 }
 
 -- then, a candidate follows without a round, and a leader's round is none
-abbrev pub stood_down : View → Role → View
-stood_down view Follower = view
-stood_down view Working = view
-stood_down view Candidate = record view { role = Follower; round = None }
-stood_down view Leader = record view { round = None }
+abbrev pub stood_down : View → View
+stood_down view = elim (view.role) [
+  | Candidate ↦ record view { role = Follower; round = None }
+  | Leader ↦ record view { round = None }
+  | role ↦ view
+]
 
 -- then, a renewal with time left shows its site
 abbrev pub shows_site : RoundKind → TicketPart → Bool
@@ -73,7 +74,7 @@ shows_site Renewal part = nat_lt 0 part.valid_for
 
 abbrev pub with_site : View → MemberId → RoundKind → TicketPart → ℕ → View
 with_site view site kind part now =
-    if shows_site kind part then showing view site (now + 1000 * part.valid_for) else view
+    if shows_site kind part then with_shown view site (now + 1000 * part.valid_for) else view
 
 -- last, a site that waits for the failover of a managed ticket waits for the lease that was shown, or else for its
 -- promise and a timeout for each site before it
@@ -89,22 +90,21 @@ with_due setup view kind part now =
     then record view { due = Some (due_after_answer setup view kind part now) }
     else view
 
--- the four, one after the other
-abbrev pub answering : Setup → View → MemberId → RoundKind → TicketPart → ℕ → View
-answering setup view site kind part now =
-    let bound = promised setup view site part.term now in
-    let stood = stood_down bound bound.role in
-    with_due setup (with_site stood site kind part now) kind part now
+-- Round heard, the view after an answer: the four, one after the other
+abbrev pub answered_round : Setup → View → MemberId → RoundKind → TicketPart → ℕ → View
+answered_round setup view site kind part now =
+    let following = stood_down (promised setup view site part.term now) in
+    with_due setup (with_site following site kind part now) kind part now
 
 -- the clients of a candidate hear that its round failed
 abbrev pub told_by_answer : Role → Told
 told_by_answer role = if is_candidate role then tells.RoundFailed else tells.Nothing
 
 -- Round heard: it is answered where it may be, else refused
-abbrev pub round_heard : Setup → View → RoundKind → Head → TicketPart → ℕ → Outcome
-round_heard setup view kind head part now =
+abbrev pub hear_round : Setup → View → RoundKind → Head → TicketPart → ℕ → Outcome
+hear_round setup view kind head part now =
     if may_answer view head.from part.term now
-    then saying (answering setup view head.from kind part now) (answers_round setup kind head part.term) (told_by_answer view.role)
+    then saying (answered_round setup view head.from kind part now) (answers_round setup kind head part.term) (told_by_answer view.role)
     else saying view (refuses_round setup view head (why_refused view head.from part.term now) now) tells.Nothing
 
 -- ---- an answer is heard
@@ -121,14 +121,16 @@ abbrev pub with_answer : Round → ℕ → Round
 with_answer round place = record round { answers = joined_by round.answers place }
 
 -- the sender at a place joins the answers, and gain follows where the round now wins
-abbrev pub joined : Setup → View → Round → ℕ → Outcome
-joined setup view round now =
+abbrev pub join : Setup → View → Round → ℕ → Outcome
+join setup view round now =
     if wins setup round now
     then gain setup (record view { round = Some round }) round now
     else quiet (record view { round = Some round })
 
 -- Answer heard
-abbrev pub answer_heard : Setup → View → Option Round → ℕ → Head → TicketPart → ℕ → Outcome
-answer_heard setup view None place head part now = quiet view
-answer_heard setup view (Some round) place head part now =
-    if is_answer_to setup round head part then joined setup view (with_answer round place) now else quiet view
+abbrev pub hear_answer : Setup → View → ℕ → Head → TicketPart → ℕ → Outcome
+hear_answer setup view place head part now = elim (view.round) [
+  | None ↦ quiet view
+  | Some round ↦
+      if is_answer_to setup round head part then join setup view (with_answer round place) now else quiet view
+]

@@ -48,8 +48,8 @@ started setup kept now = record {
 -- ---- learn
 
 -- each member message raises the term that was seen
-abbrev pub seeing : View → ℕ → View
-seeing view term = record view { seen = max view.seen term }
+abbrev pub with_seen : View → ℕ → View
+with_seen view term = record view { seen = max view.seen term }
 
 -- the failover time: what is shown is over, and acquire-after and the guard too, and a promise to another; then each
 -- site waits a timeout longer than the one before it
@@ -63,8 +63,8 @@ abbrev pub awaits_failover : Setup → View → Bool
 awaits_failover setup view = is_follower view.role && setup.site && view.repeat == 0
 
 -- an owner is shown until a moment, and the ticket is managed
-abbrev pub showing : View → MemberId → ℕ → View
-showing view owner until = record view { shown = Some (record { owner = owner; until = until }); managed = true }
+abbrev pub with_shown : View → MemberId → ℕ → View
+with_shown view owner until = record view { shown = Some (record { owner = owner; until = until }); managed = true }
 
 -- a message shows its leader: another member, with time left, of a term not below ours, and while no lease of ours
 -- may be in force
@@ -80,5 +80,5 @@ with_failover setup view = if awaits_failover setup view then record view { due 
 abbrev pub learned : Setup → View → TicketPart → ℕ → View
 learned setup view part now =
     if shows_leader setup view part now
-    then with_failover setup (showing (seeing view part.term) part.leader (now + 1000 * part.valid_for))
-    else seeing view part.term
+    then with_failover setup (with_shown (with_seen view part.term) part.leader (now + 1000 * part.valid_for))
+    else with_seen view part.term

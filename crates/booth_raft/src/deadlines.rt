@@ -5,10 +5,10 @@ ghost use Rattle.booth_raft.specs.Deadlines.{candidate_due, due_now, follower_du
 ghost use Rattle.booth_raft.specs.Sound.{IsSound};
 
 use crate::deed::{Deed, Told, Want};
-use crate::leases::{end_round, lose, release};
+use crate::gain_release_lost::{lost, own_end, release, retry_at, round_ends};
 use crate::members::{is_promised_elsewhere, others_until};
-use crate::messages::{ask_again, ask_state, revoke};
-use crate::moments::{failover_time, own_end, retry_at, shown_end};
+use crate::messages::{asks_again, asks_state, revokes, shown_end};
+use crate::start_and_learn::failover_time;
 use crate::view::{Role, Round, View};
 use booth_wire::reasons::LOCF;
 use booth_wire::{Say, Setup};
@@ -20,7 +20,7 @@ pub(crate) fn hello(setup: &Setup, view: &mut View, now: u64) -> Say
 {
     if view.hello {
         view.hello = false;
-        ask_state(setup, view, now)
+        asks_state(setup, view, now)
     } else {
         Say::Nothing
     }
@@ -35,29 +35,29 @@ fn is_tried(setup: &Setup, round: &Round, now: u64) -> bool
     now < round.opened + setup.times.timeout * (setup.times.retries as u64 + 1)
 }
 
-fn tick_candidate(setup: &Setup, view: &mut View, now: u64) -> Deed
+fn candidate_due(setup: &Setup, view: &mut View, now: u64) -> Deed
     requires sound { IsSound setup.now }
     requires early { now < 2 ^ 62 }
     requires opened { ForSome view.old.round (λ round. round.opened < 2 ^ 62) }
-    ensures view { view.new ≡ (candidate_due setup.now view.old view.old.round now).view }
-    ensures deed { result ≡ (candidate_due setup.now view.old view.old.round now).deed }
+    ensures view { view.new ≡ (candidate_due setup.now view.old now).view }
+    ensures deed { result ≡ (candidate_due setup.now view.old now).deed }
 {
     let Some(round) = view.round else {
-        return end_round(view, now);
+        return round_ends(view, now);
     };
     if !is_tried(setup, &round, now) {
-        return end_round(view, now);
+        return round_ends(view, now);
     }
     view.due = Some(now + setup.times.timeout);
-    Deed::saying(ask_again(setup, view, &round, now), Told::Nothing)
+    Deed::saying(asks_again(setup, view, &round, now), Told::Nothing)
 }
 
-fn resend_or_renew(setup: &Setup, view: &mut View, now: u64) -> Deed
+fn resends_or_renews(setup: &Setup, view: &mut View, now: u64) -> Deed
     requires sound { IsSound setup.now }
     requires early { now < 2 ^ 62 }
     requires opened { ForSome view.old.round (λ round. round.opened < 2 ^ 62) }
-    ensures view { view.new ≡ (resends_or_renews setup.now view.old view.old.round now).view }
-    ensures deed { result ≡ (resends_or_renews setup.now view.old view.old.round now).deed }
+    ensures view { view.new ≡ (resends_or_renews setup.now view.old now).view }
+    ensures deed { result ≡ (resends_or_renews setup.now view.old now).deed }
 {
     let Some(round) = view.round else {
         return Deed::wanting(Want::Renew);
@@ -66,10 +66,25 @@ fn resend_or_renew(setup: &Setup, view: &mut View, now: u64) -> Deed
         return Deed::wanting(Want::Renew);
     }
     view.due = Some(retry_at(setup, view, now));
-    Deed::saying(ask_again(setup, view, &round, now), Told::Nothing)
+    Deed::saying(asks_again(setup, view, &round, now), Told::Nothing)
 }
 
-fn tick_leader(setup: &Setup, view: &mut View, now: u64) -> Deed
+// A handler that still runs has failed, and the lease is given back.
+fn leader_works(setup: &Setup, view: &mut View, now: u64) -> Deed
+    requires sound { IsSound setup.now }
+    requires early { now < 2 ^ 62 }
+    requires opened { ForSome view.old.round (λ round. round.opened < 2 ^ 62) }
+    ensures view { view.new ≡ (leader_works setup.now view.old now).view }
+    ensures deed { result ≡ (leader_works setup.now view.old now).deed }
+{
+    if view.job.is_some() {
+        view.job = None;
+        return release(view, LOCF, now);
+    }
+    resends_or_renews(setup, view, now)
+}
+
+fn leader_due(setup: &Setup, view: &mut View, now: u64) -> Deed
     requires sound { IsSound setup.now }
     requires early { now < 2 ^ 62 }
     requires opened { ForSome view.old.round (λ round. round.opened < 2 ^ 62) }
@@ -77,17 +92,13 @@ fn tick_leader(setup: &Setup, view: &mut View, now: u64) -> Deed
     ensures deed { result ≡ (leader_due setup.now view.old now).deed }
 {
     if now >= own_end(view) {
-        lose(setup, view, now);
-        return Deed::saying(Say::Nothing, Told::Lost);
+        lost(setup, view, now);
+        return Deed::telling(Told::Lost);
     }
-    if view.job.is_some() {
-        view.job = None;
-        return release(view, LOCF, now);
-    }
-    resend_or_renew(setup, view, now)
+    leader_works(setup, view, now)
 }
 
-fn repeat_revocation(setup: &Setup, view: &mut View, now: u64) -> Deed
+fn repeats(setup: &Setup, view: &mut View, now: u64) -> Deed
     requires sound { IsSound setup.now }
     requires early { now < 2 ^ 62 }
     requires repeats { 0 < view.old.repeat }
@@ -100,11 +111,11 @@ fn repeat_revocation(setup: &Setup, view: &mut View, now: u64) -> Deed
         Some(now + setup.times.timeout)
     };
     view.repeat -= 1;
-    let again = revoke(setup, view.repeat_term, view.repeat_reason);
+    let again = revokes(setup, view.repeat_term, view.repeat_reason);
     Deed::saying(again, Told::Nothing)
 }
 
-fn wait_or_acquire(setup: &Setup, view: &mut View, now: u64) -> Deed
+fn waits_or_acquires(setup: &Setup, view: &mut View, now: u64) -> Deed
     requires sound { IsSound setup.now }
     requires early { now < 2 ^ 62 }
     ensures view { view.new ≡ (waits_or_acquires setup.now view.old now).view }
@@ -123,34 +134,34 @@ fn wait_or_acquire(setup: &Setup, view: &mut View, now: u64) -> Deed
     Deed::wanting(Want::Acquire)
 }
 
-fn tick_follower(setup: &Setup, view: &mut View, now: u64) -> Deed
+fn follower_due(setup: &Setup, view: &mut View, now: u64) -> Deed
     requires sound { IsSound setup.now }
     requires early { now < 2 ^ 62 }
     ensures view { view.new ≡ (follower_due setup.now view.old now).view }
     ensures deed { result ≡ (follower_due setup.now view.old now).deed }
 {
     if view.repeat > 0 {
-        return repeat_revocation(setup, view, now);
+        return repeats(setup, view, now);
     }
     if setup.site && view.managed {
-        return wait_or_acquire(setup, view, now);
+        return waits_or_acquires(setup, view, now);
     }
     view.due = None;
     Deed::quiet()
 }
 
 // The rule of the role at its deadline.
-pub(crate) fn tick(setup: &Setup, view: &mut View, now: u64) -> Deed
+pub(crate) fn due_now(setup: &Setup, view: &mut View, now: u64) -> Deed
     requires sound { IsSound setup.now }
     requires early { now < 2 ^ 62 }
     requires opened { ForSome view.old.round (λ round. round.opened < 2 ^ 62) }
-    ensures view { view.new ≡ (due_now setup.now view.old now view.old.role).view }
-    ensures deed { result ≡ (due_now setup.now view.old now view.old.role).deed }
+    ensures view { view.new ≡ (due_now setup.now view.old now).view }
+    ensures deed { result ≡ (due_now setup.now view.old now).deed }
 {
     match view.role {
-        Role::Follower => tick_follower(setup, view, now),
+        Role::Follower => follower_due(setup, view, now),
         Role::Working => Deed::quiet(),
-        Role::Candidate => tick_candidate(setup, view, now),
-        Role::Leader => tick_leader(setup, view, now),
+        Role::Candidate => candidate_due(setup, view, now),
+        Role::Leader => leader_due(setup, view, now),
     }
 }

@@ -1,6 +1,4 @@
 //! What a rule gives to be done, and what it is told of handlers and clients.
-ghost use Rattle.std.specs.Prelude.{◌≡◌, Some, None};
-
 use booth_rec::Record;
 use booth_wire::Say;
 
@@ -56,37 +54,4 @@ pub enum Note {
     HandlerFailed,
     /// The ticket may not be acquired yet.
     Unready,
-}
-
-impl Deed {
-    /// Nothing is to be done.
-    pub(crate) fn quiet() -> Deed
-        ensures { result ≡ record { keep = None; say = Say.Nothing; want = Want.Nothing; told = Told.Nothing } }
-    {
-        Deed::saying(Say::Nothing, Told::Nothing)
-    }
-
-    /// Something is to be said and told.
-    pub(crate) fn saying(say: Say, told: Told) -> Deed
-        ensures { result ≡ record { keep = None; say = say; want = Want.Nothing; told = told } }
-    {
-        Deed {
-            keep: None,
-            say,
-            want: Want::Nothing,
-            told,
-        }
-    }
-
-    /// Something is to follow.
-    pub(crate) fn wanting(want: Want) -> Deed
-        ensures { result ≡ record { keep = None; say = Say.Nothing; want = want; told = Told.Nothing } }
-    {
-        Deed {
-            keep: None,
-            say: Say::Nothing,
-            want,
-            told: Told::Nothing,
-        }
-    }
 }

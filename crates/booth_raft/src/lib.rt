@@ -1,30 +1,31 @@
 //! The lease rules of one automatic ticket: no clock, no bytes, no clients.
 #![tactic(auto)]
 
-mod asking;
+mod ask_and_renew;
 mod deadlines;
 mod deed;
-mod hearing;
+mod gain_release_lost;
 pub mod laws;
-mod learning;
-mod leases;
 mod machine;
 mod members;
 mod messages;
-mod moments;
-mod noting;
-mod rounds;
-mod starting;
+mod notes;
+mod numbers;
+mod other_messages;
+mod outcome;
+mod rounds_and_answers;
+mod start_and_learn;
 #[cfg(test)]
 mod tests;
 mod view;
 
-pub use asking::are_terms_spent;
+pub use ask_and_renew::are_terms_spent;
 pub use deed::{Deed, Note, Told, Want};
+pub use gain_release_lost::own_end;
 pub use machine::Core;
 pub use members::is_promised_elsewhere;
-pub use messages::owner_now;
-pub use moments::{own_end, seconds_left, shown_end};
+pub use messages::{owner_now, shown_end};
+pub use numbers::seconds_left;
 pub use view::{
     LAST_NUMBER, LAST_TERM, MOST_MEMBERS, Promise, Role, Round, RoundKind, Rule, Shown, View,
     Waiting,

@@ -2,13 +2,13 @@
 ghost use Rattle.std.specs.Prelude.{◌≡◌, ◌≢◌, ◌<◌, ◌≤◌, ◌^◌, ◌↔◌, IfOk, IsErr, IsTrue, OnErr, OnOk, max, true, false, None};
 ghost use Rattle.std.specs.Option.{option_copied};
 
-use crate::asking::{are_terms_spent, ask, keep_is_answered, renew};
-use crate::deadlines::{hello, tick};
+use crate::ask_and_renew::{are_terms_spent, ask, finish, renew};
+use crate::deadlines::{due_now, hello};
 use crate::deed::{Deed, Note};
-use crate::hearing::hear;
-use crate::leases::release;
-use crate::noting::note;
-use crate::starting::start;
+use crate::gain_release_lost::release;
+use crate::notes::noted;
+use crate::other_messages::hear;
+use crate::start_and_learn::started;
 use crate::view::{LAST_TERM, View};
 use booth_rec::Record;
 use booth_wire::{Head, Say, Setup, TermSpent, TicketPart};
@@ -39,13 +39,13 @@ impl Model for Core {
 
 impl Core {
     ghost use Rattle.booth_rec.specs.Record.{record_or_none};
-    ghost use Rattle.booth_raft.specs.AskAndRenew.{ask, keep_answered, renewed};
+    ghost use Rattle.booth_raft.specs.AskAndRenew.{ask, finish, renew};
     ghost use Rattle.booth_raft.specs.Deadlines.{due_now, greeted, hello};
     ghost use Rattle.booth_raft.specs.Facts.{KeepWaits, ViewFacts};
     ghost use Rattle.booth_raft.specs.GainReleaseLost.{release};
     ghost use Rattle.booth_raft.specs.Members.{is_leader, is_working};
     ghost use Rattle.booth_raft.specs.Notes.{MayNote, noted};
-    ghost use Rattle.booth_raft.specs.OtherMessages.{heard};
+    ghost use Rattle.booth_raft.specs.OtherMessages.{hear};
     ghost use Rattle.booth_raft.specs.Sound.{IsSound};
     ghost use Rattle.booth_raft.specs.StartAndLearn.{started};
     ghost use Rattle.booth_raft.specs.State.{IsDue, IsWaiting, MayRelease, State, with_view};
@@ -60,7 +60,7 @@ impl Core {
         let kept = kept.copied().unwrap_or(Record::plain(0, None));
         Core {
             setup: setup.copy(),
-            view: start(setup, kept, now),
+            view: started(setup, kept, now),
         }
     }
 
@@ -104,9 +104,9 @@ impl Core {
         requires place { from < self.old.setup.members }
         requires other { from ≢ self.old.setup.place }
         ensures view { self.new ≡ with_view self.old
-            (heard self.old.setup self.old.view from head.now part.now now head.now.cmd).view }
+            (hear self.old.setup self.old.view from head.now part.now now head.now.cmd).view }
         ensures deed { result ≡
-            (heard self.old.setup self.old.view from head.now part.now now head.now.cmd).deed }
+            (hear self.old.setup self.old.view from head.now part.now now head.now.cmd).deed }
         ensures waits { KeepWaits result.keep self.new.view.waiting now }
     {
         hear(&self.setup, &mut self.view, from, head, part, now)
@@ -117,12 +117,12 @@ impl Core {
         requires early { now < 2 ^ 62 }
         requires waiting { IsWaiting self.old.view now }
         ensures view { self.new ≡ with_view self.old
-            (keep_answered self.old.setup self.old.view self.old.view.waiting now ok).view }
+            (finish self.old.setup self.old.view now ok).view }
         ensures deed { result ≡
-            (keep_answered self.old.setup self.old.view self.old.view.waiting now ok).deed }
+            (finish self.old.setup self.old.view now ok).deed }
         ensures waits { KeepWaits result.keep self.new.view.waiting now }
     {
-        keep_is_answered(&self.setup, &mut self.view, now, ok)
+        finish(&self.setup, &mut self.view, now, ok)
     }
 
     /// At the first deadline after the start all members are asked for their state.
@@ -144,11 +144,11 @@ impl Core {
         requires greeted { self.old.view.hello ≡ false }
         requires role { is_working self.old.view.role ≡ false }
         ensures view { self.new ≡ with_view self.old
-            (due_now self.old.setup self.old.view now self.old.view.role).view }
-        ensures deed { result ≡ (due_now self.old.setup self.old.view now self.old.view.role).deed }
+            (due_now self.old.setup self.old.view now).view }
+        ensures deed { result ≡ (due_now self.old.setup self.old.view now).deed }
         ensures waits { KeepWaits result.keep self.new.view.waiting now }
     {
-        tick(&self.setup, &mut self.view, now)
+        due_now(&self.setup, &mut self.view, now)
     }
 
     /// What became of a handler or of a client's request is noted.
@@ -158,7 +158,7 @@ impl Core {
         requires fitting { MayNote self.old.view note_made }
         ensures { self.new ≡ with_view self.old (noted self.old.setup self.old.view now note_made) }
     {
-        note(&self.setup, &mut self.view, now, note_made);
+        noted(&self.setup, &mut self.view, now, note_made);
     }
 
     /// The lease is renewed, after the handler where there is one.
@@ -167,9 +167,9 @@ impl Core {
         requires idle { self.old.view.waiting ≡ None }
         requires role { IsTrue (is_leader self.old.view.role) }
         ensures view { self.new ≡ with_view self.old
-            (renewed self.old.setup self.old.view self.old.view.round now).view }
+            (renew self.old.setup self.old.view now).view }
         ensures deed { result ≡
-            (renewed self.old.setup self.old.view self.old.view.round now).deed }
+            (renew self.old.setup self.old.view now).deed }
         ensures waits { KeepWaits result.keep self.new.view.waiting now }
     {
         renew(&self.setup, &mut self.view, now)

@@ -1,14 +1,22 @@
 //! What the rules say to members.
 ghost use Rattle.std.specs.Prelude.{◌≡◌};
-ghost use Rattle.booth_raft.specs.Messages.{head_of, part_of, owner_now, state_part, asks_state, tells_state, tells_gain, revokes, answer_cmd, answers_round, refuses_round, round_head, round_part, asks_all, asks_again};
+ghost use Rattle.booth_raft.specs.Messages.{head_of, part_of, owner_now, shown_end, state_part, asks_state, tells_state, tells_gain, revokes, answer_cmd, answers_round, refuses_round, round_head, round_part, asks_all, asks_again};
 
+use crate::gain_release_lost::own_end;
 use crate::members::unanswered;
-use crate::moments::{own_end, seconds_left, shown_end};
+use crate::numbers::seconds_left;
 use crate::view::{Round, RoundKind, Shown, View};
 use booth_base::{MemberId, NO_ONE};
 use booth_wire::{Cmd, Head, Say, Setup, TicketPart};
 
-fn head(setup: &Setup, cmd: Cmd, request: u32, options: u32, reason: u32, result_code: u32) -> Head
+fn head_of(
+    setup: &Setup,
+    cmd: Cmd,
+    request: u32,
+    options: u32,
+    reason: u32,
+    result_code: u32,
+) -> Head
     ensures { result ≡ head_of setup.now cmd request options reason result_code }
 {
     Head {
@@ -24,7 +32,7 @@ fn head(setup: &Setup, cmd: Cmd, request: u32, options: u32, reason: u32, result
     }
 }
 
-fn part(setup: &Setup, leader: MemberId, term: u32, valid_for: u32) -> TicketPart
+fn part_of(setup: &Setup, leader: MemberId, term: u32, valid_for: u32) -> TicketPart
     ensures { result ≡ part_of setup.now leader term valid_for }
 {
     TicketPart {
@@ -45,42 +53,55 @@ pub fn owner_now(shown: Option<Shown>, now: u64) -> MemberId
     }
 }
 
+/// Where what is shown ends, and 0 where nothing is.
+pub fn shown_end(shown: Option<Shown>) -> u64
+    ensures { result ≡ shown_end shown }
+{
+    shown.map_or(0, |s| s.until)
+}
+
 // The owner now, the term, and the seconds left.
-fn state(setup: &Setup, view: &View, now: u64) -> TicketPart
+fn state_part(setup: &Setup, view: &View, now: u64) -> TicketPart
     ensures { result ≡ state_part setup.now view.now now }
 {
     let left = seconds_left(shown_end(view.shown), now);
-    part(setup, owner_now(view.shown, now), view.term, left)
+    part_of(setup, owner_now(view.shown, now), view.term, left)
 }
 
 // All are asked for their state.
-pub(crate) fn ask_state(setup: &Setup, view: &View, now: u64) -> Say
+pub(crate) fn asks_state(setup: &Setup, view: &View, now: u64) -> Say
     ensures { result ≡ asks_state setup.now view.now now }
 {
-    Say::All(head(setup, Cmd::Stat, 0, 0, 0, 0), state(setup, view, now))
+    Say::All(
+        head_of(setup, Cmd::Stat, 0, 0, 0, 0),
+        state_part(setup, view, now),
+    )
 }
 
 // Who asked for the state is told it.
-pub(crate) fn tell_state(setup: &Setup, view: &View, asked: &Head, now: u64) -> Say
+pub(crate) fn tells_state(setup: &Setup, view: &View, asked: &Head, now: u64) -> Say
     ensures { result ≡ tells_state setup.now view.now asked.now now }
 {
-    let answer = head(setup, Cmd::MIdx, asked.request, 0, 0, 0);
-    Say::Reply(answer, state(setup, view, now))
+    let answer = head_of(setup, Cmd::MIdx, asked.request, 0, 0, 0);
+    Say::Reply(answer, state_part(setup, view, now))
 }
 
 // All are told of a lease.
-pub(crate) fn tell_gain(setup: &Setup, view: &View, now: u64) -> Say
+pub(crate) fn tells_gain(setup: &Setup, view: &View, now: u64) -> Say
     ensures { result ≡ tells_gain setup.now view.now now }
 {
-    Say::All(head(setup, Cmd::UpdE, 0, 0, 0, 0), state(setup, view, now))
+    Say::All(
+        head_of(setup, Cmd::UpdE, 0, 0, 0, 0),
+        state_part(setup, view, now),
+    )
 }
 
 // All are told that a term's lease was given back.
-pub(crate) fn revoke(setup: &Setup, term: u32, reason: u32) -> Say
+pub(crate) fn revokes(setup: &Setup, term: u32, reason: u32) -> Say
     ensures { result ≡ revokes setup.now term reason }
 {
-    let revoked = head(setup, Cmd::Revk, 0, 0, reason, 0);
-    Say::All(revoked, part(setup, NO_ONE, term, 0))
+    let revoked = head_of(setup, Cmd::Revk, 0, 0, reason, 0);
+    Say::All(revoked, part_of(setup, NO_ONE, term, 0))
 }
 
 fn answer_cmd(kind: RoundKind) -> Cmd
@@ -93,28 +114,28 @@ fn answer_cmd(kind: RoundKind) -> Cmd
 }
 
 // The answer to a round.
-pub(crate) fn answer_round(setup: &Setup, kind: RoundKind, round: &Head, term: u32) -> Say
+pub(crate) fn answers_round(setup: &Setup, kind: RoundKind, round: &Head, term: u32) -> Say
     ensures { result ≡ answers_round setup.now kind round.now term }
 {
-    let answer = head(setup, answer_cmd(kind), round.request, round.options, 0, 0);
-    Say::Reply(answer, part(setup, round.from, term, 0))
+    let answer = head_of(setup, answer_cmd(kind), round.request, round.options, 0, 0);
+    Say::Reply(answer, part_of(setup, round.from, term, 0))
 }
 
 // The refusal of a round.
-pub(crate) fn refuse_round(setup: &Setup, view: &View, round: &Head, why: u32, now: u64) -> Say
+pub(crate) fn refuses_round(setup: &Setup, view: &View, round: &Head, why: u32, now: u64) -> Say
     ensures { result ≡ refuses_round setup.now view.now round.now why now }
 {
-    let refusal = head(setup, Cmd::Rjc, round.request, round.options, 0, why);
-    Say::Reply(refusal, state(setup, view, now))
+    let refusal = head_of(setup, Cmd::Rjc, round.request, round.options, 0, why);
+    Say::Reply(refusal, state_part(setup, view, now))
 }
 
 fn round_head(setup: &Setup, view: &View, number: u32) -> Head
     ensures { result ≡ round_head setup.now view.now number }
 {
     if number == 0 {
-        head(setup, Cmd::RVot, 0, 0, view.reason, 0)
+        head_of(setup, Cmd::RVot, 0, 0, view.reason, 0)
     } else {
-        head(setup, Cmd::HrtB, 0, number, 0, 0)
+        head_of(setup, Cmd::HrtB, 0, number, 0, 0)
     }
 }
 
@@ -122,11 +143,11 @@ fn round_part(setup: &Setup, view: &View, now: u64) -> TicketPart
     ensures { result ≡ round_part setup.now view.now now }
 {
     let left = seconds_left(own_end(view), now);
-    part(setup, setup.me, view.term, left)
+    part_of(setup, setup.me, view.term, left)
 }
 
 // All are asked to answer a round.
-pub(crate) fn ask_all(setup: &Setup, view: &View, number: u32, now: u64) -> Say
+pub(crate) fn asks_all(setup: &Setup, view: &View, number: u32, now: u64) -> Say
     ensures { result ≡ asks_all setup.now view.now number now }
 {
     Say::All(
@@ -136,7 +157,7 @@ pub(crate) fn ask_all(setup: &Setup, view: &View, number: u32, now: u64) -> Say
 }
 
 // Those that have not answered a round are asked again.
-pub(crate) fn ask_again(setup: &Setup, view: &View, round: &Round, now: u64) -> Say
+pub(crate) fn asks_again(setup: &Setup, view: &View, round: &Round, now: u64) -> Say
     ensures { result ≡ asks_again setup.now view.now round.now now }
 {
     Say::Unanswered(

@@ -1,5 +1,8 @@
 //! Scripts of calls with what the rules make of them, worked out by hand.
+mod answers;
 mod bounds;
 mod cluster;
+mod keeps;
+mod notes;
 mod rows;
 mod script;

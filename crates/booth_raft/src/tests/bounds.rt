@@ -1,15 +1,15 @@
 //! Each test of the rules on both sides of its bound.
-use super::script::{AR, S1, S2, Step, core, hello, play, read_deed, read_say, setup};
-use crate::asking::renew;
-use crate::deadlines::tick;
-use crate::learning::learn;
-use crate::members::is_majority;
-use crate::moments::{failover_time, seconds_left};
-use crate::rounds::may_answer;
-use crate::view::{Promise, Role, Round, Shown, View};
+use super::rows::vote;
+use super::script::{S1, S2, Step, core, held, hello, play, read_deed, read_say, setup, ticket};
+use crate::ask_and_renew::renew;
+use crate::deadlines::due_now;
+use crate::members::{is_majority, unanswered};
+use crate::numbers::seconds_left;
+use crate::rounds_and_answers::may_answer;
+use crate::start_and_learn::{failover_time, learned};
+use crate::view::{MOST_MEMBERS, Promise, Role, Round, Shown, View};
 use crate::{Told, Want};
-use booth_base::{MemberId, NO_ONE, Name};
-use booth_rec::{Lease, Record};
+use booth_base::NO_ONE;
 use booth_wire::reasons::ADMN;
 use booth_wire::{Cmd, Setup, TicketPart};
 use std::process::Abort;
@@ -82,6 +82,30 @@ fn a_majority_is_more_than_half(rt: HostRuntime) {
 }
 
 #[test]
+fn a_set_of_members_has_a_bit_for_each_of_sixteen(rt: HostRuntime) {
+    for (members, place, want) in [
+        (1, 0, 0),
+        (3, 0, 0b110),
+        (3, 2, 0b011),
+        (16, 0, 0xFFFE),
+        (16, 15, 0x7FFF),
+    ] {
+        let setup = Setup {
+            members,
+            place,
+            ..setup(&rt, 0)
+        };
+        assert_eq!(rt;
+            unanswered(&setup, &[false; 16]),
+            want,
+            "{place} of {members}"
+        );
+        assert_eq!(rt; unanswered(&setup, &[true; 16]), 0, "{place} of {members}");
+    }
+    assert_eq!(rt; MOST_MEMBERS, 16);
+}
+
+#[test]
 fn seconds_are_rounded_up_and_moments_capped(rt: HostRuntime) {
     for (moment, now, want) in [
         (1_600_000, 1_000_050, 600),
@@ -131,12 +155,12 @@ fn a_leader_is_learned_of_where_its_message_shows_it(rt: HostRuntime) {
             ..follower(&rt)
         };
         let part = TicketPart {
-            ticket: Name::read(b"t").expect(&rt, "a name"),
+            ticket: ticket(&rt),
             leader,
             term,
             valid_for,
         };
-        learn(&setup(&rt, 0), &mut view, &part, 1_000);
+        learned(&setup(&rt, 0), &mut view, &part, 1_000);
         let shown = Some(Shown {
             owner: leader,
             until: 2_000,
@@ -152,13 +176,7 @@ fn a_leader_is_learned_of_where_its_message_shows_it(rt: HostRuntime) {
 
 #[test]
 fn a_lease_is_over_at_its_end(rt: HostRuntime) {
-    let kept = Record::plain(
-        1,
-        Some(Lease {
-            term: 1,
-            until: 500_000,
-        }),
-    );
+    let kept = held(1, 500_000);
     for (now, role) in [(499_999, Role::Leader), (500_000, Role::Follower)] {
         assert_eq!(rt;
             core(&rt, 0, Some(kept), now).view().role,
@@ -190,12 +208,7 @@ fn a_round_gives_a_lease_before_it_would_be_over(rt: HostRuntime) {
         let mut s1 = core(&rt, 0, None, 0);
         let _ = play(&rt, &mut s1, asked, Step::Ask(ADMN));
         let _ = play(&rt, &mut s1, asked, Step::Kept(true));
-        let did = play(
-            &rt,
-            &mut s1,
-            heard,
-            Step::Hear(2, Cmd::VtFr, 0, S1, 1, 0, 0),
-        );
+        let did = play(&rt, &mut s1, heard, Step::Hear(vote()));
         assert_eq!(rt;
             did.keep.is_some(),
             gains,
@@ -214,12 +227,7 @@ fn a_round_gives_a_lease_before_it_would_be_over(rt: HostRuntime) {
 
 // A leader of term 1 until 500,000, with a round of this number that was won.
 fn leader(rt: &impl Abort, number: u32) -> View {
-    let lease = Lease {
-        term: 1,
-        until: 500_000,
-    };
-    let kept = Some(Record::plain(1, Some(lease)));
-    let view = *core(rt, 0, kept, 0).view();
+    let view = *core(rt, 0, Some(held(1, 500_000)), 0).view();
     View {
         bound: Some(S1),
         round: Some(Round {
@@ -251,7 +259,7 @@ fn a_renewal_needs_a_number_or_a_term(rt: HostRuntime) {
             ..leader(&rt, number)
         };
         let deed = renew(&setup, &mut view, 300_000);
-        let said = read_deed(&deed).said;
+        let said = read_deed(&rt, &deed).said;
         assert_eq!(rt; deed.keep.is_some(), asks, "{number} {seen}");
         assert_eq!(rt; said.map(|said| said.cmd), cmd, "{number} {seen}");
         assert_eq!(rt; view.due, Some(due), "{number} {seen}");
@@ -283,8 +291,8 @@ fn a_follower_acquires_when_nothing_stands_against_it(rt: HostRuntime) {
             round: None,
             ..follower(&rt)
         };
-        let deed = tick(&setup, &mut view, 1_000);
+        let deed = due_now(&setup, &mut view, 1_000);
         assert_eq!(rt; (deed.want, view.due), (want, due), "{shown} {promised}");
-        assert_eq!(rt; read_say(&deed.say), None);
+        assert_eq!(rt; read_say(&rt, &deed.say), None);
     }
 }

@@ -1,10 +1,8 @@
 //! Three members whose messages are handed on by a list: they elect, renew, lose a lease and elect another.
 ghost use Rattle.std.specs.Prelude.{◌<◌, ◌^◌};
 
-use super::script::{S1, S2, core, hear, hello, kept, renew, setup, tick};
+use super::script::{S1, S2, core, hear, held, hello, kept, renew, tick};
 use crate::{Core, Deed, Role, Told, Want};
-use booth_base::MemberId;
-use booth_rec::{Lease, Record};
 use booth_wire::reasons::{ADMN, TLST};
 use booth_wire::{Head, Say, TicketPart};
 use std::alloc::AllocError;
@@ -150,10 +148,6 @@ fn due(rt: &impl Abort, room: &mut Room, place: u32, now: u64) -> Result<(Want, 
     }
     let told = finish(rt, room, place, place, now, deed)?;
     Ok((want, told))
-}
-
-fn held(term: u32, until: u64) -> Record {
-    Record::plain(term, Some(Lease { term, until }))
 }
 
 /// Who leads, by what is kept and in force.

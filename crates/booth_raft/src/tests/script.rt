@@ -2,9 +2,9 @@
 ghost use Rattle.std.specs.Prelude.{◌<◌, ◌^◌};
 ghost use Rattle.booth_raft.specs.Sound.{IsSound};
 
-use crate::{Core, Deed, Note, Role, Told, Want};
-use booth_base::{MemberId, Name, Times};
-use booth_rec::Record;
+use crate::{Core, Deed, Note, Role, Told, View, Want};
+use booth_base::{MemberId, NO_ONE, Name, Times};
+use booth_rec::{Lease, Record};
 use booth_wire::reasons::{ADMN, LOCF};
 use booth_wire::{Cmd, Head, Say, Setup, TicketPart};
 use std::process::Abort;
@@ -24,14 +24,18 @@ pub const TIMES: Times = Times {
     renewal: 300_000,
 };
 
+/// The ticket of all scripts.
+pub fn ticket(rt: &impl Abort) -> Name {
+    Name::read(b"ticket-db8").expect(rt, "a name")
+}
+
 /// Two sites and an arbitrator.
 pub fn setup(rt: &impl Abort, place: u32) -> Setup
     ensures { IsSound result }
 {
     assert!(rt; place < 3);
-    let ticket = Name::read(b"ticket-db8").expect(rt, "a name");
     Setup {
-        ticket,
+        ticket: ticket(rt),
         me: MemberId(place + 1),
         place,
         members: 3,
@@ -47,6 +51,16 @@ pub fn core(rt: &impl Abort, place: u32, kept: Option<Record>, now: u64) -> Core
     Core::start(&setup(rt, place), kept.as_ref(), now)
 }
 
+/// A record without a lease.
+pub fn free(term: u32) -> Record {
+    Record::plain(term, None)
+}
+
+/// A record of a lease of its term.
+pub fn held(term: u32, until: u64) -> Record {
+    Record::plain(term, Some(Lease { term, until }))
+}
+
 /// To whom something is said.
 #[derive(Clone, Copy, Debug, PartialEq, Eq)]
 pub enum To {
@@ -55,16 +69,37 @@ pub enum To {
     Unanswered(u16),
 }
 
-/// A message without what is the same in all of them.
+/// A message of the ticket that is said.
 #[derive(Clone, Copy, Debug, PartialEq, Eq)]
 pub struct Said {
     pub to: To,
     pub cmd: Cmd,
+    pub from: MemberId,
+    pub request: u32,
+    pub number: u32,
+    pub reason: u32,
+    pub result: u32,
     pub leader: MemberId,
     pub term: u32,
-    pub left: u32,
-    pub options: u32,
-    pub why: u32,
+    pub left_seconds: u32,
+}
+
+impl Said {
+    /// A message of a member, in which all but its command is zero, and nobody is its leader.
+    pub fn of(from: MemberId, to: To, cmd: Cmd) -> Said {
+        Said {
+            to,
+            cmd,
+            from,
+            request: 0,
+            number: 0,
+            reason: 0,
+            result: 0,
+            leader: NO_ONE,
+            term: 0,
+            left_seconds: 0,
+        }
+    }
 }
 
 /// What a call did.
@@ -83,73 +118,108 @@ pub const NOTHING: Did = Did {
     told: Told::Nothing,
 };
 
+pub const WANTS_RENEWAL: Did = Did {
+    keep: None,
+    said: None,
+    want: Want::Renew,
+    told: Told::Nothing,
+};
+
 /// Nothing but a keep.
 pub fn keeps(kept: Record) -> Did {
     Did {
         keep: Some(kept),
-        said: None,
-        want: Want::Nothing,
-        told: Told::Nothing,
+        ..NOTHING
     }
 }
 
 /// Nothing but what is said and told.
 pub fn says(said: Said, told: Told) -> Did {
     Did {
-        keep: None,
         said: Some(said),
-        want: Want::Nothing,
         told,
+        ..NOTHING
     }
 }
 
 /// Nothing but what is told.
 pub fn tells(told: Told) -> Did {
-    Did {
-        keep: None,
-        said: None,
-        want: Want::Nothing,
-        told,
-    }
+    Did { told, ..NOTHING }
 }
 
-fn said_as(to: To, head: &Head, part: &TicketPart) -> Said {
+fn said_as(rt: &impl Abort, to: To, head: &Head, part: &TicketPart) -> Said {
+    assert!(rt; part.ticket.bytes() == ticket(rt).bytes());
+    assert!(rt; !head.auth && head.secs == 0 && head.usecs == 0);
     Said {
         to,
         cmd: head.cmd,
+        from: head.from,
+        request: head.request,
+        number: head.options,
+        reason: head.reason,
+        result: head.result,
         leader: part.leader,
         term: part.term,
-        left: part.valid_for,
-        options: head.options,
-        why: head.reason ^ head.result,
+        left_seconds: part.valid_for,
     }
 }
 
-/// What a message says. Its reason and its result are never both set.
-pub fn read_say(say: &Say) -> Option<Said> {
+/// What a message says.
+pub fn read_say(rt: &impl Abort, say: &Say) -> Option<Said> {
     match say {
         Say::Nothing => None,
-        Say::Reply(head, part) => Some(said_as(To::Asker, head, part)),
-        Say::All(head, part) => Some(said_as(To::All, head, part)),
-        Say::Unanswered(head, part, members) => Some(said_as(To::Unanswered(*members), head, part)),
+        Say::Reply(head, part) => Some(said_as(rt, To::Asker, head, part)),
+        Say::All(head, part) => Some(said_as(rt, To::All, head, part)),
+        Say::Unanswered(head, part, members) => {
+            Some(said_as(rt, To::Unanswered(*members), head, part))
+        }
     }
 }
 
 /// What a deed does.
-pub fn read_deed(deed: &Deed) -> Did {
+pub fn read_deed(rt: &impl Abort, deed: &Deed) -> Did {
     Did {
         keep: deed.keep,
-        said: read_say(&deed.say),
+        said: read_say(rt, &deed.say),
         want: deed.want,
         told: deed.told,
     }
 }
 
-/// One call. A message names its command, number, leader, term, seconds and reason.
+/// A message of the member at a place that is heard.
+#[derive(Clone, Copy, Debug)]
+pub struct Heard {
+    pub place: u32,
+    pub cmd: Cmd,
+    pub request: u32,
+    pub number: u32,
+    pub reason: u32,
+    pub leader: MemberId,
+    pub term: u32,
+    pub left_seconds: u32,
+}
+
+impl Heard {
+    /// A message in which all but its command is zero, and nobody is its leader.
+    pub fn of(place: u32, cmd: Cmd) -> Heard {
+        Heard {
+            place,
+            cmd,
+            request: 0,
+            number: 0,
+            reason: 0,
+            leader: NO_ONE,
+            term: 0,
+            left_seconds: 0,
+        }
+    }
+}
+
+/// One call.
 #[derive(Clone, Copy, Debug)]
 pub enum Step {
     Ask(u32),
-    Hear(u32, Cmd, u32, MemberId, u32, u32, u32),
+    Hear(Heard),
     Kept(bool),
     Tick,
     Renew,
@@ -161,33 +231,21 @@ pub fn play(rt: &impl Abort, core: &mut Core, now: u64, step: Step) -> Did {
     assert!(rt; now < 1_000_000_000_000);
     let deed = match step {
         Step::Ask(reason) => ask(rt, core, now, reason),
-        Step::Hear(from, cmd, number, leader, term, left, reason) => {
-            let head = Head {
-                auth: false,
-                secs: 0,
-                usecs: 0,
-                from: MemberId(from % 3 + 1),
-                cmd,
-                request: 0,
-                options: number,
-                reason,
-                result: 0,
-            };
-            let ticket = Name::read(b"ticket-db8").expect(rt, "a name");
-            let part = TicketPart {
-                ticket,
-                leader,
-                term,
-                valid_for: left,
-            };
-            hear(rt, core, now, from, &head, &part)
-        }
+        Step::Hear(heard) => hear_as(rt, core, now, heard),
         Step::Kept(ok) => kept(rt, core, now, ok),
         Step::Tick => tick(rt, core, now),
         Step::Renew => renew(rt, core, now),
         Step::Release(reason) => release(rt, core, now, reason),
     };
-    read_deed(&deed)
+    read_deed(rt, &deed)
+}
+
+/// Plays calls one after the other, each at its reading, and compares what they did.
+pub fn check(rt: &impl Abort, core: &mut Core, script: &[(u64, Step, Did)]) {
+    for (now, step, want) in script {
+        let did = play(rt, core, *now, *step);
+        assert_eq!(rt; did, *want, "at {now}: {step:?}");
+    }
 }
 
 fn ask(rt: &impl Abort, core: &mut Core, now: u64, reason: u32) -> Deed
@@ -196,6 +254,29 @@ fn ask(rt: &impl Abort, core: &mut Core, now: u64, reason: u32) -> Deed
     assert!(rt; core.setup().site);
     assert!(rt; core.view().waiting.is_none());
     core.ask(now, reason).expect(rt, "a term is left")
+}
+
+fn hear_as(rt: &impl Abort, core: &mut Core, now: u64, heard: Heard) -> Deed
+    requires { now < 2 ^ 62 }
+{
+    let head = Head {
+        auth: false,
+        secs: 0,
+        usecs: 0,
+        from: MemberId(heard.place % 3 + 1),
+        cmd: heard.cmd,
+        request: heard.request,
+        options: heard.number,
+        reason: heard.reason,
+        result: 0,
+    };
+    let part = TicketPart {
+        ticket: ticket(rt),
+        leader: heard.leader,
+        term: heard.term,
+        valid_for: heard.left_seconds,
+    };
+    hear(rt, core, now, heard.place, &head, &part)
 }
 
 /// A message is heard.
@@ -227,7 +308,7 @@ pub fn kept(rt: &impl Abort, core: &mut Core, now: u64, ok: bool) -> Deed
     core.kept(now, ok)
 }
 
-/// The hello and the rule of a deadline that has come.
+/// The rule of a deadline that has come.
 pub fn tick(rt: &impl Abort, core: &mut Core, now: u64) -> Deed
     requires { now < 2 ^ 62 }
 {
@@ -262,11 +343,11 @@ pub fn hello(rt: &impl Abort, core: &mut Core, now: u64) -> Option<Said> {
     assert!(rt; now < 1_000_000_000_000);
     assert!(rt; core.view().waiting.is_none());
     assert!(rt; core.view().due.is_some_and(|due| due <= now));
-    read_say(&core.hello(now))
+    read_say(rt, &core.hello(now))
 }
 
-/// Something is noted of handlers or clients, where it may be.
-pub fn note(rt: &impl Abort, core: &mut Core, now: u64, made: Note) {
+/// Something is noted of handlers or clients, where it may be. Gives the view after it.
+pub fn note(rt: &impl Abort, core: &mut Core, now: u64, made: Note) -> View {
     assert!(rt; now < 1_000_000_000_000);
     assert!(rt; core.view().waiting.is_none());
     let role = core.view().role;
@@ -282,4 +363,5 @@ pub fn note(rt: &impl Abort, core: &mut Core, now: u64, made: Note) {
         }
     }
     core.note(now, made);
+    *core.view()
 }

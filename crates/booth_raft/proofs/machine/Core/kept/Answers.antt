@@ -1,13 +1,13 @@
 -- The rule leaves what is true of every view.
 use Rattle.std.proofs.Common.{refl}
 use Rattle.booth_raft.proofs.FactsLemmas.{leaves}
-use Rattle.booth_raft.proofs.KeptLemmas.{keep_answered_good}
+use Rattle.booth_raft.proofs.KeptLemmas.{finish_good}
 use Rattle.booth_raft.proofs.machine.Core.kept.Goals as goal
 
 pub invariant_of-self : goal.invariant_of-self
 invariant_of-self c =
-    (c.self.invariant.0, (leaves _ c.args.now _ _ c.keep_is_answered.result c.keep_is_answered.ensures.view c.keep_is_answered.ensures.deed (keep_answered_good _ _ _ _ _ c.requires.early refl c.self.invariant.1)).facts)
+    (c.self.invariant.0, (leaves _ c.args.now _ _ c.finish.result c.finish.ensures.view c.finish.ensures.deed (finish_good _ _ _ _ c.requires.early c.self.invariant.1)).facts)
 
 pub returns-clause-waits : goal.returns-clause-waits
 returns-clause-waits c =
-    (leaves c.self.inside.setup c.args.now _ _ _ c.keep_is_answered.ensures.view c.keep_is_answered.ensures.deed (keep_answered_good _ _ _ _ _ c.requires.early refl c.self.invariant.1)).waits
+    (leaves c.self.inside.setup c.args.now _ _ _ c.finish.ensures.view c.finish.ensures.deed (finish_good _ _ _ _ c.requires.early c.self.invariant.1)).waits

@@ -2,15 +2,15 @@
 use Rattle.std.proofs.Common.{◌≡◌, None, ap, ◌∙◌}
 use Rattle.booth_raft.specs.State.{State}
 use Rattle.booth_raft.proofs.FactsLemmas.{leaves}
-use Rattle.booth_raft.proofs.KeptLemmas.{renewed_good}
+use Rattle.booth_raft.proofs.KeptLemmas.{renew_good}
 use Rattle.booth_raft.proofs.machine.Core.renew.Goals as goal
 
 pub invariant_of-self : goal.invariant_of-self
 invariant_of-self c =
     let nothing : c.self.inside.view.waiting ≡ None = ap (λ (s : State). s.view.waiting) c.self.view_is ∙ c.requires.idle in
-    (c.self.invariant.0, (leaves _ c.args.now _ _ c.renew.result c.renew.ensures.view c.renew.ensures.deed (renewed_good _ _ _ _ c.requires.early nothing c.self.invariant.1)).facts)
+    (c.self.invariant.0, (leaves _ c.args.now _ _ c.renew.result c.renew.ensures.view c.renew.ensures.deed (renew_good _ _ _ c.requires.early nothing c.self.invariant.1)).facts)
 
 pub returns-clause-waits : goal.returns-clause-waits
 returns-clause-waits c =
     let nothing : c.self.inside.view.waiting ≡ None = ap (λ (s : State). s.view.waiting) c.self.view_is ∙ c.requires.idle in
-    (leaves c.self.inside.setup c.args.now _ _ _ c.renew.ensures.view c.renew.ensures.deed (renewed_good _ _ _ _ c.requires.early nothing c.self.invariant.1)).waits
+    (leaves c.self.inside.setup c.args.now _ _ _ c.renew.ensures.view c.renew.ensures.deed (renew_good _ _ _ c.requires.early nothing c.self.invariant.1)).waits

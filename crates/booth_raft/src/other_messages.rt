@@ -1,20 +1,20 @@
 //! The rule for other messages, and which rule a command is heard by.
 ghost use Rattle.std.specs.Prelude.{◌≡◌, ◌<◌, ◌^◌};
 ghost use Rattle.std.specs.Option.{ForSome};
-ghost use Rattle.booth_raft.specs.OtherMessages.{freed, is_owner, unmanaged, revoked, heard};
+ghost use Rattle.booth_raft.specs.OtherMessages.{freed, given_back, handed_on, hear, is_owner, left_alone, revoked};
 ghost use Rattle.booth_raft.specs.Sound.{IsSound};
 
 use crate::deed::{Deed, Told};
-use crate::learning::{learn, see};
-use crate::messages::tell_state;
-use crate::rounds::{hear_answer, hear_round};
+use crate::messages::tells_state;
+use crate::rounds_and_answers::{hear_answer, hear_round};
+use crate::start_and_learn::{learned, with_seen};
 use crate::view::{Role, RoundKind, Shown, View};
 use booth_base::MemberId;
 use booth_wire::reasons::{LOCF, SPLT};
 use booth_wire::{Cmd, Head, Setup, TicketPart};
 
 // A promise to a site of a term at most this is dropped.
-fn free(view: &mut View, site: MemberId, term: u32)
+fn freed(view: &mut View, site: MemberId, term: u32)
     ensures { view.new ≡ freed view.old site term }
 {
     if view.promise.is_some_and(|p| p.to == site && p.term <= term) {
@@ -28,36 +28,51 @@ fn is_owner(shown: Option<Shown>, member: MemberId) -> bool
     shown.is_some_and(|s| s.owner == member)
 }
 
-// What a site does about a ticket that its owner gave back.
-fn leave_unmanaged(setup: &Setup, view: &mut View, reason: u32, now: u64)
+// The owner's handler failed: a site that follows acquires the ticket in its turn.
+fn handed_on(setup: &Setup, view: &mut View, now: u64)
     requires sound { IsSound setup.now }
     requires early { now < 2 ^ 62 }
-    ensures { view.new ≡ unmanaged setup.now view.old reason now }
+    ensures { view.new ≡ handed_on setup.now view.old now }
 {
-    let follows = view.role == Role::Follower;
+    if view.role == Role::Follower && setup.site {
+        view.managed = true;
+        view.due = Some(now + (setup.rank as u64 + 1) * setup.times.timeout);
+    }
+}
+
+// The ticket was given back by will: nobody acquires it.
+fn left_alone(view: &mut View)
+    ensures { view.new ≡ left_alone view.old }
+{
+    view.managed = false;
+    if view.role == Role::Follower && view.repeat == 0 {
+        view.due = None;
+    }
+}
+
+// What a member does about a ticket that its owner gave back.
+fn given_back(setup: &Setup, view: &mut View, reason: u32, now: u64)
+    requires sound { IsSound setup.now }
+    requires early { now < 2 ^ 62 }
+    ensures { view.new ≡ given_back setup.now view.old reason now }
+{
     if reason == LOCF {
-        if follows && setup.site {
-            view.managed = true;
-            view.due = Some(now + (setup.rank as u64 + 1) * setup.times.timeout);
-        }
+        handed_on(setup, view, now);
     } else {
-        view.managed = false;
-        if follows && view.repeat == 0 {
-            view.due = None;
-        }
+        left_alone(view);
     }
 }
 
 // A revocation is heard.
-fn hear_revoke(setup: &Setup, view: &mut View, head: &Head, term: u32, now: u64)
+fn revoked(setup: &Setup, view: &mut View, head: &Head, term: u32, now: u64)
     requires sound { IsSound setup.now }
     requires early { now < 2 ^ 62 }
     ensures { view.new ≡ revoked setup.now view.old head.now.from term head.now.reason now }
 {
-    free(view, head.from, term);
+    freed(view, head.from, term);
     if view.term <= term && is_owner(view.shown, head.from) && head.reason != SPLT {
         view.shown = None;
-        leave_unmanaged(setup, view, head.reason, now);
+        given_back(setup, view, head.reason, now);
     }
 }
 
@@ -74,13 +89,13 @@ pub(crate) fn hear(
     requires early { now < 2 ^ 62 }
     requires place { place < setup.now.members }
     requires opened { ForSome view.old.round (λ round. round.opened < 2 ^ 62) }
-    ensures view { view.new ≡ (heard setup.now view.old place head.now part.now now head.now.cmd).view }
-    ensures deed { result ≡ (heard setup.now view.old place head.now part.now now head.now.cmd).deed }
+    ensures view { view.new ≡ (hear setup.now view.old place head.now part.now now head.now.cmd).view }
+    ensures deed { result ≡ (hear setup.now view.old place head.now part.now now head.now.cmd).deed }
 {
     let elects = head.options == 0;
     match head.cmd {
         Cmd::RVot => {
-            see(view, part.term);
+            with_seen(view, part.term);
             if elects {
                 hear_round(setup, view, RoundKind::Election, head, part, now)
             } else {
@@ -88,7 +103,7 @@ pub(crate) fn hear(
             }
         }
         Cmd::HrtB => {
-            see(view, part.term);
+            with_seen(view, part.term);
             if !elects {
                 hear_round(setup, view, RoundKind::Renewal, head, part, now)
             } else {
@@ -96,7 +111,7 @@ pub(crate) fn hear(
             }
         }
         Cmd::VtFr => {
-            see(view, part.term);
+            with_seen(view, part.term);
             if elects {
                 hear_answer(setup, view, place, head, part, now)
             } else {
@@ -104,7 +119,7 @@ pub(crate) fn hear(
             }
         }
         Cmd::Ack => {
-            see(view, part.term);
+            with_seen(view, part.term);
             if !elects {
                 hear_answer(setup, view, place, head, part, now)
             } else {
@@ -112,16 +127,16 @@ pub(crate) fn hear(
             }
         }
         Cmd::Stat => {
-            learn(setup, view, part, now);
-            Deed::saying(tell_state(setup, view, head, now), Told::Nothing)
+            learned(setup, view, part, now);
+            Deed::saying(tells_state(setup, view, head, now), Told::Nothing)
         }
         Cmd::MIdx | Cmd::Rjc | Cmd::UpdE => {
-            learn(setup, view, part, now);
+            learned(setup, view, part, now);
             Deed::quiet()
         }
         Cmd::Revk => {
-            see(view, part.term);
-            hear_revoke(setup, view, head, part.term, now);
+            with_seen(view, part.term);
+            revoked(setup, view, head, part.term, now);
             Deed::quiet()
         }
         Cmd::CLst

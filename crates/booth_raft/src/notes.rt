@@ -3,9 +3,9 @@ ghost use Rattle.std.specs.Prelude.{◌≡◌, ◌<◌, ◌^◌};
 ghost use Rattle.booth_raft.specs.Notes.{handler_failed, job_limit, job_started, noted};
 ghost use Rattle.booth_raft.specs.Sound.{IsSound};
 
-use crate::asking::fail_acquisition;
+use crate::ask_and_renew::acquisition_failed;
 use crate::deed::Note;
-use crate::moments::own_end;
+use crate::gain_release_lost::own_end;
 use crate::view::{Role, View};
 use booth_wire::Setup;
 
@@ -18,7 +18,7 @@ fn job_limit(setup: &Setup, now: u64) -> u64
     now + setup.times.timeout * (setup.times.retries as u64 + 1)
 }
 
-fn start_job(setup: &Setup, view: &mut View, job: u64, reason: u32, now: u64)
+fn job_started(setup: &Setup, view: &mut View, job: u64, reason: u32, now: u64)
     requires sound { IsSound setup.now }
     requires early { now < 2 ^ 62 }
     ensures { view.new ≡ job_started setup.now view.old job reason now }
@@ -34,7 +34,7 @@ fn start_job(setup: &Setup, view: &mut View, job: u64, reason: u32, now: u64)
     }
 }
 
-fn fail_handler(setup: &Setup, view: &mut View, now: u64)
+fn handler_failed(setup: &Setup, view: &mut View, now: u64)
     requires sound { IsSound setup.now }
     requires early { now < 2 ^ 62 }
     ensures { view.new ≡ handler_failed setup.now view.old now }
@@ -49,17 +49,17 @@ fn fail_handler(setup: &Setup, view: &mut View, now: u64)
 }
 
 // What is noted changes the view.
-pub(crate) fn note(setup: &Setup, view: &mut View, now: u64, note: Note)
+pub(crate) fn noted(setup: &Setup, view: &mut View, now: u64, note: Note)
     requires sound { IsSound setup.now }
     requires early { now < 2 ^ 62 }
     ensures { view.new ≡ noted setup.now view.old now note }
 {
     match note {
         Note::Asked => view.repeat = 0,
-        Note::JobStarted { job, reason } => start_job(setup, view, job, reason, now),
+        Note::JobStarted { job, reason } => job_started(setup, view, job, reason, now),
         Note::JobOver => view.job = None,
-        Note::AskFailed => fail_acquisition(setup, view, now),
-        Note::HandlerFailed => fail_handler(setup, view, now),
+        Note::AskFailed => acquisition_failed(setup, view, now),
+        Note::HandlerFailed => handler_failed(setup, view, now),
         Note::Unready => view.due = Some(now + setup.times.renewal),
     }
 }

@@ -1,18 +1,20 @@
 //! The rules ask and renew, and what the answer of a keep leads to.
 ghost use Rattle.std.specs.Prelude.{◌≡◌, ◌<◌, ◌^◌, max};
-ghost use Rattle.booth_raft.specs.AskAndRenew.{acquisition_failed, answers_itself, are_terms_spent, ask, ask_answered, ask_failed, asking_all, keep_answered, needs_term, new_round, opened, own_answer, promised_itself, renewed, renewed_by_term, runs_out};
+ghost use Rattle.booth_raft.specs.AskAndRenew.{acquisition_failed, answers_itself, are_terms_spent, ask, finish_ask, fail_ask, asked_all, finish, needs_term, new_round, begin_round, own_answer, promised_itself, renew, renew_by_term, runs_out};
 ghost use Rattle.booth_raft.specs.Sound.{IsSound};
 
 use crate::deed::{Deed, Told};
-use crate::leases::{gain_is_answered, keep, release_is_answered, round_end_is_answered, win};
+use crate::gain_release_lost::{
+    due_by_rank, finish_gain, finish_release, finish_round_end, gain, own_end, retry_at,
+};
 use crate::members::{is_majority, is_promised_elsewhere};
-use crate::messages::ask_all;
-use crate::moments::{due_by_rank, own_end, retry_at};
+use crate::messages::asks_all;
+use crate::outcome::keeping;
 use crate::view::{LAST_NUMBER, LAST_TERM, MOST_MEMBERS, Promise, Role, Round, Rule, View};
 use booth_base::promise_ms;
 use booth_rec::Record;
+use booth_wire::Setup;
 use booth_wire::reasons::RACQ;
-use booth_wire::{Say, Setup};
 
 /// No further term is asked for: the greater of `term` and `seen` is at least `LAST_TERM`.
 pub fn are_terms_spent(view: &View) -> bool
@@ -35,11 +37,11 @@ pub(crate) fn ask(view: &mut View, reason: u32, now: u64) -> Deed
     view.bound = None;
     view.reason = reason;
     let tried = Record::plain(term, view.kept.lease);
-    keep(view, Rule::Ask { reason }, tried, now)
+    keeping(view, Rule::Ask { reason }, tried, now)
 }
 
 // An acquisition fails.
-pub(crate) fn fail_acquisition(setup: &Setup, view: &mut View, now: u64)
+pub(crate) fn acquisition_failed(setup: &Setup, view: &mut View, now: u64)
     requires sound { IsSound setup.now }
     requires early { now < 2 ^ 62 }
     ensures { view.new ≡ acquisition_failed setup.now view.old now }
@@ -56,7 +58,7 @@ fn answers_itself(setup: &Setup, view: &View, now: u64) -> bool
     now >= view.abstain && !is_promised_elsewhere(view.promise, setup.me, now)
 }
 
-fn promise_itself(setup: &Setup, view: &mut View, now: u64)
+fn promised_itself(setup: &Setup, view: &mut View, now: u64)
     requires sound { IsSound setup.now }
     requires early { now < 2 ^ 62 }
     ensures { view.new ≡ promised_itself setup.now view.old now }
@@ -95,10 +97,10 @@ fn new_round(setup: &Setup, view: &View, number: u32, now: u64) -> Round
 }
 
 // While its round is open a leader stays one, and another is a candidate.
-fn await_answers(setup: &Setup, view: &mut View, now: u64)
+fn asked_all(setup: &Setup, view: &mut View, now: u64)
     requires sound { IsSound setup.now }
     requires early { now < 2 ^ 62 }
-    ensures { view.new ≡ asking_all setup.now view.old now }
+    ensures { view.new ≡ asked_all setup.now view.old now }
 {
     if view.role == Role::Leader {
         view.due = Some(retry_at(setup, view, now));
@@ -109,20 +111,20 @@ fn await_answers(setup: &Setup, view: &mut View, now: u64)
 }
 
 // A round is opened, with the own answer.
-fn open_round(setup: &Setup, view: &mut View, number: u32, now: u64) -> Deed
+fn begin_round(setup: &Setup, view: &mut View, number: u32, now: u64) -> Deed
     requires sound { IsSound setup.now }
     requires early { now < 2 ^ 62 }
-    ensures view { view.new ≡ (opened setup.now view.old number now).view }
-    ensures deed { result ≡ (opened setup.now view.old number now).deed }
+    ensures view { view.new ≡ (begin_round setup.now view.old number now).view }
+    ensures deed { result ≡ (begin_round setup.now view.old number now).deed }
 {
     let round = new_round(setup, view, number, now);
-    promise_itself(setup, view, now);
+    promised_itself(setup, view, now);
     view.round = Some(round);
     if is_majority(setup, &round.answers) {
-        return win(setup, view, round, now);
+        return gain(setup, view, round, now);
     }
-    let asked = ask_all(setup, view, number, now);
-    await_answers(setup, view, now);
+    let asked = asks_all(setup, view, number, now);
+    asked_all(setup, view, now);
     Deed::saying(asked, Told::Nothing)
 }
 
@@ -130,24 +132,24 @@ fn open_round(setup: &Setup, view: &mut View, number: u32, now: u64) -> Deed
 fn fail_ask(setup: &Setup, view: &mut View, now: u64) -> Deed
     requires sound { IsSound setup.now }
     requires early { now < 2 ^ 62 }
-    ensures view { view.new ≡ (ask_failed setup.now view.old now).view }
-    ensures deed { result ≡ (ask_failed setup.now view.old now).deed }
+    ensures view { view.new ≡ (fail_ask setup.now view.old now).view }
+    ensures deed { result ≡ (fail_ask setup.now view.old now).deed }
 {
     view.sure = false;
     if view.role == Role::Leader {
         view.due = Some(retry_at(setup, view, now));
         return Deed::quiet();
     }
-    fail_acquisition(setup, view, now);
-    Deed::saying(Say::Nothing, Told::AskFailed)
+    acquisition_failed(setup, view, now);
+    Deed::telling(Told::AskFailed)
 }
 
 // The keep of a new term was answered.
-fn ask_is_answered(setup: &Setup, view: &mut View, tried: Record, now: u64, ok: bool) -> Deed
+fn finish_ask(setup: &Setup, view: &mut View, tried: Record, now: u64, ok: bool) -> Deed
     requires sound { IsSound setup.now }
     requires early { now < 2 ^ 62 }
-    ensures view { view.new ≡ (ask_answered setup.now view.old tried now ok).view }
-    ensures deed { result ≡ (ask_answered setup.now view.old tried now ok).deed }
+    ensures view { view.new ≡ (finish_ask setup.now view.old tried now ok).view }
+    ensures deed { result ≡ (finish_ask setup.now view.old tried now ok).deed }
 {
     if !ok {
         return fail_ask(setup, view, now);
@@ -155,30 +157,30 @@ fn ask_is_answered(setup: &Setup, view: &mut View, tried: Record, now: u64, ok: 
     view.kept = tried;
     view.sure = true;
     view.bound = Some(setup.me);
-    open_round(setup, view, 0, now)
+    begin_round(setup, view, 0, now)
 }
 
 // The keep that waits was answered.
-pub(crate) fn keep_is_answered(setup: &Setup, view: &mut View, now: u64, ok: bool) -> Deed
+pub(crate) fn finish(setup: &Setup, view: &mut View, now: u64, ok: bool) -> Deed
     requires sound { IsSound setup.now }
     requires early { now < 2 ^ 62 }
-    ensures view { view.new ≡ (keep_answered setup.now view.old view.old.waiting now ok).view }
-    ensures deed { result ≡ (keep_answered setup.now view.old view.old.waiting now ok).deed }
+    ensures view { view.new ≡ (finish setup.now view.old now ok).view }
+    ensures deed { result ≡ (finish setup.now view.old now ok).deed }
 {
-    let Some(waiting) = view.waiting else {
+    let Some(waits) = view.waiting else {
         return Deed::quiet();
     };
     view.waiting = None;
-    let tried = waiting.tried;
-    match waiting.rule {
-        Rule::Gain => gain_is_answered(setup, view, now, ok),
-        Rule::Ask { .. } => ask_is_answered(setup, view, tried, now, ok),
-        Rule::Release { reason } => release_is_answered(setup, view, tried, reason, now, ok),
-        Rule::EndRound => round_end_is_answered(setup, view, tried, now, ok),
+    let tried = waits.tried;
+    match waits.rule {
+        Rule::Gain => finish_gain(setup, view, now, ok),
+        Rule::Ask { .. } => finish_ask(setup, view, tried, now, ok),
+        Rule::Release { reason } => finish_release(setup, view, tried, reason, now, ok),
+        Rule::EndRound => finish_round_end(setup, view, tried, now, ok),
     }
 }
 
-fn run_out(view: &mut View) -> Deed
+fn runs_out(view: &mut View) -> Deed
     ensures view { view.new ≡ (runs_out view.old).view }
     ensures deed { result ≡ (runs_out view.old).deed }
 {
@@ -187,11 +189,11 @@ fn run_out(view: &mut View) -> Deed
 }
 
 fn renew_by_term(view: &mut View, now: u64) -> Deed
-    ensures view { view.new ≡ (renewed_by_term view.old now).view }
-    ensures deed { result ≡ (renewed_by_term view.old now).deed }
+    ensures view { view.new ≡ (renew_by_term view.old now).view }
+    ensures deed { result ≡ (renew_by_term view.old now).deed }
 {
     if are_terms_spent(view) {
-        return run_out(view);
+        return runs_out(view);
     }
     ask(view, RACQ, now)
 }
@@ -206,8 +208,8 @@ fn needs_term(setup: &Setup, view: &View) -> bool
 pub(crate) fn renew(setup: &Setup, view: &mut View, now: u64) -> Deed
     requires sound { IsSound setup.now }
     requires early { now < 2 ^ 62 }
-    ensures view { view.new ≡ (renewed setup.now view.old view.old.round now).view }
-    ensures deed { result ≡ (renewed setup.now view.old view.old.round now).deed }
+    ensures view { view.new ≡ (renew setup.now view.old now).view }
+    ensures deed { result ≡ (renew setup.now view.old now).deed }
 {
     let Some(round) = view.round else {
         return renew_by_term(view, now);
@@ -216,7 +218,7 @@ pub(crate) fn renew(setup: &Setup, view: &mut View, now: u64) -> Deed
         return renew_by_term(view, now);
     }
     if round.number == LAST_NUMBER {
-        return run_out(view);
+        return runs_out(view);
     }
-    open_round(setup, view, round.number + 1, now)
+    begin_round(setup, view, round.number + 1, now)
 }

@@ -1,34 +1,56 @@
 //! The rules gain, release and lost: the first part of each, which asks for a keep, and what its answer leads to.
 ghost use Rattle.std.specs.Prelude.{◌≡◌, ◌<◌, ◌^◌};
-ghost use Rattle.booth_raft.specs.GainReleaseLost.{free_record, gained, gain, gain_answered, let_go, lost, release, release_answered, released, retry_release_at, round_end_answered, round_ends, unreleased, without_own};
-ghost use Rattle.booth_raft.specs.Outcome.{keeping};
+ghost use Rattle.booth_rec.specs.Record.{lease_end};
+ghost use Rattle.booth_raft.specs.GainReleaseLost.{due_by_rank, free_record, gained, gain, finish_gain, let_go, lost, own_end, release, finish_release, released, retry_at, retry_release_at, finish_round_end, round_ends, unreleased, without_own};
 ghost use Rattle.booth_raft.specs.Sound.{IsSound};
 
-use crate::deed::{Deed, Told, Want};
-use crate::messages::{revoke, tell_gain};
-use crate::moments::{due_by_rank, retry_at};
-use crate::view::{Promise, Role, Round, Rule, Shown, View, Waiting};
+use crate::deed::{Deed, Told};
+use crate::messages::{revokes, tells_gain};
+use crate::outcome::keeping;
+use crate::view::{Promise, Role, Round, Rule, Shown, View};
 use booth_base::{MemberId, guard_ms};
 use booth_rec::{Lease, Record};
+use booth_wire::Setup;
 use booth_wire::reasons::SPLT;
-use booth_wire::{Say, Setup};
 
-// A rule asks for a keep, and waits for its answer.
-pub(crate) fn keep(view: &mut View, rule: Rule, tried: Record, now: u64) -> Deed
-    ensures view { view.new ≡ (keeping view.old rule tried now).view }
-    ensures deed { result ≡ (keeping view.old rule tried now).deed }
+// Where a lease ends, and 0 where there is none.
+pub(crate) fn lease_end(lease: Option<Lease>) -> u64
+    ensures { result ≡ lease_end lease }
 {
-    view.waiting = Some(Waiting { rule, tried, now });
-    Deed {
-        keep: Some(tried),
-        say: Say::Nothing,
-        want: Want::Nothing,
-        told: Told::Nothing,
+    lease.map_or(0, |l| l.until)
+}
+
+/// Where the lease of the view's record ends, and 0 where it has none.
+pub fn own_end(view: &View) -> u64
+    ensures { result ≡ own_end view.now }
+{
+    lease_end(view.kept.lease)
+}
+
+// A leader tries again a timeout later, but not past its lease.
+pub(crate) fn retry_at(setup: &Setup, view: &View, now: u64) -> u64
+    requires sound { IsSound setup.now }
+    requires early { now < 2 ^ 62 }
+    ensures { result ≡ retry_at setup.now view.now now }
+{
+    (now + setup.times.timeout).min(own_end(view))
+}
+
+// When a site tries again after an acquisition that failed.
+pub(crate) fn due_by_rank(setup: &Setup, view: &View, now: u64) -> Option<u64>
+    requires sound { IsSound setup.now }
+    requires early { now < 2 ^ 62 }
+    ensures { result ≡ due_by_rank setup.now view.now now }
+{
+    if view.managed {
+        Some(now + (setup.rank as u64 + 1) * setup.times.timeout)
+    } else {
+        None
     }
 }
 
 // A round is won: its lease is kept.
-pub(crate) fn win(setup: &Setup, view: &mut View, round: Round, now: u64) -> Deed
+pub(crate) fn gain(setup: &Setup, view: &mut View, round: Round, now: u64) -> Deed
     requires sound { IsSound setup.now }
     requires early { now < 2 ^ 62 }
     requires opened { round.opened < 2 ^ 62 }
@@ -51,20 +73,20 @@ pub(crate) fn win(setup: &Setup, view: &mut View, round: Round, now: u64) -> Dee
         until,
     });
     view.due = Some((now + 1).max(round.opened + setup.times.renewal));
-    keep(view, Rule::Gain, tried, now)
+    keeping(view, Rule::Gain, tried, now)
 }
 
 // The keep of a gain was answered.
-pub(crate) fn gain_is_answered(setup: &Setup, view: &mut View, now: u64, ok: bool) -> Deed
-    ensures view { view.new ≡ (gain_answered setup.now view.old now ok).view }
-    ensures deed { result ≡ (gain_answered setup.now view.old now ok).deed }
+pub(crate) fn finish_gain(setup: &Setup, view: &mut View, now: u64, ok: bool) -> Deed
+    ensures view { view.new ≡ (finish_gain setup.now view.old now ok).view }
+    ensures deed { result ≡ (finish_gain setup.now view.old now ok).deed }
 {
     view.sure = ok;
     let told = Told::Gained { sure: ok };
     if ok {
-        Deed::saying(tell_gain(setup, view, now), told)
+        Deed::saying(tells_gain(setup, view, now), told)
     } else {
-        Deed::saying(Say::Nothing, told)
+        Deed::telling(told)
     }
 }
 
@@ -80,7 +102,7 @@ pub(crate) fn release(view: &mut View, reason: u32, now: u64) -> Deed
     ensures deed { result ≡ (release view.old reason now).deed }
 {
     let free = free_record(view);
-    keep(view, Rule::Release { reason }, free, now)
+    keeping(view, Rule::Release { reason }, free, now)
 }
 
 fn without_own(promise: Option<Promise>, me: MemberId) -> Option<Promise>
@@ -102,7 +124,7 @@ fn let_go(setup: &Setup, view: &mut View, tried: Record)
     view.role = Role::Follower;
 }
 
-fn set_free(setup: &Setup, view: &mut View, tried: Record, reason: u32, now: u64)
+fn released(setup: &Setup, view: &mut View, tried: Record, reason: u32, now: u64)
     requires sound { IsSound setup.now }
     requires early { now < 2 ^ 62 }
     ensures { view.new ≡ released setup.now view.old tried reason now }
@@ -131,7 +153,7 @@ fn retry_release_at(setup: &Setup, view: &View, now: u64) -> u64
     if now < retry { retry } else { now + 1 }
 }
 
-fn stay_held(setup: &Setup, view: &mut View, reason: u32, now: u64)
+fn unreleased(setup: &Setup, view: &mut View, reason: u32, now: u64)
     requires sound { IsSound setup.now }
     requires early { now < 2 ^ 62 }
     ensures { view.new ≡ unreleased setup.now view.old reason now }
@@ -145,7 +167,7 @@ fn stay_held(setup: &Setup, view: &mut View, reason: u32, now: u64)
 }
 
 // The keep of a release was answered.
-pub(crate) fn release_is_answered(
+pub(crate) fn finish_release(
     setup: &Setup,
     view: &mut View,
     tried: Record,
@@ -155,30 +177,30 @@ pub(crate) fn release_is_answered(
 ) -> Deed
     requires sound { IsSound setup.now }
     requires early { now < 2 ^ 62 }
-    ensures view { view.new ≡ (release_answered setup.now view.old tried reason now ok).view }
-    ensures deed { result ≡ (release_answered setup.now view.old tried reason now ok).deed }
+    ensures view { view.new ≡ (finish_release setup.now view.old tried reason now ok).view }
+    ensures deed { result ≡ (finish_release setup.now view.old tried reason now ok).deed }
 {
     if !ok {
-        stay_held(setup, view, reason, now);
-        return Deed::saying(Say::Nothing, Told::ReleaseFailed);
+        unreleased(setup, view, reason, now);
+        return Deed::telling(Told::ReleaseFailed);
     }
-    set_free(setup, view, tried, reason, now);
-    Deed::saying(revoke(setup, view.term, reason), Told::Released)
+    released(setup, view, tried, reason, now);
+    Deed::saying(revokes(setup, view.term, reason), Told::Released)
 }
 
 // A candidate's round ends.
-pub(crate) fn end_round(view: &mut View, now: u64) -> Deed
+pub(crate) fn round_ends(view: &mut View, now: u64) -> Deed
     ensures view { view.new ≡ (round_ends view.old now).view }
     ensures deed { result ≡ (round_ends view.old now).deed }
 {
     view.round = None;
     view.role = Role::Follower;
     let free = free_record(view);
-    keep(view, Rule::EndRound, free, now)
+    keeping(view, Rule::EndRound, free, now)
 }
 
 // The keep of a round's end was answered.
-pub(crate) fn round_end_is_answered(
+pub(crate) fn finish_round_end(
     setup: &Setup,
     view: &mut View,
     tried: Record,
@@ -187,16 +209,16 @@ pub(crate) fn round_end_is_answered(
 ) -> Deed
     requires sound { IsSound setup.now }
     requires early { now < 2 ^ 62 }
-    ensures view { view.new ≡ (round_end_answered setup.now view.old tried now ok).view }
-    ensures deed { result ≡ (round_end_answered setup.now view.old tried now ok).deed }
+    ensures view { view.new ≡ (finish_round_end setup.now view.old tried now ok).view }
+    ensures deed { result ≡ (finish_round_end setup.now view.old tried now ok).deed }
 {
-    let mut deed = release_is_answered(setup, view, tried, SPLT, now, ok);
+    let mut deed = finish_release(setup, view, tried, SPLT, now, ok);
     deed.told = Told::RoundFailed;
     deed
 }
 
 // The lease ran out.
-pub(crate) fn lose(setup: &Setup, view: &mut View, now: u64)
+pub(crate) fn lost(setup: &Setup, view: &mut View, now: u64)
     requires sound { IsSound setup.now }
     requires early { now < 2 ^ 62 }
     ensures { view.new ≡ lost setup.now view.old now }

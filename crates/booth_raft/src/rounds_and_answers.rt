@@ -1,15 +1,14 @@
 //! The rules for a round that is heard and for an answer that is heard.
 ghost use Rattle.std.specs.Prelude.{◌≡◌, ◌<◌, ◌^◌, ◌↔◌, IsTrue};
 ghost use Rattle.std.specs.Option.{ForSome};
-ghost use Rattle.booth_raft.specs.RoundsAndAnswers.{MayAnswer, may_answer, why_refused, promised, stood_down, shows_site, with_site, due_after_answer, with_due, told_by_answer, answering, round_heard, is_answer_to, wins, joined, answer_heard};
+ghost use Rattle.booth_raft.specs.RoundsAndAnswers.{MayAnswer, may_answer, why_refused, promised, stood_down, shows_site, with_site, due_after_answer, with_due, told_by_answer, answered_round, hear_round, is_answer_to, wins, join, hear_answer};
 ghost use Rattle.booth_raft.specs.Sound.{IsSound};
 
 use crate::deed::{Deed, Told};
-use crate::learning::{awaits_failover, show};
-use crate::leases::win;
+use crate::gain_release_lost::gain;
 use crate::members::{is_majority, is_promised_elsewhere};
-use crate::messages::{answer_round, refuse_round};
-use crate::moments::failover_time;
+use crate::messages::{answers_round, refuses_round};
+use crate::start_and_learn::{awaits_failover, failover_time, with_shown};
 use crate::view::{Promise, Role, Round, RoundKind, View};
 use booth_base::{MemberId, promise_ms};
 use booth_wire::results::{BUSY, OUTD, TODT, TVLD};
@@ -41,7 +40,7 @@ fn why_refused(view: &View, site: MemberId, term: u32, now: u64) -> u32
     }
 }
 
-fn promise(setup: &Setup, view: &mut View, site: MemberId, term: u32, now: u64)
+fn promised(setup: &Setup, view: &mut View, site: MemberId, term: u32, now: u64)
     requires sound { IsSound setup.now }
     requires early { now < 2 ^ 62 }
     ensures { view.new ≡ promised setup.now view.old site term now }
@@ -55,8 +54,8 @@ fn promise(setup: &Setup, view: &mut View, site: MemberId, term: u32, now: u64)
     });
 }
 
-fn stand_down(view: &mut View)
-    ensures { view.new ≡ stood_down view.old view.old.role }
+fn stood_down(view: &mut View)
+    ensures { view.new ≡ stood_down view.old }
 {
     match view.role {
         Role::Follower | Role::Working => {}
@@ -77,12 +76,12 @@ fn shows_site(kind: RoundKind, part: &TicketPart) -> bool
     }
 }
 
-fn show_site(view: &mut View, site: MemberId, kind: RoundKind, part: &TicketPart, now: u64)
+fn with_site(view: &mut View, site: MemberId, kind: RoundKind, part: &TicketPart, now: u64)
     requires { now < 2 ^ 62 }
     ensures { view.new ≡ with_site view.old site kind part.now now }
 {
     if shows_site(kind, part) {
-        show(view, site, now + 1000 * part.valid_for as u64);
+        with_shown(view, site, now + 1000 * part.valid_for as u64);
     }
 }
 
@@ -95,11 +94,11 @@ fn due_after_answer(setup: &Setup, view: &View, kind: RoundKind, part: &TicketPa
     if shows_site(kind, part) {
         return failover_time(setup, view);
     }
-    let promised = now + promise_ms(&setup.times) + setup.rank as u64 * setup.times.timeout;
-    view.due.map_or(promised, |due| due.max(promised))
+    let free = now + promise_ms(&setup.times) + setup.rank as u64 * setup.times.timeout;
+    view.due.map_or(free, |due| due.max(free))
 }
 
-fn await_answered(setup: &Setup, view: &mut View, kind: RoundKind, part: &TicketPart, now: u64)
+fn with_due(setup: &Setup, view: &mut View, kind: RoundKind, part: &TicketPart, now: u64)
     requires sound { IsSound setup.now }
     requires early { now < 2 ^ 62 }
     ensures { view.new ≡ with_due setup.now view.old kind part.now now }
@@ -109,7 +108,7 @@ fn await_answered(setup: &Setup, view: &mut View, kind: RoundKind, part: &Ticket
     }
 }
 
-fn answer(
+fn answered_round(
     setup: &Setup,
     view: &mut View,
     site: MemberId,
@@ -119,12 +118,12 @@ fn answer(
 )
     requires sound { IsSound setup.now }
     requires early { now < 2 ^ 62 }
-    ensures { view.new ≡ answering setup.now view.old site kind part.now now }
+    ensures { view.new ≡ answered_round setup.now view.old site kind part.now now }
 {
-    promise(setup, view, site, part.term, now);
-    stand_down(view);
-    show_site(view, site, kind, part, now);
-    await_answered(setup, view, kind, part, now);
+    promised(setup, view, site, part.term, now);
+    stood_down(view);
+    with_site(view, site, kind, part, now);
+    with_due(setup, view, kind, part, now);
 }
 
 fn told_by_answer(role: Role) -> Told
@@ -147,16 +146,16 @@ pub(crate) fn hear_round(
 ) -> Deed
     requires sound { IsSound setup.now }
     requires early { now < 2 ^ 62 }
-    ensures view { view.new ≡ (round_heard setup.now view.old kind head.now part.now now).view }
-    ensures deed { result ≡ (round_heard setup.now view.old kind head.now part.now now).deed }
+    ensures view { view.new ≡ (hear_round setup.now view.old kind head.now part.now now).view }
+    ensures deed { result ≡ (hear_round setup.now view.old kind head.now part.now now).deed }
 {
     if !may_answer(view, head.from, part.term, now) {
         let why = why_refused(view, head.from, part.term, now);
-        return Deed::saying(refuse_round(setup, view, head, why, now), Told::Nothing);
+        return Deed::saying(refuses_round(setup, view, head, why, now), Told::Nothing);
     }
     let told = told_by_answer(view.role);
-    answer(setup, view, head.from, kind, part, now);
-    Deed::saying(answer_round(setup, kind, head, part.term), told)
+    answered_round(setup, view, head.from, kind, part, now);
+    Deed::saying(answers_round(setup, kind, head, part.term), told)
 }
 
 fn is_answer_to(setup: &Setup, round: &Round, head: &Head, part: &TicketPart) -> bool
@@ -178,12 +177,12 @@ fn join(setup: &Setup, view: &mut View, round: Round, now: u64) -> Deed
     requires sound { IsSound setup.now }
     requires early { now < 2 ^ 62 }
     requires opened { round.opened < 2 ^ 62 }
-    ensures view { view.new ≡ (joined setup.now view.old round now).view }
-    ensures deed { result ≡ (joined setup.now view.old round now).deed }
+    ensures view { view.new ≡ (join setup.now view.old round now).view }
+    ensures deed { result ≡ (join setup.now view.old round now).deed }
 {
     view.round = Some(round);
     if wins(setup, &round, now) {
-        return win(setup, view, round, now);
+        return gain(setup, view, round, now);
     }
     Deed::quiet()
 }
@@ -201,8 +200,8 @@ pub(crate) fn hear_answer(
     requires early { now < 2 ^ 62 }
     requires place { place < setup.now.members }
     requires opened { ForSome view.old.round (λ round. round.opened < 2 ^ 62) }
-    ensures view { view.new ≡ (answer_heard setup.now view.old view.old.round place head.now part.now now).view }
-    ensures deed { result ≡ (answer_heard setup.now view.old view.old.round place head.now part.now now).deed }
+    ensures view { view.new ≡ (hear_answer setup.now view.old place head.now part.now now).view }
+    ensures deed { result ≡ (hear_answer setup.now view.old place head.now part.now now).deed }
 {
     let Some(mut round) = view.round else {
         return Deed::quiet();
