@@ -31,13 +31,13 @@ use Rattle.booth_world.specs.Gives.{LeadsTo, mark_of, given_by, may_answered, re
 use Rattle.booth_world.proofs.Lists.{none_is}
 use Rattle.booth_world.proofs.Invariant.{MemberGood, FactsGood}
 use Rattle.booth_world.proofs.Views.{on_cond, agrees_same, rests, kept_of, IsPlaced}
-use Rattle.booth_raft.specs.AskAndRenew.{keep_answered, renewed}
+use Rattle.booth_raft.specs.AskAndRenew.{goes_on, finish, renew}
 use Rattle.booth_raft.specs.Deadlines.{due_now, greeted, hello}
 use Rattle.booth_raft.specs.Facts.{Tries}
 use Rattle.booth_raft.specs.Notes.{noted}
-use Rattle.booth_raft.specs.OtherMessages.{revoked, heard}
-use Rattle.booth_raft.specs.RoundsAndAnswers.{answer_heard}
-use Rattle.booth_raft.specs.StartAndLearn.{seeing, started}
+use Rattle.booth_raft.specs.OtherMessages.{revoked, hear}
+use Rattle.booth_raft.specs.RoundsAndAnswers.{hear_answer}
+use Rattle.booth_raft.specs.StartAndLearn.{with_seen, started}
 use Rattle.booth_world.specs.States.{WorldState, opening, put}
 use Rattle.booth_world.specs.Steps.{WorldStep, MemberDoes, May, IsRun, after_steps, happens, world_of}
 use Rattle.booth_world.specs.MemberRuns.{world_steps}
@@ -50,46 +50,53 @@ use Rattle.booth_world.proofs.GainSteps.{hears_answer}
 use Rattle.booth_world.proofs.KeptSteps.{asks_term, tries_free, goes_on_leads}
 use Rattle.booth_world.proofs.DueSteps.{stays, renews, ticks, notes_it, greets, starts_with}
 
+-- what an answer finishes, by what waits
+abbrev finish_by : Setup → View → Option Waiting → ℕ → Bool → Outcome
+finish_by setup view waits now ok = elim waits [
+  | None ↦ quiet view
+  | Some waits ↦ goes_on setup (record view { waiting = None }) waits.rule waits.tried now ok
+]
+
 module _ (c : Cluster) (id_of : ℕ → MemberId) (now m : ℕ) (ids : IsPlaced c id_of m) (setup : Setup) where
-  seen : (f : Facts) (x : MemberState) (view : View) (part : TicketPart) → view.waiting ≡ None → Agrees c id_of f m view x → Agrees c id_of f m (seeing view part.term) x
+  seen : (f : Facts) (x : MemberState) (view : View) (part : TicketPart) → view.waiting ≡ None → Agrees c id_of f m view x → Agrees c id_of f m (with_seen view part.term) x
   seen f x view part none a =
       agrees_same c id_of f m view _ x
       (record { term = refl; bound = refl; promise = refl; abstain = refl; kept = refl; round = inl refl; role = λ h. h; repeated = λ h. (h, refl); waiting = none }) a
 
   answer : (f : Facts) (x : MemberState) (view : View) (place : ℕ) (head : Head) (part : TicketPart)
       → MemberGood c now f m x → FactsGood c now f → view.waiting ≡ None → Agrees c id_of f m view x → AnswerSaid id_of f place part.leader part.term head.options
-      → LeadsToOutcome c id_of now m f x (answer_heard (seat c id_of m setup) (seeing view part.term) view.round place head part x.reading)
+      → LeadsToOutcome c id_of now m f x (hear_answer (seat c id_of m setup) (with_seen view part.term) place head part x.reading)
   answer f x view place head part good facts none a said =
-      subst (λ (p : ℕ). LeadsToOutcome c id_of now m f x (answer_heard (seat c id_of m setup) (seeing view part.term) view.round p head part x.reading)) said.2
-      (hears_answer c id_of now m ids f x setup (seeing view part.term) view.round head part said.0 good facts none (seen f x view part none a) refl said.1 said.3 said.4 said.5)
+      subst (λ (p : ℕ). LeadsToOutcome c id_of now m f x (hear_answer (seat c id_of m setup) (with_seen view part.term) p head part x.reading)) said.2
+      (hears_answer c id_of now m ids f x setup (with_seen view part.term) head part said.0 good facts none (seen f x view part none a) said.1 said.3 said.4 said.5)
 
   -- what is heard, by its command
   hears : (f : Facts) (x : MemberState) (view : View) (place : ℕ) (head : Head) (part : TicketPart) (cmd : Cmd)
       → MemberGood c now f m x → FactsGood c now f → x.at ≡ now → view.waiting ≡ None → RoundFits view.term view.role view.round → Agrees c id_of f m view x
       → place < c.members → head.from ≡ id_of place → IsFact id_of f place head part cmd
-      → LeadsToOutcome c id_of now m f x (heard (seat c id_of m setup) view place head part x.reading cmd)
+      → LeadsToOutcome c id_of now m f x (hear (seat c id_of m setup) view place head part x.reading cmd)
   hears f x view place head part cmds.RVot good facts timely none fits a within from said =
       on_cond (λ (q : Outcome). LeadsToOutcome c id_of now m f x q) (head.options == 0) _ _
-      (hears_round c id_of now m ids f x setup (seeing view part.term) Election head part said.0 facts timely none fits (seen f x view part none a) said.1 (from ∙ ap id_of (sym said.2)) said.3 said.4)
-      (rests c id_of now m f x (seeing view part.term) _ (seen f x view part none a) tt)
+      (hears_round c id_of now m ids f x setup (with_seen view part.term) Election head part said.0 facts timely none fits (seen f x view part none a) said.1 (from ∙ ap id_of (sym said.2)) said.3 said.4)
+      (rests c id_of now m f x (with_seen view part.term) _ (seen f x view part none a) tt)
   hears f x view place head part cmds.HrtB good facts timely none fits a within from said =
       on_cond (λ (q : Outcome). LeadsToOutcome c id_of now m f x q) (head.options == 0) _ _
-      (rests c id_of now m f x (seeing view part.term) _ (seen f x view part none a) tt)
-      (hears_round c id_of now m ids f x setup (seeing view part.term) Renewal head part said.0 facts timely none fits (seen f x view part none a) said.1 (from ∙ ap id_of (sym said.2)) said.3 said.4)
+      (rests c id_of now m f x (with_seen view part.term) _ (seen f x view part none a) tt)
+      (hears_round c id_of now m ids f x setup (with_seen view part.term) Renewal head part said.0 facts timely none fits (seen f x view part none a) said.1 (from ∙ ap id_of (sym said.2)) said.3 said.4)
   hears f x view place head part cmds.VtFr good facts timely none fits a within from said =
       on_cond (λ (q : Outcome). LeadsToOutcome c id_of now m f x q) (head.options == 0) _ _
       (answer f x view place head part good facts none a said)
-      (rests c id_of now m f x (seeing view part.term) _ (seen f x view part none a) tt)
+      (rests c id_of now m f x (with_seen view part.term) _ (seen f x view part none a) tt)
   hears f x view place head part cmds.Ack good facts timely none fits a within from said =
       on_cond (λ (q : Outcome). LeadsToOutcome c id_of now m f x q) (head.options == 0) _ _
-      (rests c id_of now m f x (seeing view part.term) _ (seen f x view part none a) tt)
+      (rests c id_of now m f x (with_seen view part.term) _ (seen f x view part none a) tt)
       (answer f x view place head part good facts none a said)
   hears f x view place head part cmds.Revk good facts timely none fits a within from said =
-      subst (λ (i : MemberId). LeadsToOutcome c id_of now m f x (quiet (revoked (seat c id_of m setup) (seeing view part.term) i part.term head.reason x.reading)))
+      subst (λ (i : MemberId). LeadsToOutcome c id_of now m f x (quiet (revoked (seat c id_of m setup) (with_seen view part.term) i part.term head.reason x.reading)))
       (sym (from ∙ ap id_of (sym said.2)))
-      (subst (λ (t : ℕ). LeadsToOutcome c id_of now m f x (quiet (revoked (seat c id_of m setup) (seeing view part.term) (id_of (said.0).site) t head.reason x.reading)))
+      (subst (λ (t : ℕ). LeadsToOutcome c id_of now m f x (quiet (revoked (seat c id_of m setup) (with_seen view part.term) (id_of (said.0).site) t head.reason x.reading)))
       said.3
-      (hears_release c id_of now m ids f x setup (seeing view part.term) head.reason said.0 (subst (λ (s : ℕ). s < c.members) (sym said.2) within) none (seen f x view part none a) said.1))
+      (hears_release c id_of now m ids f x setup (with_seen view part.term) head.reason said.0 (subst (λ (s : ℕ). s < c.members) (sym said.2) within) none (seen f x view part none a) said.1))
   hears f x view place head part cmds.Stat good facts timely none fits a within from said =
       stays c id_of now m ids setup f x view _ _ (same_learned (seat c id_of m setup) view part x.reading none) a tt
   hears f x view place head part cmds.MIdx good facts timely none fits a within from said =
@@ -125,19 +132,25 @@ module _ (c : Cluster) (id_of : ℕ → MemberId) (now m : ℕ) (ids : IsPlaced 
   asked_before f x view rules.EndRound q = q
 
   -- the answer of a keep
-  keep_answer : HasClocks c → m < c.members → (f : Facts) (x : MemberState) (view : View) (waits : Option Waiting) (ok : Bool)
-      → MemberGood c now f m x → FactsGood c now f → Agrees c id_of f m view x → view.waiting ≡ waits
-      → ForSome waits (λ w. Tries (seat c id_of m setup) view.term view.kept view.round w.rule w.tried) → 0 < c.times.expire
+  keep_answer : HasClocks c → m < c.members → (f : Facts) (x : MemberState) (view : View) (ok : Bool)
+      → MemberGood c now f m x → FactsGood c now f → Agrees c id_of f m view x
+      → ForSome view.waiting (λ w. Tries (seat c id_of m setup) view.term view.kept view.round w.rule w.tried) → 0 < c.times.expire
       → LeadsTo c id_of (mark_of now m x) f x
-      (given_by (keep_answered (seat c id_of m setup) view waits x.reading ok)
-      (may_answered waits ok (records_in id_of x.may)) (releases_answered (mark_of now m x) waits ok f.releases))
-  keep_answer clocks below f x view None ok good facts a e fits lasts = stays c id_of now m ids setup f x view _ _ (unchanged view e) a tt
-  keep_answer clocks below f x view (Some w) true good facts a e fits lasts =
-      goes_on_leads c id_of now m ids setup clocks below f x (record view { waiting = None }) w.rule w.tried true good facts refl
-      (waits_no_more f x view a) (a.keeping w e) (a.tried w e) (fits w refl) (asked_before f x view w.rule (a.asked w e)) lasts
-  keep_answer clocks below f x view (Some w) false good facts a e fits lasts =
-      goes_on_leads c id_of now m ids setup clocks below f x (record view { waiting = None }) w.rule w.tried false good facts refl
-      (waits_no_more f x view a) (a.keeping w e) (a.tried w e) (fits w refl) (asked_before f x view w.rule (a.asked w e)) lasts
+      (given_by (finish (seat c id_of m setup) view x.reading ok)
+      (may_answered view.waiting ok (records_in id_of x.may)) (releases_answered (mark_of now m x) view.waiting ok f.releases))
+  keep_answer clocks below f x view ok good facts a fits lasts = by_waiting view.waiting ok refl
+    where
+      by_waiting : (waits : Option Waiting) (ok : Bool) → view.waiting ≡ waits
+          → LeadsTo c id_of (mark_of now m x) f x
+          (given_by (finish_by (seat c id_of m setup) view waits x.reading ok)
+          (may_answered waits ok (records_in id_of x.may)) (releases_answered (mark_of now m x) waits ok f.releases))
+      by_waiting None ok e = stays c id_of now m ids setup f x view _ _ (unchanged view e) a tt
+      by_waiting (Some w) true e =
+          goes_on_leads c id_of now m ids setup clocks below f x (record view { waiting = None }) w.rule w.tried true good facts refl
+          (waits_no_more f x view a) (a.keeping w e) (a.tried w e) (fits w e) (asked_before f x view w.rule (a.asked w e)) lasts
+      by_waiting (Some w) false e =
+          goes_on_leads c id_of now m ids setup clocks below f x (record view { waiting = None }) w.rule w.tried false good facts refl
+          (waits_no_more f x view a) (a.keeping w e) (a.tried w e) (fits w e) (asked_before f x view w.rule (a.asked w e)) lasts
 
 -- ---- the world
 
@@ -196,7 +209,7 @@ call_steps c clocks w a g i none (Asks reason) may =
     asks_term c a.id_of w.now a.place (placed c w a i) a.setup w.facts (w.member a.place) a.view reason (g.each a.place) i.agrees (at_site c w a i may)
 call_steps c clocks w a g i none (Hears letter) may =
     let x = w.member a.place in
-    subst (λ (s : Setup). GivesOutcome c w a (heard s a.view letter.sender letter.head letter.part x.reading letter.head.cmd)) (sym i.seated)
+    subst (λ (s : Setup). GivesOutcome c w a (hear s a.view letter.sender letter.head letter.part x.reading letter.head.cmd)) (sym i.seated)
     (hears c a.id_of w.now a.place (placed c w a i) a.setup w.facts x a.view letter.sender letter.head letter.part letter.head.cmd (g.each a.place) g.facts may.timely none i.view_facts.round_fits i.agrees may.below may.from may.fact)
 call_steps c clocks w a g i none Greets may =
     let x = w.member a.place in
@@ -204,16 +217,16 @@ call_steps c clocks w a g i none Greets may =
     (greets c a.id_of w.now a.place (placed c w a i) a.setup w.facts x a.view none i.agrees)
 call_steps c clocks w a g i none MeetsDeadline may =
     let x = w.member a.place in
-    subst (λ (s : Setup). GivesOutcome c w a (due_now s a.view x.reading a.view.role)) (sym i.seated)
-    (ticks c a.id_of w.now a.place (placed c w a i) a.setup w.facts x a.view a.view.role (g.each a.place) none i.agrees refl)
+    subst (λ (s : Setup). GivesOutcome c w a (due_now s a.view x.reading)) (sym i.seated)
+    (ticks c a.id_of w.now a.place (placed c w a i) a.setup w.facts x a.view (g.each a.place) none i.agrees)
 call_steps c clocks w a g i none (MakesNote note) may =
     let x = w.member a.place in
     subst (λ (s : Setup). GivesOutcome c w a (quiet (noted s a.view x.reading note))) (sym i.seated)
     (notes_it c a.id_of w.now a.place (placed c w a i) a.setup w.facts x a.view note none i.agrees)
 call_steps c clocks w a g i none RenewsLease may =
     let x = w.member a.place in
-    subst (λ (s : Setup). GivesOutcome c w a (renewed s a.view a.view.round x.reading)) (sym i.seated)
-    (renews c a.id_of w.now a.place (placed c w a i) a.setup clocks i.below w.facts x a.view a.view.round (g.each a.place) g.facts none i.agrees refl
+    subst (λ (s : Setup). GivesOutcome c w a (renew s a.view x.reading)) (sym i.seated)
+    (renews c a.id_of w.now a.place (placed c w a i) a.setup clocks i.below w.facts x a.view (g.each a.place) g.facts none i.agrees
     (i.agrees.active (or_so (is_candidate a.view.role) (is_leader a.view.role) may)) (lasts c w a i))
 call_steps c clocks w a g i none (GivesBack reason) may =
     tries_free c a.id_of w.now a.place (placed c w a i) a.setup w.facts (w.member a.place) a.view (rules.Release reason) i.agrees (at_site c w a i may) tt
@@ -233,8 +246,8 @@ calls_are_steps = record {
       let w = world_of c steps in
       let g = good_world c clocks steps run in
       let x = w.member a.place in
-      subst (λ (s : Setup). Gives c a.id_of w a.place (given_by (keep_answered s a.view a.view.waiting x.reading ok) (may_answered a.view.waiting ok (records_in a.id_of x.may)) (releases_answered (mark_at w a.place) a.view.waiting ok w.facts.releases))) (sym i.seated)
-      (keep_answer c a.id_of w.now a.place (placed c w a i) a.setup clocks i.below w.facts x a.view a.view.waiting ok (g.each a.place) g.facts i.agrees refl
+      subst (λ (s : Setup). Gives c a.id_of w a.place (given_by (finish s a.view x.reading ok) (may_answered a.view.waiting ok (records_in a.id_of x.may)) (releases_answered (mark_at w a.place) a.view.waiting ok w.facts.releases))) (sym i.seated)
+      (keep_answer c a.id_of w.now a.place (placed c w a i) a.setup clocks i.below w.facts x a.view ok (g.each a.place) g.facts i.agrees
       (subst (λ (s : Setup). ForSome a.view.waiting (λ w. Tries s a.view.term a.view.kept a.view.round w.rule w.tried)) i.seated i.view_facts.tried)
       (lasts c w a i));
 }

@@ -7,10 +7,10 @@ use Rattle.booth_wire.specs.declared.message.Say.{Say}
 use Rattle.booth_wire.specs.declared.message.Say.TheVariants as says
 use Rattle.booth_raft.specs.declared.view.View.{View}
 use Rattle.booth_raft.specs.Facts.{ViewFacts}
-use Rattle.booth_raft.specs.AskAndRenew.{keep_answered}
+use Rattle.booth_raft.specs.AskAndRenew.{finish}
 use Rattle.booth_raft.specs.StartAndLearn.{started}
-use Rattle.booth_raft.proofs.HeardLemmas.{start_facts, heard_good}
-use Rattle.booth_raft.proofs.KeptLemmas.{ask_good, keep_answered_good, release_good, renewed_good}
+use Rattle.booth_raft.proofs.HeardLemmas.{start_facts, hear_good}
+use Rattle.booth_raft.proofs.KeptLemmas.{ask_good, finish_good, release_good, renew_good}
 use Rattle.booth_raft.proofs.DueLemmas.{due_now_good, greeted_facts, noted_facts}
 use Rattle.booth_node.specs.Clock.{Cluster, HasClocks, reads}
 use Rattle.booth_world.specs.Facts.{Has, Round, Answer, Gain, Release, Facts}
@@ -222,11 +222,11 @@ module _ (c : Cluster) (cast : Cast) (clocks : HasClocks c) (is_cast : IsCast c 
       → ViewFacts (cast.setup m) (lease_call (cast.setup m) view now call).view
   call_facts cores m view now (Asks reason) none may small facts = (ask_good (cast.setup m) view reason now).facts
   call_facts cores m view now (Hears letter) none may small facts =
-      (heard_good (cast.setup m) view letter.sender letter.head letter.part now letter.head.cmd none facts).facts
+      (hear_good (cast.setup m) view letter.sender letter.head letter.part now letter.head.cmd none facts).facts
   call_facts cores m view now Greets none may small facts = greeted_facts (cast.setup m) view facts
-  call_facts cores m view now MeetsDeadline none may small facts = (due_now_good (cast.setup m) view now view.role none facts).facts
+  call_facts cores m view now MeetsDeadline none may small facts = (due_now_good (cast.setup m) view now none facts).facts
   call_facts cores m view now (MakesNote note) none may small facts = noted_facts (cast.setup m) view now note none may facts
-  call_facts cores m view now RenewsLease none may small facts = (renewed_good (cast.setup m) view view.round now small none facts).facts
+  call_facts cores m view now RenewsLease none may small facts = (renew_good (cast.setup m) view now small none facts).facts
   call_facts cores m view now (GivesBack reason) none may small facts = (release_good (cast.setup m) view reason now facts.round_fits).facts
 
   -- what the world gives is what the entries count
@@ -251,14 +251,14 @@ module _ (c : Cluster) (cast : Cast) (clocks : HasClocks c) (is_cast : IsCast c 
       let w = world_of c steps in
       let one = i.each m below in
       let gives = calls_are_steps.answer_gives c clocks steps run _ (member_in cores w m view i below e) ok in
-      let by_reading = subst (λ (r : ℕ). Gives c cast.id_of w m (given_by (keep_answered (cast.setup m) view view.waiting r ok) (may_answered view.waiting ok (records_in cast.id_of (w.member m).may)) (releases_answered (record { member = m; reading = r; at = (w.member m).at; now = w.now }) view.waiting ok w.facts.releases))) one.same_reading gives in
-      let by_at = subst (λ (t : ℕ). Gives c cast.id_of w m (given_by (keep_answered (cast.setup m) view view.waiting (cores.place m).reading ok) (may_answered view.waiting ok (records_in cast.id_of (w.member m).may)) (releases_answered (record { member = m; reading = (cores.place m).reading; at = t; now = w.now }) view.waiting ok w.facts.releases))) one.same_at by_reading in
-      let by_now = subst (λ (t : ℕ). Gives c cast.id_of w m (given_by (keep_answered (cast.setup m) view view.waiting (cores.place m).reading ok) (may_answered view.waiting ok (records_in cast.id_of (w.member m).may)) (releases_answered (record { member = m; reading = (cores.place m).reading; at = (cores.place m).at; now = t }) view.waiting ok w.facts.releases))) i.same_now by_at in
-      let by_may = subst (λ (l : List Record). Gives c cast.id_of w m (given_by (keep_answered (cast.setup m) view view.waiting (cores.place m).reading ok) (may_answered view.waiting ok l) (releases_answered (mark_in cores m) view.waiting ok w.facts.releases))) one.same_may by_now in
-      let by_all = subst (λ (l : List Release). Gives c cast.id_of w m (given_by (keep_answered (cast.setup m) view view.waiting (cores.place m).reading ok) (may_answered view.waiting ok (cores.place m).may) (releases_answered (mark_in cores m) view.waiting ok l))) i.same_releases by_may in
+      let by_reading = subst (λ (r : ℕ). Gives c cast.id_of w m (given_by (finish (cast.setup m) view r ok) (may_answered view.waiting ok (records_in cast.id_of (w.member m).may)) (releases_answered (record { member = m; reading = r; at = (w.member m).at; now = w.now }) view.waiting ok w.facts.releases))) one.same_reading gives in
+      let by_at = subst (λ (t : ℕ). Gives c cast.id_of w m (given_by (finish (cast.setup m) view (cores.place m).reading ok) (may_answered view.waiting ok (records_in cast.id_of (w.member m).may)) (releases_answered (record { member = m; reading = (cores.place m).reading; at = t; now = w.now }) view.waiting ok w.facts.releases))) one.same_at by_reading in
+      let by_now = subst (λ (t : ℕ). Gives c cast.id_of w m (given_by (finish (cast.setup m) view (cores.place m).reading ok) (may_answered view.waiting ok (records_in cast.id_of (w.member m).may)) (releases_answered (record { member = m; reading = (cores.place m).reading; at = (cores.place m).at; now = t }) view.waiting ok w.facts.releases))) i.same_now by_at in
+      let by_may = subst (λ (l : List Record). Gives c cast.id_of w m (given_by (finish (cast.setup m) view (cores.place m).reading ok) (may_answered view.waiting ok l) (releases_answered (mark_in cores m) view.waiting ok w.facts.releases))) one.same_may by_now in
+      let by_all = subst (λ (l : List Release). Gives c cast.id_of w m (given_by (finish (cast.setup m) view (cores.place m).reading ok) (may_answered view.waiting ok (cores.place m).may) (releases_answered (mark_in cores m) view.waiting ok l))) i.same_releases by_may in
       given_holds cores steps m _ run i below by_all
-      (keep_answered_good (cast.setup m) view view.waiting (cores.place m).reading ok
-      (subst (λ (r : ℕ). r < 2 ^ 62) one.same_reading (early w m (good_world c clocks steps run) below)) refl (one.view_facts view e)).facts
+      (finish_good (cast.setup m) view (cores.place m).reading ok
+      (subst (λ (r : ℕ). r < 2 ^ 62) one.same_reading (early w m (good_world c clocks steps run) below)) (one.view_facts view e)).facts
 
   -- ---- time, and lives
 

@@ -1,6 +1,6 @@
 -- Renewals, deadlines, notes, starts, and what is heard by command, as steps of the member.
 use Rattle.std.proofs.Common.{◌≡◌, ℕ, ◌+◌, ◌<◌, List, [], ◌∷◌, Bool, true, false, cond, ◌&&◌, ◌||◌, refl, sym, ap, ◌∙◌, inl, inr, arith}
-use Rattle.std.specs.Prelude.{Option, Some, None, not, ◌==◌, nat_lt, nat_le, IsTrue}
+use Rattle.std.specs.Prelude.{Option, Some, None, not, ◌==◌, nat_lt, nat_le, IsTrue, is_some}
 use Rattle.std.proofs.lemmas.Bool.Decides.{nat_tests}
 use Rattle.booth_base.specs.declared.address.MemberId.{MemberId}
 use Rattle.booth_wire.specs.declared.message.Setup.{Setup}
@@ -13,7 +13,7 @@ use Rattle.booth_raft.specs.declared.view.Round.{Round as ViewRound}
 use Rattle.booth_raft.specs.declared.view.Rule.TheVariants as rules
 use Rattle.booth_raft.specs.declared.view.View.{View}
 use Rattle.booth_raft.specs.Members.{is_candidate, is_leader, is_promised_elsewhere}
-use Rattle.booth_raft.specs.Outcome.{Outcome}
+use Rattle.booth_raft.specs.Outcome.{Outcome, quiet}
 use Rattle.booth_node.specs.Clock.{Cluster, HasClocks}
 use Rattle.booth_world.specs.Facts.{Has, Facts}
 use Rattle.booth_world.specs.States.{KeptRecord, MemberState}
@@ -29,13 +29,14 @@ use Rattle.booth_world.proofs.Views.{on_cond, on_test, SameParts, nothing_waits,
 use Rattle.booth_wire.specs.declared.codes.reasons.TheConstants.{RACQ}
 use Rattle.booth_raft.specs.declared.deed.Note.{Note}
 use Rattle.booth_raft.specs.declared.deed.Note.TheVariants as notes
-use Rattle.booth_raft.specs.AskAndRenew.{opened, renewed, renewed_by_term, are_terms_spent, needs_term}
+use Rattle.booth_raft.specs.AskAndRenew.{begin_round, renew, renew_by_term, are_terms_spent, needs_term}
 use Rattle.booth_raft.specs.Deadlines.{is_tried, candidate_due, resends_or_renews, leader_works, leader_due, follower_due, due_now, greeted, hello}
 use Rattle.booth_raft.specs.GainReleaseLost.{own_end, round_ends, without_round}
 use Rattle.booth_raft.specs.Members.{is_some_member}
 use Rattle.booth_raft.specs.Messages.{asks_again, kind_of, round_head, round_part, shown_end}
 use Rattle.booth_raft.specs.Notes.{noted}
 use Rattle.booth_raft.specs.StartAndLearn.{holds_at_start, started}
+use Rattle.booth_raft.proofs.FactsLemmas.{on_option}
 use Rattle.booth_world.proofs.HearSteps.{LeadsToOutcome, untrue, unchanged}
 use Rattle.booth_world.proofs.GainSteps.{first_of}
 use Rattle.booth_world.proofs.OpenSteps.{steps_good, opens_round, round_said}
@@ -44,6 +45,15 @@ use Rattle.booth_world.proofs.KeptSteps.{asks_term, tries_free, bound_to_me}
 bound_true : (b d : Bool) → not b || d ≡ false → b ≡ true
 bound_true true d e = refl
 bound_true false d e = absurd (untrue (sym e))
+
+-- what is due, by a role
+abbrev due_by : Setup → View → ℕ → Role → Outcome
+due_by setup view now role = elim role [
+  | Follower ↦ follower_due setup view now
+  | Working ↦ quiet view
+  | Candidate ↦ candidate_due setup view now
+  | Leader ↦ leader_due setup view now
+]
 
 module _ (c : Cluster) (id_of : ℕ → MemberId) (now m : ℕ) (ids : IsPlaced c id_of m) (setup : Setup) where
   -- a view that differs in parts that the world does not see
@@ -54,7 +64,7 @@ module _ (c : Cluster) (id_of : ℕ → MemberId) (now m : ℕ) (ids : IsPlaced 
   -- ---- renew
 
   renews_by_term : (f : Facts) (x : MemberState) (view : View) → MemberGood c now f m x → view.waiting ≡ None → Agrees c id_of f m view x → c.is_site m ≡ true
-      → LeadsToOutcome c id_of now m f x (renewed_by_term view x.reading)
+      → LeadsToOutcome c id_of now m f x (renew_by_term view x.reading)
   renews_by_term f x view good none a site =
       on_cond (λ (q : Outcome). LeadsToOutcome c id_of now m f x q) (are_terms_spent view) _ _
       (stays f x view _ _ (record { term = refl; bound = refl; promise = refl; abstain = refl; kept = refl; round = inl refl; role = λ h. h; repeated = λ h. (h, refl); waiting = none }) a tt)
@@ -62,7 +72,7 @@ module _ (c : Cluster) (id_of : ℕ → MemberId) (now m : ℕ) (ids : IsPlaced 
 
   opens_next : HasClocks c → m < c.members → (f : Facts) (x : MemberState) (view : View) (round : ViewRound) → MemberGood c now f m x → FactsGood c now f → view.waiting ≡ None
       → Agrees c id_of f m view x → view.round ≡ Some round → x.bound ≡ Some m → 0 < c.times.expire
-      → LeadsToOutcome c id_of now m f x (opened (seat c id_of m setup) view (round.number + 1) x.reading)
+      → LeadsToOutcome c id_of now m f x (begin_round (seat c id_of m setup) view (round.number + 1) x.reading)
   opens_next clocks below f x view round good facts none a open_so to_me lasts =
       leads_on c id_of (mark_of now m x) f x _ steps does f.releases (adds_round (mark_of now m x) f (new_round m x (o.own.number + 1)) (refl, refl, refl))
       (opens_round c id_of now m ids setup clocks below f' x' view (round.number + 1) (new_round m x (o.own.number + 1)) on.0 on.1 none
@@ -102,17 +112,18 @@ module _ (c : Cluster) (id_of : ℕ → MemberId) (now m : ℕ) (ids : IsPlaced 
       on : MemberGood c now f' m x' × FactsGood c now f'
       on = steps_good c clocks now m below f x steps does good facts
 
-  pub renews : HasClocks c → m < c.members → (f : Facts) (x : MemberState) (view : View) (round : Option ViewRound) → MemberGood c now f m x → FactsGood c now f → view.waiting ≡ None
-      → Agrees c id_of f m view x → view.round ≡ round → c.is_site m ≡ true → 0 < c.times.expire
-      → LeadsToOutcome c id_of now m f x (renewed (seat c id_of m setup) view round x.reading)
-  renews clocks below f x view None good facts none a open_so site lasts = renews_by_term f x view good none a site
-  renews clocks below f x view (Some round) good facts none a open_so site lasts =
-      on_test (λ (q : Outcome). LeadsToOutcome c id_of now m f x q) (needs_term (seat c id_of m setup) view) _ _
+  pub renews : HasClocks c → m < c.members → (f : Facts) (x : MemberState) (view : View) → MemberGood c now f m x → FactsGood c now f → view.waiting ≡ None
+      → Agrees c id_of f m view x → c.is_site m ≡ true → 0 < c.times.expire
+      → LeadsToOutcome c id_of now m f x (renew (seat c id_of m setup) view x.reading)
+  renews clocks below f x view good facts none a site lasts =
+      on_option (λ (q : Outcome). LeadsToOutcome c id_of now m f x q) view.round _ _
+      (λ e. renews_by_term f x view good none a site)
+      (λ round open_so. on_test (λ (q : Outcome). LeadsToOutcome c id_of now m f x q) (needs_term (seat c id_of m setup) view) _ _
       (λ test. renews_by_term f x view good none a site)
       (λ test. on_cond (λ (q : Outcome). LeadsToOutcome c id_of now m f x q) (round.number == 4294967295) _ _
       (stays f x view _ _ (record { term = refl; bound = refl; promise = refl; abstain = refl; kept = refl; round = inl refl; role = λ h. h; repeated = λ h. (h, refl); waiting = none }) a tt)
       (opens_next clocks below f x view round good facts none a open_so
-      (bound_to_me c.members id_of ids.apart x.bound m a.within.bound_below ids.below (sym (ap (λ (b : Option MemberId). is_some_member b (id_of m)) a.bound) ∙ bound_true (is_some_member view.bound (id_of m)) (nat_lt view.term view.seen) test)) lasts))
+      (bound_to_me c.members id_of ids.apart x.bound m a.within.bound_below ids.below (sym (ap (λ (b : Option MemberId). is_some_member b (id_of m)) a.bound) ∙ bound_true (is_some_member view.bound (id_of m)) (nat_lt view.term view.seen) test)) lasts)))
 
   -- ---- deadlines
 
@@ -132,39 +143,42 @@ module _ (c : Cluster) (id_of : ℕ → MemberId) (now m : ℕ) (ids : IsPlaced 
       (record { term = refl; bound = refl; promise = refl; abstain = refl; kept = refl; round = inr refl; role = λ h. absurd (untrue h); repeated = λ h. (h, refl); waiting = none }) a)
       site tt
 
-  candidate : (f : Facts) (x : MemberState) (view : View) (round : Option ViewRound) → MemberGood c now f m x → view.waiting ≡ None → Agrees c id_of f m view x → c.is_site m ≡ true → view.round ≡ round
-      → LeadsToOutcome c id_of now m f x (candidate_due (seat c id_of m setup) view round x.reading)
-  candidate f x view None good none a site open_so = ends_round f x view none a site
-  candidate f x view (Some round) good none a site open_so =
-      on_cond (λ (q : Outcome). LeadsToOutcome c id_of now m f x q) (is_tried (seat c id_of m setup) round x.reading) _ _
+  candidate : (f : Facts) (x : MemberState) (view : View) → MemberGood c now f m x → view.waiting ≡ None → Agrees c id_of f m view x → c.is_site m ≡ true
+      → LeadsToOutcome c id_of now m f x (candidate_due (seat c id_of m setup) view x.reading)
+  candidate f x view good none a site =
+      on_option (λ (q : Outcome). LeadsToOutcome c id_of now m f x q) view.round _ _
+      (λ e. ends_round f x view none a site)
+      (λ round open_so. on_cond (λ (q : Outcome). LeadsToOutcome c id_of now m f x q) (is_tried (seat c id_of m setup) round x.reading) _ _
       (stays f x view _ _ (record { term = refl; bound = refl; promise = refl; abstain = refl; kept = refl; round = inl refl; role = λ h. h; repeated = λ h. (h, refl); waiting = none }) a
       (said_again f x view round good a open_so))
-      (ends_round f x view none a site)
+      (ends_round f x view none a site))
 
-  resends : (f : Facts) (x : MemberState) (view : View) (round : Option ViewRound) → MemberGood c now f m x → view.waiting ≡ None → Agrees c id_of f m view x → view.round ≡ round
-      → LeadsToOutcome c id_of now m f x (resends_or_renews (seat c id_of m setup) view round x.reading)
-  resends f x view None good none a open_so = stays f x view _ _ (unchanged view none) a tt
-  resends f x view (Some round) good none a open_so =
-      on_cond (λ (q : Outcome). LeadsToOutcome c id_of now m f x q) (not round.won && is_tried (seat c id_of m setup) round x.reading) _ _
+  resends : (f : Facts) (x : MemberState) (view : View) → MemberGood c now f m x → view.waiting ≡ None → Agrees c id_of f m view x
+      → LeadsToOutcome c id_of now m f x (resends_or_renews (seat c id_of m setup) view x.reading)
+  resends f x view good none a =
+      on_option (λ (q : Outcome). LeadsToOutcome c id_of now m f x q) view.round _ _
+      (λ e. stays f x view _ _ (unchanged view none) a tt)
+      (λ round open_so. on_cond (λ (q : Outcome). LeadsToOutcome c id_of now m f x q) (not round.won && is_tried (seat c id_of m setup) round x.reading) _ _
       (stays f x view _ _ (record { term = refl; bound = refl; promise = refl; abstain = refl; kept = refl; round = inl refl; role = λ h. h; repeated = λ h. (h, refl); waiting = none }) a
       (said_again f x view round good a open_so))
-      (stays f x view _ _ (unchanged view none) a tt)
+      (stays f x view _ _ (unchanged view none) a tt))
 
-  works : (f : Facts) (x : MemberState) (view : View) (job : Option ℕ) → MemberGood c now f m x → view.waiting ≡ None → Agrees c id_of f m view x → c.is_site m ≡ true
-      → LeadsToOutcome c id_of now m f x (leader_works (seat c id_of m setup) view job x.reading)
-  works f x view None good none a site = resends f x view view.round good none a refl
-  works f x view (Some job) good none a site =
-      tries_free c id_of now m ids setup f x (record view { job = None }) (rules.Release LOCF)
+  works : (f : Facts) (x : MemberState) (view : View) → MemberGood c now f m x → view.waiting ≡ None → Agrees c id_of f m view x → c.is_site m ≡ true
+      → LeadsToOutcome c id_of now m f x (leader_works (seat c id_of m setup) view x.reading)
+  works f x view good none a site =
+      on_cond (λ (q : Outcome). LeadsToOutcome c id_of now m f x q) (is_some view.job) _ _
+      (tries_free c id_of now m ids setup f x (record view { job = None }) (rules.Release LOCF)
       (agrees_same c id_of f m view _ x
       (record { term = refl; bound = refl; promise = refl; abstain = refl; kept = refl; round = inl refl; role = λ h. h; repeated = λ h. (h, refl); waiting = none }) a)
-      site tt
+      site tt)
+      (resends f x view good none a)
 
   leader : (f : Facts) (x : MemberState) (view : View) → MemberGood c now f m x → view.waiting ≡ None → Agrees c id_of f m view x → c.is_site m ≡ true
       → LeadsToOutcome c id_of now m f x (leader_due (seat c id_of m setup) view x.reading)
   leader f x view good none a site =
       on_cond (λ (q : Outcome). LeadsToOutcome c id_of now m f x q) (nat_le (own_end view) x.reading) _ _
       (stays f x view _ _ (record { term = refl; bound = refl; promise = refl; abstain = refl; kept = refl; round = inr refl; role = λ h. absurd (untrue h); repeated = λ h. (h, refl); waiting = none }) a tt)
-      (works f x view view.job good none a site)
+      (works f x view good none a site)
 
   follower : (f : Facts) (x : MemberState) (view : View) → view.waiting ≡ None → Agrees c id_of f m view x
       → LeadsToOutcome c id_of now m f x (follower_due (seat c id_of m setup) view x.reading)
@@ -181,12 +195,15 @@ module _ (c : Cluster) (id_of : ℕ → MemberId) (now m : ℕ) (ids : IsPlaced 
       (stays f x view _ _ (record { term = refl; bound = refl; promise = refl; abstain = refl; kept = refl; round = inl refl; role = λ h. h; repeated = λ h. (h, refl); waiting = none }) a tt)))
       (stays f x view _ _ (record { term = refl; bound = refl; promise = refl; abstain = refl; kept = refl; round = inl refl; role = λ h. h; repeated = λ h. (h, refl); waiting = none }) a tt))
 
-  pub ticks : (f : Facts) (x : MemberState) (view : View) (role : Role) → MemberGood c now f m x → view.waiting ≡ None → Agrees c id_of f m view x → view.role ≡ role
-      → LeadsToOutcome c id_of now m f x (due_now (seat c id_of m setup) view x.reading role)
-  ticks f x view Follower good none a e = follower f x view none a
-  ticks f x view Working good none a e = stays f x view _ _ (unchanged view none) a tt
-  ticks f x view Candidate good none a e = candidate f x view view.round good none a (a.active (ap (λ (r : Role). is_candidate r || is_leader r) e)) refl
-  ticks f x view Leader good none a e = leader f x view good none a (a.active (ap (λ (r : Role). is_candidate r || is_leader r) e))
+  pub ticks : (f : Facts) (x : MemberState) (view : View) → MemberGood c now f m x → view.waiting ≡ None → Agrees c id_of f m view x
+      → LeadsToOutcome c id_of now m f x (due_now (seat c id_of m setup) view x.reading)
+  ticks f x view good none a = by_role view.role refl
+    where
+      by_role : (role : Role) → view.role ≡ role → LeadsToOutcome c id_of now m f x (due_by (seat c id_of m setup) view x.reading role)
+      by_role Follower e = follower f x view none a
+      by_role Working e = stays f x view _ _ (unchanged view none) a tt
+      by_role Candidate e = candidate f x view good none a (a.active (ap (λ (r : Role). is_candidate r || is_leader r) e))
+      by_role Leader e = leader f x view good none a (a.active (ap (λ (r : Role). is_candidate r || is_leader r) e))
 
   -- ---- notes
 

@@ -1,6 +1,6 @@
 -- A lease that is gained, and an answer that is heard, as steps of the member.
 use Rattle.std.proofs.Common.{◌≡◌, ℕ, ◌+◌, ◌<◌, [], ◌∷◌, Bool, true, false, ◌&&◌, refl, sym, ◌∙◌, subst, inl, inr, ⊎_elim, arith}
-use Rattle.std.specs.Prelude.{Option, Some, None, not, ◌==◌, slice_index_or}
+use Rattle.std.specs.Prelude.{Some, None, not, ◌==◌, slice_index_or}
 use Rattle.std.proofs.lemmas.Bool.Decides.{nat_tests}
 use Rattle.booth_base.specs.declared.address.MemberId.{MemberId}
 use Rattle.booth_wire.specs.declared.message.Head.{Head}
@@ -21,7 +21,8 @@ use Rattle.booth_world.proofs.Lists.{some_same}
 use Rattle.booth_world.proofs.Invariant.{RoundGood, MemberGood, FactsGood}
 use Rattle.booth_world.proofs.Views.{on_test, nothing_waits, rests, IsPlaced, adds_gain}
 use Rattle.booth_raft.specs.GainReleaseLost.{gain, lease_record}
-use Rattle.booth_raft.specs.RoundsAndAnswers.{is_answer_to, wins, with_answer, joined, answer_heard}
+use Rattle.booth_raft.specs.RoundsAndAnswers.{is_answer_to, wins, with_answer, join, hear_answer}
+use Rattle.booth_raft.proofs.FactsLemmas.{on_option}
 use Rattle.booth_raft.proofs.AnswerLemmas.{is_same-true}
 use Rattle.booth_world.proofs.HearSteps.{LeadsToOutcome}
 use Rattle.booth_world.proofs.Places.{places_from, flag_of, majority_of, set_before}
@@ -117,7 +118,7 @@ module _ (c : Cluster) (id_of : ℕ → MemberId) (now m : ℕ) (ids : IsPlaced 
 
   -- an answer joins, and the lease is gained where the round now wins
   joins_round : (view : View) (round : ViewRound) → MemberGood c now f m x → FactsGood c now f → view.waiting ≡ None → Agrees c id_of f m view x
-      → IsOpen f m round x.round → LeadsToOutcome c id_of now m f x (joined (seat c id_of m setup) view round x.reading)
+      → IsOpen f m round x.round → LeadsToOutcome c id_of now m f x (join (seat c id_of m setup) view round x.reading)
   joins_round view round good facts none a o =
       on_test (λ (q : Outcome). LeadsToOutcome c id_of now m f x q) (wins (seat c id_of m setup) round x.reading) _ _
       (λ test.
@@ -147,18 +148,19 @@ module _ (c : Cluster) (id_of : ℕ → MemberId) (now m : ℕ) (ids : IsPlaced 
       }
 
   -- Answer heard
-  pub hears_answer : (view : View) (round : Option ViewRound) (head : Head) (part : TicketPart) (z : Answer)
-      → MemberGood c now f m x → FactsGood c now f → view.waiting ≡ None → Agrees c id_of f m view x → view.round ≡ round
+  pub hears_answer : (view : View) (head : Head) (part : TicketPart) (z : Answer)
+      → MemberGood c now f m x → FactsGood c now f → view.waiting ≡ None → Agrees c id_of f m view x
       → Has f.answers z → id_of z.round.site ≡ part.leader → z.round.term ≡ part.term → z.round.number ≡ head.options
-      → LeadsToOutcome c id_of now m f x (answer_heard (seat c id_of m setup) view round z.member head part x.reading)
-  hears_answer view None head part z good facts none a open_so fact leader term number = rests c id_of now m f x view _ a tt
-  hears_answer view (Some round) head part z good facts none a open_so fact leader term number =
-      on_test (λ (q : Outcome). LeadsToOutcome c id_of now m f x q) (is_answer_to (seat c id_of m setup) round head part) _ _
-      (λ test. joins_round view (with_answer round z.member) good facts none a (with_it test))
-      (λ test. rests c id_of now m f x view _ a tt)
+      → LeadsToOutcome c id_of now m f x (hear_answer (seat c id_of m setup) view z.member head part x.reading)
+  hears_answer view head part z good facts none a fact leader term number =
+      on_option (λ (q : Outcome). LeadsToOutcome c id_of now m f x q) view.round _ _
+      (λ e. rests c id_of now m f x view _ a tt)
+      (λ round open_so. on_test (λ (q : Outcome). LeadsToOutcome c id_of now m f x q) (is_answer_to (seat c id_of m setup) round head part) _ _
+      (λ test. joins_round view (with_answer round z.member) good facts none a (with_it round open_so test))
+      (λ test. rests c id_of now m f x view _ a tt))
     where
-      with_it : is_answer_to (seat c id_of m setup) round head part ≡ true → IsOpen f m (with_answer round z.member) x.round
-      with_it test =
+      with_it : (round : ViewRound) → view.round ≡ Some round → is_answer_to (seat c id_of m setup) round head part ≡ true → IsOpen f m (with_answer round z.member) x.round
+      with_it round open_so test =
           let o = a.round round open_so in
           let two = first_of (is_same part.leader (id_of m) && (round.term == part.term)) (round.number == head.options) test in
           let same_number : round.number ≡ head.options = let e = second_of (is_same part.leader (id_of m) && (round.term == part.term)) (round.number == head.options) test in grind (arith, nat_tests) in

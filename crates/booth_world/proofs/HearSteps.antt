@@ -1,6 +1,6 @@
 -- A round that is heard, and other messages, as steps of the member.
 use Rattle.std.proofs.Common.{◌≡◌, ℕ, ◌+◌, ◌*◌, ◌<◌, ◌≤◌, [], ◌∷◌, Bool, true, false, cond, ◌&&◌, refl, sym, ap, ◌∙◌, subst, inl, inr, ⊎_elim, arith}
-use Rattle.std.specs.Prelude.{Option, Some, None, not, ◌==◌, nat_lt, nat_le, IsTrue}
+use Rattle.std.specs.Prelude.{Option, Some, None, not, ◌==◌, ◌||◌, nat_lt, nat_le, IsTrue}
 use Rattle.std.specs.Option.{ForSome}
 use Rattle.std.proofs.lemmas.Bool.Decides.{nat_tests}
 use native.Mathlib.Nat.{le_refl}
@@ -11,14 +11,12 @@ use Rattle.booth_wire.specs.declared.message.TicketPart.{TicketPart}
 use Rattle.booth_wire.specs.declared.message.Setup.{Setup}
 use Rattle.booth_wire.specs.declared.codes.reasons.TheConstants.{LOCF, SPLT}
 use Rattle.booth_raft.specs.declared.view.Promise.{Promise as ViewPromise}
-use Rattle.booth_raft.specs.declared.view.Role.{Role}
-use Rattle.booth_raft.specs.declared.view.Role.TheVariants.{Follower, Working, Candidate, Leader}
 use Rattle.booth_raft.specs.declared.view.Round.{Round as ViewRound}
 use Rattle.booth_raft.specs.declared.view.RoundKind.{RoundKind}
 use Rattle.booth_raft.specs.declared.view.RoundKind.TheVariants.{Election, Renewal}
 use Rattle.booth_raft.specs.declared.view.View.{View}
 use Rattle.booth_raft.specs.Facts.{RoundFits}
-use Rattle.booth_raft.specs.Members.{is_follower, is_same}
+use Rattle.booth_raft.specs.Members.{is_candidate, is_leader, is_follower, is_same}
 use Rattle.booth_raft.specs.Outcome.{Outcome, quiet}
 use Rattle.booth_node.specs.Clock.{Cluster}
 use Rattle.booth_world.specs.Facts.{Has, Round, Release, Facts}
@@ -32,13 +30,14 @@ use Rattle.booth_world.specs.Gives.{LeadsTo, mark_of, given_by}
 use Rattle.booth_world.proofs.Lists.{none_is, some_same}
 use Rattle.booth_world.proofs.Invariant.{FactsGood}
 use Rattle.booth_world.proofs.Views.{on_cond, on_test, may_promise, SameParts, nothing_waits, agrees_same, rests, IsPlaced, adds_none, adds_answer, unkept}
-use Rattle.booth_raft.specs.OtherMessages.{is_freed_by, is_owner, freed, unmanaged, revoked}
-use Rattle.booth_raft.specs.RoundsAndAnswers.{may_answer, promised, stood_down, shows_site, with_site, with_due, answering, round_heard}
-use Rattle.booth_raft.specs.StartAndLearn.{seeing, awaits_failover, showing, shows_leader, with_failover, learned}
+use Rattle.booth_raft.specs.OtherMessages.{is_freed_by, is_owner, freed, given_back, revoked}
+use Rattle.booth_raft.specs.RoundsAndAnswers.{may_answer, promised, stood_down, shows_site, with_site, with_due, answered_round, hear_round}
+use Rattle.booth_raft.specs.StartAndLearn.{with_seen, awaits_failover, with_shown, shows_leader, with_failover, learned}
 use Rattle.booth_raft.specs.Messages.{answer_cmd, answers_round, head_of, part_of}
 use Rattle.booth_world.specs.Rounds.{with_answer}
 use Rattle.booth_world.specs.Leases.{clearing}
 use Rattle.booth_raft.specs.RoundsAndAnswers.{MayAnswer}
+use Rattle.booth_raft.proofs.FactsLemmas.{on_active}
 use Rattle.booth_raft.proofs.AnswerLemmas.{tests_may_answer, is_same-true, same-is_same}
 
 pub untrue : false ≡ true → ⊥
@@ -65,8 +64,8 @@ then_same a b c p q = record {
 
 pub same_learned : (setup : Setup) (view : View) (part : TicketPart) (now : ℕ) → view.waiting ≡ None → SameParts view (learned setup view part now)
 same_learned setup view part now none =
-    let shown : View = showing (seeing view part.term) part.leader (now + 1000 * part.valid_for) in
-    on_cond (λ (w : View). SameParts view w) (shows_leader setup view part now) (with_failover setup shown) (seeing view part.term)
+    let shown : View = with_shown (with_seen view part.term) part.leader (now + 1000 * part.valid_for) in
+    on_cond (λ (w : View). SameParts view w) (shows_leader setup view part now) (with_failover setup shown) (with_seen view part.term)
     (on_cond (λ (w : View). SameParts view w) (awaits_failover setup shown) _ shown
     (record { term = refl; bound = refl; promise = refl; abstain = refl; kept = refl; round = inl refl; role = λ h. h; repeated = λ h. (h, refl); waiting = none })
     (record { term = refl; bound = refl; promise = refl; abstain = refl; kept = refl; round = inl refl; role = λ h. h; repeated = λ h. (h, refl); waiting = none }))
@@ -75,25 +74,25 @@ same_learned setup view part now none =
 -- ---- a round is heard
 
 -- who stood down has no round
-stood_down_same : (view : View) (role : Role) → view.waiting ≡ None → SameParts view (stood_down view role)
-stood_down_same view Follower none = unchanged view none
-stood_down_same view Working none = unchanged view none
-stood_down_same view Candidate none = record { term = refl; bound = refl; promise = refl; abstain = refl; kept = refl; round = inr refl; role = λ h. absurd (untrue h); repeated = λ h. (h, refl); waiting = none }
-stood_down_same view Leader none = record { term = refl; bound = refl; promise = refl; abstain = refl; kept = refl; round = inr refl; role = λ h. h; repeated = λ h. (h, refl); waiting = none }
+stood_down_same : (view : View) → view.waiting ≡ None → SameParts view (stood_down view)
+stood_down_same view none =
+    on_active (λ (w : View). SameParts view w) view.role _ _ view
+    (record { term = refl; bound = refl; promise = refl; abstain = refl; kept = refl; round = inr refl; role = λ h. absurd (untrue h); repeated = λ h. (h, refl); waiting = none })
+    (record { term = refl; bound = refl; promise = refl; abstain = refl; kept = refl; round = inr refl; role = λ h. h; repeated = λ h. (h, refl); waiting = none })
+    (λ rests. unchanged view none)
 
 never_active : (o : Option ViewRound) (active : Bool) → active ≡ false → ForSome o (λ r. IsTrue active) → o ≡ None
 never_active None active e fits = refl
 never_active (Some r) active e fits = absurd (untrue (sym e ∙ fits r refl))
 
-no_round_left : (view : View) (role : Role) (term : ℕ) (old : Option ViewRound) → view.round ≡ old → RoundFits term role old → (stood_down view role).round ≡ None
-no_round_left view Follower term old e fits = e ∙ never_active old false refl fits.active
-no_round_left view Working term old e fits = e ∙ never_active old false refl fits.active
-no_round_left view Candidate term old e fits = refl
-no_round_left view Leader term old e fits = refl
+no_round_left : (view : View) → ForSome view.round (λ r. IsTrue (is_candidate view.role || is_leader view.role)) → (stood_down view).round ≡ None
+no_round_left view fits =
+    on_active (λ (w : View). w.round ≡ None) view.role _ _ view refl refl
+    (λ rests. never_active view.round (is_candidate view.role || is_leader view.role) rests fits)
 
 with_site_same : (view : View) (site : MemberId) (kind : RoundKind) (part : TicketPart) (now : ℕ) → view.waiting ≡ None → SameParts view (with_site view site kind part now)
 with_site_same view site kind part now none =
-    on_cond (λ (w : View). SameParts view w) (shows_site kind part) (showing view site (now + 1000 * part.valid_for)) view
+    on_cond (λ (w : View). SameParts view w) (shows_site kind part) (with_shown view site (now + 1000 * part.valid_for)) view
     (record { term = refl; bound = refl; promise = refl; abstain = refl; kept = refl; round = inl refl; role = λ h. h; repeated = λ h. (h, refl); waiting = none }) (unchanged view none)
 
 with_due_same : (setup : Setup) (view : View) (kind : RoundKind) (part : TicketPart) (now : ℕ) → view.waiting ≡ None → SameParts view (with_due setup view kind part now)
@@ -103,13 +102,13 @@ with_due_same setup view kind part now none =
 
 -- the view after an answer, from the one that stood down
 answering_same : (setup : Setup) (view : View) (site : MemberId) (kind : RoundKind) (part : TicketPart) (now : ℕ) → view.waiting ≡ None
-    → SameParts (stood_down (promised setup view site part.term now) view.role) (answering setup view site kind part now)
+    → SameParts (stood_down (promised setup view site part.term now)) (answered_round setup view site kind part now)
 answering_same setup view site kind part now none =
     let bound : View = promised setup view site part.term now in
-    let still : View = stood_down bound view.role in
-    let first = stood_down_same bound view.role none in
+    let still : View = stood_down bound in
+    let first = stood_down_same bound none in
     let second = with_site_same still site kind part now first.waiting in
-    then_same still (with_site still site kind part now) (answering setup view site kind part now) second
+    then_same still (with_site still site kind part now) (answered_round setup view site kind part now) second
     (with_due_same setup (with_site still site kind part now) kind part now second.waiting)
 
 -- an answer that was given is a fact
@@ -160,7 +159,7 @@ module _ (c : Cluster) (id_of : ℕ → MemberId) (now m : ℕ) (ids : IsPlaced 
       → FactsGood c now f → x.at ≡ now → view.waiting ≡ None → RoundFits view.term view.role view.round → Agrees c id_of f m view x
       → Has f.rounds r → head.from ≡ id_of r.site → r.term ≡ part.term → r.number ≡ head.options
       → may_answer view head.from part.term x.reading ≡ true
-      → LeadsTo c id_of (mark_of now m x) f x (unkept id_of (answering (seat c id_of m setup) view head.from kind part x.reading) (answers_round (seat c id_of m setup) kind head part.term) f x)
+      → LeadsTo c id_of (mark_of now m x) f x (unkept id_of (answered_round (seat c id_of m setup) view head.from kind part x.reading) (answers_round (seat c id_of m setup) kind head part.term) f x)
   answers_it view kind head part r good timely none fits a fact from term number test = record {
     steps = Promises r.site part.term ∷ Answers r (new_promise c x r.site part.term) ∷ [];
     run = (
@@ -209,24 +208,24 @@ module _ (c : Cluster) (id_of : ℕ → MemberId) (now m : ℕ) (ids : IsPlaced 
       gone = record bound { round = None }
 
       final : View
-      final = answering (seat c id_of m setup) view head.from kind part x.reading
+      final = answered_round (seat c id_of m setup) view head.from kind part x.reading
 
-      last : SameParts (stood_down bound view.role) final
+      last : SameParts (stood_down bound) final
       last = answering_same (seat c id_of m setup) view head.from kind part x.reading none
 
       s : SameParts bound final
-      s = then_same bound (stood_down bound view.role) final (stood_down_same bound view.role none) last
+      s = then_same bound (stood_down bound) final (stood_down_same bound none) last
 
       none_final : final.round ≡ None
       none_final = ⊎_elim
-          (λ (same : final.round ≡ (stood_down bound view.role).round). same ∙ no_round_left bound view.role view.term view.round refl fits)
+          (λ (same : final.round ≡ (stood_down bound).round). same ∙ no_round_left bound fits.active)
           (λ (none : final.round ≡ None). none)
           last.round
 
   pub hears_round : (view : View) (kind : RoundKind) (head : Head) (part : TicketPart) (r : Round)
       → FactsGood c now f → x.at ≡ now → view.waiting ≡ None → RoundFits view.term view.role view.round → Agrees c id_of f m view x
       → Has f.rounds r → head.from ≡ id_of r.site → r.term ≡ part.term → r.number ≡ head.options
-      → LeadsToOutcome c id_of now m f x (round_heard (seat c id_of m setup) view kind head part x.reading)
+      → LeadsToOutcome c id_of now m f x (hear_round (seat c id_of m setup) view kind head part x.reading)
   hears_round view kind head part r good timely none fits a fact from term number =
       on_test (λ (o : Outcome). LeadsToOutcome c id_of now m f x o) (may_answer view head.from part.term x.reading) _ _
       (λ test. answers_it view kind head part r good timely none fits a fact from term number test)
@@ -274,7 +273,7 @@ module _ (c : Cluster) (id_of : ℕ → MemberId) (now m : ℕ) (ids : IsPlaced 
           freed_promise c.members id_of ids.apart x.promise z.site z.term below a.within.promise_below
           ∙ ap (λ (d : Bool). cond d None (promise_in id_of x.promise)) (sym (ap (λ (o : Option ViewPromise). is_freed_by o (id_of z.site) z.term) a.promise) ∙ test)
 
-  unmanaged_same : (view : View) (reason reading : ℕ) → view.waiting ≡ None → SameParts view (unmanaged (seat c id_of m setup) view reason reading)
+  unmanaged_same : (view : View) (reason reading : ℕ) → view.waiting ≡ None → SameParts view (given_back (seat c id_of m setup) view reason reading)
   unmanaged_same view reason reading none =
       on_cond (λ (w : View). SameParts view w) (reason == LOCF) _ _
       (on_cond (λ (w : View). SameParts view w) (is_follower view.role && c.is_site m) _ view
@@ -290,7 +289,7 @@ module _ (c : Cluster) (id_of : ℕ → MemberId) (now m : ℕ) (ids : IsPlaced 
       let hidden : View = record free { shown = None } in
       let still : free.waiting ≡ None = on_cond (λ (w : View). w.waiting ≡ None) (is_freed_by view.promise site term) _ view none none in
       on_cond (λ (w : View). SameParts free w) (nat_le view.term term && is_owner view.shown site && not (reason == SPLT)) _ _
-      (then_same free hidden (unmanaged (seat c id_of m setup) hidden reason reading)
+      (then_same free hidden (given_back (seat c id_of m setup) hidden reason reading)
       (record { term = refl; bound = refl; promise = refl; abstain = refl; kept = refl; round = inl refl; role = λ h. h; repeated = λ h. (h, refl); waiting = still })
       (unmanaged_same hidden reason reading still))
       (unchanged free still)

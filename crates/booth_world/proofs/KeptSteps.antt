@@ -27,9 +27,9 @@ use Rattle.booth_world.specs.Gives.{LeadsTo, mark_of, given_by, may_answered, re
 use Rattle.booth_world.proofs.Lists.{none_is, some_same}
 use Rattle.booth_world.proofs.Invariant.{MemberGood, FactsGood}
 use Rattle.booth_world.proofs.Views.{on_cond, SameParts, nothing_waits, agrees_same, rests, leads_on, IsPlaced, adds_none, adds_round, adds_release, kept_of}
-use Rattle.booth_raft.specs.AskAndRenew.{opened, ask, next_term, ask_failed, goes_on}
+use Rattle.booth_raft.specs.AskAndRenew.{begin_round, ask, next_term, fail_ask, goes_on}
 use Rattle.booth_raft.specs.Facts.{Tries}
-use Rattle.booth_raft.specs.GainReleaseLost.{gain_answered, release_answered, released, let_go, unreleased, without_own, free_record}
+use Rattle.booth_raft.specs.GainReleaseLost.{finish_gain, finish_release, released, let_go, unreleased, without_own, free_record}
 use Rattle.booth_raft.specs.Members.{is_some_member}
 use Rattle.booth_raft.proofs.AnswerLemmas.{is_same-true}
 use Rattle.booth_world.specs.Leases.{trying, having, releasing}
@@ -179,7 +179,7 @@ module _ (c : Cluster) (id_of : ℕ → MemberId) (now m : ℕ) (ids : IsPlaced 
   -- Gain, its keep done
   gain_kept : (f : Facts) (x : MemberState) (view : View) (z : KeptRecord) → view.waiting ≡ None → Agrees c id_of f m view x → c.is_site m ≡ true → Has x.may z
       → Tries (seat c id_of m setup) view.term view.kept view.round rules.Gain (record_in id_of z)
-      → After f x rules.Gain (record_in id_of z) true (gain_answered (seat c id_of m setup) view x.reading true)
+      → After f x rules.Gain (record_in id_of z) true (finish_gain (seat c id_of m setup) view x.reading true)
   unfolding After
   gain_kept f x view z none a site has fits =
       let won = the_value _ view.round fits.1 in record {
@@ -213,7 +213,7 @@ module _ (c : Cluster) (id_of : ℕ → MemberId) (now m : ℕ) (ids : IsPlaced 
   release_kept : (f : Facts) (x : MemberState) (view : View) (z : KeptRecord) (reason : ℕ) → view.waiting ≡ None → Agrees c id_of f m view x → c.is_site m ≡ true → Has x.may z
       → record_in id_of z ≡ free_record view
       → LeadsTo c id_of (mark_of now m x) f x
-      (given_by (release_answered (seat c id_of m setup) view (record_in id_of z) reason x.reading true)
+      (given_by (finish_release (seat c id_of m setup) view (record_in id_of z) reason x.reading true)
       (record_in id_of z ∷ []) (record { site = m; term = z.term; at = now } ∷ f.releases))
   release_kept f x view z reason none a site has free = record {
     steps = HasKept z ∷ Releases ∷ [];
@@ -290,17 +290,17 @@ module _ (c : Cluster) (id_of : ℕ → MemberId) (now m : ℕ) (ids : IsPlaced 
 
   release_answer : (f : Facts) (x : MemberState) (view : View) (rule : Rule) (z : KeptRecord) (reason : ℕ) (ok : Bool) → Frees rule → view.waiting ≡ None → Agrees c id_of f m view x → c.is_site m ≡ true → Has x.may z
       → record_in id_of z ≡ free_record view
-      → After f x rule (record_in id_of z) ok (release_answered (seat c id_of m setup) view (record_in id_of z) reason x.reading ok)
+      → After f x rule (record_in id_of z) ok (finish_release (seat c id_of m setup) view (record_in id_of z) reason x.reading ok)
   unfolding After Frees
   release_answer f x view rule z reason true frees none a site has free =
-      subst (λ (q : List Release). LeadsTo c id_of (mark_of now m x) f x (given_by (release_answered (seat c id_of m setup) view (record_in id_of z) reason x.reading true) (record_in id_of z ∷ []) q))
+      subst (λ (q : List Release). LeadsTo c id_of (mark_of now m x) f x (given_by (finish_release (seat c id_of m setup) view (record_in id_of z) reason x.reading true) (record_in id_of z ∷ []) q))
       (sym (frees (record { site = m; term = z.term; at = now }) f.releases))
       (release_kept f x view z reason none a site has free)
   release_answer f x view rule z reason false frees none a site has free =
       rests c id_of now m f x _ _ (agrees_same c id_of f m view _ x (unreleased_same view reason x.reading none) a) tt
 
   ask_failed_leads : (f : Facts) (x : MemberState) (view : View) → view.waiting ≡ None → Agrees c id_of f m view x
-      → LeadsToOutcome c id_of now m f x (ask_failed (seat c id_of m setup) view x.reading)
+      → LeadsToOutcome c id_of now m f x (fail_ask (seat c id_of m setup) view x.reading)
   ask_failed_leads f x view none a =
       on_cond (λ (q : Outcome). LeadsToOutcome c id_of now m f x q) (is_leader view.role) _ _
       (rests c id_of now m f x _ _ (agrees_same c id_of f m view _ x
@@ -313,7 +313,7 @@ module _ (c : Cluster) (id_of : ℕ → MemberId) (now m : ℕ) (ids : IsPlaced 
       → Agrees c id_of f m view x → c.is_site m ≡ true → Has x.may z → z.term ≡ view.term
       → view.kept.term < view.term → view.bound ≡ None → 0 < c.times.expire
       → LeadsTo c id_of (mark_of now m x) f x
-      (given_by (opened (seat c id_of m setup) (record view { kept = record_in id_of z; sure = true; bound = Some (id_of m) }) 0 x.reading) (record_in id_of z ∷ []) f.releases)
+      (given_by (begin_round (seat c id_of m setup) (record view { kept = record_in id_of z; sure = true; bound = Some (id_of m) }) 0 x.reading) (record_in id_of z ∷ []) f.releases)
   ask_kept clocks below f x view z good facts none a site has own newer unbound lasts =
       leads_on c id_of (mark_of now m x) f x _ steps does f.releases (adds_round (mark_of now m x) f (new_round m x 0) (refl, refl, refl))
       (opens_round c id_of now m ids setup clocks below f' x' (record view { kept = record_in id_of z; sure = true; bound = Some (id_of m) }) 0 (new_round m (having x z) 0) on.0 on.1 none

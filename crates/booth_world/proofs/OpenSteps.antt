@@ -29,7 +29,7 @@ use Rattle.booth_world.specs.Gives.{mark_of}
 use Rattle.booth_world.proofs.Lists.{none_is, some_same}
 use Rattle.booth_world.proofs.Invariant.{RoundGood, MemberGood, FactsGood}
 use Rattle.booth_world.proofs.Views.{on_cond, on_test, SameParts, nothing_waits, agrees_same, rests, leads_on, IsPlaced, adds_answer}
-use Rattle.booth_raft.specs.AskAndRenew.{answers_itself, asking_all, opened}
+use Rattle.booth_raft.specs.AskAndRenew.{answers_itself, asked_all, begin_round}
 use Rattle.booth_raft.specs.GainReleaseLost.{gain}
 use Rattle.booth_raft.specs.Messages.{asks_all, round_cmd, kind_of, round_head, round_part}
 use Rattle.booth_raft.specs.declared.deed.Told.TheVariants as tells
@@ -89,7 +89,7 @@ module _ (c : Cluster) (id_of : ℕ → MemberId) (now m : ℕ) (ids : IsPlaced 
   asks_or_gains : (f : Facts) (x : MemberState) (view : View) (round : ViewRound) (number : ℕ) → MemberGood c now f m x → FactsGood c now f → view.waiting ≡ None
       → Agrees c id_of f m view x → IsOpen f m round x.round → round.number ≡ number → round.opened ≡ x.reading → 0 < c.times.expire
       → LeadsToOutcome c id_of now m f x
-      (cond (is_majority (seat c id_of m setup) round.answers) (gain (seat c id_of m setup) view round x.reading) (saying (asking_all (seat c id_of m setup) view x.reading) (asks_all (seat c id_of m setup) view number x.reading) tells.Nothing))
+      (cond (is_majority (seat c id_of m setup) round.answers) (gain (seat c id_of m setup) view round x.reading) (saying (asked_all (seat c id_of m setup) view x.reading) (asks_all (seat c id_of m setup) view number x.reading) tells.Nothing))
   asks_or_gains f x view round number good facts none a o same_number now_opened lasts =
       on_test (λ (q : Outcome). LeadsToOutcome c id_of now m f x q) (is_majority (seat c id_of m setup) round.answers) _ _
       (λ most. gains_lease c id_of now m ids f x setup view round good facts a o most (omega (arith, now_opened, lasts)))
@@ -123,7 +123,7 @@ module _ (c : Cluster) (id_of : ℕ → MemberId) (now m : ℕ) (ids : IsPlaced 
         repeated = a.repeated;
       }
 
-      asking : SameParts at_site (asking_all (seat c id_of m setup) view x.reading)
+      asking : SameParts at_site (asked_all (seat c id_of m setup) view x.reading)
       asking =
           on_cond (λ (w : View). SameParts at_site w) (is_leader view.role) _ _
           (record { term = refl; bound = refl; promise = refl; abstain = refl; kept = refl; round = inl refl; role = λ h. refl; repeated = λ h. (h, refl); waiting = none })
@@ -153,7 +153,7 @@ module _ (c : Cluster) (id_of : ℕ → MemberId) (now m : ℕ) (ids : IsPlaced 
       → IsNew f m x number own → x.bound ≡ Some m → 0 < c.times.expire
       → (b ≡ true → (x.abstain ≤ x.reading) × ForSome x.promise (λ p. p.to ≢ m → p.until ≤ x.reading))
       → LeadsToOutcome c id_of now m f x
-      (cond (is_majority (seat c id_of m setup) (cond b (joined_by nobody m) nobody)) (gain (seat c id_of m setup) (view_by view number x.reading b) (round_by view.term number x.reading b) x.reading) (saying (asking_all (seat c id_of m setup) (view_by view number x.reading b) x.reading) (asks_all (seat c id_of m setup) (view_by view number x.reading b) number x.reading) tells.Nothing))
+      (cond (is_majority (seat c id_of m setup) (cond b (joined_by nobody m) nobody)) (gain (seat c id_of m setup) (view_by view number x.reading b) (round_by view.term number x.reading b) x.reading) (saying (asked_all (seat c id_of m setup) (view_by view number x.reading b) x.reading) (asks_all (seat c id_of m setup) (view_by view number x.reading b) number x.reading) tells.Nothing))
   unfolding round_by view_by
   opened_by clocks below f x view number own false good facts none a n to_me lasts may =
       asks_or_gains f x (view_by view number x.reading false) (round_by view.term number x.reading false) number good facts none
@@ -259,7 +259,7 @@ module _ (c : Cluster) (id_of : ℕ → MemberId) (now m : ℕ) (ids : IsPlaced 
   pub opens_round : HasClocks c → m < c.members → (f : Facts) (x : MemberState) (view : View) (number : ℕ) (own : Round)
       → MemberGood c now f m x → FactsGood c now f → view.waiting ≡ None → Agrees c id_of f m (record view { round = None }) x
       → IsNew f m x number own → x.bound ≡ Some m → 0 < c.times.expire
-      → LeadsToOutcome c id_of now m f x (opened (seat c id_of m setup) view number x.reading)
+      → LeadsToOutcome c id_of now m f x (begin_round (seat c id_of m setup) view number x.reading)
   unfolding round_by view_by
   opens_round clocks below f x view number own good facts none a n to_me lasts =
       opened_by clocks below f x view number own (answers_itself (seat c id_of m setup) view x.reading) good facts none a n to_me lasts

@@ -13,11 +13,12 @@ use Rattle.booth_raft.specs.declared.view.Rule.{Rule}
 use Rattle.booth_raft.specs.declared.view.Rule.TheVariants as rules
 use Rattle.booth_raft.specs.declared.view.View.{View}
 use Rattle.booth_raft.specs.declared.view.Waiting.{Waiting}
-use Rattle.booth_raft.specs.AskAndRenew.{keep_answered, goes_on, opened, asking_all, promised_itself, answers_itself, own_answer, new_round, with_round}
+use Rattle.booth_raft.specs.AskAndRenew.{finish, goes_on, begin_round, asked_all, promised_itself, answers_itself, own_answer, new_round, with_round}
 use Rattle.booth_raft.specs.GainReleaseLost.{gain, lease_record, retry_at}
 use Rattle.booth_raft.specs.Members.{is_leader, is_majority}
 use Rattle.booth_raft.specs.Messages.{asks_all}
 use Rattle.booth_raft.specs.Outcome.{Outcome, saying}
+use Rattle.booth_raft.proofs.FactsLemmas.{on_option}
 use Rattle.booth_world.proofs.Lists.{none_is, some_same}
 use Rattle.booth_world.proofs.Views.{on_cond}
 
@@ -27,12 +28,12 @@ IsGainAtMost waiting = ForSome waiting (λ w. w.rule ≡ rules.Gain)
 none_waits : (o : Option Waiting) → o ≡ None → IsGainAtMost o
 none_waits o e w s = absurd (none_is w (sym e ∙ s))
 
-opened_gains : (s : Setup) (view : View) (number now : ℕ) → view.waiting ≡ None → IsGainAtMost (opened s view number now).view.waiting
+opened_gains : (s : Setup) (view : View) (number now : ℕ) → view.waiting ≡ None → IsGainAtMost (begin_round s view number now).view.waiting
 opened_gains s view number now none =
     let open_view = with_round s view number now in
     on_cond (λ (o : Outcome). IsGainAtMost o.view.waiting) (is_majority s (own_answer s view now))
     (gain s open_view (new_round s view number now) now)
-    (saying (asking_all s open_view now) (asks_all s open_view number now) tells.Nothing)
+    (saying (asked_all s open_view now) (asks_all s open_view number now) tells.Nothing)
     (λ w e. ap (λ (w : Waiting). w.rule) (sym (some_same (record { rule = rules.Gain; tried = lease_record s open_view.term (new_round s view number now); now = now }) w e)))
     (on_cond (λ (v : View). IsGainAtMost v.waiting) (is_leader open_view.role)
     (record open_view { due = Some (retry_at s open_view now) })
@@ -59,17 +60,21 @@ answer_gains s view (rules.Release reason) tried now false none =
 answer_gains s view rules.EndRound tried now true none = none_waits view.waiting none
 answer_gains s view rules.EndRound tried now false none = none_waits view.waiting none
 
-pub second_gains : (s : Setup) (view : View) (waiting : Option Waiting) (now : ℕ) (ok : Bool) → view.waiting ≡ waiting → IsGainAtMost (keep_answered s view waiting now ok).view.waiting
-second_gains s view None now ok e = none_waits view.waiting e
-second_gains s view (Some w) now ok e = answer_gains s (record view { waiting = None }) w.rule w.tried now ok refl
+pub second_gains : (s : Setup) (view : View) (now : ℕ) (ok : Bool) → IsGainAtMost (finish s view now ok).view.waiting
+second_gains s view now ok =
+    on_option (λ (o : Outcome). IsGainAtMost o.view.waiting) view.waiting _ _
+    (λ e. none_waits view.waiting e)
+    (λ w e. answer_gains s (record view { waiting = None }) w.rule w.tried now ok refl)
 
-pub third_keeps_nothing : (s : Setup) (view : View) (waiting : Option Waiting) (now : ℕ) (ok : Bool) → IsGainAtMost waiting → (keep_answered s view waiting now ok).deed.keep ≡ None
-third_keeps_nothing s view None now ok gain = refl
-third_keeps_nothing s view (Some w) now ok gain = by_rule w.rule ok (gain w refl)
+pub third_keeps_nothing : (s : Setup) (view : View) (now : ℕ) (ok : Bool) → IsGainAtMost view.waiting → (finish s view now ok).deed.keep ≡ None
+third_keeps_nothing s view now ok gain =
+    on_option (λ (o : Outcome). o.deed.keep ≡ None) view.waiting _ _
+    (λ e. refl)
+    (λ w e. by_rule w w.rule ok (gain w e))
   where
-    by_rule : (rule : Rule) (ok : Bool) → rule ≡ rules.Gain → (goes_on s (record view { waiting = None }) rule w.tried now ok).deed.keep ≡ None
-    by_rule rules.Gain true e = refl
-    by_rule rules.Gain false e = refl
-    by_rule (rules.Ask reason) ok e = absurd (cc)
-    by_rule (rules.Release reason) ok e = absurd (cc)
-    by_rule rules.EndRound ok e = absurd (cc)
+    by_rule : (w : Waiting) (rule : Rule) (ok : Bool) → rule ≡ rules.Gain → (goes_on s (record view { waiting = None }) rule w.tried now ok).deed.keep ≡ None
+    by_rule w rules.Gain true e = refl
+    by_rule w rules.Gain false e = refl
+    by_rule w (rules.Ask reason) ok e = absurd (cc)
+    by_rule w (rules.Release reason) ok e = absurd (cc)
+    by_rule w rules.EndRound ok e = absurd (cc)

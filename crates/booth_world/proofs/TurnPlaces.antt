@@ -8,16 +8,16 @@ use Rattle.booth_wire.specs.declared.message.Say.TheVariants as says
 use Rattle.booth_wire.specs.declared.message.Setup.{Setup}
 use Rattle.booth_raft.specs.declared.view.View.{View}
 use Rattle.booth_raft.specs.declared.view.Waiting.{Waiting}
-use Rattle.booth_raft.specs.AskAndRenew.{keep_answered}
+use Rattle.booth_raft.specs.AskAndRenew.{finish}
 use Rattle.booth_raft.specs.Facts.{ViewFacts, KeepWaits, Leaves}
 use Rattle.booth_raft.specs.Outcome.{Outcome}
 use Rattle.booth_raft.specs.declared.deed.Note.{Note}
 use Rattle.booth_raft.specs.declared.deed.Note.TheVariants as notes
 use Rattle.booth_raft.specs.Members.{is_leader}
 use Rattle.booth_raft.specs.Notes.{noted}
-use Rattle.booth_raft.proofs.KeptLemmas.{ask_good, keep_answered_good, release_good, renewed_good}
+use Rattle.booth_raft.proofs.KeptLemmas.{ask_good, finish_good, release_good, renew_good}
 use Rattle.booth_raft.proofs.DueLemmas.{due_now_good, greeted_facts, noted_facts}
-use Rattle.booth_raft.proofs.HeardLemmas.{heard_good}
+use Rattle.booth_raft.proofs.HeardLemmas.{hear_good}
 use Rattle.booth_node.specs.Clock.{Cluster}
 use Rattle.booth_world.specs.Facts.{Has, Release}
 use Rattle.booth_world.specs.States.{put}
@@ -329,8 +329,8 @@ module _ (c : Cluster) (cast : Cast) (m now : ℕ) where
 
   -- a keep's answer gives the next outcome
   keep_at : m < c.members → now < 2 ^ 62 → (o : Outcome) (cores : Cores) (kept : Record) (f : Outcome → TurnTree) (base : List Record) → IsGiven base o cores → o.deed.keep ≡ Some kept
-      → ((ok : Bool) (cores' : Cores) → IsGiven (may_left (Keeps kept) ok base) (keep_answered (cast.setup m) o.view o.view.waiting now ok) cores'
-      → At (may_left (Keeps kept) ok base) (f (keep_answered (cast.setup m) o.view o.view.waiting now ok)) cores')
+      → ((ok : Bool) (cores' : Cores) → IsGiven (may_left (Keeps kept) ok base) (finish (cast.setup m) o.view now ok) cores'
+      → At (may_left (Keeps kept) ok base) (f (finish (cast.setup m) o.view now ok)) cores')
       → At base (keeps_of (cast.setup m) now (Some kept) o f) cores
   keep_at below small o cores kept f base g is_kept go = (
     g.tried kept is_kept,
@@ -339,7 +339,7 @@ module _ (c : Cluster) (cast : Cast) (m now : ℕ) where
         let shows : (on.place m).view ≡ Some o.view = ap (λ (s : CorePlace). s.view) later.same ∙ g.shows in
         let reading : (on.place m).reading ≡ now = ap (λ (s : CorePlace). s.reading) later.same ∙ g.at_reading in
         let waits = the_value _ o.view.waiting (subst (λ (k : Option Record). KeepWaits k o.view.waiting now) is_kept g.leaves.waits) in
-        let o' = keep_answered (cast.setup m) o.view o.view.waiting now ok in (
+        let o' = finish (cast.setup m) o.view now ok in (
           (
             below,
             subst (λ (v : Option View). IsSomeAnd v (λ view. IsSomeAnd view.waiting (λ waits. waits.tried ≡ kept))) (sym shows)
@@ -352,11 +352,11 @@ module _ (c : Cluster) (cast : Cast) (m now : ℕ) where
             go ok (entered c cast on (HasAnswer m kept ok))
                 (subst (λ (v : Option View). IsGiven (may_left (Keeps kept) ok base) o' (after_answer cast on m ok v)) (sym shows)
                 (given_is (may_left (Keeps kept) ok base) on (answer_given cast on m ok o.view) o' reading
-                (ap (λ (r : ℕ). (keep_answered (cast.setup m) o.view o.view.waiting r ok).view) reading)
-                (ap (λ (r : ℕ). (keep_answered (cast.setup m) o.view o.view.waiting r ok).deed.say) reading)
-                (keep_answered_good (cast.setup m) o.view o.view.waiting now ok small refl g.leaves.facts)
-                (λ k e. tried_in _ _ k (ap (λ (r : ℕ). (keep_answered (cast.setup m) o.view o.view.waiting r ok).deed.keep) reading ∙ e))
-                (subst (λ (r : ℕ). MayMore (may_after (keep_answered (cast.setup m) o.view o.view.waiting r ok).deed.keep (may_answered o.view.waiting ok (on.place m).may)) (may_after o'.deed.keep (may_left (Keeps kept) ok base))) (sym reading)
+                (ap (λ (r : ℕ). (finish (cast.setup m) o.view r ok).view) reading)
+                (ap (λ (r : ℕ). (finish (cast.setup m) o.view r ok).deed.say) reading)
+                (finish_good (cast.setup m) o.view now ok small g.leaves.facts)
+                (λ k e. tried_in _ _ k (ap (λ (r : ℕ). (finish (cast.setup m) o.view r ok).deed.keep) reading ∙ e))
+                (subst (λ (r : ℕ). MayMore (may_after (finish (cast.setup m) o.view r ok).deed.keep (may_answered o.view.waiting ok (on.place m).may)) (may_after o'.deed.keep (may_left (Keeps kept) ok base))) (sym reading)
                 (after_only o'.deed.keep _ _
                 (subst (λ (w : Option Waiting). MayMore (may_answered w ok (on.place m).may) (may_left (Keeps kept) ok base)) (sym waits.1)
                 (only_left base (on.place m).may kept waits.0 ok waits.2.0
@@ -374,14 +374,14 @@ module _ (c : Cluster) (cast : Cast) (m now : ℕ) where
       second base q cores g gain None e = last_at place base q cores g e
       second base q cores g gain (Some kept) e =
           keep_at below small q cores kept (says_last (cast.setup m)) base g e
-          (λ ok on h. last_at place _ _ on h (third_keeps_nothing (cast.setup m) q.view q.view.waiting now ok gain))
+          (λ ok on h. last_at place _ _ on h (third_keeps_nothing (cast.setup m) q.view now ok gain))
 
       first : (keep : Option Record) → o.deed.keep ≡ keep
           → At base (keeps_of (cast.setup m) now keep o (λ o. keeps_of (cast.setup m) now o.deed.keep o (says_last (cast.setup m)))) cores
       first None e = subst (λ (k : Option Record). At base (keeps_of (cast.setup m) now k o (says_last (cast.setup m))) cores) (sym e) (last_at place base o cores g e)
       first (Some kept) e =
           keep_at below small o cores kept (λ o. keeps_of (cast.setup m) now o.deed.keep o (says_last (cast.setup m))) base g e
-          (λ ok on h. second _ _ on h (second_gains (cast.setup m) o.view o.view.waiting now ok refl) _ refl)
+          (λ ok on h. second _ _ on h (second_gains (cast.setup m) o.view now ok) _ refl)
 
   -- ---- a call's tree
 
@@ -426,10 +426,10 @@ module _ (c : Cluster) (cast : Cast) (m now : ℕ) where
   call_leaves small view (Asks reason) none facts may = ask_good (cast.setup m) view reason now
   call_leaves small view (Hears letter) none facts may = absurd may
   call_leaves small view Greets none facts may = record { facts = greeted_facts (cast.setup m) view facts; waits = none }
-  call_leaves small view MeetsDeadline none facts may = due_now_good (cast.setup m) view now view.role none facts
+  call_leaves small view MeetsDeadline none facts may = due_now_good (cast.setup m) view now none facts
   call_leaves small view (MakesNote note) none facts may =
       record { facts = noted_facts (cast.setup m) view now note none may facts; waits = note_waits_not view note none }
-  call_leaves small view RenewsLease none facts may = renewed_good (cast.setup m) view view.round now small none facts
+  call_leaves small view RenewsLease none facts may = renew_good (cast.setup m) view now small none facts
   call_leaves small view (GivesBack reason) none facts may = release_good (cast.setup m) view reason now facts.round_fits
 
   may_alone : (cores : Cores) (view : View) (call : CoreCall) → MayCallAlone (cast.setup m) view call → MayCallCore cast cores m view call
@@ -474,6 +474,6 @@ module _ (c : Cluster) (cast : Cast) (m now : ℕ) where
       soon_on (At base (call_tree (cast.setup m) now view (Hears letter)))
       (At base (next (call_tree (cast.setup m) now view (Hears letter)) (λ left. plan_tree (cast.setup m) now left (plan left)))) cores
       (call_at below small place base view (Hears letter) cores idle only heard
-      (heard_good (cast.setup m) view letter.sender letter.head letter.part now letter.head.cmd idle.at_rest idle.view_facts))
+      (hear_good (cast.setup m) view letter.sender letter.head letter.part now letter.head.cmd idle.at_rest idle.view_facts))
       (λ on h. at_next (λ left. MayPlan (cast.setup m) now left (plan left)) base (call_tree (cast.setup m) now view (Hears letter)) (λ left. plan_tree (cast.setup m) now left (plan left)) on h may
       (λ base left on idle only may. plan_at below small place (plan left) base left on idle only may))

@@ -8,11 +8,11 @@ use Rattle.booth_wire.specs.declared.message.TicketPart.{TicketPart}
 use Rattle.booth_raft.specs.declared.deed.Note.{Note}
 use Rattle.booth_raft.specs.declared.deed.Told.TheVariants as tells
 use Rattle.booth_raft.specs.declared.view.View.{View}
-use Rattle.booth_raft.specs.AskAndRenew.{ask, keep_answered, renewed}
+use Rattle.booth_raft.specs.AskAndRenew.{ask, finish, renew}
 use Rattle.booth_raft.specs.Deadlines.{due_now, greeted, hello}
 use Rattle.booth_raft.specs.GainReleaseLost.{release}
 use Rattle.booth_raft.specs.Notes.{noted}
-use Rattle.booth_raft.specs.OtherMessages.{heard}
+use Rattle.booth_raft.specs.OtherMessages.{hear}
 use Rattle.booth_raft.specs.Outcome.{Outcome, quiet, saying}
 use Rattle.booth_raft.specs.StartAndLearn.{started}
 
@@ -45,16 +45,16 @@ pub record Rules : Type 0 where
 abbrev pub lease_call : Setup → View → ℕ → CoreCall → Outcome
 lease_call setup view now (Asks reason) = ask view reason now
 lease_call setup view now (Hears letter) =
-    heard setup view letter.sender letter.head letter.part now letter.head.cmd
+    hear setup view letter.sender letter.head letter.part now letter.head.cmd
 lease_call setup view now Greets = saying (greeted view) (hello setup view now) tells.Nothing
-lease_call setup view now MeetsDeadline = due_now setup view now view.role
+lease_call setup view now MeetsDeadline = due_now setup view now
 lease_call setup view now (MakesNote note) = quiet (noted setup view now note)
-lease_call setup view now RenewsLease = renewed setup view view.round now
+lease_call setup view now RenewsLease = renew setup view now
 lease_call setup view now (GivesBack reason) = release view reason now
 
 abbrev pub lease_rules : Rules
 lease_rules = record {
   start = started;
   call = lease_call;
-  answer = λ setup view now ok. keep_answered setup view view.waiting now ok;
+  answer = finish;
 }
