@@ -3,7 +3,7 @@ use Rattle.std.proofs.Common.{◌≡◌, ℕ, ◌+◌, ◌*◌, ◌/◌, ◌^◌
 use Rattle.booth_base.specs.declared.address.MemberId.{MemberId}
 use Rattle.booth_conf.specs.Config.{ConfigSays}
 use Rattle.booth_wire.specs.declared.message.Head.{Head}
-use Rattle.booth_wire.specs.Letter.{Letter}
+use Rattle.booth_wire.specs.PlainMessage.{PlainMessage}
 use Rattle.booth_wire.specs.Reading.{decoded}
 use Rattle.booth_auth.specs.Verdict.{lacks_mac, has_wrong_mac, is_too_old, may_come_from, judged, judged_if_read, verdict}
 use Rattle.booth_auth.specs.declared.admission.DropFault.{DropFault}
@@ -14,7 +14,7 @@ use Rattle.booth_auth.proofs.SealLemmas.{sealed_read, seal_is_right}
 
 pub gets_in :
     (config : ConfigSays) (key : Option (List ℕ)) (me : MemberId) (now : ℕ) (bytes : List ℕ)
-    (l : Letter) →
+    (l : PlainMessage) →
     HasNoFault config key me now bytes l → verdict config key me now bytes ≡ Ok l
 gets_in config key me now bytes l h =
     rw (h.read, h.signed, h.right, h.fresh, h.known, h.other, h.ticket, h.leader) refl
@@ -29,21 +29,21 @@ passed false fault rest x h = (refl, h)
 -- what is judged was read
 was_read :
     (config : ConfigSays) (key : Option (List ℕ)) (me : MemberId) (now : ℕ) (bytes : List ℕ)
-    (read : Result Letter FrameFault) (l : Letter) →
+    (read : Result PlainMessage FrameFault) (l : PlainMessage) →
     judged_if_read config key me now bytes read ≡ Ok l →
-    (m : Letter) × (read ≡ Ok m) × (judged config key me now bytes m ≡ Ok l)
+    (m : PlainMessage) × (read ≡ Ok m) × (judged config key me now bytes m ≡ Ok l)
 was_read config key me now bytes (Ok m) l h = (m, refl, h)
 was_read config key me now bytes (Err fault) l h = absurd cc
 
-abbrev ok_again : Letter → Result Letter DropFault
+abbrev ok_again : PlainMessage → Result PlainMessage DropFault
 ok_again m = Ok m
 
-same_letter : (l m : Letter) → ok_again m ≡ Ok l → m ≡ l
+same_letter : (l m : PlainMessage) → ok_again m ≡ Ok l → m ≡ l
 same_letter l m h = cc
 
 no_fault :
     (config : ConfigSays) (key : Option (List ℕ)) (me : MemberId) (now : ℕ) (bytes : List ℕ)
-    (l m : Letter) →
+    (l m : PlainMessage) →
     decoded bytes ≡ Ok m → judged config key me now bytes m ≡ Ok l →
     HasNoFault config key me now bytes l
 no_fault config key me now bytes l m read h =
@@ -68,7 +68,7 @@ no_fault config key me now bytes l m read h =
 
 has_no_fault :
     (config : ConfigSays) (key : Option (List ℕ)) (me : MemberId) (now : ℕ) (bytes : List ℕ)
-    (l : Letter) →
+    (l : PlainMessage) →
     verdict config key me now bytes ≡ Ok l → HasNoFault config key me now bytes l
 has_no_fault config key me now bytes l h =
     let found = was_read config key me now bytes (decoded bytes) l h in
@@ -82,7 +82,7 @@ shows_mac : (key : Option (List ℕ)) (h : Head) → h.auth ≡ is_some key → 
 shows_mac None h keyed = refl
 shows_mac (Some key) h keyed = ap not keyed
 
-mac_is_right : (key : Option (List ℕ)) (l : Letter) → has_wrong_mac key (sealed key l) ≡ false
+mac_is_right : (key : Option (List ℕ)) (l : PlainMessage) → has_wrong_mac key (sealed key l) ≡ false
 mac_is_right None l = refl
 mac_is_right (Some key) l = ap not (seal_is_right key l)
 

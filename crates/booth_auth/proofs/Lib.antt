@@ -2,3 +2,4 @@ pub mod KeyLemmas
 pub mod MacLemmas
 pub mod SealLemmas
 pub mod GateLemmas
+pub mod FaultLemmas

@@ -1,8 +1,9 @@
 pub use Rattle.booth_conf.specs.Config
 pub use Rattle.booth_conf.specs.Lookups
-pub use Rattle.booth_wire.specs.Letter
+pub use Rattle.booth_wire.specs.PlainMessage
 pub use Rattle.booth_wire.specs.Layout
 pub use Rattle.booth_wire.specs.Reading
+pub use Rattle.booth_wire.specs.Faults
 pub use Rattle.booth_wire.specs.Spelling
 pub mod Key
 pub mod Mac

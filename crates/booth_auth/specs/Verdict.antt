@@ -15,7 +15,7 @@ use Rattle.booth_wire.specs.declared.message.Head.{Head}
 use Rattle.booth_wire.specs.declared.message.Message.{Message}
 use Rattle.booth_wire.specs.declared.message.TicketPart.{TicketPart}
 use Rattle.booth_wire.specs.Command.{code_of, direction_of}
-use Rattle.booth_wire.specs.Letter.{Content, Bare, Ticket, Attr, Text, Letter, letter_of}
+use Rattle.booth_wire.specs.PlainMessage.{Content, Ticket, PlainMessage, plain_of}
 use Rattle.booth_wire.specs.Layout.{field_at}
 use Rattle.booth_wire.specs.Reading.{decoded}
 use Rattle.booth_wire.specs.Spelling.{before_auth}
@@ -65,13 +65,9 @@ is_stranger config h = not (may_come_from config (direction_of h.cmd) h.from)
 -- what a member command says of a ticket; a client's command says nothing here
 abbrev pub member_part : Direction → Content → Option TicketPart
 member_part BetweenMembers (Ticket part) = Some part
-member_part BetweenMembers Bare = None
-member_part BetweenMembers (Attr part) = None
-member_part BetweenMembers (Text text) = None
-member_part ToDaemon content = None
-member_part ToClient content = None
+member_part direction content = None
 
-abbrev pub part_of_member : Letter → Option TicketPart
+abbrev pub part_of_member : PlainMessage → Option TicketPart
 part_of_member l = member_part (direction_of l.head.cmd) l.content
 
 abbrev pub names_no_ticket : ConfigSays → Option TicketPart → Bool
@@ -97,7 +93,7 @@ names_no_leader config h (Some part) =
 -- ---- the first fault
 
 -- Each fault under its condition, in the order in which they are told.
-abbrev pub admitted : ConfigSays → MemberId → Letter → Result Letter DropFault
+abbrev pub admitted : ConfigSays → MemberId → PlainMessage → Result PlainMessage DropFault
 admitted config me l =
     if is_stranger config l.head then Err faults.Stranger else
     if l.head.from.0 == me.0 then Err faults.Own else
@@ -105,24 +101,24 @@ admitted config me l =
     if names_no_leader config l.head (part_of_member l) then Err faults.Leader else Ok l
 
 abbrev pub judged :
-    ConfigSays → Option (List ℕ) → MemberId → ℕ → List ℕ → Letter → Result Letter DropFault
+    ConfigSays → Option (List ℕ) → MemberId → ℕ → List ℕ → PlainMessage → Result PlainMessage DropFault
 judged config key me now bytes l =
     if lacks_mac key l.head then Err faults.NoMac else
     if has_wrong_mac key bytes then Err faults.BadMac else
     if is_too_old key config.skew now l.head then Err faults.TooOld else admitted config me l
 
 abbrev pub judged_if_read :
-    ConfigSays → Option (List ℕ) → MemberId → ℕ → List ℕ → Result Letter FrameFault →
-    Result Letter DropFault
+    ConfigSays → Option (List ℕ) → MemberId → ℕ → List ℕ → Result PlainMessage FrameFault →
+    Result PlainMessage DropFault
 judged_if_read config key me now bytes (Err fault) = Err (faults.Frame fault)
 judged_if_read config key me now bytes (Ok l) = judged config key me now bytes l
 
--- what a member that is `me` makes of these bytes, at a reading of its clock in ms: the letter, or the
+-- what a member that is `me` makes of these bytes, at a reading of its clock in ms: the message, or the
 -- first of eight faults
-abbrev pub verdict : ConfigSays → Option (List ℕ) → MemberId → ℕ → List ℕ → Result Letter DropFault
+abbrev pub verdict : ConfigSays → Option (List ℕ) → MemberId → ℕ → List ℕ → Result PlainMessage DropFault
 verdict config key me now bytes = judged_if_read config key me now bytes (decoded bytes)
 
 -- a message or a fault, against a verdict
-abbrev pub Passes : Result Message DropFault → Result Letter DropFault → Type 0
-Passes (Ok m) judged = judged ≡ Ok (letter_of m)
+abbrev pub Passes : Result Message DropFault → Result PlainMessage DropFault → Type 0
+Passes (Ok m) judged = judged ≡ Ok (plain_of m)
 Passes (Err fault) judged = judged ≡ Err fault

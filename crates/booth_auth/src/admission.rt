@@ -3,14 +3,14 @@ ghost use Rattle.std.specs.Prelude.{◌≡◌, ◌≤◌, not, length};
 ghost use Rattle.std.specs.List.{list_any};
 ghost use Rattle.std.specs.Option.{option_copied};
 ghost use Rattle.booth_wire.specs.Command.{direction_of};
-ghost use Rattle.booth_wire.specs.Letter.{letter_of, content_of};
+ghost use Rattle.booth_wire.specs.PlainMessage.{plain_of, content_of};
 ghost use Rattle.booth_auth.specs.Verdict.{lacks_mac, is_mac_right, has_wrong_mac, is_too_old, is_member, is_stranger, member_part, part_of_member, names_no_ticket, is_site_of, may_lead, leads, names_no_leader, admitted, verdict, Passes};
 
 use crate::key::Key;
-use crate::mac::{AUTH_BYTES, ID_BYTES, MAC_BYTES, are_equal, hmac};
+use crate::mac::{ID_BYTES, MAC_BYTES, are_equal, hmac};
 use booth_base::{MemberId, NO_ONE};
 use booth_conf::{Config, Member};
-use booth_wire::{Body, Cmd, Direction, FrameFault, Head, Message, TicketPart, decode};
+use booth_wire::{AUTH_BYTES, Body, Cmd, Direction, FrameFault, Head, Message, TicketPart, decode};
 use thiserror::Error;
 
 /// Why a datagram is dropped. The first that holds is told, in this order.
@@ -79,7 +79,7 @@ fn is_stranger(config: &Config, head: &Head) -> bool
 }
 
 fn part_of_member<'m>(message: &'m Message<'_>) -> Option<&'m TicketPart>
-    ensures { option_copied result ≡ part_of_member (letter_of message.now) }
+    ensures { option_copied result ≡ part_of_member (plain_of message.now) }
 {
     match message.head.cmd.direction() {
         Direction::BetweenMembers => match &message.body {
@@ -93,7 +93,7 @@ fn part_of_member<'m>(message: &'m Message<'_>) -> Option<&'m TicketPart>
 fn is_site_of(id: MemberId, member: &Member) -> bool
     ensures { result ≡ is_site_of id member.now }
 {
-    member.site && member.id.0 == id.0
+    member.site && member.id == id
 }
 
 fn is_site(config: &Config, id: MemberId) -> bool
@@ -105,7 +105,7 @@ fn is_site(config: &Config, id: MemberId) -> bool
 fn may_lead(config: &Config, id: MemberId) -> bool
     ensures { result ≡ may_lead config.now id }
 {
-    id.0 == NO_ONE.0 || is_site(config, id)
+    id == NO_ONE || is_site(config, id)
 }
 
 fn leads(cmd: Cmd) -> bool
@@ -128,7 +128,7 @@ fn names_no_leader(config: &Config, head: &Head, part: Option<&TicketPart>) -> b
 {
     match part {
         Some(part) => {
-            !may_lead(config, part.leader) || leads(head.cmd) && part.leader.0 != head.from.0
+            !may_lead(config, part.leader) || leads(head.cmd) && part.leader != head.from
         }
         None => false,
     }
@@ -139,12 +139,12 @@ fn admitted<'a>(
     me: MemberId,
     message: Message<'a>,
 ) -> Result<Message<'a>, DropFault>
-    ensures { Passes result (admitted config.now me (letter_of message.entry)) }
+    ensures { Passes result (admitted config.now me (plain_of message.entry)) }
 {
     if is_stranger(config, &message.head) {
         return Err(DropFault::Stranger);
     }
-    if message.head.from.0 == me.0 {
+    if message.head.from == me {
         return Err(DropFault::Own);
     }
     if names_no_ticket(config, part_of_member(&message)) {

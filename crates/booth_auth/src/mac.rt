@@ -10,10 +10,6 @@ use sha1::Sha1;
 /// The bytes of a MAC.
 pub const MAC_BYTES: usize = 20;
 
-/// The bytes of a frame's authentication part: the number of the hash, and a hash that begins with the
-/// MAC.
-pub(crate) const AUTH_BYTES: usize = 28;
-
 /// The bytes of the number of the hash.
 pub(crate) const ID_BYTES: usize = 4;
 

@@ -2,14 +2,14 @@
 ghost use Rattle.std.specs.Prelude.{◌≡◌, true, is_some};
 ghost use Rattle.std.specs.Option.{option_copied};
 ghost use Rattle.booth_wire.specs.Command.{kind_of};
-ghost use Rattle.booth_wire.specs.Letter.{letter_of, content_of, kind_in, is_named, has_text};
+ghost use Rattle.booth_wire.specs.PlainMessage.{plain_of, content_of, kind_in, is_named, has_text};
 ghost use Rattle.booth_wire.specs.Spelling.{Fits, before_auth, HasAuth, signed};
 ghost use Rattle.booth_auth.specs.Mac.{mac};
 ghost use Rattle.booth_auth.specs.Sealed.{stamped_head, stamped, hash_of, sealed};
 
 use crate::key::Key;
-use crate::mac::{AUTH_BYTES, HASH_BYTES, MAC_BYTES, hmac};
-use booth_wire::{AttrPart, Body, Frame, Head, Message, TicketPart, encode};
+use crate::mac::{HASH_BYTES, MAC_BYTES, hmac};
+use booth_wire::{AUTH_BYTES, Frame, Head, Message, encode};
 
 // The number of the hash in an authentication part.
 const HASH_ID: u32 = 2;
@@ -25,32 +25,12 @@ fn stamped_head(head: &Head, auth: bool, now: u64) -> Head
     }
 }
 
-fn copied<'a>(body: &Body<'a>) -> Body<'a>
-    ensures { content_of result ≡ content_of body.now }
-{
-    match body {
-        Body::Bare => Body::Bare,
-        Body::Ticket(part) => Body::Ticket(TicketPart {
-            ticket: part.ticket.copy(),
-            leader: part.leader,
-            term: part.term,
-            valid_for: part.valid_for,
-        }),
-        Body::Attr(part) => Body::Attr(AttrPart {
-            ticket: part.ticket.copy(),
-            name: part.name.as_ref().map(|name| name.copy()),
-            value: part.value.copy(),
-        }),
-        Body::Text(text) => Body::Text(text),
-    }
-}
-
 fn stamped<'a>(message: &Message<'a>, key: Option<&Key>, now: u64) -> Message<'a>
-    ensures { letter_of result ≡ stamped (option_copied key.entry) now (letter_of message.now) }
+    ensures { plain_of result ≡ stamped (option_copied key.entry) now (plain_of message.now) }
 {
     Message {
         head: stamped_head(&message.head, key.is_some(), now),
-        body: copied(&message.body),
+        body: message.body.copy(),
     }
 }
 
@@ -81,8 +61,8 @@ pub fn seal(message: &Message<'_>, key: Option<&Key>, now: u64, into: &mut Frame
     requires named { is_named message.now.head.cmd (content_of message.now.body) ≡ true }
     requires text { has_text (content_of message.now.body) ≡ true }
     ensures bytes { into.new ≡ sealed (option_copied key.entry)
-        (stamped (option_copied key.entry) now (letter_of message.now)) }
-    ensures fits { Fits (stamped (option_copied key.entry) now (letter_of message.now)) }
+        (stamped (option_copied key.entry) now (plain_of message.now)) }
+    ensures fits { Fits (stamped (option_copied key.entry) now (plain_of message.now)) }
 {
     let message = stamped(message, key, now);
     encode(&message, into);

@@ -18,13 +18,14 @@ pub struct TextBuf {
 impl Model for TextBuf {
     ghost use Rattle.std.specs.Prelude.{List, ℕ, ◌≤◌, IsTrue, vec_len, vec_capacity};
     ghost use Rattle.std.specs.List.{list_all};
+    ghost use Rattle.booth_base.specs.declared.buffer.TheConstants.{TEXT_BYTES};
     ghost use Rattle.booth_base.specs.Name.{is_line_byte};
 
     ghost Value = { List ℕ };
 
     ghost view = { λ t. t.bytes.items };
 
-    ghost invariant = { λ t. (16384 ≤ vec_capacity t.bytes) × (vec_len t.bytes ≤ 16384) × IsTrue (list_all is_line_byte t.bytes.items) };
+    ghost invariant = { λ t. (TEXT_BYTES ≤ vec_capacity t.bytes) × (vec_len t.bytes ≤ TEXT_BYTES) × IsTrue (list_all is_line_byte t.bytes.items) };
 }
 
 impl TextBuf {
@@ -47,7 +48,7 @@ impl TextBuf {
     /// Appends these bytes, for which there is room.
     #[tactic(auto, using(crate::proofs::TextLemmas::all_of_both))]
     pub fn put(&mut self, more: &[u8])
-        requires room { length self.old + length more.now ≤ 16384 }
+        requires room { length self.old + length more.now ≤ TEXT_BYTES }
         requires form { IsTrue (list_all is_line_byte more.now) }
         ensures { self.new ≡ self.old ++ more.now }
     {
@@ -57,7 +58,7 @@ impl TextBuf {
     /// The bytes of the text.
     pub fn bytes(&self) -> &[u8]
         ensures value { result.now ≡ self.now }
-        ensures short { length result.now ≤ 16384 }
+        ensures short { length result.now ≤ TEXT_BYTES }
         ensures form { IsTrue (list_all is_line_byte result.now) }
     {
         &self.bytes

@@ -1,8 +1,9 @@
 //! Tests of what no clause says: values from standards and from other programs.
 
+use crate::text::PATH_BYTES;
 use crate::{
-    Address, AddressFault, AttrValue, ByteText, MemberId, NO_ONE, Name, NameFault, PathText, Times,
-    ValueFault, guard_ms, promise_ms,
+    Address, AddressFault, AttrValue, ByteText, MemberId, NO_ONE, Name, NameFault, PathFault,
+    PathText, TEXT_BYTES, Times, ValueFault, guard_ms, promise_ms,
 };
 use arrayvec::ArrayVec;
 use std::alloc::AllocError;
@@ -194,11 +195,62 @@ fn texts_keep_their_bytes(rt: HostRuntime) -> Result<(), AllocError> {
         ByteText::new(rt.alloc(), b"list\n")?.bytes(),
         b"list\n".as_slice()
     );
-    let longest = [b'/'; 255];
-    match str::from_utf8(&longest) {
-        Ok(text) => assert!(rt; PathText::read(text).is_ok_and(|path| path.as_str() == text)),
-        Err(_) => assert!(rt; false),
+    Ok(())
+}
+
+#[test]
+fn a_path_has_at_most_255_bytes(rt: HostRuntime) {
+    let bytes = [b'/'; 256];
+    for (len, is_path) in [(0, true), (255, true), (256, false)] {
+        match str::from_utf8(&bytes[..len]) {
+            Ok(text) => assert_eq!(rt; PathText::read(text).is_ok(), is_path, "{len}"),
+            Err(_) => assert!(rt; false),
+        }
     }
+    assert_eq!(rt; (PATH_BYTES, TEXT_BYTES), (255, 16_384));
+}
+
+#[test]
+fn faults_of_names_are_told_in_plain_words(rt: HostRuntime) -> Result<(), AllocError> {
+    for (fault, text) in [
+        (NameFault::Empty, "the name is empty"),
+        (NameFault::TooLong, "the name has more than 63 bytes"),
+        (
+            NameFault::BadByte,
+            "the name has a byte outside 0x21 to 0x7E",
+        ),
+    ] {
+        let shown = format!(in rt.alloc(); "{fault}")?;
+        assert_eq!(rt; shown.as_str(), text);
+    }
+    Ok(())
+}
+
+#[test]
+fn faults_of_values_are_told_in_plain_words(rt: HostRuntime) -> Result<(), AllocError> {
+    for (fault, text) in [
+        (ValueFault::TooLong, "the value has more than 127 bytes"),
+        (
+            ValueFault::BadByte,
+            "the value has a byte outside 0x20 to 0x7E",
+        ),
+    ] {
+        let shown = format!(in rt.alloc(); "{fault}")?;
+        assert_eq!(rt; shown.as_str(), text);
+    }
+    Ok(())
+}
+
+#[test]
+fn faults_of_addresses_and_paths_are_told_in_plain_words(
+    rt: HostRuntime,
+) -> Result<(), AllocError> {
+    let (malformed, too_long) = (AddressFault::Malformed, PathFault::TooLong);
+    let shown = format!(in rt.alloc(); "{malformed}; {too_long}")?;
+    assert_eq!(rt;
+        shown.as_str(),
+        "the text is no IPv4 or IPv6 address; the path has more than 255 bytes"
+    );
     Ok(())
 }
 
@@ -221,6 +273,7 @@ fn guard_and_promise_of_a_ticket(rt: HostRuntime) {
         (10_000, 5_000, 22, 15_022),
         (600_000, 0, 1_203, 601_203),
         (600_000, 60_000, 1_203, 661_203),
+        (10_000_000_000, 10_000_000_000, 20_020_022, 20_020_020_022),
     ];
     for (expire, after, guard, promise) in rows {
         let times = Times {

@@ -1,5 +1,5 @@
 -- Deadlines and notes leave what is true of every view.
-use Rattle.std.proofs.Common.{◌≡◌, ℕ, true, false, ◌||◌, ◌&&◌, Option, Some, None, refl, sym, ◌∙◌}
+use Rattle.std.proofs.Common.{◌≡◌, ℕ, true, false, ◌||◌, ◌&&◌, None, refl, sym, ◌∙◌}
 use Rattle.std.specs.Prelude.{nat_lt, nat_le, not, is_some}
 use Rattle.booth_wire.specs.declared.message.Setup.{Setup}
 use Rattle.booth_wire.specs.declared.codes.reasons.TheConstants.{LOCF}
@@ -7,7 +7,6 @@ use Rattle.booth_raft.specs.declared.deed.Note.{Note}
 use Rattle.booth_raft.specs.declared.deed.Note.TheVariants as notes
 use Rattle.booth_raft.specs.declared.view.Role.{Role}
 use Rattle.booth_raft.specs.declared.view.Role.TheVariants.{Follower, Working, Candidate, Leader}
-use Rattle.booth_raft.specs.declared.view.Round.{Round}
 use Rattle.booth_raft.specs.declared.view.View.{View}
 use Rattle.booth_raft.specs.Deadlines.{candidate_due, due_now, follower_due, greeted, is_tried, leader_due, leader_works, resends_or_renews, waits_or_acquires}
 use Rattle.booth_raft.specs.Facts.{RoundFits, ViewFacts}

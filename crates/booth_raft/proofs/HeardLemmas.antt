@@ -1,5 +1,5 @@
 -- Start, and what is heard, leave what is true of every view.
-use Rattle.std.proofs.Common.{◌≡◌, ℕ, ◌+◌, ◌*◌, ◌<◌, ◌^◌, true, ◌||◌, ◌&&◌, Option, Some, None, refl, ap, ◌∙◌, subst}
+use Rattle.std.proofs.Common.{◌≡◌, ℕ, ◌+◌, ◌*◌, ◌<◌, ◌^◌, true, ◌||◌, ◌&&◌, Some, None, refl, ◌∙◌, subst}
 use Rattle.std.specs.Prelude.{nat_le, not, ◌==◌}
 use Rattle.booth_base.specs.declared.address.MemberId.{MemberId}
 use Rattle.booth_rec.specs.declared.record.Record.{Record}
@@ -10,8 +10,6 @@ use Rattle.booth_wire.specs.declared.message.TicketPart.{TicketPart}
 use Rattle.booth_wire.specs.declared.message.Setup.{Setup}
 use Rattle.booth_wire.specs.declared.message.Say.{Say}
 use Rattle.booth_raft.specs.declared.deed.Told.{Told}
-use Rattle.booth_raft.specs.declared.view.Role.{Role}
-use Rattle.booth_raft.specs.declared.view.Role.TheVariants.{Follower, Working, Candidate, Leader}
 use Rattle.booth_raft.specs.declared.view.Round.{Round}
 use Rattle.booth_raft.specs.declared.view.RoundKind.{RoundKind}
 use Rattle.booth_raft.specs.declared.view.RoundKind.TheVariants.{Election, Renewal}

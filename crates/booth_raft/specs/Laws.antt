@@ -8,7 +8,6 @@ use Rattle.booth_wire.specs.declared.message.Head.{Head}
 use Rattle.booth_wire.specs.declared.message.TicketPart.{TicketPart}
 use Rattle.booth_wire.specs.declared.message.Setup.{Setup}
 use Rattle.booth_raft.specs.declared.deed.Note.{Note}
-use Rattle.booth_raft.specs.declared.view.Role.{Role}
 use Rattle.booth_raft.specs.declared.view.View.{View}
 use Rattle.booth_raft.specs.AskAndRenew.{ask, finish, renew}
 use Rattle.booth_raft.specs.Deadlines.{due_now, greeted}
@@ -23,7 +22,9 @@ use Rattle.booth_raft.specs.StartAndLearn.{started}
 
 -- the rules' test is true exactly where a member may answer
 abbrev pub TestsMayAnswer : Type 0
-TestsMayAnswer = (view : View) (site : MemberId) (term now : ℕ) → IsTrue (may_answer view site term now) ↔ MayAnswer view site term now
+TestsMayAnswer =
+    (view : View) (site : MemberId) (term now : ℕ)
+    → IsTrue (may_answer view site term now) ↔ MayAnswer view site term now
 
 -- the bit of a place is set exactly where another member stands there that has not answered
 abbrev pub BitsAreUnanswered : Type 0
@@ -41,7 +42,8 @@ pub record KeepFacts : Type 0 where
   pub heard_leaves : (setup : Setup) (view : View) (place : ℕ) (head : Head) (part : TicketPart) (now : ℕ) (cmd : Cmd)
       → view.waiting ≡ None → ViewFacts setup view → IsLeft setup now (hear setup view place head part now cmd)
   pub ask_leaves : (setup : Setup) (view : View) (reason now : ℕ) → IsLeft setup now (ask view reason now)
-  pub release_leaves : (setup : Setup) (view : View) (reason now : ℕ) → ViewFacts setup view → IsLeft setup now (release view reason now)
+  pub release_leaves : (setup : Setup) (view : View) (reason now : ℕ)
+      → ViewFacts setup view → IsLeft setup now (release view reason now)
   pub answer_leaves : (setup : Setup) (view : View) (now : ℕ) (ok : Bool) → now < 2 ^ 62
       → ViewFacts setup view → IsLeft setup now (finish setup view now ok)
   pub renew_leaves : (setup : Setup) (view : View) (now : ℕ) → now < 2 ^ 62

@@ -63,7 +63,8 @@ is_unanswered setup place answered = nat_lt place setup.members && not (place ==
 -- the members that have not answered, from a place on
 abbrev pub unanswered_from : Setup → ℕ → List Bool → List Bool
 unanswered_from setup place [] = []
-unanswered_from setup place (answered ∷ answers) = is_unanswered setup place answered ∷ unanswered_from setup (place + 1) answers
+unanswered_from setup place (answered ∷ answers) =
+    is_unanswered setup place answered ∷ unanswered_from setup (place + 1) answers
 
 -- a set of members as a number: bit i stands for the member at place i
 abbrev pub number_of : List Bool → ℕ

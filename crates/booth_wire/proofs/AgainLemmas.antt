@@ -14,7 +14,7 @@ use Rattle.booth_wire.specs.declared.message.TicketPart.{TicketPart}
 use Rattle.booth_wire.specs.declared.message.AttrPart.{AttrPart}
 use Rattle.booth_wire.specs.declared.message.FrameFault.{FrameFault}
 use Rattle.booth_wire.specs.Command.{code_of, cmd_of, kind_of}
-use Rattle.booth_wire.specs.Letter.{Content, Bare, Ticket, Attr, Text, Letter, kind_in, names_none, is_same, is_named, has_text}
+use Rattle.booth_wire.specs.PlainMessage.{Content, Bare, Ticket, Attr, Text, PlainMessage, kind_in, names_none, is_same, is_named, has_text}
 use Rattle.booth_wire.specs.Layout.{opts_of, auth_len, word_at, word, padded_to}
 use Rattle.booth_wire.specs.Reading.{text_of, are_zeros, is_padded, name_in, value_in, auth_in, head_read, has_size, body_read, ticket_in, attr_in, content_in, decoded}
 use Rattle.booth_wire.specs.Spelling.{HeadFits, TicketFits, AttrFits, PartFits, Fits, header, body, body_len, frame_len, frame_with, blank_auth, spelling, Spells}
@@ -314,7 +314,7 @@ body_again h bytes inner auth size len count e =
     rw e (take_at inner auth (length inner) refl) in
     rw (long, is, size, piece) refl
 
-pub len_frame : (l : Letter) (auth : List ℕ) → PartFits l.content → length auth ≡ auth_len l.head.auth
+pub len_frame : (l : PlainMessage) (auth : List ℕ) → PartFits l.content → length auth ≡ auth_len l.head.auth
     → length (frame_with auth l) ≡ frame_len l
 len_frame l auth fits len =
     omega (
@@ -325,7 +325,7 @@ len_frame l auth fits len =
       len_body l.content fits,
     )
 
-pub frame_read : (l : Letter) (auth : List ℕ) → Fits l → length auth ≡ auth_len l.head.auth
+pub frame_read : (l : PlainMessage) (auth : List ℕ) → Fits l → length auth ≡ auth_len l.head.auth
     → decoded (frame_with auth l) ≡ Ok l
 frame_read l auth fits len =
     let bytes : List ℕ = frame_with auth l in
@@ -358,19 +358,19 @@ unfolding blank_auth word
 len_blank true = refl
 len_blank false = refl
 
-pub spelling_read : (l : Letter) → Fits l → decoded (spelling l) ≡ Ok l
+pub spelling_read : (l : PlainMessage) → Fits l → decoded (spelling l) ≡ Ok l
 spelling_read l fits = frame_read l (blank_auth l.head.auth) fits (len_blank l.head.auth)
 
-pub is_read : (bytes : List ℕ) (l : Letter) → Fits l → Spells bytes l → decoded bytes ≡ Ok l
+pub is_read : (bytes : List ℕ) (l : PlainMessage) → Fits l → Spells bytes l → decoded bytes ≡ Ok l
 is_read bytes l fits s = ap decoded s.parts ∙ frame_read l s.auth fits s.size
 
-pub letters_same : (bytes : List ℕ) (l m : Letter) → Fits l → Fits m → Spells bytes l → Spells bytes m
+pub letters_same : (bytes : List ℕ) (l m : PlainMessage) → Fits l → Fits m → Spells bytes l → Spells bytes m
     → l ≡ m
 letters_same bytes l m l_fits m_fits s t =
     let both = sym (is_read bytes l l_fits s) ∙ is_read bytes m m_fits t in
     cc both
 
-pub none_spelled : (bytes : List ℕ) (fault : FrameFault) → decoded bytes ≡ Err fault → (l : Letter)
+pub none_spelled : (bytes : List ℕ) (fault : FrameFault) → decoded bytes ≡ Err fault → (l : PlainMessage)
     → Fits l → Spells bytes l → ⊥
 none_spelled bytes fault refused l fits s =
     let both = sym refused ∙ is_read bytes l fits s in

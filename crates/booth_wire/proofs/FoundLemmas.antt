@@ -14,7 +14,7 @@ use Rattle.booth_wire.specs.declared.message.Message.{Message}
 use Rattle.booth_wire.specs.declared.message.FrameFault.{FrameFault}
 use Rattle.booth_wire.specs.declared.message.FrameFault.TheVariants as faults
 use Rattle.booth_wire.specs.Command.{code_of, cmd_of, kind_of, all_cmds}
-use Rattle.booth_wire.specs.Letter.{Content, Bare, Attr, Text, Letter, letter_of, kind_in, names_none, is_same, is_named, has_text}
+use Rattle.booth_wire.specs.PlainMessage.{Content, Bare, Attr, Text, PlainMessage, plain_of, kind_in, names_none, is_same, is_named, has_text}
 use Rattle.booth_wire.specs.Layout.{opts_of, auth_len, word_at, field_at, word, padded_to}
 use Rattle.booth_wire.specs.Reading.{◌>>=◌, are_zeros, name_in, value_in, auth_in, head_at, head_read, has_size, body_read, ticket_with, ticket_in, attr_name_in, attr_with, attr_in, text_in, content_in, decoded, Gives}
 use Rattle.booth_wire.specs.Spelling.{HeadFits, PartFits, Fits, header, body, body_len, frame_len, frame_with, Spells}
@@ -305,9 +305,9 @@ body_taken h bytes inner are read =
       count = omega (arith, len);
     })
 
--- ---- the letter
+-- ---- the message
 
-pub record IsFound (bytes : List ℕ) (l : Letter) : Type 0 where
+pub record IsFound (bytes : List ℕ) (l : PlainMessage) : Type 0 where
   pub count : length bytes ≡ frame_len l
   pub spells : Spells bytes l
   pub fits : Fits l
@@ -316,7 +316,7 @@ found_parts : (bytes inner : List ℕ) (h : Head) (c : Content) → HeadTaken by
     → BodyTaken h bytes inner → ContentTaken h.cmd inner c
     → IsFound bytes (record { head = h; content = c })
 found_parts bytes inner h c head between content =
-    let l : Letter = record { head = h; content = c } in
+    let l : PlainMessage = record { head = h; content = c } in
     let count : length bytes ≡ frame_len l = omega (arith, between.count, content.count) in
     let parts : bytes ≡ frame_with between.auth l =
     head.parts ∙ ap (λ (r : List ℕ). header h (length bytes) ++ r)
@@ -336,7 +336,7 @@ found_parts bytes inner h c head between content =
           };
     }
 
-pub is_found : (bytes : List ℕ) (l : Letter) → IsBytes bytes → decoded bytes ≡ Ok l → IsFound bytes l
+pub is_found : (bytes : List ℕ) (l : PlainMessage) → IsBytes bytes → decoded bytes ≡ Ok l → IsFound bytes l
 is_found bytes l are read =
     let a =
     bind_ok (head_read bytes)
@@ -354,22 +354,22 @@ is_found bytes l are read =
     let content =
     content_taken a.0.cmd (kind_of a.0.cmd) b.0 c.0 between.are between.size refl
     (ok_or_ok (content_in a.0.cmd (kind_of a.0.cmd) b.0) faults.Name c.0 c.1) in
-    let made : Letter = record { head = a.0; content = c.0 } in
+    let made : PlainMessage = record { head = a.0; content = c.0 } in
     let is : made ≡ l = cc (c.2) in
-    subst (λ (x : Letter). IsFound bytes x) {x = made} is
+    subst (λ (x : PlainMessage). IsFound bytes x) {x = made} is
     (found_parts bytes b.0 a.0 c.0 head between content)
 
 pub message_spells : (bytes : List ℕ) (r : Result Message FrameFault) → IsBytes bytes
-    → Gives r (decoded bytes) → IfOk r (λ m. Spells bytes (letter_of m))
-message_spells bytes (Ok m) are given = (is_found bytes (letter_of m) are given).spells
+    → Gives r (decoded bytes) → IfOk r (λ m. Spells bytes (plain_of m))
+message_spells bytes (Ok m) are given = (is_found bytes (plain_of m) are given).spells
 message_spells bytes (Err f) are given = tt
 
 pub message_fits : (bytes : List ℕ) (r : Result Message FrameFault) → IsBytes bytes
-    → Gives r (decoded bytes) → IfOk r (λ m. Fits (letter_of m))
-message_fits bytes (Ok m) are given = (is_found bytes (letter_of m) are given).fits
+    → Gives r (decoded bytes) → IfOk r (λ m. Fits (plain_of m))
+message_fits bytes (Ok m) are given = (is_found bytes (plain_of m) are given).fits
 message_fits bytes (Err f) are given = tt
 
 pub message_len : (bytes : List ℕ) (r : Result Message FrameFault) → IsBytes bytes
-    → Gives r (decoded bytes) → IfOk r (λ m. length bytes ≡ frame_len (letter_of m))
-message_len bytes (Ok m) are given = (is_found bytes (letter_of m) are given).count
+    → Gives r (decoded bytes) → IfOk r (λ m. length bytes ≡ frame_len (plain_of m))
+message_len bytes (Ok m) are given = (is_found bytes (plain_of m) are given).count
 message_len bytes (Err f) are given = tt

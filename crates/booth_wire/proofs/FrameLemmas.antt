@@ -4,7 +4,7 @@ use Rattle.std.specs.Int.{w32, from_be_bytes}
 use Rattle.std.proofs.lemmas.List.{take_at, length-append, length-take, take-append-le, take-append-drop}
 use Rattle.booth_wire.specs.declared.command.Kind.{Kind}
 use Rattle.booth_wire.specs.Command.{kind_of}
-use Rattle.booth_wire.specs.Letter.{Letter}
+use Rattle.booth_wire.specs.PlainMessage.{PlainMessage}
 use Rattle.booth_wire.specs.Layout.{word_at, opts_of, auth_len, word}
 use Rattle.booth_wire.specs.Spelling.{Fits, before_auth, header, body, frame_len, frame_with, HasAuth, signed}
 use Rattle.booth_wire.proofs.ByteLemmas.{len_word}
@@ -45,7 +45,7 @@ odd_opts : (auth : Bool) (kind : Kind) → auth ≡ true → opts_of auth kind %
 odd_opts true kind h = search rules
 odd_opts false kind h = absurd cc
 
-pub spelling_has_auth : (l : Letter) (auth : List ℕ) → Fits l → length auth ≡ auth_len l.head.auth
+pub spelling_has_auth : (l : PlainMessage) (auth : List ℕ) → Fits l → length auth ≡ auth_len l.head.auth
     → l.head.auth ≡ true → HasAuth (frame_with auth l)
 spelling_has_auth l auth fits len keyed =
     let count : length (frame_with auth l) ≡ frame_len l = len_frame l auth fits.part len in
@@ -60,14 +60,14 @@ spelling_has_auth l auth fits len keyed =
     }
 
 -- what the authentication part vouches for, and the frame with another one
-pub vouched_for : (l : Letter) (auth : List ℕ) → length auth ≡ 28
+pub vouched_for : (l : PlainMessage) (auth : List ℕ) → length auth ≡ 28
     → before_auth (frame_with auth l) ≡ header l.head (frame_len l) ++ body l.content
 vouched_for l auth len =
     let front : List ℕ = header l.head (frame_len l) ++ body l.content in
     let size : length (front ++ auth) - 28 ≡ length front = omega (arith, length-append front auth) in
     rw size (take_at front auth (length front) refl)
 
-pub signed_frame : (l : Letter) (auth hash : List ℕ) (id : ℕ) → length auth ≡ 28
+pub signed_frame : (l : PlainMessage) (auth hash : List ℕ) (id : ℕ) → length auth ≡ 28
     → signed (frame_with auth l) id hash ≡ frame_with (word id ++ hash) l
 signed_frame l auth hash id len =
     ap (λ (front : List ℕ). front ++ (word id ++ hash)) (vouched_for l auth len)

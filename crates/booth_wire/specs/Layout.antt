@@ -24,10 +24,8 @@ abbrev pub auth_bit : Bool → ℕ
 auth_bit auth = if auth then 1 else 0
 
 abbrev pub attr_bit : Kind → ℕ
-attr_bit kinds.Bare = 0
-attr_bit kinds.Ticket = 0
 attr_bit kinds.Attr = 4
-attr_bit kinds.Text = 0
+attr_bit kind = 0
 
 abbrev pub opts_of : Bool → Kind → ℕ
 opts_of auth kind = attr_bit kind + auth_bit auth

@@ -2,6 +2,7 @@
 use Rattle.std.specs.Prelude.{◌≡◌, ℕ, ◌+◌, ◌-◌, Bool, true, false, not, ◌&&◌, ◌||◌, ◌==◌, nat_le, nat_lt, if◌then◌else◌, List, length, drop, Option, Some, None, option_map, ok_or, Result, Ok, Err}
 use Rattle.std.specs.List.{list_all, take_while}
 use Rattle.booth_base.specs.Name.{is_name, is_value, is_line_byte}
+use Rattle.booth_base.specs.declared.buffer.TheConstants.{TEXT_BYTES}
 use Rattle.booth_wire.specs.declared.command.Cmd.{Cmd}
 use Rattle.booth_wire.specs.declared.command.Kind.{Kind}
 use Rattle.booth_wire.specs.declared.command.Kind.TheVariants as kinds
@@ -10,9 +11,10 @@ use Rattle.booth_wire.specs.declared.message.Body.{Body}
 use Rattle.booth_wire.specs.declared.message.Message.{Message}
 use Rattle.booth_wire.specs.declared.message.FrameFault.{FrameFault}
 use Rattle.booth_wire.specs.declared.message.FrameFault.TheVariants as faults
+use Rattle.booth_wire.specs.declared.frame.TheConstants.{FRAME_BYTES}
 use Rattle.booth_wire.specs.Command.{cmd_of, kind_of}
 use Rattle.booth_wire.specs.Layout.{word_at, field_at, opts_of, auth_len}
-use Rattle.booth_wire.specs.Letter.{Content, Bare, Ticket, Attr, Text, Letter, content_of, letter_of, names_none}
+use Rattle.booth_wire.specs.PlainMessage.{Content, Bare, Ticket, Attr, Text, PlainMessage, content_of, plain_of, names_none}
 
 infixl 10 ◌>>=◌
 abbrev pub ◌>>=◌ : {A B : Type 0} → Result A FrameFault → (A → Result B FrameFault)
@@ -62,7 +64,7 @@ head_read bytes =
     if nat_lt (length bytes) 48 then Err faults.Short else
     if not (word_at 12 bytes == 0x5F1BA08C) then Err faults.Magic else
     if not (word_at 16 bytes == 0x00010003) then Err faults.Version else
-    if not (word_at 24 bytes == length bytes) || nat_lt 16460 (length bytes) then Err faults.Length
+    if not (word_at 24 bytes == length bytes) || nat_lt FRAME_BYTES (length bytes) then Err faults.Length
     else do
       cmd ← ok_or (cmd_of (word_at 28 bytes)) faults.Command
       auth ← ok_or (auth_in (kind_of cmd) (word_at 0 bytes)) faults.Command
@@ -73,7 +75,7 @@ abbrev pub has_size : Kind → ℕ → Bool
 has_size kinds.Bare size = size == 0
 has_size kinds.Ticket size = size == 76
 has_size kinds.Attr size = size == 256
-has_size kinds.Text size = nat_le size 16384
+has_size kinds.Text size = nat_le size TEXT_BYTES
 
 -- the bytes between header and authentication part
 abbrev pub body_read : Head → List ℕ → Result (List ℕ) FrameFault
@@ -103,9 +105,7 @@ attr_name_in cmd field =
 abbrev pub attr_with : Option (List ℕ) → Option (Option (List ℕ)) → Option (List ℕ) → Option Content
 attr_with (Some ticket) (Some name) (Some value) =
     Some (Attr (record { ticket = ticket; name = name; value = value }))
-attr_with (Some ticket) (Some name) None = None
-attr_with (Some ticket) None value = None
-attr_with None name value = None
+attr_with ticket name value = None
 
 abbrev pub attr_in : Cmd → List ℕ → Option Content
 attr_in cmd bytes =
@@ -122,8 +122,8 @@ content_in cmd kinds.Ticket bytes = ticket_in bytes
 content_in cmd kinds.Attr bytes = attr_in cmd bytes
 content_in cmd kinds.Text bytes = text_in bytes
 
--- the letter that bytes are read as, or the first fault
-abbrev pub decoded : List ℕ → Result Letter FrameFault
+-- the message that bytes are read as, or the first fault
+abbrev pub decoded : List ℕ → Result PlainMessage FrameFault
 decoded bytes = do
   h ← head_read bytes
   inner ← body_read h bytes
@@ -131,8 +131,8 @@ decoded bytes = do
   Ok (record { head = h; content = content })
 
 -- a message or a fault, against what is read
-abbrev pub Gives : Result Message FrameFault → Result Letter FrameFault → Type 0
-Gives (Ok m) read = read ≡ Ok (letter_of m)
+abbrev pub Gives : Result Message FrameFault → Result PlainMessage FrameFault → Type 0
+Gives (Ok m) read = read ≡ Ok (plain_of m)
 Gives (Err f) read = read ≡ Err f
 
 abbrev pub GivesContent : Option Body → Option Content → Type 0

@@ -1,4 +1,4 @@
--- The bytes of a letter, which letters have some, which bytes spell it, and what signing changes.
+-- The bytes of a message, which messages have some, which bytes spell it, and what signing changes.
 use Rattle.std.specs.Prelude.{◌≡◌, ℕ, ◌+◌, ◌-◌, ◌%◌, ◌^◌, ◌≤◌, ◌<◌, true, Bool, if◌then◌else◌, List, [], ◌++◌, length, take, replicate, unwrap_or, IfSome}
 use Rattle.booth_base.specs.Name.{is_name, is_value}
 use Rattle.booth_wire.specs.declared.message.Head.{Head}
@@ -6,7 +6,7 @@ use Rattle.booth_wire.specs.declared.message.TicketPart.{TicketPart}
 use Rattle.booth_wire.specs.declared.message.AttrPart.{AttrPart}
 use Rattle.booth_wire.specs.Command.{code_of, kind_of}
 use Rattle.booth_wire.specs.Layout.{word, padded_to, word_at, opts_of, auth_len}
-use Rattle.booth_wire.specs.Letter.{Content, Bare, Ticket, Attr, Text, Letter, kind_in, is_named, has_text}
+use Rattle.booth_wire.specs.PlainMessage.{Content, Bare, Ticket, Attr, Text, PlainMessage, kind_in, is_named, has_text}
 
 -- the twelve numbers of the header, in a frame of so many bytes
 unfoldable pub header : Head → ℕ → List ℕ
@@ -29,19 +29,19 @@ body_len (Ticket part) = 76
 body_len (Attr part) = 256
 body_len (Text text) = length text
 
-abbrev pub frame_len : Letter → ℕ
+abbrev pub frame_len : PlainMessage → ℕ
 frame_len l = 48 + body_len l.content + auth_len l.head.auth
 
--- the letter's frame with these bytes as authentication part
-abbrev pub frame_with : List ℕ → Letter → List ℕ
+-- the message's frame with these bytes as authentication part
+abbrev pub frame_with : List ℕ → PlainMessage → List ℕ
 frame_with auth l = header l.head (frame_len l) ++ body l.content ++ auth
 
 -- the authentication part before it is signed: hash id 2, and a hash of zeros
 unfoldable pub blank_auth : Bool → List ℕ
 blank_auth auth = if auth then word 2 ++ replicate 24 0 else []
 
--- the one spelling of a letter that is not signed yet
-abbrev pub spelling : Letter → List ℕ
+-- the one spelling of a message that is not signed yet
+abbrev pub spelling : PlainMessage → List ℕ
 spelling l = frame_with (blank_auth l.head.auth) l
 
 -- each number has four bytes
@@ -66,13 +66,12 @@ pub record AttrFits (p : AttrPart) : Type 0 where
   pub value : is_value p.value ≡ true
 
 abbrev pub PartFits : Content → Type 0
-PartFits Bare = Unit {0}
 PartFits (Ticket part) = TicketFits part
 PartFits (Attr part) = AttrFits part
-PartFits (Text text) = Unit {0}
+PartFits content = Unit {0}
 
--- The letter has a spelling: its numbers and names fit their fields, and its content is its command's.
-pub record Fits (l : Letter) : Type 0 where
+-- The message has a spelling: its numbers and names fit their fields, and its content is its command's.
+pub record Fits (l : PlainMessage) : Type 0 where
   pub head : HeadFits l.head
   pub part : PartFits l.content
   pub kind : kind_in l.content ≡ kind_of l.head.cmd
@@ -80,7 +79,7 @@ pub record Fits (l : Letter) : Type 0 where
   pub text : has_text l.content ≡ true
 
 -- Header, body, and where AUTH is set 28 bytes of any content.
-pub record Spells (bytes : List ℕ) (l : Letter) : Type 0 where
+pub record Spells (bytes : List ℕ) (l : PlainMessage) : Type 0 where
   pub auth : List ℕ
   pub size : length auth ≡ auth_len l.head.auth
   pub parts : bytes ≡ frame_with auth l

@@ -4,43 +4,49 @@ ghost use Rattle.booth_wire.specs.declared.command.Cmd.{Cmd};
 ghost use Rattle.booth_wire.specs.declared.message.FrameFault.{FrameFault};
 ghost use Rattle.booth_wire.specs.Command.{code_of, letters_of};
 ghost use Rattle.booth_wire.specs.Codes.{number_of, ResultsAreLetters, ReasonsAreLetters, OptionsAreBits};
-ghost use Rattle.booth_wire.specs.Letter.{Letter};
+ghost use Rattle.booth_wire.specs.PlainMessage.{PlainMessage};
 ghost use Rattle.booth_wire.specs.Layout.{auth_len, word};
 ghost use Rattle.booth_wire.specs.Reading.{decoded};
+ghost use Rattle.booth_wire.specs.Faults.{GivesFirstFault};
 ghost use Rattle.booth_wire.specs.Spelling.{Fits, frame_with, spelling, Spells, signed};
 
-/// The spelling of a letter is read as that letter.
+/// The spelling of a message is read as that message.
 pub fn spelling_is_read()
-    ensures { (l : Letter) → Fits l → decoded (spelling l) ≡ Ok l }
+    ensures { (l : PlainMessage) → Fits l → decoded (spelling l) ≡ Ok l }
 {}
 
 /// So is its frame with any other authentication part of the right size.
 pub fn signed_is_read()
-    ensures { (l : Letter) (auth : List ℕ) → Fits l → length auth ≡ auth_len l.head.auth
+    ensures { (l : PlainMessage) (auth : List ℕ) → Fits l → length auth ≡ auth_len l.head.auth
         → decoded (frame_with auth l) ≡ Ok l }
 {}
 
-/// A letter has one spelling for each authentication part.
+/// A message has one spelling for each authentication part.
 pub fn one_spelling()
-    ensures { (a b : List ℕ) (l : Letter) (s : Spells a l) (t : Spells b l) → s.auth ≡ t.auth
+    ensures { (a b : List ℕ) (l : PlainMessage) (s : Spells a l) (t : Spells b l) → s.auth ≡ t.auth
         → a ≡ b }
 {}
 
-/// Bytes spell one letter at most.
-pub fn one_letter()
-    ensures { (bytes : List ℕ) (l m : Letter) → Fits l → Fits m → Spells bytes l → Spells bytes m
+/// Bytes spell one message at most.
+pub fn one_message()
+    ensures { (bytes : List ℕ) (l m : PlainMessage) → Fits l → Fits m → Spells bytes l → Spells bytes m
         → l ≡ m }
 {}
 
-/// What is refused spells no letter.
+/// What is refused spells no message.
 pub fn refused_spells_nothing()
-    ensures { (bytes : List ℕ) (fault : FrameFault) → decoded bytes ≡ Err fault → (l : Letter) → Fits l
+    ensures { (bytes : List ℕ) (fault : FrameFault) → decoded bytes ≡ Err fault → (l : PlainMessage) → Fits l
         → Spells bytes l → ⊥ }
+{}
+
+/// Reading gives the first of seven faults, each under its condition, and a message where none holds.
+pub fn first_fault_is_told()
+    ensures { GivesFirstFault }
 {}
 
 /// Signing changes the authentication part, and nothing else of a frame.
 pub fn signing_changes_no_more()
-    ensures { (l : Letter) (auth hash : List ℕ) (id : ℕ) → length auth ≡ 28
+    ensures { (l : PlainMessage) (auth hash : List ℕ) (id : ℕ) → length auth ≡ 28
         → signed (frame_with auth l) id hash ≡ frame_with (word id ++ hash) l }
 {}
 

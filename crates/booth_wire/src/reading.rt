@@ -3,7 +3,7 @@ ghost use Rattle.std.specs.Prelude.{◌≡◌, ◌≤◌, ◌+◌, ◌==◌, len
 ghost use Rattle.std.specs.List.{list_all, prefix_len};
 ghost use Rattle.booth_base.specs.Name.{is_line_byte};
 ghost use Rattle.booth_wire.specs.Command.{kind_of};
-ghost use Rattle.booth_wire.specs.Letter.{Letter, letter_of, names_none};
+ghost use Rattle.booth_wire.specs.PlainMessage.{PlainMessage, plain_of, names_none};
 ghost use Rattle.booth_wire.specs.Layout.{word_at, auth_len};
 ghost use Rattle.booth_wire.specs.Reading.{text_of, are_zeros, is_padded, name_in, value_in, auth_in, head_at, head_read, has_size, body_read, attr_name_in, ticket_in, attr_in, text_in, content_in, decoded, Gives, GivesContent};
 ghost use Rattle.booth_wire.specs.Spelling.{Fits, frame_len, Spells};
@@ -220,12 +220,12 @@ fn read_frame(bytes: &[u8]) -> Result<Message<'_>, FrameFault>
 /// The message that a frame spells, or the first fault. The authentication part is not looked at.
 pub fn decode(bytes: &[u8]) -> Result<Message<'_>, FrameFault>
     // What is read is spelled so.
-    ensures found { IfOk result (λ m. Spells bytes.now (letter_of m)) }
-    ensures fits { IfOk result (λ m. Fits (letter_of m)) }
-    ensures len { IfOk result (λ m. length bytes.now ≡ frame_len (letter_of m)) }
+    ensures found { IfOk result (λ m. Spells bytes.now (plain_of m)) }
+    ensures fits { IfOk result (λ m. Fits (plain_of m)) }
+    ensures len { IfOk result (λ m. length bytes.now ≡ frame_len (plain_of m)) }
 
     // What is spelled so is read.
-    ensures only { (l : Letter) → Fits l → Spells bytes.now l → Gives result (Ok l) }
+    ensures only { (l : PlainMessage) → Fits l → Spells bytes.now l → Gives result (Ok l) }
 
     // Which fault it is.
     ensures exact { Gives result (decoded bytes.now) }

@@ -498,6 +498,35 @@ fn of_two_faults_the_first_is_told(rt: HostRuntime) -> Result<(), Fail> {
 }
 
 #[test]
+fn faults_are_told_in_plain_words(rt: HostRuntime) -> Result<(), Fail> {
+    use FrameFault::{Command, Length, Magic, Name, Short, Size, Version};
+    let rows = [
+        (Short, "fewer than 48 bytes"),
+        (Magic, "the magic number is another"),
+        (Version, "the version is another"),
+        (
+            Length,
+            "the length field is not the number of bytes, or that is above 16,460",
+        ),
+        (
+            Command,
+            "the command is unknown, or the option bits are not the command's",
+        ),
+        (Size, "the body has another size than the command's"),
+        (Name, "a name, a value or a text is not of its form"),
+    ];
+    for (fault, text) in rows {
+        let shown = format!(in rt.alloc(); "{fault}")?;
+        assert_eq!(rt; shown.as_str(), text);
+    }
+    let spent = TermSpent;
+    let shown = format!(in rt.alloc(); "{spent}")?;
+    assert_eq!(rt; shown.as_str(), "the terms are spent");
+    assert_eq!(rt; (FRAME_BYTES, AUTH_BYTES), (16_460, 28));
+    Ok(())
+}
+
+#[test]
 fn the_table_of_commands(rt: HostRuntime) {
     use Direction::{BetweenMembers, ToClient, ToDaemon};
     let rows: [(&[u8; 4], Cmd, Kind, Direction, Option<Cmd>); 23] = [

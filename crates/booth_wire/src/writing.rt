@@ -3,7 +3,7 @@ ghost use Rattle.std.specs.Prelude.{◌≡◌, ◌≤◌, ◌<◌, ◌+◌, ◌^
 ghost use Rattle.booth_base.specs.Name.{is_name};
 ghost use Rattle.booth_wire.specs.declared.frame.TheConstants.{FRAME_BYTES};
 ghost use Rattle.booth_wire.specs.Command.{kind_of};
-ghost use Rattle.booth_wire.specs.Letter.{Ticket, Attr, letter_of, content_of, kind_in, is_named, has_text};
+ghost use Rattle.booth_wire.specs.PlainMessage.{Ticket, Attr, plain_of, content_of, kind_in, is_named, has_text};
 ghost use Rattle.booth_wire.specs.Layout.{auth_len, word, padded_to};
 ghost use Rattle.booth_wire.specs.Spelling.{HeadFits, TicketFits, AttrFits, PartFits, Fits, header, body, body_len, frame_len, blank_auth, spelling, HasAuth};
 
@@ -132,8 +132,8 @@ fn put_auth(into: &mut Frame, auth: bool)
 
 fn put_frame(into: &mut Frame, message: &Message<'_>)
     requires { has_text (content_of message.now.body) ≡ true }
-    ensures bytes { into.new ≡ spelling (letter_of message.now) }
-    ensures len { length into.new ≡ frame_len (letter_of message.now) }
+    ensures bytes { into.new ≡ spelling (plain_of message.now) }
+    ensures len { length into.new ≡ frame_len (plain_of message.now) }
     ensures head { HeadFits message.now.head }
     ensures part { PartFits (content_of message.now.body) }
 {
@@ -150,9 +150,9 @@ pub fn encode(message: &Message<'_>, into: &mut Frame)
     requires kind { kind_in (content_of message.now.body) ≡ kind_of message.now.head.cmd }
     requires named { is_named message.now.head.cmd (content_of message.now.body) ≡ true }
     requires text { has_text (content_of message.now.body) ≡ true }
-    ensures bytes { into.new ≡ spelling (letter_of message.now) }
-    ensures len { length into.new ≡ frame_len (letter_of message.now) }
-    ensures fits { Fits (letter_of message.now) }
+    ensures bytes { into.new ≡ spelling (plain_of message.now) }
+    ensures len { length into.new ≡ frame_len (plain_of message.now) }
+    ensures fits { Fits (plain_of message.now) }
     ensures auth { message.now.head.auth ≡ true → HasAuth into.new }
 {
     put_frame(into, message);

@@ -1,6 +1,8 @@
 //! Keys, and MACs of the standards.
+use crate::DropFault;
 use crate::key::{Key, KeyFault};
 use crate::mac::{are_equal, hmac};
+use booth_wire::FrameFault;
 use sha1::Sha1;
 use std::test::Fail;
 
@@ -118,6 +120,37 @@ fn blanks_round_a_text_are_no_key(rt: HostRuntime) {
             b"          kkkkkkkkkkkkkkkkkkkkkkkkkkkkkkkkkkkkkkkkkkkkkkkkkkkkkkkkkkkkkkkk\n"
         ).is_ok()
     );
+}
+
+#[test]
+fn faults_are_told_in_plain_words(rt: HostRuntime) -> Result<(), Fail> {
+    let (short, long) = (KeyFault::TooShort, KeyFault::TooLong);
+    let shown = format!(in rt.alloc(); "{short}; {long}")?;
+    assert_eq!(rt;
+        shown.as_str(),
+        "the key has fewer than 8 bytes; the key has more than 64 bytes"
+    );
+    let rows = [
+        (
+            DropFault::Frame(FrameFault::Short),
+            "it is no frame: fewer than 48 bytes",
+        ),
+        (DropFault::NoMac, "there is a key, and no MAC"),
+        (DropFault::BadMac, "the MAC is wrong"),
+        (DropFault::TooOld, "the sender's clock is too far behind"),
+        (
+            DropFault::Stranger,
+            "nobody may send this command from there",
+        ),
+        (DropFault::Own, "it is this member's own"),
+        (DropFault::Ticket, "the ticket is not in the configuration"),
+        (DropFault::Leader, "the leader may not be the leader"),
+    ];
+    for (fault, text) in rows {
+        let shown = format!(in rt.alloc(); "{fault}")?;
+        assert_eq!(rt; shown.as_str(), text);
+    }
+    Ok(())
 }
 
 #[test]

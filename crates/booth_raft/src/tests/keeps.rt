@@ -113,6 +113,7 @@ fn alone(rt: &impl Abort) -> Setup
     ensures { IsSound result }
 {
     Setup {
+        place: 0,
         members: 1,
         ..setup(rt, 0)
     }

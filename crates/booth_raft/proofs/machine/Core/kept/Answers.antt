@@ -1,5 +1,4 @@
 -- The rule leaves what is true of every view.
-use Rattle.std.proofs.Common.{refl}
 use Rattle.booth_raft.proofs.FactsLemmas.{leaves}
 use Rattle.booth_raft.proofs.KeptLemmas.{finish_good}
 use Rattle.booth_raft.proofs.machine.Core.kept.Goals as goal

@@ -2,6 +2,7 @@
 use Rattle.std.specs.Prelude.{ℕ, Bool, true, not, ◌&&◌, ◌==◌, nat_le, List, length, is_none, if◌then◌else◌}
 use Rattle.std.specs.List.{list_all}
 use Rattle.booth_base.specs.Name.{is_line_byte}
+use Rattle.booth_base.specs.declared.buffer.TheConstants.{TEXT_BYTES}
 use Rattle.booth_wire.specs.declared.command.Cmd.{Cmd}
 use Rattle.booth_wire.specs.declared.command.Cmd.TheVariants.{ALst}
 use Rattle.booth_wire.specs.declared.command.Kind.{Kind}
@@ -14,13 +15,15 @@ use Rattle.booth_wire.specs.declared.message.Body.TheVariants as bodies
 use Rattle.booth_wire.specs.declared.message.Message.{Message}
 use Rattle.booth_wire.specs.Command.{code_of}
 
+-- what a message says behind its head
 pub data Content : Type 0 where
   Bare : Content
   Ticket : (part : TicketPart) → Content
   Attr : (part : AttrPart) → Content
   Text : (text : List ℕ) → Content
 
-pub record Letter : Type 0 where
+-- a message without where its text lies
+pub record PlainMessage : Type 0 where
   pub head : Head
   pub content : Content
 
@@ -30,8 +33,8 @@ content_of (bodies.Ticket part) = Ticket part
 content_of (bodies.Attr part) = Attr part
 content_of (bodies.Text text) = Text text.now
 
-abbrev pub letter_of : Message → Letter
-letter_of m = record { head = m.head; content = content_of m.body }
+abbrev pub plain_of : Message → PlainMessage
+plain_of m = record { head = m.head; content = content_of m.body }
 
 abbrev pub kind_in : Content → Kind
 kind_in Bare = kinds.Bare
@@ -47,13 +50,9 @@ abbrev pub is_same : Bool → Bool → Bool
 is_same a b = if a then b else not b
 
 abbrev pub is_named : Cmd → Content → Bool
-is_named cmd Bare = true
-is_named cmd (Ticket part) = true
 is_named cmd (Attr part) = is_same (names_none cmd) (is_none part.name)
-is_named cmd (Text text) = true
+is_named cmd content = true
 
 abbrev pub has_text : Content → Bool
-has_text Bare = true
-has_text (Ticket part) = true
-has_text (Attr part) = true
-has_text (Text text) = nat_le (length text) 16384 && list_all is_line_byte text
+has_text (Text text) = nat_le (length text) TEXT_BYTES && list_all is_line_byte text
+has_text content = true
