@@ -70,7 +70,6 @@ fn clash(members: &[Member]) -> Option<ConfFault>
     None
 }
 
-// What is wrong with the times of one ticket.
 fn time_fault(ticket: usize, conf: &TicketConf) -> Option<ConfFault>
     ensures { result ≡ time_fault (ticket, conf.now) }
 {

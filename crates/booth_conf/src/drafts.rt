@@ -63,7 +63,6 @@ impl SectionList {
         self.sections.len()
     }
 
-    // Whether a ticket has this name.
     fn has(&self, name: &Name) -> bool
         ensures { result ≡ list_any (has_name name.now) self.now }
     {
@@ -209,7 +208,6 @@ impl Draft {
         }
     }
 
-    // Adds one setting, or says what is wrong with it.
     fn add(&mut self, setting: Setting) -> Result<(), Stop>
         ensures { Answers result self.new (clash self.old setting)
             self.old (added self.old setting) }
@@ -229,7 +227,7 @@ impl Draft {
     {
         match setting {
             Some(setting) => self.add(setting),
-            None => Err(Stop::Line(LineFault::BadValue(key.row().number))),
+            None => Err(Stop::Line(LineFault::BadValue(key.number()))),
         }
     }
 

@@ -8,7 +8,6 @@ use crate::line_meaning::{Said, read_line};
 use crate::settings::Setting;
 use booth_base::Name;
 
-// The name of the ticket whose line this is.
 fn name_in(line: &[u8]) -> Option<Name>
     ensures { result ≡ name_said (said line.now) }
 {

@@ -95,7 +95,7 @@ fn extra(key: ConfKey, bytes: &[u8]) -> Option<Setting>
     requires { list_all is_value_byte bytes.now ≡ true }
     ensures { result ≡ extra_in key bytes.now }
 {
-    let number = key.row().number;
+    let number = key.number();
     text(bytes, 0).map(|text| Setting::File(FileSetting::Extra(number, text)))
 }
 

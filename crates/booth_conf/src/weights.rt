@@ -7,7 +7,6 @@ use crate::limits::{MEMBERS, WEIGHT};
 use crate::words::one_word;
 use arrayvec::ArrayVec;
 
-// The number of one piece.
 fn weight(piece: &[u8]) -> Option<u32>
     ensures { result ≡ weight_in piece.now }
 {

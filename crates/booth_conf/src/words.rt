@@ -61,7 +61,7 @@ pub fn one_word(bytes: &[u8]) -> Option<&[u8]>
     Some(word)
 }
 
-/// Four words.
+/// The words of a prerequisite.
 #[derive(Clone, Copy)]
 pub struct FourWords<'a> {
     pub kind: &'a [u8],

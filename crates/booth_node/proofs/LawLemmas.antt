@@ -10,7 +10,7 @@ use Rattle.booth_wire.specs.declared.message.FrameFault.{FrameFault}
 use Rattle.booth_wire.specs.declared.message.FrameFault.TheVariants as faults
 use Rattle.booth_wire.specs.declared.message.Head.{Head}
 use Rattle.booth_wire.specs.Command.{kind_of, direction_of, answer_of}
-use Rattle.booth_wire.specs.Letter.{Content, Attr, Letter}
+use Rattle.booth_wire.specs.PlainMessage.{Content, Attr, PlainMessage}
 use Rattle.booth_wire.specs.Layout.{field_at}
 use Rattle.booth_wire.specs.Reading.{◌>>=◌, name_in, value_in, head_read, body_read, ticket_with, ticket_in, attr_with, content_in, decoded}
 use Rattle.booth_auth.specs.declared.admission.DropFault.{DropFault}
@@ -43,7 +43,7 @@ mapped f (Some x) y h = (x, refl, cc)
 abbrev IsRead : Cmd → Content → Type 0
 IsRead cmd content = (inner : List ℕ) × (content_in cmd (kind_of cmd) inner ≡ Some content)
 
-content_read : (bytes : List ℕ) (l : Letter) → decoded bytes ≡ Ok l → IsRead l.head.cmd l.content
+content_read : (bytes : List ℕ) (l : PlainMessage) → decoded bytes ≡ Ok l → IsRead l.head.cmd l.content
 content_read bytes l read =
     let a =
     bind_ok (head_read bytes)
@@ -56,9 +56,9 @@ content_read bytes l read =
     let c =
     bind_ok (ok_or (content_in a.0.cmd (kind_of a.0.cmd) b.0) faults.Name)
     (λ c. Ok (record { head = a.0; content = c })) l b.2 in
-    let made : Letter = record { head = a.0; content = c.0 } in
+    let made : PlainMessage = record { head = a.0; content = c.0 } in
     let is : made ≡ l = cc (c.2) in
-    subst (λ (x : Letter). IsRead x.head.cmd x.content) {x = made} is
+    subst (λ (x : PlainMessage). IsRead x.head.cmd x.content) {x = made} is
     (b.0, ok_or_ok (content_in a.0.cmd (kind_of a.0.cmd) b.0) faults.Name c.0 c.1)
 
 -- ---- replies
@@ -118,20 +118,20 @@ has_answer text Rjc c to read = absurd cc
 -- ---- demands
 
 -- what is let in was read, and comes from where its command may
-let_in : (node : NodeConfig) (moment : ℕ) (bytes : List ℕ) (l : Letter) →
+let_in : (node : NodeConfig) (moment : ℕ) (bytes : List ℕ) (l : PlainMessage) →
     verdict node.config node.key node.me moment bytes ≡ Ok l →
     (decoded bytes ≡ Ok l) × (is_stranger node.config l.head ≡ false)
 let_in node moment bytes l is =
     let h = (lets_in node.config node.key node.me moment bytes l).0 is in
     (h.read, h.known)
 
-answered_so : (node : NodeConfig) (moment : ℕ) (state : State) (l : Letter) →
+answered_so : (node : NodeConfig) (moment : ℕ) (state : State) (l : PlainMessage) →
     direction_of l.head.cmd ≡ ToDaemon → IsRead l.head.cmd l.content →
-    (reply : Letter) × (routed node moment state l (direction_of l.head.cmd) ≡ Answers reply)
+    (reply : PlainMessage) × (routed node moment state l (direction_of l.head.cmd) ≡ Answers reply)
     × IsReplyTo node l reply
 answered_so node moment state l to read =
     let found = has_answer (text_for node state l.head.cmd) l.head.cmd l.content to read in
-    let reply : Letter = reply_letter node.me l.head.request found.0 found.2.0 in
+    let reply : PlainMessage = reply_letter node.me l.head.request found.0 found.2.0 in
     let is : reply_to node state l ≡ Some reply = rw (found.1, found.2.1) refl in (
       stamped node.key moment reply,
       ap (λ d. routed node moment state l d) to ∙ ap (λ r. answers node.key moment r) is,
@@ -146,7 +146,7 @@ clients_answered node moment state bytes l is to =
 is_not : true ≡ false → ⊥
 is_not h = cc
 
--- a letter to a client comes from nobody
+-- a message to a client comes from nobody
 no_letter_to_clients : (node : NodeConfig) (h : Head) → direction_of h.cmd ≡ ToClient → is_stranger node.config h ≡ false → ⊥
 no_letter_to_clients node h to known = is_not (rw to at known)
 
@@ -156,7 +156,7 @@ IsRest (Notes member) = ⊥
 IsRest (Answers letter) = ⊥
 IsRest Rests = Unit {0}
 
-letter_rests_not : (node : NodeConfig) (moment : ℕ) (state : State) (bytes : List ℕ) (l : Letter) (d : Direction) →
+letter_rests_not : (node : NodeConfig) (moment : ℕ) (state : State) (bytes : List ℕ) (l : PlainMessage) (d : Direction) →
     direction_of l.head.cmd ≡ d → verdict node.config node.key node.me moment bytes ≡ Ok l →
     IsRest (action node moment state bytes) → ⊥
 letter_rests_not node moment state bytes l ToDaemon to is rest =
@@ -165,7 +165,7 @@ letter_rests_not node moment state bytes l BetweenMembers to is rest = rw (is, t
 letter_rests_not node moment state bytes l ToClient to is rest =
     no_letter_to_clients node l.head to (let_in node moment bytes l is).1
 
-verdict_rests_not : (node : NodeConfig) (moment : ℕ) (state : State) (bytes : List ℕ) (v : Result Letter DropFault) →
+verdict_rests_not : (node : NodeConfig) (moment : ℕ) (state : State) (bytes : List ℕ) (v : Result PlainMessage DropFault) →
     verdict node.config node.key node.me moment bytes ≡ v → IsRest (action node moment state bytes) → ⊥
 verdict_rests_not node moment state bytes (Err fault) is rest = rw is at rest
 verdict_rests_not node moment state bytes (Ok l) is rest =

@@ -2,7 +2,7 @@
 use Rattle.std.specs.Prelude.{◌≡◌, true, ℕ, List, Option}
 use Rattle.booth_wire.specs.declared.command.Cmd.{Cmd}
 use Rattle.booth_wire.specs.Command.{kind_of}
-use Rattle.booth_wire.specs.Letter.{Content, content_of, kind_in, is_named, has_text}
+use Rattle.booth_wire.specs.PlainMessage.{Content, content_of, kind_in, is_named, has_text}
 use Rattle.booth_wire.specs.Spelling.{Fits}
 use Rattle.booth_auth.specs.Sealed.{sealed}
 use Rattle.booth_node.specs.declared.action.Action.{Action as Shown}
@@ -20,7 +20,7 @@ pub record HasForm (cmd : Cmd) (content : Content) : Type 0 where
 abbrev pub reply_of : Made → Reply
 reply_of made = record { result = made.result; content = content_of made.body }
 
--- the code names this action; where it is an answer, its letter stands sealed in the frame
+-- the code names this action; where it is an answer, its message stands sealed in the frame
 abbrev pub IsAction : Option (List ℕ) → Action → Shown → List ℕ → Type 0
 IsAction key (Drops fault) (shown.Drop named) frame = named ≡ fault
 IsAction key (Notes member) (shown.Note named) frame = named ≡ member

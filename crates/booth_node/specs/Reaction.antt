@@ -6,7 +6,7 @@ use Rattle.booth_base.specs.Tree.{Deeds, Ends, Does, Leads, next}
 use Rattle.booth_wire.specs.declared.command.Direction.{Direction}
 use Rattle.booth_wire.specs.declared.command.Direction.TheVariants.{ToDaemon, ToClient, BetweenMembers}
 use Rattle.booth_wire.specs.Command.{direction_of}
-use Rattle.booth_wire.specs.Letter.{Letter}
+use Rattle.booth_wire.specs.PlainMessage.{PlainMessage}
 use Rattle.booth_wire.specs.Spelling.{Fits}
 use Rattle.booth_auth.specs.declared.admission.DropFault.{DropFault}
 use Rattle.booth_auth.specs.Verdict.{verdict}
@@ -23,11 +23,11 @@ use Rattle.booth_node.specs.declared.node_config.NodeConfig.{NodeConfig}
 use Rattle.booth_node.specs.Counting.{dropped, accepted}
 use Rattle.booth_node.specs.Replies.{reply_to}
 
--- What a turn asks of the host. A letter is as it is sent, with its time.
+-- What a turn asks of the host. A message is as it is sent, with its time.
 pub data Ask : Type 0 where
-  Send : Peer → Letter → Ask
+  Send : Peer → PlainMessage → Ask
 
--- This entry is what was asked, with this answer: the bytes of a send are the letter, sealed with the key where there is
+-- This entry is what was asked, with this answer: the bytes of a send are the message, sealed with the key where there is
 -- one.
 abbrev pub IsDone : Option (List ℕ) → Ask → Bool → Entry → Type 0
 IsDone key (Send peer letter) ok (calls.Send to bytes answer) =
@@ -40,23 +40,23 @@ pub data Action : Type 0 where
   Drops : DropFault → Action
   -- a command of the member with this id was let in
   Notes : MemberId → Action
-  -- a client's request is answered with this letter
-  Answers : Letter → Action
+  -- a client's request is answered with this message
+  Answers : PlainMessage → Action
   -- nothing
   Rests : Action
 
--- a letter is sent with its time, and sealed
-abbrev pub answers : Option (List ℕ) → ℕ → Option Letter → Action
+-- a message is sent with its time, and sealed
+abbrev pub answers : Option (List ℕ) → ℕ → Option PlainMessage → Action
 answers key moment (Some letter) = Answers (stamped key moment letter)
 answers key moment None = Rests
 
--- what a letter that was let in demands, by whom it is for
-abbrev pub routed : NodeConfig → ℕ → State → Letter → Direction → Action
+-- what a message that was let in demands, by whom it is for
+abbrev pub routed : NodeConfig → ℕ → State → PlainMessage → Direction → Action
 routed node moment state letter ToDaemon = answers node.key moment (reply_to node state letter)
 routed node moment state letter BetweenMembers = Notes letter.head.from
 routed node moment state letter ToClient = Rests
 
-abbrev pub demanded : NodeConfig → ℕ → State → Result Letter DropFault → Action
+abbrev pub demanded : NodeConfig → ℕ → State → Result PlainMessage DropFault → Action
 demanded node moment state (Err fault) = Drops fault
 demanded node moment state (Ok letter) = routed node moment state letter (direction_of letter.head.cmd)
 

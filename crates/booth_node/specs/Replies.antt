@@ -12,7 +12,7 @@ use Rattle.booth_wire.specs.declared.command.Cmd.{Cmd}
 use Rattle.booth_wire.specs.declared.command.Cmd.TheVariants.{CLst, Peer, CGnt, CRvk, ASet, AGet, ADel, ALst, RLst, RPer, RALs, RGnt, RRvk, RAtr, Stat, MIdx, RVot, VtFr, HrtB, Ack, UpdE, Revk, Rjc}
 use Rattle.booth_wire.specs.Command.{answer_of}
 use Rattle.booth_wire.specs.declared.message.AttrPart.{AttrPart}
-use Rattle.booth_wire.specs.Letter.{Letter, Content, Bare, Ticket, Attr, Text}
+use Rattle.booth_wire.specs.PlainMessage.{PlainMessage, Content, Bare, Ticket, Attr, Text}
 use Rattle.booth_node.specs.declared.state.Counters.{Counters}
 use Rattle.booth_node.specs.declared.state.State.{State}
 use Rattle.booth_node.specs.declared.node_config.NodeConfig.{NodeConfig}
@@ -99,7 +99,7 @@ reply_with text ADel content = no_attribute content
 reply_with text ALst content = Some (record { result = IARG; content = Text text })
 reply_with text cmd content = None
 
-abbrev pub reply_letter : MemberId → ℕ → Cmd → Reply → Letter
+abbrev pub reply_letter : MemberId → ℕ → Cmd → Reply → PlainMessage
 reply_letter me request cmd reply = record {
   head = record {
     auth = false;
@@ -115,14 +115,14 @@ reply_letter me request cmd reply = record {
   content = reply.content;
 }
 
--- the letter of a reply, where the command has an answer and there is a reply
-abbrev pub answered : MemberId → ℕ → Option Cmd → Option Reply → Option Letter
+-- the message of a reply, where the command has an answer and there is a reply
+abbrev pub answered : MemberId → ℕ → Option Cmd → Option Reply → Option PlainMessage
 answered me request (Some cmd) (Some reply) = Some (reply_letter me request cmd reply)
 answered me request (Some cmd) None = None
 answered me request None reply = None
 
--- what a client's letter is answered with
-abbrev pub reply_to : NodeConfig → State → Letter → Option Letter
+-- what a client's message is answered with
+abbrev pub reply_to : NodeConfig → State → PlainMessage → Option PlainMessage
 reply_to node state letter =
     let cmd : Cmd = letter.head.cmd in
     answered node.me letter.head.request (answer_of cmd)

@@ -1,7 +1,7 @@
 //! What a client is answered.
 ghost use Rattle.std.specs.Prelude.{◌≡◌, true, Option, option_map, IfSome};
 ghost use Rattle.booth_wire.specs.Command.{answer_of};
-ghost use Rattle.booth_wire.specs.Letter.{letter_of, content_of, has_text, Text};
+ghost use Rattle.booth_wire.specs.PlainMessage.{plain_of, content_of, has_text, Text};
 ghost use Rattle.booth_node.specs.Replies.{text_for, no_ticket, no_attribute, no_attribute_of, reply_with, reply_letter, answered, reply_to};
 ghost use Rattle.booth_node.specs.Actions.{HasForm, reply_of};
 
@@ -98,7 +98,7 @@ fn body_for<'a>(cmd: Cmd, body: &Body<'_>, text: &'a [u8]) -> Option<Reply<'a>>
 
 // The message of a reply to the request with this number.
 fn letter<'a>(me: MemberId, request: u32, cmd: Cmd, reply: Reply<'a>) -> Message<'a>
-    ensures { letter_of result ≡ reply_letter me request cmd (reply_of reply.entry) }
+    ensures { plain_of result ≡ reply_letter me request cmd (reply_of reply.entry) }
 {
     Message {
         head: Head {
@@ -120,7 +120,7 @@ fn letter<'a>(me: MemberId, request: u32, cmd: Cmd, reply: Reply<'a>) -> Message
 pub(crate) fn answer<'a>(me: MemberId, message: &Message<'_>, text: &'a [u8]) -> Option<Message<'a>>
     requires { has_text (Text text.now) ≡ true }
     ensures form { IfSome result (λ m. HasForm m.head.cmd (content_of m.body)) }
-    ensures letter { option_map letter_of result ≡ answered me message.now.head.request
+    ensures letter { option_map plain_of result ≡ answered me message.now.head.request
         (answer_of message.now.head.cmd)
         (reply_with text.now message.now.head.cmd (content_of message.now.body)) }
 {

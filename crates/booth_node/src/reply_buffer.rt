@@ -1,7 +1,7 @@
 //! Where replies are made: a text and a frame, whose memory is taken once.
 ghost use Rattle.std.specs.Prelude.{◌≡◌, [], IfOk};
 ghost use Rattle.booth_wire.specs.Command.{direction_of};
-ghost use Rattle.booth_wire.specs.Letter.{letter_of};
+ghost use Rattle.booth_wire.specs.PlainMessage.{plain_of};
 ghost use Rattle.booth_node.specs.Replies.{reply_to};
 ghost use Rattle.booth_node.specs.Reaction.{answers, routed};
 ghost use Rattle.booth_node.specs.Actions.{IsAction};
@@ -41,7 +41,7 @@ impl ReplyBuffer {
         now: u64,
     ) -> Action
         ensures { IsAction node.now.key
-            (answers node.now.key now (reply_to node.now state.now (letter_of message.now)))
+            (answers node.now.key now (reply_to node.now state.now (plain_of message.now)))
             result self.new.frame }
     {
         write_text(node, state, message.head.cmd, &mut self.text);
@@ -63,7 +63,7 @@ impl ReplyBuffer {
         now: u64,
     ) -> Action
         ensures { IsAction node.now.key
-            (routed node.now now state.now (letter_of message.now) (direction_of message.now.head.cmd))
+            (routed node.now now state.now (plain_of message.now) (direction_of message.now.head.cmd))
             result self.new.frame }
     {
         match message.head.cmd.direction() {
