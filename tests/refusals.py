@@ -366,18 +366,19 @@ def mode(path):
 @check
 def own_lock_files(room):
     """the lock files that it makes are its user's alone, since whoever opens one can hold its lock"""
-    files = (LOCK, f"{RECORDS}/booth.lock")
-    for path in files:
-        with contextlib.suppress(FileNotFoundError), locked(path):
+    with room.serving():
+        pass
+    path = f"{RECORDS}/booth.lock"
+    for path in (LOCK, path) if os.access(os.path.dirname(LOCK), os.W_OK) else (path,):
+        with locked(path):
             os.remove(path)
-    with room.serving():
-        modes = {path: mode(path) for path in files}
-    require(set(modes.values()) == {0o600}, f"the modes are {modes}")
-    # one that is there stays as it is
-    os.chmod(LOCK, 0o640)
-    with room.serving():
-        require(mode(LOCK) == 0o640, "the mode of a lock file was changed")
-    os.chmod(LOCK, 0o600)
+        with room.serving():
+            require(mode(path) == 0o600, f"{path} has the mode {mode(path):o}")
+        # one that is there stays as it is
+        os.chmod(path, 0o640)
+        with room.serving():
+            require(mode(path) == 0o640, f"the mode of {path} was changed to {mode(path):o}")
+        os.chmod(path, 0o600)
 
 
 @check

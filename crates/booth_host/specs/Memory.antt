@@ -1,5 +1,5 @@
 -- What a host in memory tells, and what its script makes it answer.
-use Rattle.std.specs.Prelude.{◌≡◌, ◌+◌, ◌-◌, ◌==◌, ℕ, List, [], ◌∷◌, nat_eq, option_map, unwrap_or, Option, None, Some, MatchOption, Result, Ok, Err, OnOk, IfOk, IfErr, IsErrOf, ◌↔◌, Bool, false, if◌then◌else◌, slice_get, length, drop, take, min}
+use Rattle.std.specs.Prelude.{◌≡◌, ◌+◌, ◌-◌, ◌==◌, ℕ, List, [], nat_eq, option_map, unwrap_or, Option, None, Some, MatchOption, Result, Ok, Err, IfOk, IfErr, IsErrOf, ◌↔◌, Bool, false, if◌then◌else◌, slice_get, length, drop, take, min}
 use Rattle.std.specs.Cmp.Lexicographic.{pointwise}
 use Rattle.std.specs.List.{find}
 use Rattle.booth_rec.specs.declared.record.Record.{Record}
