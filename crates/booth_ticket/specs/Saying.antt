@@ -30,7 +30,7 @@ abbrev pub say_back : {S : Type 0} → Option ℕ → Head → TicketPart → De
 say_back (Some from) head part rest = Does (Say (Member from) head part) (λ ok. rest)
 say_back None head part rest = rest
 
--- what a rule say, where the message of the member at the place `from` was heard or none was, and then the rest
+-- what a rule says, where the message of the member at the place `from` was heard or none was, and then the rest
 abbrev pub say : {S : Type 0} → Setup → Option ℕ → Words → Deeds Ask S → Deeds Ask S
 say setup from words.Nothing rest = rest
 say setup from (words.Reply head part) rest = say_back from head part rest

@@ -1,4 +1,4 @@
--- A ticket between two calls, and what it carry_out in each.
+-- A ticket between two calls, and what it does in each.
 use Rattle.std.specs.Prelude.{◌≤◌, ℕ, ◌/◌, nat_lt, Option, Some, None, IsSomeAnd, if◌then◌else◌}
 use Rattle.booth_base.specs.Tree.{Deeds, Ends, next}
 use Rattle.booth_rec.specs.declared.record.Record.{Record}

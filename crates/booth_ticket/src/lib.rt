@@ -10,7 +10,7 @@ mod requests;
 mod saying;
 mod ticket;
 
-pub use fake::FakeHands;
+pub use fake::{FakeHands, Noted};
 pub use hands::{Hands, To};
 pub use request::{Request, Wish};
 pub use ticket::{Owner, Ticket};
