@@ -80,11 +80,11 @@ module _ {X : Type 0} {did : X → Act → X → Type 0} where
   by_rules_did {a} {b} setup setup' deeds view same done =
       subst (λ (s : Setup). DidSome did (λ acts. Leads IsAct (by_rules setup deeds) acts (Ends (record { setup = s; known = Automatic view }))) a b) (sym same)
       (did_weaker (Whole deeds view)
-        (λ acts. Leads IsAct (by_rules setup deeds) acts (Ends (record { setup = setup; known = Automatic view })))
-        (λ xs leads.
-          next_leads IsAct deeds (Ends (record { view = view }))
-          (as_ticket setup) xs leads)
-        done)
+      (λ acts. Leads IsAct (by_rules setup deeds) acts (Ends (record { setup = setup; known = Automatic view })))
+      (λ xs leads.
+      next_leads IsAct deeds (Ends (record { view = view }))
+      (as_ticket setup) xs leads)
+      done)
 
   -- words said with the setup that the code found
   pub said_as : {a b : X} (setup setup' : Setup) (from : Option ℕ) (rule_words words' : Words)
@@ -101,5 +101,5 @@ module _ {X : Type 0} {did : X → Act → X → Type 0} where
   said_to_client {a} {b} to head' head part' part view same_head same_part done =
       did_one (Whole (Does (Say to head part) (λ ok. Ends (record { view = view }))) view) (said to head part)
       (subst (λ (h : Head). did a (said to h part) b) same_head
-        (subst (λ (p : TicketPart). did a (said to head' p) b) same_part done))
+      (subst (λ (p : TicketPart). did a (said to head' p) b) same_part done))
       (true, refl, refl)

@@ -40,7 +40,7 @@ pub said_more : {X : Type 0} (did : X → Act → X → Type 0) (a b c : X) (pla
     → Dids did a (said_to_each (take i places) head part) b → did b (said (Member (get_or places i d)) head part) c
     → Dids did a (said_to_each (take (i + 1) places) head part) c
 said_more did a b c places i d head part below before one =
-      subst (λ (acts : List Act). Dids did a acts c)
-      (sym (map-append (λ place. said (Member place) head part) (take i places) (get_or places i d ∷ []))
-        ∙ ap (λ (ps : List ℕ). said_to_each ps head part) (sym (take_more places i d below)))
-      (chain_on did a b c (said_to_each (take i places) head part) (said (Member (get_or places i d)) head part ∷ []) before (c, one, refl))
+    subst (λ (acts : List Act). Dids did a acts c)
+    (sym (map-append (λ place. said (Member place) head part) (take i places) (get_or places i d ∷ []))
+    ∙ ap (λ (ps : List ℕ). said_to_each ps head part) (sym (take_more places i d below)))
+    (chain_on did a b c (said_to_each (take i places) head part) (said (Member (get_or places i d)) head part ∷ []) before (c, one, refl))

@@ -35,7 +35,7 @@ follower_fits : (setup : Setup) (view : View) (now : ℕ) → view.waiting ≡ N
 follower_fits setup view now idle follows =
     on_cond (Fits setup) (nat_lt 0 view.repeat) _ _ tt
     (on_test (Fits setup) (setup.site && view.managed) (waits_or_acquires setup view now) (quiet (record view { due = None }))
-      (λ e. acquires setup view now idle follows (both_true setup.site view.managed e)) (λ e. tt))
+    (λ e. acquires setup view now idle follows (both_true setup.site view.managed e)) (λ e. tt))
 
 candidate_fits : (setup : Setup) (view : View) (now : ℕ) → Fits setup (candidate_due setup view now)
 candidate_fits setup view now =

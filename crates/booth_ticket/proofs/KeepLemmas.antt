@@ -40,8 +40,8 @@ module _ {X S : Type 0} {did : X → Act → X → Type 0} where
   kept_one setup now view deed tried ok view' deed' asked same_view same_deed done =
       did_one (FromTo {S = S} (keep_once setup now (outcome_of view deed)) (outcome_of view' deed')) (kept tried ok) done
       (λ rest.
-        subst (λ (keep : Option Record). Leads IsAct (keep_of setup now keep (outcome_of view deed) rest) (kept tried ok ∷ []) (rest (outcome_of view' deed'))) (sym asked)
-        (ok, refl, ap rest (same_outcome (finish setup view now ok) view' deed' same_view same_deed)))
+      subst (λ (keep : Option Record). Leads IsAct (keep_of setup now keep (outcome_of view deed) rest) (kept tried ok ∷ []) (rest (outcome_of view' deed'))) (sym asked)
+      (ok, refl, ap rest (same_outcome (finish setup view now ok) view' deed' same_view same_deed)))
 
   -- two keeps at most, and then what is said
   pub finished : {a b c d : X} (setup : Setup) (from : Option ℕ) (now : ℕ) (o first last : Outcome)
@@ -54,15 +54,15 @@ module _ {X S : Type 0} {did : X → Act → X → Type 0} where
       (λ acts. (rest : Outcome → Deeds Ask S) → Leads IsAct (keep_once setup now first (say_last setup from rest)) acts (rest last))
       (FromTo {S = S} (carry_out setup from now o) last)
       (λ xs ys p q rest.
-        leads_on IsAct (carry_out setup from now o rest) (keep_once setup now first (say_last setup from rest)) (rest last) xs ys
-        (p (λ next. keep_once setup now next (say_last setup from rest))) (q rest))
+      leads_on IsAct (carry_out setup from now o rest) (keep_once setup now first (say_last setup from rest)) (rest last) xs ys
+      (p (λ next. keep_once setup now next (say_last setup from rest))) (q rest))
       one
       (did_joined (FromTo {S = S} (keep_once setup now first) last) (First {S = S} (say setup from last.deed.say))
-        (λ acts. (rest : Outcome → Deeds Ask S) → Leads IsAct (keep_once setup now first (say_last setup from rest)) acts (rest last))
-        (λ xs ys p q rest.
-          leads_on IsAct (keep_once setup now first (say_last setup from rest)) (say_last setup from rest last) (rest last) xs ys
-          (p (say_last setup from rest)) (q (rest last)))
-        two said)
+      (λ acts. (rest : Outcome → Deeds Ask S) → Leads IsAct (keep_once setup now first (say_last setup from rest)) acts (rest last))
+      (λ xs ys p q rest.
+      leads_on IsAct (keep_once setup now first (say_last setup from rest)) (say_last setup from rest last) (rest last) xs ys
+      (p (say_last setup from rest)) (q (rest last)))
+      two said)
 
   -- the same, each part with the setup that it found
   pub finished_as : {a b c d : X} (setup setup1 setup2 : Setup) (from : Option ℕ) (now : ℕ) (o first last : Outcome)

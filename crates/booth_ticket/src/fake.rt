@@ -9,8 +9,15 @@ use std::alloc::Global;
 /// One act, with its answer.
 #[derive(Drop)]
 pub enum Noted {
-    Kept { rec: Record, ok: bool },
-    Said { to: To, head: Head, part: TicketPart },
+    Kept {
+        rec: Record,
+        ok: bool,
+    },
+    Said {
+        to: To,
+        head: Head,
+        part: TicketPart,
+    },
 }
 
 /// Hands that note their acts, the oldest first, while there is memory for them.

@@ -8,6 +8,8 @@ mod keeping;
 mod request;
 mod requests;
 mod saying;
+#[cfg(test)]
+mod tests;
 mod ticket;
 
 pub use fake::{FakeHands, Noted};

@@ -15,8 +15,8 @@ returns-clause-did g c =
     let last = outcome_of c.carry_out.new.core.view c.carry_out.result in
     ended setup (Some c.args.from) c.args.now o last
     (as_ruled setup _ (Some c.args.from) c.args.now o last c.hear-deed.new.self.view c.hear-deed.result
-      (ap (λ (s : State). s.setup) c.hear-deed.ensures.view)
-      (ap (λ (s : State). s.view) c.hear-deed.ensures.view) c.hear-deed.ensures.deed c.carry_out.ensures.did)
+    (ap (λ (s : State). s.setup) c.hear-deed.ensures.view)
+    (ap (λ (s : State). s.view) c.hear-deed.ensures.view) c.hear-deed.ensures.deed c.carry_out.ensures.did)
 
 pub carry_out-requires-clause-speech : goal.carry_out-requires-clause-speech
 carry_out-requires-clause-speech g c =

@@ -15,7 +15,7 @@ follow-requires-clause-wants c =
     let o = due_now setup view c.args.now in
     subst (λ (d : Deed). MayFollow c.tick-deed.new.self.setup c.tick-deed.new.self.view d.want) (sym c.tick-deed.ensures.deed)
     (subst (λ (s : State). MayFollow s.setup s.view o.deed.want) (sym c.tick-deed.ensures.view)
-      (may_follow setup view c.args.now c.requires.idle))
+    (may_follow setup view c.args.now c.requires.idle))
 
 pub follow-requires-clause-speech : goal.follow-requires-clause-speech
 follow-requires-clause-speech c =
