@@ -36,7 +36,13 @@ opened_gains s view number now none =
     on_cond (λ (o : Outcome). IsGainAtMost o.view.waiting) (is_majority s (own_answer s view now))
     (gain s open_view (new_round s view number now) now)
     (saying (asked_all s open_view now) (asks_all s open_view number now) tells.Nothing)
-    (λ w e. ap (λ (w : Waiting). w.rule) (sym (some_same (record { rule = rules.Gain; tried = lease_record s open_view.term (new_round s view number now); now = now }) e)))
+    (λ w e. ap (λ (w : Waiting). w.rule)
+    (sym (some_same (record {
+      rule = rules.Gain;
+      tried = lease_record s open_view.term
+          (new_round s view number now);
+      now = now;
+    }) e)))
     (on_cond (λ (v : View). IsGainAtMost v.waiting) (is_leader open_view.role)
     (record open_view { due = Some (retry_at s open_view now) })
     (record open_view { role = Candidate; due = Some (now + s.times.timeout) })
@@ -45,10 +51,14 @@ opened_gains s view number now none =
     waits : IsGainAtMost (promised_itself s view now).waiting
     waits =
         on_cond (λ (v : View). IsGainAtMost v.waiting) (answers_itself s view now)
-        (record view { promise = Some (record { to = s.me; term = view.term; until = now + promise_of s.times }) }) view
+        (record view {
+          promise = Some
+              (record { to = s.me; term = view.term; until = now + promise_of s.times });
+        }) view
         (none_waits view.waiting none) (none_waits view.waiting none)
 
-rule_gains : (s : Setup) (view : View) (rule : Rule) (tried : Record) (now : ℕ) (ok : Bool) → view.waiting ≡ None
+rule_gains : (s : Setup) (view : View) (rule : Rule) (tried : Record) (now : ℕ) (ok : Bool)
+    → view.waiting ≡ None
     → IsGainAtMost (goes_on s view rule tried now ok).view.waiting
 rule_gains s view rules.Gain tried now true none = none_waits view.waiting none
 rule_gains s view rules.Gain tried now false none = none_waits view.waiting none
@@ -61,13 +71,15 @@ rule_gains s view (rules.Release reason) tried now true none =
     on_cond (λ (v : View). IsGainAtMost v.waiting) (reason == SPLT) _ _
     (none_waits view.waiting none) (none_waits view.waiting none)
 rule_gains s view (rules.Release reason) tried now false none =
-    on_cond (λ (v : View). IsGainAtMost v.waiting) (reason == SPLT) _ _ (none_waits view.waiting none)
+    on_cond (λ (v : View). IsGainAtMost v.waiting) (reason == SPLT) _ _
+    (none_waits view.waiting none)
     (on_cond (λ (v : View). IsGainAtMost v.waiting) (is_leader view.role) _ _
     (none_waits view.waiting none) (none_waits view.waiting none))
 rule_gains s view rules.EndRound tried now true none = none_waits view.waiting none
 rule_gains s view rules.EndRound tried now false none = none_waits view.waiting none
 
-pub gains_at_most : (s : Setup) (view : View) (now : ℕ) (ok : Bool) → IsGainAtMost (finish s view now ok).view.waiting
+pub gains_at_most : (s : Setup) (view : View) (now : ℕ) (ok : Bool)
+    → IsGainAtMost (finish s view now ok).view.waiting
 gains_at_most s view now ok =
     on_option (λ (o : Outcome). IsGainAtMost o.view.waiting) view.waiting (quiet view)
     (λ waits. goes_on s (record view { waiting = None }) waits.rule waits.tried now ok)

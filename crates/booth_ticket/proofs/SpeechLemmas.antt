@@ -36,7 +36,8 @@ about_ticket Revk is = refl
 about_ticket Rjc is = refl
 
 -- what a rule says is what the code was given
-pub speech_as : (setup setup' : Setup) (deed deed' : Deed) → setup' ≡ setup → deed' ≡ deed → IsSpeech setup deed.say
+pub speech_as : (setup setup' : Setup) (deed deed' : Deed) → setup' ≡ setup → deed' ≡ deed
+    → IsSpeech setup deed.say
     → IsSpeech setup' deed'.say
 speech_as setup setup' deed deed' same_setup same_deed speaks =
     subst (λ (s : Setup). IsSpeech s deed'.say) (sym same_setup)

@@ -5,6 +5,7 @@ mod automatic;
 mod fake;
 mod hands;
 mod keeping;
+pub mod laws;
 mod request;
 mod requests;
 mod saying;

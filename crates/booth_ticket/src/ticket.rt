@@ -21,7 +21,8 @@ pub struct Owner {
 
 /// A ticket at one member.
 ///
-/// Every `now` is a reading of the member's clock in milliseconds since 1970, below 2^62. No call takes memory.
+/// Every `now` is a reading of the member's clock in milliseconds since 1970, below 2^62. No call
+/// takes memory.
 #[derive(Drop)]
 pub struct Ticket {
     core: Core,

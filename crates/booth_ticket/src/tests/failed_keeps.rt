@@ -1,4 +1,4 @@
-//! What a call does where a keep fails: nothing is said to members on its success, and no client is told of it.
+//! What a call does where a keep fails: no member and no client is told of its success.
 use super::lives::{asks_vote, candidate, follower, gives_back, holder, votes};
 use super::script::{
     Call, Did, Keeps, S1, Stage, check, check_with, free, greets, held, opened, replies, to,

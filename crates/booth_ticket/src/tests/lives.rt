@@ -1,4 +1,4 @@
-//! Tickets from their start on: grants, renewals, revocations, takeovers, and what an arbitrator answers.
+//! Tickets from their start on: grants, renewals, revocations, takeovers, an arbitrator's answers.
 use super::script::{
     AR, Call, Did, S1, S2, Said, Stage, check, free, greets, held, opened, replies, to,
 };

@@ -11,8 +11,10 @@ use Rattle.booth_ticket.proofs.keeping.keep_once.Goals as goal
 
 pub returns-clause-did : goal.returns-clause-did
 returns-clause-did g c =
-    kept_one c.args.core.now.setup c.args.now c.args.core.now.view c.args.deed c.in-Some.rec c.keep-ok.result
-    c.kept.new.self.view c.kept.result c.in-Some.is (ap (λ (s : State). s.view) c.kept.ensures.view) c.kept.ensures.deed
+    kept_one c.args.core.now.setup c.args.now c.args.core.now.view c.args.deed c.in-Some.rec
+    c.keep-ok.result
+    c.kept.new.self.view c.kept.result c.in-Some.is
+    (ap (λ (s : State). s.view) c.kept.ensures.view) c.kept.ensures.deed
     c.keep-ok.ensures.did
 
 pub returns-clause-gains : goal.returns-clause-gains
@@ -24,6 +26,7 @@ pub returns-clause-speech : goal.returns-clause-speech
 returns-clause-speech g c =
     let setup = c.args.core.now.setup in
     let view = c.args.core.now.view in
-    speech_as setup c.kept.new.self.setup (finish setup view c.args.now c.keep-ok.result).deed c.kept.result
+    speech_as setup c.kept.new.self.setup (finish setup view c.args.now c.keep-ok.result).deed
+    c.kept.result
     (ap (λ (s : State). s.setup) c.kept.ensures.view) c.kept.ensures.deed
     (rules_speak.answered setup view c.args.now c.keep-ok.result)
