@@ -1,7 +1,7 @@
 -- A call of a ticket: its outcome is done, and perhaps a client is answered.
-use Rattle.std.proofs.Common.{◌≡◌, ℕ, Bool, List, [], ◌∷◌, ◌++◌, true, refl, sym, ap, subst}
-use Rattle.std.specs.Prelude.{Option, Some, None}
-use Rattle.booth_base.specs.Tree.{Deeds, Ends, Does, Leads, next}
+use Rattle.std.proofs.Common.{◌≡◌, ℕ, List, true, refl, sym, subst}
+use Rattle.std.specs.Prelude.{Option}
+use Rattle.booth_base.specs.Tree.{Deeds, Ends, Does, Leads}
 use Rattle.booth_base.proofs.TreeLemmas.{leads_on, next_leads}
 use Rattle.booth_wire.specs.declared.message.Head.{Head}
 use Rattle.booth_wire.specs.declared.message.TicketPart.{TicketPart}
@@ -15,7 +15,7 @@ use Rattle.booth_ticket.specs.Acts.{Ask, Say, Act, IsAct, DidSome, said}
 use Rattle.booth_ticket.specs.Automatic.{Left, ends}
 use Rattle.booth_ticket.specs.Keeping.{carry_out}
 use Rattle.booth_ticket.specs.Saying.{say}
-use Rattle.booth_ticket.specs.Ticket.{TicketState, Known, Automatic, by_rules}
+use Rattle.booth_ticket.specs.Ticket.{TicketState, Automatic, by_rules}
 use Rattle.booth_ticket.proofs.DidLemmas.{did_one, did_joined, did_weaker}
 use Rattle.booth_ticket.proofs.KeepLemmas.{FromTo, outcome_of, same_outcome}
 use Rattle.booth_ticket.proofs.SayLemmas.{First}

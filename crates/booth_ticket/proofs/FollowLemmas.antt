@@ -1,15 +1,11 @@
 -- What the rule of a deadline wants may follow it.
-use Rattle.std.proofs.Common.{◌≡◌, ℕ, ◌+◌, ◌*◌, Bool, true, false, ◌&&◌, refl, sym, ap, subst}
-use Rattle.std.specs.Prelude.{Option, Some, None, nat_lt, nat_le, not, ◌==◌, IsTrue, is_some}
+use Rattle.std.proofs.Common.{◌≡◌, ℕ, Bool, true, false, ◌&&◌, refl, ap}
+use Rattle.std.specs.Prelude.{None, nat_lt, nat_le, not, IsTrue, is_some}
 use Rattle.booth_wire.specs.declared.message.Setup.{Setup}
-use Rattle.booth_wire.specs.declared.codes.reasons.TheConstants.{LOCF}
-use Rattle.booth_raft.specs.declared.deed.Told.TheVariants as tells
-use Rattle.booth_raft.specs.declared.deed.Want.TheVariants as wants
 use Rattle.booth_raft.specs.declared.view.Role.{Role}
 use Rattle.booth_raft.specs.declared.view.Role.TheVariants.{Follower, Working, Candidate, Leader}
-use Rattle.booth_raft.specs.declared.view.Round.{Round}
 use Rattle.booth_raft.specs.declared.view.View.{View}
-use Rattle.booth_raft.specs.Deadlines.{due_now, is_tried, repeats, waits_or_acquires, follower_due, leader_due, resends_or_renews, candidate_due}
+use Rattle.booth_raft.specs.Deadlines.{due_now, is_tried, waits_or_acquires, follower_due, leader_due, resends_or_renews, candidate_due}
 use Rattle.booth_raft.specs.GainReleaseLost.{own_end}
 use Rattle.booth_raft.specs.Members.{is_promised_elsewhere, is_follower, is_leader}
 use Rattle.booth_raft.specs.Messages.{shown_end}

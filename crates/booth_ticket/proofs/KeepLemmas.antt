@@ -1,5 +1,5 @@
 -- The keeps of an outcome, and what is said after them.
-use Rattle.std.proofs.Common.{◌≡◌, ℕ, Bool, List, [], ◌∷◌, ◌++◌, refl, sym, ap, subst}
+use Rattle.std.proofs.Common.{◌≡◌, ℕ, Bool, List, [], ◌∷◌, refl, sym, ap, subst}
 use Rattle.std.specs.Prelude.{Option, Some, None}
 use Rattle.booth_base.specs.Tree.{Deeds, Leads}
 use Rattle.booth_base.proofs.TreeLemmas.{leads_on}
@@ -12,7 +12,7 @@ use Rattle.booth_raft.specs.Outcome.{Outcome}
 use Rattle.booth_ticket.specs.Acts.{Ask, Act, IsAct, DidSome, kept}
 use Rattle.booth_ticket.specs.Keeping.{keep_of, keep_once, say_last, carry_out}
 use Rattle.booth_ticket.specs.Saying.{say}
-use Rattle.booth_ticket.proofs.DidLemmas.{did_none, did_one, did_joined, did_weaker}
+use Rattle.booth_ticket.proofs.DidLemmas.{did_none, did_one, did_joined}
 use Rattle.booth_ticket.proofs.SayLemmas.{First}
 
 abbrev pub outcome_of : View → Deed → Outcome

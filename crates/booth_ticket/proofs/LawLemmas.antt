@@ -1,5 +1,5 @@
 -- What is done where it may be: a round is answered, a grant asks all, a majority gains.
-use Rattle.std.proofs.Common.{◌≡◌, ◌≢◌, ℕ, ◌+◌, ◌<◌, Bool, true, false, cond, ◌&&◌, ◌||◌, List, ◌∷◌, ◌++◌, [], arith, refl, sym, ap, subst}
+use Rattle.std.proofs.Common.{◌≡◌, ◌≢◌, ℕ, ◌+◌, ◌<◌, Bool, true, false, cond, ◌&&◌, ◌||◌, ◌∷◌, ◌++◌, [], arith, refl, sym, ap, subst}
 use Rattle.std.proofs.lemmas.Bool.Decides.{nat_tests}
 use Rattle.std.specs.Prelude.{Option, Some, None, nat_lt, not, ◌==◌, if◌then◌else◌}
 use Rattle.booth_base.specs.declared.address.MemberId.{MemberId}
@@ -22,9 +22,9 @@ use Rattle.booth_raft.specs.declared.view.Round.{Round}
 use Rattle.booth_raft.specs.declared.view.RoundKind.{RoundKind}
 use Rattle.booth_raft.specs.declared.view.RoundKind.TheVariants.{Election, Renewal}
 use Rattle.booth_raft.specs.declared.view.View.{View}
-use Rattle.booth_raft.specs.AskAndRenew.{answers_itself, are_terms_spent, ask, asked_all, begin_round, finish, new_round, own_answer, promised_itself}
+use Rattle.booth_raft.specs.AskAndRenew.{answers_itself, are_terms_spent, ask, asked_all, begin_round, finish, new_round, own_answer}
 use Rattle.booth_raft.specs.GainReleaseLost.{gain}
-use Rattle.booth_raft.specs.Members.{is_follower, is_leader, is_majority, is_promised_elsewhere, is_same}
+use Rattle.booth_raft.specs.Members.{is_follower, is_leader, is_majority, is_promised_elsewhere}
 use Rattle.booth_raft.specs.Messages.{asks_all, head_of, part_of, round_head, round_part, state_part}
 use Rattle.booth_raft.specs.Notes.{noted}
 use Rattle.booth_raft.specs.Numbers.{seconds_left}
@@ -36,10 +36,10 @@ use Rattle.booth_raft.proofs.AnswerLemmas.{tests_may_answer}
 use Rattle.booth_raft.proofs.FactsLemmas.{on_cond}
 use Rattle.booth_ticket.specs.declared.hands.To.TheVariants.{Client}
 use Rattle.booth_ticket.specs.declared.request.Request.{Request}
-use Rattle.booth_ticket.specs.Acts.{Act, IsAct, Ask, said, said_to_each}
-use Rattle.booth_ticket.specs.Automatic.{Left, acquire, ends}
+use Rattle.booth_ticket.specs.Acts.{IsAct, Ask, said, said_to_each}
+use Rattle.booth_ticket.specs.Automatic.{Left, ends}
 use Rattle.booth_ticket.specs.Keeping.{carry_out, keep_once, say_last}
-use Rattle.booth_ticket.specs.Laws.{AnswersWhereItMay, BeginsWith, Completes, GrantAsksAll, HasLease, IsAnswer, IsDoneBy, IsRound, MajorityGains, answer_to, asking_acts, gaining_acts, lease_of}
+use Rattle.booth_ticket.specs.Laws.{AnswersWhereItMay, BeginsWith, Completes, GrantAsksAll, HasLease, IsDoneBy, MajorityGains, answer_to, asking_acts, gaining_acts, lease_of}
 use Rattle.booth_ticket.specs.Requests.{grant, grant_result, is_holder, is_shown_elsewhere, refused_grant, reply}
 use Rattle.booth_ticket.specs.Saying.{others, say_each}
 use Rattle.booth_ticket.proofs.SayLemmas.{each_first}
@@ -271,16 +271,16 @@ gain_done : (setup : Setup) (view : View) (round : Round) (from : Option ℕ) (n
 gain_done setup view round from now before =
     let after : View = (finish setup (gain setup view round now).view now true).view in
     let told : MemberId → TicketPart =
-        λ owner. part_of setup owner view.term (seconds_left (round.opened + setup.times.expire) now) in
+    λ owner. part_of setup owner view.term (seconds_left (round.opened + setup.times.expire) now) in
     let over : Deeds Ask Left = Ends (record { view = after }) in
     let head : Head = head_of setup UpdE 0 0 0 0 in
     let Tells : MemberId → Type 0 =
-        λ owner. Leads IsAct (say_each (others setup) head (told owner) over)
-          (said_to_each (others setup) head (told setup.me)) over in
+    λ owner. Leads IsAct (say_each (others setup) head (told owner) over)
+    (said_to_each (others setup) head (told setup.me)) over in
     let all_told =
-        when_true Tells (nat_lt now (round.opened + setup.times.expire)) _ NO_ONE
-        (is_below now (round.opened + setup.times.expire) before)
-        (each_first (others setup) head (told setup.me) over) in
+    when_true Tells (nat_lt now (round.opened + setup.times.expire)) _ NO_ONE
+    (is_below now (round.opened + setup.times.expire) before)
+    (each_first (others setup) head (told setup.me) over) in
     record {
       left = after;
       all = (true, refl, all_told);

@@ -1,17 +1,16 @@
 -- What is said, as the first of a tree's deeds.
 use Rattle.std.proofs.Common.{◌≡◌, ℕ, true, List, [], ◌∷◌, refl, sym, subst}
-use Rattle.std.specs.Prelude.{Option, Some, None}
+use Rattle.std.specs.Prelude.{Option, Some}
 use Rattle.booth_base.specs.Tree.{Deeds, Leads}
 use Rattle.booth_wire.specs.declared.message.Head.{Head}
 use Rattle.booth_wire.specs.declared.message.TicketPart.{TicketPart}
 use Rattle.booth_wire.specs.declared.message.Setup.{Setup}
 use Rattle.booth_wire.specs.declared.message.Say.{Say as Words}
 use Rattle.booth_wire.specs.declared.message.Say.TheVariants as words
-use Rattle.booth_ticket.specs.declared.hands.To.{To}
 use Rattle.booth_ticket.specs.declared.hands.To.TheVariants.{Member}
 use Rattle.booth_ticket.specs.Acts.{Ask, Act, IsAct, Dids, DidSome, said, said_to_each}
 use Rattle.booth_ticket.specs.Saying.{others, places_in, say_each, say_back, say}
-use Rattle.booth_ticket.proofs.DidLemmas.{did_none, did_one, did_these}
+use Rattle.booth_ticket.proofs.DidLemmas.{did_one, did_these}
 
 -- these acts come first, whatever is left
 abbrev pub First : {S : Type 0} → (Deeds Ask S → Deeds Ask S) → List Act → Type 0

@@ -1,5 +1,5 @@
 -- What an automatic ticket does in each call, with neither handlers nor clients that wait.
-use Rattle.std.specs.Prelude.{◌≡◌, ℕ, Option, Some, None, IsTrue, if◌then◌else◌}
+use Rattle.std.specs.Prelude.{◌≡◌, ℕ, Some, None, IsTrue, if◌then◌else◌}
 use Rattle.booth_base.specs.Tree.{Deeds, Ends}
 use Rattle.booth_wire.specs.declared.message.Head.{Head}
 use Rattle.booth_wire.specs.declared.message.TicketPart.{TicketPart}

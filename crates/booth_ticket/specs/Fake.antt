@@ -1,5 +1,5 @@
 -- What hands in memory answer, and what they tell of it.
-use Rattle.std.specs.Prelude.{◌≡◌, ◌++◌, ◌||◌, not, true, Bool, List, [], ◌∷◌, IsTrue}
+use Rattle.std.specs.Prelude.{◌≡◌, ◌++◌, ◌||◌, not, true, Bool, [], ◌∷◌, IsTrue}
 use Rattle.booth_ticket.specs.Acts.{Ask, Act, Keep, Say}
 use Rattle.booth_ticket.specs.declared.fake.FakeHands.{FakeHands}
 use Rattle.booth_ticket.specs.declared.fake.Noted.{Noted}

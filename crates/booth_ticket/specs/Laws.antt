@@ -1,11 +1,10 @@
 -- Laws over the trees: what is done where it may be, whatever the setup, the view and the message.
-use Rattle.std.specs.Prelude.{◌≡◌, ◌≢◌, ℕ, ◌+◌, ◌<◌, true, false, List, [], ◌∷◌, ◌++◌, Option, Some, None}
+use Rattle.std.specs.Prelude.{◌≡◌, ◌≢◌, ℕ, ◌+◌, ◌<◌, true, false, List, [], ◌∷◌, ◌++◌, Some, None}
 use Rattle.booth_base.specs.declared.address.MemberId.{MemberId}
 use Rattle.booth_base.specs.Tree.{Deeds, Ends, Does, Leads}
 use Rattle.booth_rec.specs.declared.record.Lease.{Lease}
 use Rattle.booth_rec.specs.declared.record.Record.{Record}
 use Rattle.booth_rec.specs.Record.{lease_end, plain}
-use Rattle.booth_wire.specs.declared.command.Cmd.{Cmd}
 use Rattle.booth_wire.specs.declared.command.Cmd.TheVariants.{RVot, VtFr, HrtB, Ack, UpdE, RGnt}
 use Rattle.booth_wire.specs.declared.message.Head.{Head}
 use Rattle.booth_wire.specs.declared.message.TicketPart.{TicketPart}
@@ -118,7 +117,7 @@ abbrev pub gaining_acts : Setup → View → Lease → ℕ → List Act
 gaining_acts setup view lease now =
     kept (lease_kept lease) true
     ∷ said_to_each (others setup) (head_of setup UpdE 0 0 0 0)
-      (part_of setup setup.me view.term (seconds_left lease.until now))
+    (part_of setup setup.me view.term (seconds_left lease.until now))
 
 -- A view of a leader that has the lease: its record is kept, and it is shown as the owner.
 pub record HasLease (owner : MemberId) (lease : Lease) (view : View) : Type 0 where

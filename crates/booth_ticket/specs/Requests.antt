@@ -1,5 +1,5 @@
 -- What a client asks of an automatic ticket, and what it is answered.
-use Rattle.std.specs.Prelude.{ℕ, Bool, true, false, not, ◌&&◌, ◌||◌, nat_lt, ◌==◌, Option, Some, None, if◌then◌else◌}
+use Rattle.std.specs.Prelude.{ℕ, Bool, false, not, ◌&&◌, ◌||◌, nat_lt, ◌==◌, Option, Some, None, if◌then◌else◌}
 use Rattle.booth_base.specs.declared.address.MemberId.{MemberId}
 use Rattle.booth_base.specs.Tree.{Deeds, Ends, Does}
 use Rattle.booth_wire.specs.declared.command.Cmd.{Cmd}
@@ -18,7 +18,6 @@ use Rattle.booth_raft.specs.GainReleaseLost.{own_end, release}
 use Rattle.booth_raft.specs.Members.{is_same, is_follower, is_leader, is_promised_elsewhere}
 use Rattle.booth_raft.specs.Messages.{head_of, state_part}
 use Rattle.booth_raft.specs.Notes.{noted}
-use Rattle.booth_raft.specs.Outcome.{Outcome}
 use Rattle.booth_ticket.specs.declared.hands.To.TheVariants.{Client}
 use Rattle.booth_ticket.specs.declared.request.Request.{Request}
 use Rattle.booth_ticket.specs.declared.request.Wish.{Wish}

@@ -1,4 +1,4 @@
-use Rattle.std.proofs.Common.{◌≡◌, refl, sym, ap, subst}
+use Rattle.std.proofs.Common.{sym, ap, subst}
 use Rattle.booth_raft.specs.declared.deed.Deed.{Deed}
 use Rattle.booth_raft.specs.Deadlines.{due_now}
 use Rattle.booth_raft.specs.State.{State}

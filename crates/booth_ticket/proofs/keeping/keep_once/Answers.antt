@@ -1,11 +1,10 @@
-use Rattle.std.proofs.Common.{◌≡◌, ◌∙◌, sym, ap, subst, refl}
-use Rattle.std.specs.Option.{ForSome}
+use Rattle.std.proofs.Common.{sym, ap, subst}
 use Rattle.booth_raft.specs.AskAndRenew.{finish}
 use Rattle.booth_raft.specs.State.{State}
 use Rattle.booth_raft.proofs.SpeechLemmas.{rules_speak}
 use Rattle.booth_ticket.proofs.SpeechLemmas.{speech_as}
 use Rattle.booth_ticket.proofs.GainLemmas.{IsGainAtMost}
-use Rattle.booth_ticket.proofs.GainLemmas.{gains_at_most, nothing_waits}
+use Rattle.booth_ticket.proofs.GainLemmas.{gains_at_most}
 use Rattle.booth_ticket.proofs.KeepLemmas.{kept_one}
 use Rattle.booth_ticket.proofs.keeping.keep_once.Goals as goal
 
