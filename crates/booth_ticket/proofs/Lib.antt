@@ -6,3 +6,4 @@ pub mod SayLemmas
 pub mod KeepLemmas
 pub mod FollowLemmas
 pub mod CallLemmas
+pub mod LawLemmas

@@ -35,7 +35,8 @@ Dids did old [] new = new ≡ old
 Dids {X} did old (act ∷ acts) new = (mid : X) × did old act mid × Dids did mid acts new
 
 -- some acts of which P holds
-pub record DidSome {X : Type 0} (did : X → Act → X → Type 0) (P : List Act → Type 0) (old new : X) : Type 0 where
+pub record DidSome {X : Type 0} (did : X → Act → X → Type 0) (P : List Act → Type 0) (old new : X)
+    : Type 0 where
   pub acts : List Act
   pub chain : Dids did old acts new
   pub holds : P acts

@@ -1,5 +1,5 @@
--- What an automatic ticket carry_out in each call, with neither handlers nor clients that wait.
-use Rattle.std.specs.Prelude.{◌≡◌, ℕ, Option, Some, None, IsTrue, if◌then◌else◌}
+-- What an automatic ticket does in each call, with neither handlers nor clients that wait.
+use Rattle.std.specs.Prelude.{◌≡◌, ℕ, Some, None, IsTrue, if◌then◌else◌}
 use Rattle.booth_base.specs.Tree.{Deeds, Ends}
 use Rattle.booth_wire.specs.declared.message.Head.{Head}
 use Rattle.booth_wire.specs.declared.message.TicketPart.{TicketPart}
@@ -31,10 +31,13 @@ abbrev pub hear_message : Setup → View → ℕ → Head → TicketPart → ℕ
 hear_message setup view from head part now =
     carry_out setup (Some from) now (hear setup view from head part now head.cmd) ends
 
--- The ticket is acquired: a new term is asked for. Where the terms are spent, the acquisition fails.
+-- The ticket is acquired: a new term is asked for. Where the terms are spent, the acquisition
+-- fails.
 abbrev pub acquire : Setup → View → ℕ → ℕ → Outcome
 acquire setup view reason now =
-    if are_terms_spent view then telling (acquisition_failed setup view now) tells.AskFailed else ask view reason now
+    if are_terms_spent view
+    then telling (acquisition_failed setup view now) tells.AskFailed
+    else ask view reason now
 
 -- what the rule of a deadline wants to follow
 abbrev pub follow : Setup → Outcome → Want → ℕ → Outcome
@@ -45,7 +48,8 @@ follow setup outcome wants.Acquire now = acquire setup outcome.view TLST now
 -- what may follow: a leader renews, and a site that follows acquires; nothing waits then
 abbrev pub MayFollow : Setup → View → Want → Type 0
 MayFollow setup view wants.Renew = IsTrue (is_leader view.role) × (view.waiting ≡ None)
-MayFollow setup view wants.Acquire = IsTrue setup.site × IsTrue (is_follower view.role) × (view.waiting ≡ None)
+MayFollow setup view wants.Acquire =
+    IsTrue setup.site × IsTrue (is_follower view.role) × (view.waiting ≡ None)
 MayFollow setup view want = Unit {0}
 
 -- the rule of the role, and what it wants to follow
@@ -60,4 +64,5 @@ role_due setup view now =
 -- the deadline has come: hello, and then the rule of the role
 abbrev pub tick : Setup → View → ℕ → Deeds Ask Left
 tick setup view now =
-    say setup None (hello setup view now) (carry_out setup None now (role_due setup (greeted view) now) ends)
+    say setup None (hello setup view now)
+    (carry_out setup None now (role_due setup (greeted view) now) ends)

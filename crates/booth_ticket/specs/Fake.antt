@@ -1,9 +1,19 @@
--- What hands in memory tell.
-use Rattle.std.specs.Prelude.{◌≡◌, ◌++◌, true, Bool, List, [], ◌∷◌, IsTrue}
+-- What hands in memory answer, and what they tell of it.
+use Rattle.std.specs.Prelude.{◌≡◌, ◌++◌, ◌||◌, not, true, Bool, [], ◌∷◌, IsTrue}
 use Rattle.booth_ticket.specs.Acts.{Ask, Act, Keep, Say}
 use Rattle.booth_ticket.specs.declared.fake.FakeHands.{FakeHands}
 use Rattle.booth_ticket.specs.declared.fake.Noted.{Noted}
 use Rattle.booth_ticket.specs.declared.fake.Noted.TheVariants as noted
+
+-- a keep answers Ok exactly where keeps do not fail
+abbrev pub answer_of : FakeHands → Ask → Bool
+answer_of hands (Keep rec) = not hands.fails
+answer_of hands (Say to head part) = true
+
+-- after a keep all others fail, where hands are to break
+abbrev pub fails_after : FakeHands → Ask → Bool
+fails_after hands (Keep rec) = hands.fails || hands.breaks
+fails_after hands (Say to head part) = hands.fails
 
 abbrev pub note_of : Ask → Bool → Noted
 note_of (Keep rec) ok = noted.Kept rec ok
@@ -13,5 +23,12 @@ note_of (Say to head part) ok = noted.Said to head part
 pub record Notes (old : FakeHands) (note : Noted) (new : FakeHands) : Type 0 where
   pub told : IsTrue new.tells → IsTrue old.tells × (new.acts.items ≡ old.acts.items ++ note ∷ [])
 
+-- the act is answered as the hands answer it, and noted
+pub record DoesAct (old : FakeHands) (act : Act) (new : FakeHands) : Type 0 where
+  pub answer : act.ok ≡ answer_of old act.ask
+  pub fails : new.fails ≡ fails_after old act.ask
+  pub breaks : new.breaks ≡ old.breaks
+  pub notes : Notes old (note_of act.ask act.ok) new
+
 abbrev pub notes_act : FakeHands → Act → FakeHands → Type 0
-notes_act old act new = Notes old (note_of act.ask act.ok) new
+notes_act old act new = DoesAct old act new

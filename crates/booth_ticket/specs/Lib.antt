@@ -6,3 +6,4 @@ pub mod Requests
 pub mod Automatic
 pub mod Ticket
 pub mod Fake
+pub mod Laws

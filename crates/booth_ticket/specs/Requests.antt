@@ -1,5 +1,5 @@
 -- What a client asks of an automatic ticket, and what it is answered.
-use Rattle.std.specs.Prelude.{ℕ, Bool, true, false, not, ◌&&◌, ◌||◌, nat_lt, ◌==◌, Option, Some, None, if◌then◌else◌}
+use Rattle.std.specs.Prelude.{ℕ, Bool, false, not, ◌&&◌, ◌||◌, nat_lt, ◌==◌, Option, Some, None, if◌then◌else◌}
 use Rattle.booth_base.specs.declared.address.MemberId.{MemberId}
 use Rattle.booth_base.specs.Tree.{Deeds, Ends, Does}
 use Rattle.booth_wire.specs.declared.command.Cmd.{Cmd}
@@ -18,7 +18,6 @@ use Rattle.booth_raft.specs.GainReleaseLost.{own_end, release}
 use Rattle.booth_raft.specs.Members.{is_same, is_follower, is_leader, is_promised_elsewhere}
 use Rattle.booth_raft.specs.Messages.{head_of, state_part}
 use Rattle.booth_raft.specs.Notes.{noted}
-use Rattle.booth_raft.specs.Outcome.{Outcome}
 use Rattle.booth_ticket.specs.declared.hands.To.TheVariants.{Client}
 use Rattle.booth_ticket.specs.declared.request.Request.{Request}
 use Rattle.booth_ticket.specs.declared.request.Wish.{Wish}
@@ -39,7 +38,9 @@ is_shown_elsewhere (Some shown) me now = nat_lt now shown.until && not (is_same 
 -- the reply to a request, with the state of the ticket
 abbrev pub reply : Setup → Request → Cmd → ℕ → View → ℕ → Deeds Ask Left
 reply setup request cmd result view now =
-    Does (Say (Client request.from) (head_of setup cmd request.number 0 0 result) (state_part setup view now))
+    Does
+    (Say (Client request.from) (head_of setup cmd request.number 0 0 result)
+    (state_part setup view now))
     (λ ok. Ends (record { view = view }))
 
 -- ---- a grant
@@ -50,11 +51,13 @@ refused_grant setup view options now =
     if not setup.site || not (options == 0) then Some IARG else
     if is_holder setup view now then Some (if view.sure then SUCCESS else PEND) else
     if is_shown_elsewhere view.shown setup.me now then Some OVER else
-    if not (is_follower view.role) || is_promised_elsewhere view.promise setup.me now then Some BUSY else
+    if not (is_follower view.role) || is_promised_elsewhere view.promise setup.me now
+    then Some BUSY else
     if are_terms_spent view then Some FAIL else
     None
 
--- the result of an acquisition: success only where the lease is kept; where nothing is told yet, its round is open
+-- the result of an acquisition: success only where the lease is kept; where nothing is told yet,
+-- its round is open
 abbrev pub grant_result : Told → ℕ
 grant_result (tells.Gained sure) = if sure then SUCCESS else PEND
 grant_result tells.Nothing = ASYN
@@ -91,5 +94,7 @@ revoke setup view request None now =
 -- ---- by what is wished
 
 abbrev pub wish : Setup → View → Request → Wish → ℕ → Deeds Ask Left
-wish setup view request Grant now = grant setup view request (refused_grant setup view request.options now) now
-wish setup view request Revoke now = revoke setup view request (refused_revoke setup view request.options now) now
+wish setup view request Grant now =
+    grant setup view request (refused_grant setup view request.options now) now
+wish setup view request Revoke now =
+    revoke setup view request (refused_revoke setup view request.options now) now

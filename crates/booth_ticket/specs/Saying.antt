@@ -1,5 +1,5 @@
 -- Whom a rule's words go to.
-use Rattle.std.specs.Prelude.{ℕ, not, ◌==◌, List, [], ◌∷◌, Option, Some, None, Bool}
+use Rattle.std.specs.Prelude.{ℕ, not, ◌==◌, List, [], ◌∷◌, Option, Some, None}
 use Rattle.std.specs.List.{filter, range_with_len}
 use Rattle.std.specs.Int.{bit_at}
 use Rattle.booth_base.specs.Tree.{Deeds, Does}
@@ -23,14 +23,16 @@ places_in bits = filter (λ place. bit_at bits place == 1) (range_with_len 0 MOS
 -- the same message to the members at these places, and then the rest
 abbrev pub say_each : {S : Type 0} → List ℕ → Head → TicketPart → Deeds Ask S → Deeds Ask S
 say_each [] head part rest = rest
-say_each (place ∷ places) head part rest = Does (Say (Member place) head part) (λ ok. say_each places head part rest)
+say_each (place ∷ places) head part rest =
+    Does (Say (Member place) head part) (λ ok. say_each places head part rest)
 
 -- an answer goes to the member whose message was heard
 abbrev pub say_back : {S : Type 0} → Option ℕ → Head → TicketPart → Deeds Ask S → Deeds Ask S
 say_back (Some from) head part rest = Does (Say (Member from) head part) (λ ok. rest)
 say_back None head part rest = rest
 
--- what a rule say, where the message of the member at the place `from` was heard or none was, and then the rest
+-- what a rule says, where the message of the member at the place `from` was heard or none was, and
+-- then the rest
 abbrev pub say : {S : Type 0} → Setup → Option ℕ → Words → Deeds Ask S → Deeds Ask S
 say setup from words.Nothing rest = rest
 say setup from (words.Reply head part) rest = say_back from head part rest

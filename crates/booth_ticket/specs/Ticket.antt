@@ -1,4 +1,4 @@
--- A ticket between two calls, and what it carry_out in each.
+-- A ticket between two calls, and what it does in each.
 use Rattle.std.specs.Prelude.{◌≤◌, ℕ, ◌/◌, nat_lt, Option, Some, None, IsSomeAnd, if◌then◌else◌}
 use Rattle.booth_base.specs.Tree.{Deeds, Ends, next}
 use Rattle.booth_rec.specs.declared.record.Record.{Record}
@@ -29,15 +29,18 @@ opened setup rec now = record { setup = setup; known = Automatic (started setup 
 
 -- the deeds of an automatic ticket are those of its rules, which change the view alone
 abbrev pub by_rules : Setup → Deeds Ask Left → Deeds Ask TicketState
-by_rules setup deeds = next deeds (λ left. Ends (record { setup = setup; known = Automatic left.view }))
+by_rules setup deeds =
+    next deeds (λ left. Ends (record { setup = setup; known = Automatic left.view }))
 
 -- the message of the member at a place is heard
 abbrev pub ticket_heard : Setup → Known → ℕ → Head → TicketPart → ℕ → Deeds Ask TicketState
-ticket_heard setup (Automatic view) from head part now = by_rules setup (hear_message setup view from head part now)
+ticket_heard setup (Automatic view) from head part now =
+    by_rules setup (hear_message setup view from head part now)
 
 -- a client's request is followed
 abbrev pub ticket_asked : Setup → Known → Request → ℕ → Deeds Ask TicketState
-ticket_asked setup (Automatic view) request now = by_rules setup (wish setup view request request.wish now)
+ticket_asked setup (Automatic view) request now =
+    by_rules setup (wish setup view request request.wish now)
 
 -- the deadline has come
 abbrev pub ticket_due : Setup → Known → ℕ → Deeds Ask TicketState
@@ -55,7 +58,9 @@ IsDue known now = IsSomeAnd (deadline known) (λ due. due ≤ now)
 abbrev pub shown_owner : Option Shown → ℕ → Option Owner
 shown_owner None now = None
 shown_owner (Some shown) now =
-    if nat_lt now shown.until then Some (record { site = shown.owner; until_secs = shown.until / 1000 }) else None
+    if nat_lt now shown.until
+    then Some (record { site = shown.owner; until_secs = shown.until / 1000 })
+    else None
 
 abbrev pub owner : Known → ℕ → Option Owner
 owner (Automatic view) now = shown_owner view.shown now

@@ -78,8 +78,10 @@ fn follow(core: &mut Core, deed: Deed, now: u64) -> Deed
     requires waits { KeepWaits deed.keep core.old.view.waiting now }
     requires wants { MayFollow core.old.setup core.old.view deed.want }
     requires speech { IsSpeech core.old.setup deed.say }
-    ensures view { core.new.view ≡ (follow core.old.setup (record { view = core.old.view; deed = deed }) deed.want now).view }
-    ensures deed { result ≡ (follow core.old.setup (record { view = core.old.view; deed = deed }) deed.want now).deed }
+    ensures view { core.new.view
+        ≡ (follow core.old.setup (record { view = core.old.view; deed = deed }) deed.want now).view }
+    ensures deed { result
+        ≡ (follow core.old.setup (record { view = core.old.view; deed = deed }) deed.want now).deed }
     ensures setup { core.new.setup ≡ core.old.setup }
     ensures waits { KeepWaits result.keep core.new.view.waiting now }
     ensures speech { IsSpeech core.new.setup result.say }

@@ -1,31 +1,59 @@
 //! Hands that note what they do.
-ghost use Rattle.std.specs.Prelude.{◌≡◌};
+ghost use Rattle.std.specs.Prelude.{◌≡◌, [], true, false};
 
 use crate::hands::{Hands, To};
 use booth_rec::Record;
 use booth_wire::{Head, TicketPart};
+use std::alloc::Global;
 
 /// One act, with its answer.
 #[derive(Drop)]
 pub enum Noted {
-    Kept { rec: Record, ok: bool },
-    Said { to: To, head: Head, part: TicketPart },
+    Kept {
+        rec: Record,
+        ok: bool,
+    },
+    Said {
+        to: To,
+        head: Head,
+        part: TicketPart,
+    },
 }
 
-/// Hands that note their acts, while there is memory for them. Keeps fail where `fails` is set.
+/// Hands that note their acts, the oldest first, while there is memory for them.
 #[derive(Drop)]
 pub struct FakeHands {
     pub acts: Vec<Noted>,
+    /// Whether `acts` are all.
     pub tells: bool,
+    /// Whether keeps fail.
     pub fails: bool,
+    /// Whether keeps fail from the next but one on.
+    pub breaks: bool,
 }
 
 impl FakeHands {
     ghost use Rattle.booth_ticket.specs.Fake.{Notes};
 
+    /// Hands that have done nothing, and keep all records.
+    pub fn new(alloc: Global) -> FakeHands
+        ensures acts { result.acts.items ≡ [] }
+        ensures tells { result.tells ≡ true }
+        ensures fails { result.fails ≡ false }
+        ensures breaks { result.breaks ≡ false }
+    {
+        FakeHands {
+            acts: Vec::new(alloc),
+            tells: true,
+            fails: false,
+            breaks: false,
+        }
+    }
+
     fn note(&mut self, act: Noted)
         ensures told { Notes self.old act self.new }
         ensures fails { self.new.fails ≡ self.old.fails }
+        ensures breaks { self.new.breaks ≡ self.old.breaks }
     {
         if self.acts.push(act).is_err() {
             self.tells = false;
@@ -41,6 +69,7 @@ impl Hands for FakeHands {
     fn keep(&mut self, rec: &Record) -> bool {
         let ok = !self.fails;
         self.note(Noted::Kept { rec: *rec, ok });
+        self.fails = self.fails || self.breaks;
         ok
     }
 

@@ -14,8 +14,8 @@ use crate::hands::Hands;
 use crate::saying::say;
 use booth_raft::{Core, Deed};
 
-// Keeps the record of a deed, where it has one, and gives the deed that follows. After the answer of a gain no other
-// keep follows; after another answer a gain's may.
+// Keeps the record of a deed, where it has one, and gives the deed that follows. After the answer
+// of a gain no other keep follows; after another answer a gain's may.
 fn keep_once<W: Hands>(core: &mut Core, now: u64, deed: Deed, hands: &mut W) -> Deed
     requires early { now < 2 ^ 62 }
     requires waits { KeepWaits deed.keep core.old.view.waiting now }
@@ -37,8 +37,8 @@ fn keep_once<W: Hands>(core: &mut Core, now: u64, deed: Deed, hands: &mut W) -> 
     core.kept(now, ok)
 }
 
-/// Does an outcome: its keeps, and then what it says, where the message of the member at the place `from` was heard
-/// or none was. The last deed says what clients are told.
+/// Does an outcome: its keeps, and then what it says, where the message of the member at the place
+/// `from` was heard or none was. The last deed says what clients are told.
 pub(crate) fn carry_out<W: Hands>(
     core: &mut Core,
     from: Option<u32>,

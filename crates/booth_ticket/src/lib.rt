@@ -5,12 +5,15 @@ mod automatic;
 mod fake;
 mod hands;
 mod keeping;
+pub mod laws;
 mod request;
 mod requests;
 mod saying;
+#[cfg(test)]
+mod tests;
 mod ticket;
 
-pub use fake::FakeHands;
+pub use fake::{FakeHands, Noted};
 pub use hands::{Hands, To};
 pub use request::{Request, Wish};
 pub use ticket::{Owner, Ticket};

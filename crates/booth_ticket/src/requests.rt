@@ -13,7 +13,10 @@ use crate::hands::{Hands, To};
 use crate::keeping::carry_out;
 use crate::request::{Request, Wish};
 use booth_base::MemberId;
-use booth_raft::{Core, Note, Role, Shown, Told, View, are_terms_spent, is_promised_elsewhere, own_end, owner_now, seconds_left, shown_end};
+use booth_raft::{
+    Core, Note, Role, Shown, Told, View, are_terms_spent, is_promised_elsewhere, own_end,
+    owner_now, seconds_left, shown_end,
+};
 use booth_wire::options::WAIT;
 use booth_wire::reasons::ADMN;
 use booth_wire::results::{ASYN, BUSY, FAIL, IARG, OVER, PEND, REDR, SUCCESS, TIDL};
@@ -102,7 +105,8 @@ fn grant_result(told: Told) -> u32
         Told::Gained { sure: true } => SUCCESS,
         Told::Gained { sure: false } => PEND,
         Told::Nothing => ASYN,
-        Told::RoundFailed | Told::AskFailed | Told::Released | Told::ReleaseFailed | Told::Lost => FAIL,
+        Told::RoundFailed | Told::AskFailed | Told::Released | Told::ReleaseFailed | Told::Lost =>
+            FAIL,
     }
 }
 
@@ -120,7 +124,14 @@ fn acquire_for<W: Hands>(core: &mut Core, request: &Request, now: u64, hands: &m
     core.note(now, Note::Asked);
     let deed = acquire(core, ADMN, now);
     let last = carry_out(core, None, now, deed, hands);
-    reply(core, request, Cmd::RGnt, grant_result(last.told), now, hands);
+    reply(
+        core,
+        request,
+        Cmd::RGnt,
+        grant_result(last.told),
+        now,
+        hands,
+    );
 }
 
 // The ticket is granted, or it is said why not, or that it was begun.
@@ -129,7 +140,7 @@ fn grant<W: Hands>(core: &mut Core, request: &Request, now: u64, hands: &mut W)
     requires idle { core.old.view.waiting ≡ None }
     ensures did { DidSome W.did (λ acts. Leads IsAct
         (grant core.old.setup core.old.view request.now
-            (refused_grant core.old.setup core.old.view request.now.options now) now) acts
+        (refused_grant core.old.setup core.old.view request.now.options now) now) acts
         (Deeds.Ends (record { view = core.new.view }))) hands.old hands.new }
     ensures setup { core.new.setup ≡ core.old.setup }
     ensures idle { core.new.view.waiting ≡ None }
@@ -183,7 +194,14 @@ fn release_for<W: Hands>(core: &mut Core, request: &Request, now: u64, hands: &m
 {
     let deed = core.release(now, ADMN);
     let last = carry_out(core, None, now, deed, hands);
-    reply(core, request, Cmd::RRvk, revoke_result(last.told), now, hands);
+    reply(
+        core,
+        request,
+        Cmd::RRvk,
+        revoke_result(last.told),
+        now,
+        hands,
+    );
 }
 
 // The lease is given back, or it is said why not.
@@ -192,7 +210,7 @@ fn revoke<W: Hands>(core: &mut Core, request: &Request, now: u64, hands: &mut W)
     requires idle { core.old.view.waiting ≡ None }
     ensures did { DidSome W.did (λ acts. Leads IsAct
         (revoke core.old.setup core.old.view request.now
-            (refused_revoke core.old.setup core.old.view request.now.options now) now) acts
+        (refused_revoke core.old.setup core.old.view request.now.options now) now) acts
         (Deeds.Ends (record { view = core.new.view }))) hands.old hands.new }
     ensures setup { core.new.setup ≡ core.old.setup }
     ensures idle { core.new.view.waiting ≡ None }

@@ -70,7 +70,8 @@ fn say_back<W: Hands>(from: Option<u32>, head: &Head, part: &TicketPart, hands: 
     }
 }
 
-/// Says what a rule says, where the message of the member at the place `from` was heard or none was.
+/// Says what a rule says, where the message of the member at the place `from` was heard or none
+/// was.
 pub(crate) fn say<W: Hands>(setup: &Setup, from: Option<u32>, words: &Say, hands: &mut W)
     requires sound { IsSound setup.now }
     requires speech { IsSpeech setup.now words.now }

@@ -2,10 +2,9 @@
 ghost use Rattle.std.specs.Prelude.{◌≡◌, ◌≢◌, ◌<◌, ◌^◌};
 ghost use Rattle.booth_ticket.specs.Ticket.{shown_owner};
 
-use crate::automatic;
 use crate::hands::Hands;
 use crate::request::Request;
-use crate::requests;
+use crate::{automatic, requests};
 use booth_base::MemberId;
 use booth_raft::{Core, Shown};
 use booth_rec::Record;
@@ -22,7 +21,8 @@ pub struct Owner {
 
 /// A ticket at one member.
 ///
-/// Every `now` is a reading of the member's clock in milliseconds since 1970, below 2^62. No call takes memory.
+/// Every `now` is a reading of the member's clock in milliseconds since 1970, below 2^62. No call
+/// takes memory.
 #[derive(Drop)]
 pub struct Ticket {
     core: Core,
@@ -78,7 +78,14 @@ impl Ticket {
     }
 
     /// A message of the member at the place `from`, another than this one, is heard.
-    pub fn hear<W: Hands>(&mut self, now: u64, from: u32, head: &Head, part: &TicketPart, hands: &mut W)
+    pub fn hear<W: Hands>(
+        &mut self,
+        now: u64,
+        from: u32,
+        head: &Head,
+        part: &TicketPart,
+        hands: &mut W,
+    )
         requires early { now < 2 ^ 62 }
         requires place { from < self.old.setup.members }
         requires other { from ≢ self.old.setup.place }

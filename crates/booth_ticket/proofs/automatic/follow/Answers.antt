@@ -10,4 +10,5 @@ returns-in-Renew-clause-speech c =
     let setup = c.args.core.now.setup in
     let view = c.args.core.now.view in
     speech_as setup c.renew.new.self.setup (renew setup view c.args.now).deed c.renew.result
-    (ap (λ (s : State). s.setup) c.renew.ensures.view) c.renew.ensures.deed (rules_speak.renewed setup view c.args.now)
+    (ap (λ (s : State). s.setup) c.renew.ensures.view) c.renew.ensures.deed
+    (rules_speak.renewed setup view c.args.now)

@@ -1,4 +1,4 @@
-use Rattle.std.proofs.Common.{◌≡◌, refl, sym, ap, subst}
+use Rattle.std.proofs.Common.{sym, ap, subst}
 use Rattle.booth_raft.specs.declared.deed.Deed.{Deed}
 use Rattle.booth_raft.specs.Deadlines.{due_now}
 use Rattle.booth_raft.specs.State.{State}
@@ -13,13 +13,16 @@ follow-requires-clause-wants c =
     let setup = c.args.core.now.setup in
     let view = c.args.core.now.view in
     let o = due_now setup view c.args.now in
-    subst (λ (d : Deed). MayFollow c.tick-deed.new.self.setup c.tick-deed.new.self.view d.want) (sym c.tick-deed.ensures.deed)
+    subst (λ (d : Deed). MayFollow c.tick-deed.new.self.setup c.tick-deed.new.self.view d.want)
+    (sym c.tick-deed.ensures.deed)
     (subst (λ (s : State). MayFollow s.setup s.view o.deed.want) (sym c.tick-deed.ensures.view)
-      (may_follow setup view c.args.now c.requires.idle))
+    (may_follow setup view c.args.now c.requires.idle))
 
 pub follow-requires-clause-speech : goal.follow-requires-clause-speech
 follow-requires-clause-speech c =
     let setup = c.args.core.now.setup in
     let view = c.args.core.now.view in
-    speech_as setup c.tick-deed.new.self.setup (due_now setup view c.args.now).deed c.tick-deed.result
-    (ap (λ (s : State). s.setup) c.tick-deed.ensures.view) c.tick-deed.ensures.deed (rules_speak.due setup view c.args.now)
+    speech_as setup c.tick-deed.new.self.setup (due_now setup view c.args.now).deed
+    c.tick-deed.result
+    (ap (λ (s : State). s.setup) c.tick-deed.ensures.view) c.tick-deed.ensures.deed
+    (rules_speak.due setup view c.args.now)

@@ -16,12 +16,15 @@ returns-clause-did g c =
     let o = role_due setup (greeted view) now in
     let last = outcome_of c.carry_out.new.core.view c.carry_out.result in
     let greets = c.hello-words.ensures.view in
-    said_then setup None (hello setup view now) (carry_out setup None now o ends) c.carry_out.new.core.view
+    said_then setup None (hello setup view now) (carry_out setup None now o ends)
+    c.carry_out.new.core.view
     (said_as setup c.setup.result.now None (hello setup view now) c.hello-words.result
-      (c.setup.ensures.value ∙ ap (λ (s : State). s.setup) greets) c.hello-words.ensures.say c.say.ensures.did)
+    (c.setup.ensures.value ∙ ap (λ (s : State). s.setup) greets) c.hello-words.ensures.say
+    c.say.ensures.did)
     (ended setup None now o last
-      (as_ruled setup c.role_due-deed.new.core.setup None now o last c.role_due-deed.new.core.view c.role_due-deed.result
-        (c.role_due-deed.ensures.setup ∙ ap (λ (s : State). s.setup) greets)
-        (c.role_due-deed.ensures.view ∙ ap (λ (s : State). (role_due s.setup s.view now).view) greets)
-        (c.role_due-deed.ensures.deed ∙ ap (λ (s : State). (role_due s.setup s.view now).deed) greets)
-        c.carry_out.ensures.did))
+    (as_ruled setup c.role_due-deed.new.core.setup None now o last c.role_due-deed.new.core.view
+    c.role_due-deed.result
+    (c.role_due-deed.ensures.setup ∙ ap (λ (s : State). s.setup) greets)
+    (c.role_due-deed.ensures.view ∙ ap (λ (s : State). (role_due s.setup s.view now).view) greets)
+    (c.role_due-deed.ensures.deed ∙ ap (λ (s : State). (role_due s.setup s.view now).deed) greets)
+    c.carry_out.ensures.did))

@@ -16,9 +16,10 @@ returns g c =
           (head_of setup c.args.cmd request.number 0 0 c.args.answer) c.reply_part-part.result
           (state_part setup view c.args.now) view
           (c.reply_head-head.ensures
-            ∙ ap (λ (s : Setup). head_of s c.args.cmd request.number 0 0 c.args.answer) c.setup.ensures.value)
+          ∙ ap (λ (s : Setup). head_of s c.args.cmd request.number 0 0 c.args.answer)
+          c.setup.ensures.value)
           (c.reply_part-part.ensures
-            ∙ ap (λ (s : Setup). state_part s c.view.result.now c.args.now) c.setup-2.ensures.value
-            ∙ ap (λ (v : View). state_part setup v c.args.now) c.view.ensures.value)
+          ∙ ap (λ (s : Setup). state_part s c.view.result.now c.args.now) c.setup-2.ensures.value
+          ∙ ap (λ (v : View). state_part setup v c.args.now) c.view.ensures.value)
           c.say.ensures.did;
     }

@@ -7,5 +7,6 @@ returns-clause-did g c =
     let core = c.self.inside.core in
     rw (← c.self.view_is)
     (by_rules_did core.setup c.wish.new.core.setup
-      (wish core.setup core.view c.args.request.now c.args.request.now.wish c.args.now) c.wish.new.core.view
-      c.wish.ensures.setup c.wish.ensures.did)
+    (wish core.setup core.view c.args.request.now c.args.request.now.wish c.args.now)
+    c.wish.new.core.view
+    c.wish.ensures.setup c.wish.ensures.did)

@@ -7,5 +7,6 @@ returns-clause-did g c =
     let core = c.self.inside.core in
     rw (← c.self.view_is)
     (by_rules_did core.setup c.hear_message.new.core.setup
-      (hear_message core.setup core.view c.args.from c.args.head.now c.args.part.now c.args.now) c.hear_message.new.core.view
-      c.hear_message.ensures.setup c.hear_message.ensures.did)
+    (hear_message core.setup core.view c.args.from c.args.head.now c.args.part.now c.args.now)
+    c.hear_message.new.core.view
+    c.hear_message.ensures.setup c.hear_message.ensures.did)

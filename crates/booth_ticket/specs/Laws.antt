@@ -1,0 +1,136 @@
+-- Laws over the trees: what is done where it may be, whatever the setup, the view and the message.
+use Rattle.std.specs.Prelude.{◌≡◌, ◌≢◌, ℕ, ◌+◌, ◌<◌, true, false, List, [], ◌∷◌, ◌++◌, Some, None}
+use Rattle.booth_base.specs.declared.address.MemberId.{MemberId}
+use Rattle.booth_base.specs.Tree.{Deeds, Ends, Does, Leads}
+use Rattle.booth_rec.specs.declared.record.Lease.{Lease}
+use Rattle.booth_rec.specs.declared.record.Record.{Record}
+use Rattle.booth_rec.specs.Record.{lease_end, plain}
+use Rattle.booth_wire.specs.declared.command.Cmd.TheVariants.{RVot, VtFr, HrtB, Ack, UpdE, RGnt}
+use Rattle.booth_wire.specs.declared.message.Head.{Head}
+use Rattle.booth_wire.specs.declared.message.TicketPart.{TicketPart}
+use Rattle.booth_wire.specs.declared.message.Setup.{Setup}
+use Rattle.booth_wire.specs.declared.codes.reasons.TheConstants.{ADMN}
+use Rattle.booth_wire.specs.declared.codes.results.TheConstants.{ASYN}
+use Rattle.booth_raft.specs.declared.view.Role.TheVariants.{Candidate, Leader}
+use Rattle.booth_raft.specs.declared.view.Round.{Round}
+use Rattle.booth_raft.specs.declared.view.RoundKind.{RoundKind}
+use Rattle.booth_raft.specs.declared.view.RoundKind.TheVariants.{Election, Renewal}
+use Rattle.booth_raft.specs.declared.view.View.{View}
+use Rattle.booth_raft.specs.AskAndRenew.{next_term, own_answer}
+use Rattle.booth_raft.specs.Members.{is_majority, joined_by}
+use Rattle.booth_raft.specs.Messages.{answer_cmd, head_of, owner_now, part_of, shown_end}
+use Rattle.booth_raft.specs.Numbers.{seconds_left}
+use Rattle.booth_raft.specs.RoundsAndAnswers.{MayAnswer}
+use Rattle.booth_ticket.specs.declared.hands.To.TheVariants.{Client, Member}
+use Rattle.booth_ticket.specs.declared.request.Request.{Request}
+use Rattle.booth_ticket.specs.declared.request.Wish.TheVariants.{Grant}
+use Rattle.booth_ticket.specs.Acts.{Ask, Say, Act, IsAct, kept, said, said_to_each}
+use Rattle.booth_ticket.specs.Automatic.{Left, hear_message}
+use Rattle.booth_ticket.specs.Requests.{refused_grant, wish}
+use Rattle.booth_ticket.specs.Saying.{others}
+
+-- the first ask of a tree, whatever it is answered
+abbrev pub BeginsWith : Deeds Ask Left → Ask → Type 0
+BeginsWith (Does first rest) ask = first ≡ ask
+BeginsWith (Ends left) ask = ⊥
+
+-- these acts are all of the tree along its path of these answers, and this holds of the view that
+-- they leave
+pub record IsDoneBy (deeds : Deeds Ask Left) (acts : List Act) (Holds : View → Type 0) : Type 0
+  where
+    pub left : View
+    pub all : Leads IsAct deeds acts (Ends (record { view = left }))
+    pub holds : Holds left
+
+-- ---- a round is heard
+
+-- a message that is a round of this kind: an election's number is 0, and a renewal's is another
+abbrev pub IsRound : RoundKind → Head → Type 0
+IsRound Election head = (head.cmd ≡ RVot) × (head.options ≡ 0)
+IsRound Renewal head = (head.cmd ≡ HrtB) × (head.options ≢ 0)
+
+-- the answer to a round's sender, with its term and its number
+abbrev pub answer_to : Setup → ℕ → RoundKind → Head → TicketPart → Ask
+answer_to setup from kind head part =
+    Say (Member from) (head_of setup (answer_cmd kind) head.request head.options 0 0)
+    (part_of setup head.from part.term 0)
+
+-- A round that may be answered is answered, before all else.
+abbrev pub AnswersWhereItMay : Type 0
+AnswersWhereItMay =
+    (setup : Setup) (view : View) (from : ℕ) (kind : RoundKind) (head : Head) (part : TicketPart)
+    (now : ℕ)
+    → IsRound kind head → MayAnswer view head.from part.term now
+    → BeginsWith (hear_message setup view from head part now) (answer_to setup from kind head part)
+
+-- ---- a grant
+
+-- what a grant does that asks all: the new term is kept, each other member is asked for its vote,
+-- and the client is told that it was begun
+abbrev pub asking_acts : Setup → View → Request → ℕ → List Act
+asking_acts setup view request now =
+    kept (plain (next_term view) view.kept.lease) true
+    ∷ said_to_each (others setup) (head_of setup RVot 0 0 ADMN 0)
+    (part_of setup setup.me (next_term view) (seconds_left (lease_end view.kept.lease) now))
+    ++ said (Client request.from) (head_of setup RGnt request.number 0 0 ASYN)
+    (part_of setup (owner_now view.shown now) (next_term view)
+    (seconds_left (shown_end view.shown) now))
+    ∷ []
+
+-- A grant that meets no refusal asks every other member, where the new term is kept and this member
+-- is no majority by itself.
+abbrev pub GrantAsksAll : Type 0
+GrantAsksAll =
+    (setup : Setup) (view : View) (request : Request) (now : ℕ)
+    → refused_grant setup view request.options now ≡ None
+    → is_majority setup (own_answer setup view now) ≡ false
+    → IsDoneBy (wish setup view request Grant now) (asking_acts setup view request now)
+    (λ left. (left.role ≡ Candidate) × (left.kept ≡ plain (next_term view) view.kept.lease))
+
+-- ---- an answer is heard
+
+-- a message that is an answer to a round of this kind
+abbrev pub IsAnswer : RoundKind → Head → Type 0
+IsAnswer Election head = (head.cmd ≡ VtFr) × (head.options ≡ 0)
+IsAnswer Renewal head = (head.cmd ≡ Ack) × (head.options ≢ 0)
+
+-- The answer of the member at a place completes a majority of this member's round, which is not won
+-- yet, before the lease would be over.
+pub record Completes (setup : Setup) (round : Round) (from : ℕ) (head : Head) (part : TicketPart)
+    (now : ℕ) : Type 0 where
+  pub leader : part.leader ≡ setup.me
+  pub term : part.term ≡ round.term
+  pub number : head.options ≡ round.number
+  pub majority : is_majority setup (joined_by round.answers from) ≡ true
+  pub unwon : round.won ≡ false
+  pub in_time : now < round.opened + setup.times.expire
+
+-- the lease that the round gives: it runs from the round's opening
+abbrev pub lease_of : Setup → View → Round → Lease
+lease_of setup view round = record { term = view.term; until = round.opened + setup.times.expire }
+
+abbrev pub lease_kept : Lease → Record
+lease_kept lease = plain lease.term (Some lease)
+
+-- what a member does that gains: the lease is kept, and told to all others
+abbrev pub gaining_acts : Setup → View → Lease → ℕ → List Act
+gaining_acts setup view lease now =
+    kept (lease_kept lease) true
+    ∷ said_to_each (others setup) (head_of setup UpdE 0 0 0 0)
+    (part_of setup setup.me view.term (seconds_left lease.until now))
+
+-- A view of a leader that has the lease: its record is kept, and it is shown as the owner.
+pub record HasLease (owner : MemberId) (lease : Lease) (view : View) : Type 0 where
+  pub leads : view.role ≡ Leader
+  pub kept_record : view.kept ≡ lease_kept lease
+  pub sure : view.sure ≡ true
+  pub shown : view.shown ≡ Some (record { owner = owner; until = lease.until })
+
+-- A majority in time gives the lease, where its record is kept.
+abbrev pub MajorityGains : Type 0
+MajorityGains =
+    (setup : Setup) (view : View) (round : Round) (from : ℕ) (kind : RoundKind) (head : Head)
+    (part : TicketPart) (now : ℕ) → view.round ≡ Some round → IsAnswer kind head
+    → Completes setup round from head part now
+    → IsDoneBy (hear_message setup view from head part now) (gaining_acts setup view (lease_of setup view round) now)
+    (HasLease setup.me (lease_of setup view round))

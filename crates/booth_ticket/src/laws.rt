@@ -1,0 +1,18 @@
+//! Laws over the trees, each the contract of a function that does nothing.
+ghost use Rattle.booth_ticket.specs.Laws.{AnswersWhereItMay, GrantAsksAll, MajorityGains};
+
+/// A round that may be answered is answered, before all else.
+pub fn answers_where_it_may()
+    ensures { AnswersWhereItMay }
+{}
+
+/// A grant that meets no refusal asks every other member, where the new term is kept and the own
+/// answer is no majority.
+pub fn grant_asks_all()
+    ensures { GrantAsksAll }
+{}
+
+/// A majority that answers in time gives the lease, where its record is kept.
+pub fn majority_gains()
+    ensures { MajorityGains }
+{}

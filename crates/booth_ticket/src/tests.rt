@@ -1,0 +1,5 @@
+//! Scripts of whole calls over hands in memory, each act worked out by hand from the rules.
+mod failed_keeps;
+mod lives;
+mod refusals;
+mod script;
