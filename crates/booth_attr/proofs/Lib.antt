@@ -1,0 +1,4 @@
+pub mod ListLemmas
+pub mod PoolLemmas
+pub mod ChangeLemmas
+pub mod WalkLemmas

@@ -1,0 +1,4 @@
+pub mod Lists
+pub mod Attributes
+pub mod Prerequisites
+pub mod Places
