@@ -1,0 +1,78 @@
+-- The rules grant, again and revoke: what each keeps, and what the keep's answer leads to.
+use Rattle.std.specs.Prelude.{◌+◌, Bool, true, false, nat_le, Some, None}
+use Rattle.booth_rec.specs.declared.record.Record.{Record}
+use Rattle.booth_rec.specs.Record.{plain}
+use Rattle.booth_wire.specs.declared.message.Setup.{Setup}
+use Rattle.booth_manual.specs.declared.view.TheConstants.{LAST_TERM, NO_END}
+use Rattle.booth_manual.specs.declared.view.Call.{Call}
+use Rattle.booth_manual.specs.declared.view.Call.TheVariants as calls
+use Rattle.booth_manual.specs.declared.view.ManualView.{ManualView}
+use Rattle.booth_manual.specs.Messages.{revokes, tells_grant}
+use Rattle.booth_manual.specs.Outcome.{Keep, Outcome, quiet, saying}
+
+-- the last term was used: no further term is asked for
+abbrev pub are_terms_spent : ManualView → Bool
+are_terms_spent view = nat_le LAST_TERM view.term
+
+-- a call asks for a keep, and waits for its answer
+abbrev pub keeping : ManualView → Call → Record → Keep
+keeping view call tried = record {
+  view = record view { waiting = Some (record { call = call; tried = tried }) };
+  tried = tried;
+}
+
+-- ---- grant
+
+-- the record of a grant: a lease without an end, in the term after the view's
+abbrev pub granted_record : ManualView → Record
+granted_record view = plain (view.term + 1) (Some (record { term = view.term + 1; until = NO_END }))
+
+-- Grant: this site holds the ticket in a new term, whatever it was shown
+abbrev pub grant : ManualView → Keep
+grant view = keeping (record view {
+  term = view.term + 1;
+  kept = granted_record view;
+  owner = true;
+  shown = None;
+}) calls.Grant (granted_record view)
+
+-- Grant, the keep's answer: it is told where the record is kept
+abbrev pub finish_grant : Setup → ManualView → Bool → Outcome
+finish_grant setup view true = saying (record view { sure = true }) (tells_grant setup view.term)
+finish_grant setup view false = quiet (record view { sure = false })
+
+-- ---- again
+
+-- Again: the view's record is kept once more, and nothing is said of it
+abbrev pub again : ManualView → Keep
+again view = keeping view calls.Again (plain view.kept.term view.kept.lease)
+
+abbrev pub finish_again : ManualView → Bool → Outcome
+finish_again view ok = quiet (record view { sure = ok })
+
+-- ---- revoke
+
+-- Revoke: a record without a lease is kept, and until then this site holds the ticket
+abbrev pub revoke : ManualView → Keep
+revoke view = keeping view calls.Revoke (plain view.term None)
+
+-- Revoke, the keep's answer: where the record is kept, this site holds the ticket no more, and says so
+abbrev pub finish_revoke : Setup → ManualView → Record → Bool → Outcome
+finish_revoke setup view tried true =
+    saying (record view { kept = tried; sure = true; owner = false }) (revokes setup view.term)
+finish_revoke setup view tried false = quiet (record view { sure = false })
+
+-- ---- the answer of a keep
+
+-- the call that waits goes on by the answer
+abbrev pub goes_on : Setup → ManualView → Call → Record → Bool → Outcome
+goes_on setup view calls.Grant tried ok = finish_grant setup view ok
+goes_on setup view calls.Again tried ok = finish_again view ok
+goes_on setup view calls.Revoke tried ok = finish_revoke setup view tried ok
+
+-- nothing waits any longer; where nothing waited, nothing follows
+abbrev pub finish : Setup → ManualView → Bool → Outcome
+finish setup view ok = elim (view.waiting) [
+  | None ↦ quiet view
+  | Some waits ↦ goes_on setup (record view { waiting = None }) waits.call waits.tried ok
+]

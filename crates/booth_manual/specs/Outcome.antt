@@ -1,0 +1,22 @@
+-- What a rule gives: the view after it, and what is to be kept or said.
+use Rattle.booth_rec.specs.declared.record.Record.{Record}
+use Rattle.booth_wire.specs.declared.message.Say.{Say}
+use Rattle.booth_wire.specs.declared.message.Say.TheVariants as says
+use Rattle.booth_manual.specs.declared.view.ManualView.{ManualView}
+
+-- a call that keeps: the view while its keep waits, and the record
+pub record Keep : Type 0 where
+  pub view : ManualView
+  pub tried : Record
+
+-- a call that says
+pub record Outcome : Type 0 where
+  pub view : ManualView
+  pub say : Say
+
+-- the view changes, and nothing is said
+abbrev pub quiet : ManualView → Outcome
+quiet view = record { view = view; say = says.Nothing }
+
+abbrev pub saying : ManualView → Say → Outcome
+saying view say = record { view = view; say = say }

@@ -1,0 +1,16 @@
+-- The rule start.
+use Rattle.std.specs.Prelude.{true, is_some, None}
+use Rattle.booth_rec.specs.declared.record.Record.{Record}
+use Rattle.booth_manual.specs.declared.view.ManualView.{ManualView}
+
+-- Start: the term is the record's, and this site holds the ticket where the record has a lease; nobody
+-- is shown
+abbrev pub started : Record → ManualView
+started kept = record {
+  term = kept.term;
+  kept = kept;
+  sure = true;
+  owner = is_some kept.lease;
+  shown = None;
+  waiting = None;
+}

@@ -1,0 +1,114 @@
+//! The rules grant, again and revoke: what each keeps, and what the keep's answer leads to.
+ghost use Rattle.std.specs.Prelude.{◌≡◌, ◌<◌};
+ghost use Rattle.booth_manual.specs.GrantAndRevoke.{are_terms_spent, grant, again, revoke, keeping};
+ghost use Rattle.booth_manual.specs.GrantAndRevoke.{finish_grant, finish_again, finish_revoke, finish};
+
+use crate::messages::{revokes, tells_grant};
+use crate::view::{Call, LAST_TERM, ManualView, NO_END, Waiting};
+use booth_rec::{Lease, Record};
+use booth_wire::{Say, Setup};
+
+/// No further term is asked for: the term is at least `LAST_TERM`.
+pub fn are_terms_spent(view: &ManualView) -> bool
+    ensures { result ≡ are_terms_spent view.now }
+{
+    view.term >= LAST_TERM
+}
+
+// A call asks for a keep, and waits for its answer.
+fn keeping(view: &mut ManualView, call: Call, tried: Record) -> Record
+    ensures view { view.new ≡ (keeping view.old call tried).view }
+    ensures record { result ≡ (keeping view.old call tried).tried }
+{
+    view.waiting = Some(Waiting { call, tried });
+    tried
+}
+
+// The ticket is granted: a lease without an end, in a new term.
+pub(crate) fn grant(view: &mut ManualView) -> Record
+    requires { view.old.term < LAST_TERM }
+    ensures view { view.new ≡ (grant view.old).view }
+    ensures record { result ≡ (grant view.old).tried }
+{
+    let term = view.term + 1;
+    let lease = Lease {
+        term,
+        until: NO_END,
+    };
+    let tried = Record::plain(term, Some(lease));
+    view.term = term;
+    view.kept = tried;
+    view.owner = true;
+    view.shown = None;
+    keeping(view, Call::Grant, tried)
+}
+
+// The record is kept again.
+pub(crate) fn again(view: &mut ManualView) -> Record
+    ensures view { view.new ≡ (again view.old).view }
+    ensures record { result ≡ (again view.old).tried }
+{
+    let tried = Record::plain(view.kept.term, view.kept.lease);
+    keeping(view, Call::Again, tried)
+}
+
+// The ticket is given back: a record without a lease.
+pub(crate) fn revoke(view: &mut ManualView) -> Record
+    ensures view { view.new ≡ (revoke view.old).view }
+    ensures record { result ≡ (revoke view.old).tried }
+{
+    let tried = Record::plain(view.term, None);
+    keeping(view, Call::Revoke, tried)
+}
+
+// The keep of a grant was answered.
+fn finish_grant(setup: &Setup, view: &mut ManualView, ok: bool) -> Say
+    ensures view { view.new ≡ (finish_grant setup.now view.old ok).view }
+    ensures say { result ≡ (finish_grant setup.now view.old ok).say }
+{
+    view.sure = ok;
+    if ok {
+        tells_grant(setup, view.term)
+    } else {
+        Say::Nothing
+    }
+}
+
+// The keep of the record again was answered.
+fn finish_again(view: &mut ManualView, ok: bool) -> Say
+    ensures view { view.new ≡ (finish_again view.old ok).view }
+    ensures say { result ≡ (finish_again view.old ok).say }
+{
+    view.sure = ok;
+    Say::Nothing
+}
+
+// The keep of a revocation was answered.
+fn finish_revoke(setup: &Setup, view: &mut ManualView, tried: Record, ok: bool) -> Say
+    ensures view { view.new ≡ (finish_revoke setup.now view.old tried ok).view }
+    ensures say { result ≡ (finish_revoke setup.now view.old tried ok).say }
+{
+    view.sure = ok;
+    if !ok {
+        return Say::Nothing;
+    }
+    view.kept = tried;
+    view.owner = false;
+    revokes(setup, view.term)
+}
+
+// The keep that waits was answered.
+pub(crate) fn finish(setup: &Setup, view: &mut ManualView, ok: bool) -> Say
+    ensures view { view.new ≡ (finish setup.now view.old ok).view }
+    ensures say { result ≡ (finish setup.now view.old ok).say }
+{
+    let Some(waits) = view.waiting else {
+        return Say::Nothing;
+    };
+    view.waiting = None;
+    match waits.call {
+        Call::Grant => finish_grant(setup, view, ok),
+        Call::Again => finish_again(view, ok),
+        Call::Revoke => finish_revoke(setup, view, waits.tried, ok),
+    }
+}

@@ -1,0 +1,80 @@
+//! What a member's message shows, and what it is answered.
+ghost use Rattle.std.specs.Prelude.{◌≡◌};
+ghost use Rattle.booth_manual.specs.Hearing.{updated, revoked, learned, hear};
+
+use crate::messages::tells_state;
+use crate::view::ManualView;
+use booth_base::{MemberId, NO_ONE};
+use booth_wire::{Cmd, Head, Say, Setup, TicketPart};
+
+// A member told that it holds the ticket.
+fn updated(view: &mut ManualView, site: MemberId)
+    ensures { view.new ≡ updated view.old site }
+{
+    if !view.owner {
+        view.shown = Some(site);
+    }
+}
+
+// A member told that it gave the ticket back.
+fn revoked(view: &mut ManualView, site: MemberId)
+    ensures { view.new ≡ revoked view.old site }
+{
+    if view.shown == Some(site) {
+        view.shown = None;
+    }
+}
+
+// A member told who holds the ticket.
+fn learned(setup: &Setup, view: &mut ManualView, leader: MemberId)
+    ensures { view.new ≡ learned setup.now view.old leader }
+{
+    if view.shown.is_none() && !view.owner && leader != NO_ONE && leader != setup.me {
+        view.shown = Some(leader);
+    }
+}
+
+// A member's message is heard.
+pub(crate) fn hear(setup: &Setup, view: &mut ManualView, head: &Head, part: &TicketPart) -> Say
+    ensures view { view.new ≡ (hear setup.now view.old head.now part.now head.now.cmd).view }
+    ensures say { result ≡ (hear setup.now view.old head.now part.now head.now.cmd).say }
+{
+    match head.cmd {
+        Cmd::UpdE => {
+            updated(view, head.from);
+            Say::Nothing
+        }
+        Cmd::Revk => {
+            revoked(view, head.from);
+            Say::Nothing
+        }
+        Cmd::Stat => {
+            let answer = tells_state(setup, view, head);
+            learned(setup, view, part.leader);
+            answer
+        }
+        Cmd::MIdx => {
+            learned(setup, view, part.leader);
+            Say::Nothing
+        }
+        Cmd::RVot
+        | Cmd::VtFr
+        | Cmd::HrtB
+        | Cmd::Ack
+        | Cmd::Rjc
+        | Cmd::CLst
+        | Cmd::Peer
+        | Cmd::CGnt
+        | Cmd::CRvk
+        | Cmd::ASet
+        | Cmd::AGet
+        | Cmd::ADel
+        | Cmd::ALst
+        | Cmd::RLst
+        | Cmd::RPer
+        | Cmd::RALs
+        | Cmd::RGnt
+        | Cmd::RRvk
+        | Cmd::RAtr => Say::Nothing,
+    }
+}
