@@ -40,6 +40,10 @@ abbrev pub has_wrong_mac : Option (List ℕ) → List ℕ → Bool
 has_wrong_mac None bytes = false
 has_wrong_mac (Some key) bytes = not (is_mac_right key bytes)
 
+-- the frame has the MAC of the key, where there is one
+abbrev pub is_signed : Option (List ℕ) → Head → List ℕ → Bool
+is_signed key h bytes = not (lacks_mac key h) && not (has_wrong_mac key bytes)
+
 -- there is a key, and the sender's clock is more than `skew` seconds behind this one, which reads
 -- `now` ms
 abbrev pub is_too_old : Option (List ℕ) → ℕ → ℕ → Head → Bool

@@ -4,7 +4,7 @@ ghost use Rattle.std.specs.List.{list_any};
 ghost use Rattle.std.specs.Option.{option_copied};
 ghost use Rattle.booth_wire.specs.Command.{direction_of};
 ghost use Rattle.booth_wire.specs.PlainMessage.{plain_of, content_of};
-ghost use Rattle.booth_auth.specs.Verdict.{lacks_mac, is_mac_right, has_wrong_mac, is_too_old, is_member, is_stranger, member_part, part_of_member, names_no_ticket, is_site_of, may_lead, leads, names_no_leader, admitted, verdict, Passes};
+ghost use Rattle.booth_auth.specs.Verdict.{lacks_mac, is_mac_right, has_wrong_mac, is_signed, is_too_old, is_member, is_stranger, member_part, part_of_member, names_no_ticket, is_site_of, may_lead, leads, names_no_leader, admitted, verdict, Passes};
 
 use crate::key::Key;
 use crate::mac::{ID_BYTES, MAC_BYTES, are_equal, hmac};
@@ -60,6 +60,15 @@ fn has_wrong_mac(key: Option<&Key>, bytes: &[u8]) -> bool
         Some(key) => !is_mac_right(key, bytes),
         None => false,
     }
+}
+
+/// Whether a frame that was read is signed as it has to be: with a key it has its MAC, and without one
+/// anything will do. `head` is that of the message that these bytes spell.
+pub fn is_signed(key: Option<&Key>, head: &Head, bytes: &[u8]) -> bool
+    requires { AUTH_BYTES ≤ length bytes.now }
+    ensures { result ≡ is_signed (option_copied key.entry) head.now bytes.now }
+{
+    !lacks_mac(key, head) && !has_wrong_mac(key, bytes)
 }
 
 fn is_too_old(key: Option<&Key>, skew: u64, now: u64, head: &Head) -> bool

@@ -4,6 +4,7 @@ ghost use Rattle.std.specs.List.{list_all, prefix_len, suffix_len};
 ghost use Rattle.booth_auth.specs.Key.{is_blank, is_plain, begun, ended, kept, key_read};
 ghost use Rattle.booth_auth.specs.Mac.{block};
 
+use arrayvec::ArrayVec;
 use std::marker::Model;
 use thiserror::Error;
 
@@ -16,19 +17,18 @@ pub const BLOCK_BYTES: usize = 64;
 /// A key of 8 to 64 bytes. Contracts see its bytes.
 #[derive(Drop)]
 pub struct Key {
-    bytes: [u8; BLOCK_BYTES],
-    len: usize,
+    bytes: ArrayVec<u8, BLOCK_BYTES>,
 }
 
 impl Model for Key {
-    ghost use Rattle.std.specs.Prelude.{List, ℕ, ◌≤◌, take};
+    ghost use Rattle.std.specs.Prelude.{List, ℕ, ◌≤◌, length};
     ghost use Rattle.booth_auth.specs.declared.key.TheConstants.{LEAST_BYTES, BLOCK_BYTES};
 
     ghost Value = { List ℕ };
 
-    ghost view = { λ k. take k.len k.bytes };
+    ghost view = { λ k. k.bytes.items };
 
-    ghost invariant = { λ k. (LEAST_BYTES ≤ k.len) × (k.len ≤ BLOCK_BYTES) };
+    ghost invariant = { λ k. (LEAST_BYTES ≤ length k.bytes.items) × (length k.bytes.items ≤ BLOCK_BYTES) };
 }
 
 /// Why bytes are no key. It speaks of what is left of them without the blanks at both ends.
@@ -122,20 +122,16 @@ impl Key {
         requires fits { length bytes.now ≤ BLOCK_BYTES }
         ensures { result ≡ bytes.now }
     {
-        Key {
-            bytes: filled(bytes),
-            len: bytes.len(),
-        }
+        let mut key = ArrayVec::new();
+        key.try_extend_from_slice(bytes).unwrap();
+        Key { bytes: key }
     }
 
     /// An equal key.
     pub fn copy(&self) -> Key
         ensures { result ≡ self.now }
     {
-        Key {
-            bytes: self.bytes,
-            len: self.len,
-        }
+        Key::of(&self.bytes)
     }
 
     /// The key's block: its bytes, then zeros.
@@ -143,6 +139,6 @@ impl Key {
     pub(crate) fn block(&self) -> [u8; BLOCK_BYTES]
         ensures { result ≡ block self.now }
     {
-        filled(&self.bytes[..self.len])
+        filled(&self.bytes)
     }
 }

@@ -9,7 +9,7 @@ mod sealing;
 #[cfg(test)]
 mod tests;
 
-pub use admission::{DropFault, gate};
+pub use admission::{DropFault, gate, is_signed};
 pub use key::{Key, KeyFault};
 pub use mac::{MAC_BYTES, hmac};
 pub use sealing::seal;

@@ -6,6 +6,7 @@ mod address_text;
 mod buffer;
 mod checksum;
 pub mod laws;
+mod limits;
 mod name;
 #[cfg(test)]
 mod tests;
@@ -15,6 +16,7 @@ mod value;
 
 pub use address::{Address, AddressFault, MemberId, NO_ONE, Peer};
 pub use buffer::{TEXT_BYTES, TextBuf};
+pub use limits::MEMBERS;
 pub use name::{Name, NameFault};
 pub use text::{ByteText, PathFault, PathText};
 pub use times::{Times, guard_ms, promise_ms};

@@ -2,8 +2,8 @@
 
 use crate::text::PATH_BYTES;
 use crate::{
-    Address, AddressFault, AttrValue, ByteText, MemberId, NO_ONE, Name, NameFault, PathFault,
-    PathText, TEXT_BYTES, Times, ValueFault, guard_ms, promise_ms,
+    Address, AddressFault, AttrValue, ByteText, MEMBERS, MemberId, NO_ONE, Name, NameFault,
+    PathFault, PathText, TEXT_BYTES, Times, ValueFault, guard_ms, promise_ms,
 };
 use arrayvec::ArrayVec;
 use std::alloc::AllocError;
@@ -207,7 +207,7 @@ fn a_path_has_at_most_255_bytes(rt: HostRuntime) {
             Err(_) => assert!(rt; false),
         }
     }
-    assert_eq!(rt; (PATH_BYTES, TEXT_BYTES), (255, 16_384));
+    assert_eq!(rt; (MEMBERS, PATH_BYTES, TEXT_BYTES), (16, 255, 16_384));
 }
 
 #[test]

@@ -13,7 +13,8 @@ use Rattle.booth_conf.specs.Steps.{added, last_added, section_added}
 use Rattle.booth_conf.specs.Config.{ConfigSays, renewal_of, times_of, ticket_of, config_of, is_manual}
 use Rattle.booth_conf.specs.Print.{authfile_settings, extra_setting, renewal_settings, weights_settings, handler_settings, prereq_setting, kind_of, times_settings, key_settings, ticket_settings, top_settings, settings_of}
 use Rattle.booth_conf.specs.Sound.{is_within, is_seconds, is_renewal, are_times, is_ticket, are_new, same_key, same_member, same_ticket, IsSound, are_prereqs, is_prereq, is_ticket_name, are_weights, each, is_command}
-use Rattle.booth_conf.specs.declared.limits.TheConstants.{MEMBERS, PREREQS, SECONDS, TICKETS}
+use Rattle.booth_conf.specs.declared.limits.TheConstants.{PREREQS, SECONDS, TICKETS}
+use Rattle.booth_base.specs.declared.limits.TheConstants.{MEMBERS}
 use Rattle.booth_conf.specs.declared.keys.KeyNo.{KeyNo}
 use Rattle.booth_conf.specs.declared.members.Member.{Member as MemberOf}
 use Rattle.booth_conf.specs.declared.tickets.Prereq.{Prereq as PrereqOf}

@@ -10,7 +10,8 @@ use Rattle.booth_base.specs.Name.{is_name, is_value}
 use Rattle.booth_base.specs.Address.{Spells}
 use Rattle.booth_conf.specs.Values.{is_digit, worth, IsNumber, AreWords, IsText, IsCommand, IsTransport, IsMode, IsWeight, AreWeights, IsWeightList, IsKindWord, IsTestWord, IsPrereq, IsSetBy, IsTicketLine, HasValue, default_name, is_word_byte}
 use Rattle.booth_conf.specs.ValueReader.{number_in, number_within, when_within, text_in, command_in, transport_in, mode_in, address_in, name_in, value_in, ticket_in, weight_in, weight_added, weights_from, weights_in, one_word, four_words, kind_in, test_in, prereq_of, prereq_in, Words, setting_in}
-use Rattle.booth_conf.specs.declared.limits.TheConstants.{MEMBERS, SECONDS, WEIGHT}
+use Rattle.booth_conf.specs.declared.limits.TheConstants.{SECONDS, WEIGHT}
+use Rattle.booth_base.specs.declared.limits.TheConstants.{MEMBERS}
 use Rattle.booth_conf.specs.declared.keys.ConfKey.{ConfKey}
 use Rattle.booth_conf.specs.declared.keys.ConfKey.TheVariants as keys
 use Rattle.booth_conf.specs.declared.tickets.GrantKind.{GrantKind}

@@ -12,7 +12,8 @@ use Rattle.booth_conf.specs.Keys.{row_of, name_at}
 use Rattle.booth_conf.specs.Config.{ConfigSays}
 use Rattle.booth_conf.specs.Print.{kind_word, test_word, prereq_text, weights_text, written, pair_line, line_text, lines_text, role_name, setting_name, setting_value, authfile_settings, extra_setting, renewal_settings, weights_settings, handler_settings, prereq_setting, kind_of, times_settings, ticket_settings, top_settings, settings_of, printed}
 use Rattle.booth_conf.specs.Sound.{is_within, is_sayable, is_text, is_extra, is_address, is_weight, are_weights, is_prereq, is_ticket, are_new, same_key, IsSound}
-use Rattle.booth_conf.specs.declared.limits.TheConstants.{MEMBERS, PREREQS, SECONDS, TEXT_BYTES, WEIGHT}
+use Rattle.booth_conf.specs.declared.limits.TheConstants.{PREREQS, SECONDS, TEXT_BYTES, WEIGHT}
+use Rattle.booth_base.specs.declared.limits.TheConstants.{MEMBERS}
 use Rattle.booth_conf.specs.declared.keys.KeyNo.{KeyNo}
 use Rattle.booth_conf.specs.declared.keys.ConfKey.{ConfKey}
 use Rattle.booth_conf.specs.declared.keys.ConfKey.TheVariants as keys

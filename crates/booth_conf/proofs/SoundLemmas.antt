@@ -11,7 +11,8 @@ use Rattle.booth_conf.specs.SaidReader.{said}
 use Rattle.booth_conf.specs.Reads.{lines_of, said_lines, ReadsLines}
 use Rattle.booth_conf.specs.Sound.{each, is_prereq, are_prereqs, is_extra, is_member, is_ticket_name, are_new, same_key, same_member}
 use Rattle.booth_conf.specs.SoundDraft.{is_section, is_named_section, same_section, IsSoundDraft}
-use Rattle.booth_conf.specs.declared.limits.TheConstants.{MEMBERS, TICKETS, PREREQS}
+use Rattle.booth_conf.specs.declared.limits.TheConstants.{TICKETS, PREREQS}
+use Rattle.booth_base.specs.declared.limits.TheConstants.{MEMBERS}
 use Rattle.booth_conf.specs.declared.members.Member.{Member as MemberOf}
 use Rattle.booth_conf.specs.declared.tickets.Prereq.{Prereq as PrereqOf}
 use Rattle.booth_conf.specs.declared.sections.NamedSection.{NamedSection}

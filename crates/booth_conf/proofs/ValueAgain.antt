@@ -13,7 +13,8 @@ use Rattle.booth_conf.specs.Values.{is_digit, worth, is_word_byte, is_word, begi
 use Rattle.booth_conf.specs.ValueReader.{number_in, number_within, text_in, command_in, weights_in, prereq_in, ticket_in}
 use Rattle.booth_conf.specs.Print.{kind_word, test_word, prereq_text, weights_text}
 use Rattle.booth_conf.specs.Sound.{is_within, is_sayable, is_text, is_command, is_weight, are_weights, is_prereq, is_ticket_name}
-use Rattle.booth_conf.specs.declared.limits.TheConstants.{MEMBERS, WEIGHT}
+use Rattle.booth_conf.specs.declared.limits.TheConstants.{WEIGHT}
+use Rattle.booth_base.specs.declared.limits.TheConstants.{MEMBERS}
 use Rattle.booth_conf.specs.declared.tickets.GrantKind.{GrantKind}
 use Rattle.booth_conf.specs.declared.tickets.GrantKind.TheVariants.{Auto, Manual}
 use Rattle.booth_conf.specs.declared.tickets.Prereq.{Prereq}

@@ -5,7 +5,8 @@ use Rattle.booth_base.specs.declared.address.Address.{Address}
 use Rattle.booth_base.specs.contracts.address.AddressPartialEq.TheImpl as addresses
 use Rattle.booth_conf.specs.Keys.{row_of, number_of}
 use Rattle.booth_conf.specs.Sections.{TopSays, SectionSays, top_of, section_of, top_clash, section_clash, below}
-use Rattle.booth_conf.specs.declared.limits.TheConstants.{MEMBERS, TICKETS}
+use Rattle.booth_conf.specs.declared.limits.TheConstants.{TICKETS}
+use Rattle.booth_base.specs.declared.limits.TheConstants.{MEMBERS}
 use Rattle.booth_conf.specs.declared.keys.ConfKey.{ConfKey}
 use Rattle.booth_conf.specs.declared.keys.Scope.{Scope}
 use Rattle.booth_conf.specs.declared.keys.Scope.TheVariants as scopes

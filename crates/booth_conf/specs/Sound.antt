@@ -12,7 +12,8 @@ use Rattle.booth_conf.specs.Sections.{has_key}
 use Rattle.booth_conf.specs.Rules.{is_at}
 use Rattle.booth_conf.specs.Config.{ConfigSays, file_fault}
 use Rattle.booth_conf.specs.Print.{prereq_text}
-use Rattle.booth_conf.specs.declared.limits.TheConstants.{MEMBERS, PREREQS, SECONDS, TICKETS, WEIGHT}
+use Rattle.booth_conf.specs.declared.limits.TheConstants.{PREREQS, SECONDS, TICKETS, WEIGHT}
+use Rattle.booth_base.specs.declared.limits.TheConstants.{MEMBERS}
 use Rattle.booth_conf.specs.declared.keys.KeyNo.{KeyNo}
 use Rattle.booth_conf.specs.declared.members.Member.{Member}
 use Rattle.booth_conf.specs.declared.tickets.Prereq.{Prereq}

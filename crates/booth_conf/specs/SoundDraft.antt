@@ -5,7 +5,8 @@ use Rattle.arrayvec.specs.ArrayVec.{ArrayVec}
 use Rattle.booth_conf.specs.Sections.{SectionSays}
 use Rattle.booth_conf.specs.Rules.{Summary}
 use Rattle.booth_conf.specs.Sound.{is_within, each, is_text, is_command, is_extra, is_member, are_weights, are_prereqs, is_ticket_name, are_new, same_key, same_member}
-use Rattle.booth_conf.specs.declared.limits.TheConstants.{MEMBERS, SECONDS, TICKETS}
+use Rattle.booth_conf.specs.declared.limits.TheConstants.{SECONDS, TICKETS}
+use Rattle.booth_base.specs.declared.limits.TheConstants.{MEMBERS}
 use Rattle.booth_conf.specs.declared.sections.NamedSection.{NamedSection}
 
 abbrev pub are_some_weights : ArrayVec ℕ → Bool

@@ -11,7 +11,8 @@ use Rattle.booth_conf.specs.Grammar.{past}
 use Rattle.booth_conf.specs.LineReader.{front}
 use Rattle.booth_conf.specs.Keys.{number_of}
 use Rattle.booth_conf.specs.Values.{is_digit, worth, is_gap, is_word_byte, default_name, member_at}
-use Rattle.booth_conf.specs.declared.limits.TheConstants.{MEMBERS, SECONDS, WEIGHT}
+use Rattle.booth_conf.specs.declared.limits.TheConstants.{SECONDS, WEIGHT}
+use Rattle.booth_base.specs.declared.limits.TheConstants.{MEMBERS}
 use Rattle.booth_conf.specs.declared.words.FourWords.{FourWords}
 use Rattle.booth_conf.specs.declared.keys.ConfKey.{ConfKey}
 use Rattle.booth_conf.specs.declared.keys.ConfKey.TheVariants as keys

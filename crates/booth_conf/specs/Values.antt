@@ -5,7 +5,8 @@ use Rattle.booth_base.specs.Name.{is_name, is_value}
 use Rattle.booth_base.specs.Address.{Spells, id_of}
 use Rattle.booth_base.specs.declared.address.Address.{Address}
 use Rattle.booth_conf.specs.Keys.{number_of}
-use Rattle.booth_conf.specs.declared.limits.TheConstants.{MEMBERS, SECONDS, WEIGHT}
+use Rattle.booth_conf.specs.declared.limits.TheConstants.{SECONDS, WEIGHT}
+use Rattle.booth_base.specs.declared.limits.TheConstants.{MEMBERS}
 use Rattle.booth_conf.specs.declared.keys.ConfKey.{ConfKey}
 use Rattle.booth_conf.specs.declared.keys.ConfKey.TheVariants as keys
 use Rattle.booth_conf.specs.declared.members.Member.{Member as MemberOf}

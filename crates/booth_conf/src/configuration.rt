@@ -1,4 +1,5 @@
 //! The configuration as a value.
+ghost use Rattle.booth_base.specs.declared.limits.TheConstants.{MEMBERS};
 ghost use Rattle.std.specs.Prelude.{◌≡◌, ◌≤◌, ◌<◌, true, length, position, slice_get, IfOk, IfSome, OnOk, IsTrue, IsSomeAnd, List, ℕ, [], unwrap_or};
 ghost use Rattle.std.specs.List.{All};
 ghost use Rattle.std.specs.Option.{option_copied};
@@ -14,7 +15,7 @@ use crate::checks::file_fault;
 use crate::defaults::tickets;
 use crate::drafts::{Draft, NamesAndSections};
 use crate::faults::ConfFault;
-use crate::limits::{MEMBERS, TEXT_BYTES, TICKETS};
+use crate::limits::{TEXT_BYTES, TICKETS};
 use crate::lines::read_lines;
 use crate::members::Member;
 use crate::print_tickets::{push_members, push_tickets};
@@ -22,7 +23,7 @@ use crate::prints::push_top;
 use crate::ranks::rank;
 use crate::sections::{Extra, Section};
 use crate::tickets::{TicketConf, copy_path};
-use booth_base::{ByteText, MemberId, Name, PathText};
+use booth_base::{ByteText, MEMBERS, MemberId, Name, PathText};
 use indexmap::IndexSet;
 use std::alloc::{AllocError, Global};
 use std::marker::Model;

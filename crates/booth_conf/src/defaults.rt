@@ -3,11 +3,10 @@ ghost use Rattle.std.specs.Prelude.{◌≡◌, ◌*◌, [], IfOk, map};
 ghost use Rattle.std.specs.Option.{option_or};
 ghost use Rattle.booth_conf.specs.Config.{chosen, is_manual, renewal_of, ticket_of, times_of};
 
-use crate::limits::MEMBERS;
 use crate::sections::{NamedSection, Section};
 use crate::tickets::{GrantKind, TicketConf, copy_path, copy_prereqs, copy_weights};
 use arrayvec::ArrayVec;
-use booth_base::{PathText, Times};
+use booth_base::{MEMBERS, PathText, Times};
 use std::alloc::{AllocError, Global};
 
 fn milliseconds(own: Option<u32>, default: Option<u32>, table: u32) -> u64

@@ -10,13 +10,13 @@ ghost use Rattle.booth_conf.specs.declared.sections.NamedSection.{NamedSection a
 
 use crate::faults::{LineFault, Stop};
 use crate::keys::{ConfKey, Scope};
-use crate::limits::{MEMBERS, PREREQS, TICKETS};
+use crate::limits::{PREREQS, TICKETS};
 use crate::line_meaning::{Said, read_line};
 use crate::members::{Member, MemberList};
 use crate::sections::{NamedSection, Section, Top};
 use crate::settings::{Setting, TicketSetting};
 use crate::tickets::Prereq;
-use booth_base::Name;
+use booth_base::{MEMBERS, Name};
 use indexmap::IndexSet;
 use std::alloc::{AllocError, Global};
 use std::marker::Model;

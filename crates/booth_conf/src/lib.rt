@@ -31,7 +31,7 @@ mod words;
 pub use configuration::Config;
 pub use faults::ConfFault;
 pub use keys::{ConfKey, KeyNo};
-pub use limits::{MEMBERS, PREREQS, TEXT_BYTES, TICKETS};
+pub use limits::{PREREQS, TEXT_BYTES, TICKETS};
 pub use members::Member;
 pub use names::ticket_name;
 pub use sections::Extra;

@@ -3,9 +3,6 @@
 /// The most bytes of a text.
 pub const TEXT_BYTES: usize = 1_048_576;
 
-/// The most members.
-pub const MEMBERS: usize = 16;
-
 /// The most tickets.
 pub const TICKETS: usize = 64;
 

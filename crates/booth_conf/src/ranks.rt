@@ -1,10 +1,11 @@
 //! Ranks: the order in which sites try to get a ticket.
+ghost use Rattle.booth_base.specs.declared.limits.TheConstants.{MEMBERS};
 ghost use Rattle.std.specs.Prelude.{◌≡◌, ◌≤◌, ◌<◌, length, slice_index, count_by};
 ghost use Rattle.std.specs.List.{enumerate_from};
 ghost use Rattle.booth_conf.specs.Lookups.{comes_before, rank_of};
 
-use crate::limits::MEMBERS;
 use crate::members::Member;
+use booth_base::MEMBERS;
 
 // The weight of the member at this place. One that is missing is 0.
 fn weight(weights: &[u32], member: usize) -> u32

@@ -7,11 +7,11 @@ ghost use Rattle.booth_conf.specs.Steps.{section_added, top_added};
 
 use crate::faults::{LineFault, Stop};
 use crate::keys::KeyNo;
-use crate::limits::{MEMBERS, PREREQS};
+use crate::limits::PREREQS;
 use crate::settings::{FileSetting, TicketSetting, Transport};
 use crate::tickets::{GrantKind, Prereq, copy_prereqs};
 use arrayvec::ArrayVec;
-use booth_base::{Name, PathText};
+use booth_base::{MEMBERS, Name, PathText};
 use std::alloc::Global;
 use std::marker::Model;
 

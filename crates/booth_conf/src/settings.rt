@@ -1,10 +1,9 @@
 //! What a line can set.
 use crate::keys::KeyNo;
-use crate::limits::MEMBERS;
 use crate::members::Member;
 use crate::tickets::{GrantKind, Prereq};
 use arrayvec::ArrayVec;
-use booth_base::{Name, PathText};
+use booth_base::{MEMBERS, Name, PathText};
 
 /// What carries datagrams.
 #[derive(Clone, Copy, Debug)]

@@ -1,9 +1,10 @@
 //! What a configuration says of a ticket.
+ghost use Rattle.booth_base.specs.declared.limits.TheConstants.{MEMBERS};
 ghost use Rattle.std.specs.Prelude.{◌≡◌, ◌≤◌, length};
 
-use crate::limits::{MEMBERS, PREREQS};
+use crate::limits::PREREQS;
 use arrayvec::ArrayVec;
-use booth_base::{AttrValue, Name, PathText, Times};
+use booth_base::{AttrValue, MEMBERS, Name, PathText, Times};
 
 /// How a ticket is granted: by an election, or by hand.
 #[derive(Clone, Copy, Debug, PartialEq, Eq)]

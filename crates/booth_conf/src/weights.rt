@@ -3,9 +3,10 @@ ghost use Rattle.std.specs.Prelude.{◌≡◌, MatchOption, option_map};
 ghost use Rattle.booth_conf.specs.ValueReader.{weight_in, weight_added, weights_in};
 
 use crate::digits::number_within;
-use crate::limits::{MEMBERS, WEIGHT};
+use crate::limits::WEIGHT;
 use crate::words::one_word;
 use arrayvec::ArrayVec;
+use booth_base::MEMBERS;
 
 fn weight(piece: &[u8]) -> Option<u32>
     ensures { result ≡ weight_in piece.now }

@@ -10,8 +10,8 @@ use crate::gain_release_lost::{
 use crate::members::{is_majority, is_promised_elsewhere};
 use crate::messages::asks_all;
 use crate::outcome::keeping;
-use crate::view::{LAST_NUMBER, LAST_TERM, MOST_MEMBERS, Promise, Role, Round, Rule, View};
-use booth_base::promise_ms;
+use crate::view::{LAST_NUMBER, LAST_TERM, Promise, Role, Round, Rule, View};
+use booth_base::{MEMBERS, promise_ms};
 use booth_rec::Record;
 use booth_wire::Setup;
 use booth_wire::reasons::RACQ;
@@ -72,11 +72,11 @@ fn promised_itself(setup: &Setup, view: &mut View, now: u64)
     }
 }
 
-fn own_answer(setup: &Setup, view: &View, now: u64) -> [bool; MOST_MEMBERS]
+fn own_answer(setup: &Setup, view: &View, now: u64) -> [bool; MEMBERS]
     requires { IsSound setup.now }
     ensures { result ≡ own_answer setup.now view.now now }
 {
-    let mut answers = [false; MOST_MEMBERS];
+    let mut answers = [false; MEMBERS];
     if answers_itself(setup, view, now) {
         answers[setup.place as usize] = true;
     }

@@ -27,6 +27,5 @@ pub use members::is_promised_elsewhere;
 pub use messages::{owner_now, shown_end};
 pub use numbers::seconds_left;
 pub use view::{
-    LAST_NUMBER, LAST_TERM, MOST_MEMBERS, Promise, Role, Round, RoundKind, Rule, Shown, View,
-    Waiting,
+    LAST_NUMBER, LAST_TERM, Promise, Role, Round, RoundKind, Rule, Shown, View, Waiting,
 };

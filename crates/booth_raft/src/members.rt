@@ -3,8 +3,8 @@ ghost use Rattle.std.specs.Prelude.{◌≡◌, ◌<◌};
 ghost use Rattle.booth_raft.specs.Members.{is_promised_elsewhere, others_until, is_majority, is_unanswered, unanswered};
 ghost use Rattle.booth_raft.specs.Sound.{IsSound};
 
-use crate::view::{MOST_MEMBERS, Promise};
-use booth_base::MemberId;
+use crate::view::Promise;
+use booth_base::{MEMBERS, MemberId};
 use booth_wire::Setup;
 
 /// A promise to another member than this is live: now is below its end.
@@ -25,7 +25,7 @@ pub(crate) fn others_until(promise: Option<Promise>, member: MemberId) -> u64
 }
 
 // More than half of all members are in the set.
-pub(crate) fn is_majority(setup: &Setup, answers: &[bool; MOST_MEMBERS]) -> bool
+pub(crate) fn is_majority(setup: &Setup, answers: &[bool; MEMBERS]) -> bool
     ensures { result ≡ is_majority setup.now answers.now }
 {
     let count = answers.iter().filter(|a| **a).count();
@@ -39,11 +39,11 @@ fn is_unanswered(setup: &Setup, place: u32, answered: bool) -> bool
 }
 
 // The other members that have not answered: bit i stands for the member at place i.
-pub(crate) fn unanswered(setup: &Setup, answers: &[bool; MOST_MEMBERS]) -> u16
+pub(crate) fn unanswered(setup: &Setup, answers: &[bool; MEMBERS]) -> u16
     ensures { result ≡ unanswered setup.now answers.now }
 {
     let mut members = 0u16;
-    for place in (0..MOST_MEMBERS).rev() {
+    for place in (0..MEMBERS).rev() {
         let bit = is_unanswered(setup, place as u32, answers[place]) as u16;
         members = 2 * members + bit;
     }

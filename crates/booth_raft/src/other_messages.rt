@@ -139,19 +139,7 @@ pub(crate) fn hear(
             revoked(setup, view, head, part.term, now);
             Deed::quiet()
         }
-        Cmd::CLst
-        | Cmd::Peer
-        | Cmd::CGnt
-        | Cmd::CRvk
-        | Cmd::ASet
-        | Cmd::AGet
-        | Cmd::ADel
-        | Cmd::ALst
-        | Cmd::RLst
-        | Cmd::RPer
-        | Cmd::RALs
-        | Cmd::RGnt
-        | Cmd::RRvk
-        | Cmd::RAtr => Deed::quiet(),
+        // (what clients ask and are answered)
+        _ => Deed::quiet(),
     }
 }

@@ -1,9 +1,6 @@
 //! What a member knows of one automatic ticket. Moments are milliseconds on its own clock.
-use booth_base::MemberId;
+use booth_base::{MEMBERS, MemberId};
 use booth_rec::Record;
-
-/// The most members that a configuration has.
-pub const MOST_MEMBERS: usize = 16;
 
 /// From this term on no further term is asked for.
 pub const LAST_TERM: u32 = 4_294_967_294;
@@ -50,7 +47,7 @@ pub struct Round {
     /// The reading at which it was opened: a lease is counted from here.
     pub opened: u64,
     /// Who answered: true at the places of these members.
-    pub answers: [bool; MOST_MEMBERS],
+    pub answers: [bool; MEMBERS],
     /// Whether it gave a lease.
     pub won: bool,
 }

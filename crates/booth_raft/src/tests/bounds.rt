@@ -7,7 +7,7 @@ use crate::members::{is_majority, unanswered};
 use crate::numbers::seconds_left;
 use crate::rounds_and_answers::may_answer;
 use crate::start_and_learn::{failover_time, learned};
-use crate::view::{MOST_MEMBERS, Promise, Role, Round, Shown, View};
+use crate::view::{Promise, Role, Round, Shown, View};
 use crate::{Told, Want};
 use booth_base::NO_ONE;
 use booth_wire::reasons::ADMN;
@@ -102,7 +102,6 @@ fn a_set_of_members_has_a_bit_for_each_of_sixteen(rt: HostRuntime) {
         );
         assert_eq!(rt; unanswered(&setup, &[true; 16]), 0, "{place} of {members}");
     }
-    assert_eq!(rt; MOST_MEMBERS, 16);
 }
 
 #[test]

@@ -1,7 +1,7 @@
 use Rattle.std.proofs.Common.{◌≡◌, ◌<◌, ◌≤◌, length, arith, ap, ◌∙◌, IsTrue, subst, sym}
 use Rattle.booth_conf.specs.Config.{ConfigSays}
 use Rattle.booth_conf.specs.Lookups.{rank_of, weights_at}
-use Rattle.booth_conf.specs.declared.limits.TheConstants.{MEMBERS}
+use Rattle.booth_base.specs.declared.limits.TheConstants.{MEMBERS}
 use Rattle.booth_conf.proofs.PlaceLemmas.{weights_here}
 use Rattle.booth_conf.proofs.RankLemmas.{rank_below}
 use Rattle.booth_conf.proofs.configuration.Config.rank.Goals as goal
