@@ -3,6 +3,7 @@ use Rattle.std.specs.Prelude.{◌≡◌, ◌+◌, ◌-◌, ◌==◌, ℕ, List, 
 use Rattle.std.specs.Cmp.Lexicographic.{pointwise}
 use Rattle.std.specs.List.{find}
 use Rattle.booth_rec.specs.declared.record.Record.{Record}
+use Rattle.booth_host.specs.declared.datagram.TheConstants.{DATAGRAM_BYTES}
 use Rattle.booth_host.specs.declared.entry.Entry.{Entry}
 use Rattle.booth_host.specs.declared.host.Arrival.{Arrival}
 use Rattle.booth_host.specs.declared.host.Arrival.TheVariants.{Stop, Quiet}
@@ -54,7 +55,7 @@ outs_fail host = out_flag host.script.fail_out (running host)
 abbrev pub IsBrought : Option Step → Result Arrival Failed → List ℕ → Type 0
 IsBrought None answer bytes = (answer ≡ Ok Stop) × (bytes ≡ [])
 IsBrought (Some step) answer bytes = (answer ≡ step.arrival)
-    × (bytes ≡ take (min (length step.bytes) 16461) step.bytes)
+    × (bytes ≡ take (min (length step.bytes) DATAGRAM_BYTES) step.bytes)
 
 -- an answer without failures: a failing step is Quiet
 abbrev pub quietly : Result Arrival Failed → Result Arrival Failed
@@ -65,7 +66,7 @@ quietly (Err fault) = Ok Quiet
 abbrev pub IsQuietlyBrought : Option Step → Result Arrival Failed → List ℕ → Type 0
 IsQuietlyBrought None answer bytes = (answer ≡ Ok Stop) × (bytes ≡ [])
 IsQuietlyBrought (Some step) answer bytes = (answer ≡ quietly step.arrival)
-    × (bytes ≡ take (min (length step.bytes) 16461) step.bytes)
+    × (bytes ≡ take (min (length step.bytes) DATAGRAM_BYTES) step.bytes)
 
 -- the step that a next begins
 abbrev pub coming : MemoryHost → Option Step
@@ -90,26 +91,29 @@ pub record SaysTheSame (old new : Script) : Type 0 where
 
 -- a host that was made of these, and has not begun
 pub record IsNew (host : MemoryHost) (script : Script) (files : List (List ℕ × List ℕ))
-    (records : List (List ℕ × Record)) : Type 0 where
+    (records : List (List ℕ × Record)) (most : ℕ) : Type 0 where
   pub runs : host.script ≡ script
   pub begun : host.begun ≡ 0
   pub reads : host.files.items ≡ files
   pub keeps : host.records.items ≡ records
+  pub room : host.room ≡ most
   pub tells : memory_past host ≡ Some []
   pub faults : host.faults ≡ 0
 
--- the script, the files and the records stay, and no step begins
+-- the script, the files, the records and the room stay, and no step begins
 pub record Stays (old new : MemoryHost) : Type 0 where
   pub script : new.script ≡ old.script
   pub begun : new.begun ≡ old.begun
   pub files : new.files ≡ old.files
   pub records : new.records ≡ old.records
+  pub room : new.room ≡ old.room
 
 -- the same but for the records
 pub record StaysButRecords (old new : MemoryHost) : Type 0 where
   pub script : new.script ≡ old.script
   pub begun : new.begun ≡ old.begun
   pub files : new.files ≡ old.files
+  pub room : new.room ≡ old.room
 
 -- one more step begins, where one is left, and all else stays
 pub record Begins (old new : MemoryHost) : Type 0 where
@@ -117,6 +121,7 @@ pub record Begins (old new : MemoryHost) : Type 0 where
   pub begun : MatchOption (coming old) (new.begun ≡ old.begun) (λ step. new.begun ≡ old.begun + 1)
   pub files : new.files ≡ old.files
   pub records : new.records ≡ old.records
+  pub room : new.room ≡ old.room
 
 -- ---- files
 

@@ -15,12 +15,13 @@ pub struct Datagram {
 
 impl Model for Datagram {
     ghost use Rattle.std.specs.Prelude.{List, ℕ, ◌≤◌, vec_len, vec_capacity};
+    ghost use Rattle.booth_host.specs.declared.datagram.TheConstants.{DATAGRAM_BYTES};
 
     ghost Value = { List ℕ };
 
     ghost view = { λ d. d.bytes.items };
 
-    ghost invariant = { λ d. (16461 ≤ vec_capacity d.bytes) × (vec_len d.bytes ≤ 16461) };
+    ghost invariant = { λ d. (DATAGRAM_BYTES ≤ vec_capacity d.bytes) × (vec_len d.bytes ≤ DATAGRAM_BYTES) };
 }
 
 impl Datagram {
@@ -35,7 +36,7 @@ impl Datagram {
 
     /// Keeps the first 16,461 of these bytes.
     pub fn set(&mut self, bytes: &[u8])
-        ensures { self.new ≡ take (min (length bytes.now) 16461) bytes.now }
+        ensures { self.new ≡ take (min (length bytes.now) DATAGRAM_BYTES) bytes.now }
     {
         let len = bytes.len().min(DATAGRAM_BYTES);
         self.bytes.clear();
@@ -45,7 +46,7 @@ impl Datagram {
     /// The bytes of the datagram.
     pub fn bytes(&self) -> &[u8]
         ensures value { result.now ≡ self.now }
-        ensures short { length result.now ≤ 16461 }
+        ensures short { length result.now ≤ DATAGRAM_BYTES }
     {
         &self.bytes
     }

@@ -1,5 +1,5 @@
 //! A host in memory, which runs a script and tells its calls.
-ghost use Rattle.std.specs.Prelude.{◌≡◌, ◌≤◌, [], ◌∷◌, ◌++◌, Some, None, IfOk, OnOk, OnErr, IsSome, MatchResult, false, true, not, is_err, option_map, if◌then◌else◌};
+ghost use Rattle.std.specs.Prelude.{◌≡◌, ◌≤◌, [], ◌∷◌, ◌++◌, Some, None, IfOk, OnOk, OnErr, IsSome, MatchResult, false, true, not, is_err, length, option_map, if◌then◌else◌};
 ghost use Rattle.booth_host.specs.Past.{GrewBy};
 ghost use Rattle.booth_host.specs.Causes.{Rose, HasCause, HasReadCause};
 ghost use Rattle.booth_host.specs.declared.entry.Entry.{Entry};
@@ -62,6 +62,7 @@ pub struct MemoryHost {
     entries: Vec<Entry>,
     tells: bool,
     faults: u64,
+    ghost few: { length entries.items ≤ room },
 }
 
 // Adds this where there is memory for it.
@@ -87,7 +88,7 @@ impl MemoryHost {
         records: Records,
         room: u32,
     ) -> Result<MemoryHost, AllocError>
-        ensures { IfOk result (λ host. IsNew host script files.items records.items) }
+        ensures { IfOk result (λ host. IsNew host script files.items records.items room) }
     {
         Ok(MemoryHost {
             alloc,
@@ -128,6 +129,7 @@ impl MemoryHost {
         ensures begun { self.new.begun ≡ self.old.begun }
         ensures files { self.new.files ≡ self.old.files }
         ensures records { self.new.records ≡ self.old.records }
+        ensures room { self.new.room ≡ self.old.room }
         ensures past { memory_past self.new ≡ memory_past self.old }
         ensures faults { self.new.faults ≡ self.old.faults }
     {
@@ -144,6 +146,7 @@ impl MemoryHost {
         ensures script { SaysTheSame self.old.script self.new.script }
         ensures files { self.new.files ≡ self.old.files }
         ensures records { self.new.records ≡ self.old.records }
+        ensures room { self.new.room ≡ self.old.room }
         ensures faults { self.new.faults ≡ self.old.faults }
     {
         self.entries.clear();

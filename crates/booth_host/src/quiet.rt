@@ -35,7 +35,7 @@ impl QuietHost {
         records: Records,
         room: u32,
     ) -> Result<QuietHost, AllocError>
-        ensures { IfOk result (λ host. IsNew host.host script files.items records.items) }
+        ensures { IfOk result (λ host. IsNew host.host script files.items records.items room) }
     {
         Ok(QuietHost {
             host: MemoryHost::new(alloc, script, files, records, room)?,
@@ -66,6 +66,7 @@ impl QuietHost {
         ensures begun { self.new.host.begun ≡ self.old.host.begun }
         ensures files { self.new.host.files ≡ self.old.host.files }
         ensures records { self.new.host.records ≡ self.old.host.records }
+        ensures room { self.new.host.room ≡ self.old.host.room }
         ensures past { quiet_past self.new ≡ quiet_past self.old }
     {
         self.host.add(step)
@@ -81,6 +82,7 @@ impl QuietHost {
         ensures script { SaysTheSame self.old.host.script self.new.host.script }
         ensures files { self.new.host.files ≡ self.old.host.files }
         ensures records { self.new.host.records ≡ self.old.host.records }
+        ensures room { self.new.host.room ≡ self.old.host.room }
     {
         self.host.forget();
     }

@@ -3,6 +3,7 @@
 //! It tells nothing of its calls, and it never answers `Stop`: a signal ends the process instead.
 ghost use Rattle.std.specs.Prelude.{◌≡◌, ◌≤◌, None, vec_len};
 ghost use Rattle.booth_host.specs.Causes.{Rose, HasCause};
+ghost use Rattle.booth_host.specs.declared.datagram.TheConstants.{DATAGRAM_BYTES};
 
 use crate::{Arrival, DATAGRAM_BYTES, Datagram, Failed, Host, Place, ReadFault};
 use booth_base::{ByteText, Name, Peer};
@@ -20,6 +21,7 @@ use streams::write_to;
 
 mod files;
 mod lock;
+mod record_disk;
 mod records;
 mod socket;
 mod streams;
@@ -37,7 +39,7 @@ pub struct RealHost {
     /// The file whose lock this host holds.
     locked: Option<File>,
     faults: u64,
-    ghost size: { vec_len buffer ≡ 16461 },
+    ghost size: { vec_len buffer ≡ DATAGRAM_BYTES },
 }
 
 // The clock in milliseconds since 1970, where it can be read and is not before that.
@@ -115,8 +117,10 @@ impl RealHost {
         }
     }
 
-    fn read_record(&self, ticket: &Name) -> io::Result<Option<Record>> {
-        match &self.records {
+    fn read_record(&mut self, ticket: &Name) -> io::Result<Option<Record>>
+        ensures { self.new.faults ≡ self.old.faults }
+    {
+        match &mut self.records {
             Some(records) => records.read(&self.rt, ticket),
             None => Err(unopened()),
         }

@@ -127,3 +127,14 @@ fn what_has_run_is_forgotten(rt: HostRuntime) -> Result<(), Fail> {
     assert_eq!(rt; datagram.bytes(), [2].as_slice());
     Ok(())
 }
+
+#[test]
+fn faults_are_told_in_plain_words(rt: HostRuntime) -> Result<(), Fail> {
+    let (failed, unread, memory) = (Failed, ReadFault::Failed, ReadFault::NoMemory);
+    let shown = format!(in rt.alloc(); "{failed}; {unread}; {memory}")?;
+    assert_eq!(rt;
+        shown.as_str(),
+        "a device failed; the file could not be read; there is no memory for the file"
+    );
+    Ok(())
+}

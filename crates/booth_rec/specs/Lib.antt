@@ -1,2 +1,9 @@
 pub mod Record
 pub mod Spelling
+pub mod Disk
+pub mod RecordFile
+pub mod Holding
+pub mod Slots
+pub mod Calls
+pub mod CallLaws
+pub mod MemoryDisk

@@ -1,5 +1,6 @@
 //! Records spelled by hand from the layout of the record file.
 use crate::{Lease, Record, RecordFault};
+use std::alloc::AllocError;
 
 const FREE: [u8; 32] = [
     0, 0, 0, 1, 0, 0, 0, 1, 0, 0, 0, 0, 0, 0, 0, 0, 0, 0, 0, 0, 0, 0, 0, 0, 0, 0, 0, 0, 0, 0, 0, 0,
@@ -50,4 +51,15 @@ fn other_bytes_are_refused_by_the_first_fault(rt: HostRuntime) {
     other[3] = 2;
     assert_eq!(rt; Record::decode(&other[..31]), Err(RecordFault::Torn));
     assert_eq!(rt; Record::decode(&[]), Err(RecordFault::Torn));
+}
+
+#[test]
+fn faults_are_told_in_plain_words(rt: HostRuntime) -> Result<(), AllocError> {
+    let (torn, version) = (RecordFault::Torn, RecordFault::Version);
+    let shown = format!(in rt.alloc(); "{torn}; {version}")?;
+    assert_eq!(rt;
+        shown.as_str(),
+        "the bytes spell no record; the record is of another version"
+    );
+    Ok(())
 }

@@ -1,23 +1,18 @@
-//! Kept records as files: one of a ticket, in its first slot, in a directory that one host has at a time.
+//! Kept records as files: one of a ticket, in a directory that one host has at a time.
 //!
-//! A file has 64 bytes. Byte 0 is the commit byte, which is 1 where a record is kept; bytes 8 to 15 are a sequence
-//! number, and bytes 16 to 47 the record. A file that is missing, or whose commit byte is another, keeps no record.
+//! A file is opened for a call alone, and holds two slots (`booth_rec`). A file that is missing keeps no record.
 ghost use Rattle.std.specs.Prelude.{◌≤◌, length};
 
 use super::lock::lock_file;
+use super::record_disk::FileDisk;
 use arrayvec::ArrayString;
 use booth_base::{Name, PathText};
-use booth_rec::{RECORD_BYTES, Record};
+use booth_rec::{OpenFault, PutFault, Record, Slots};
 use std::fs::File;
-use std::io::{ErrorKind, Read, Seek, SeekFrom, Write};
+use std::io::ErrorKind;
+use std::os::unix::fs::OpenOptionsExt;
 use std::path::Path;
 use std::{fs, io};
-
-/// How many bytes a slot has.
-const SLOT_BYTES: usize = 64;
-
-/// Where the record of a slot begins.
-const RECORD_AT: usize = 16;
 
 /// The file whose lock the directory's one host holds.
 const LOCK: &str = "booth.lock";
@@ -25,12 +20,19 @@ const LOCK: &str = "booth.lock";
 /// A path below a directory.
 type FilePath = ArrayString<400>;
 
+/// Who may open a record file that is made here.
+const OWNER_ALONE: u32 = 0o600;
+
 /// The directory of kept records, which this host alone uses.
 #[derive(Drop)]
 pub(super) struct Records {
     directory: PathText,
     /// Whether this host made the directory, and its name is not known to be on the disk yet.
     is_new: bool,
+    /// Whether the names in the directory are on the disk.
+    has_names: bool,
+    /// Whether a call on a record file has failed: from then on the system's bytes of such files are doubted.
+    has_failed: bool,
     /// The file of the lock, which lasts while it is open.
     lock: File,
 }
@@ -89,41 +91,20 @@ fn sync_parent(rt: &HostRuntime, directory: &str) -> io::Result<()> {
     }
 }
 
-// Reads up to the end of the file or of the bytes.
-fn fill(file: &mut File, bytes: &mut [u8; SLOT_BYTES]) -> io::Result<()> {
-    let mut len = 0;
-    for _ in 0..u64::MAX {
-        if len >= SLOT_BYTES {
-            return Ok(());
-        }
-        match file.read(&mut bytes[len..]) {
-            Ok(0) => return Ok(()),
-            Ok(count) => len += count,
-            Err(error) => {
-                if error.kind() != ErrorKind::Interrupted {
-                    return Err(error);
-                }
-            }
-        }
+// Opens a file to read and write, and makes it where it is missing; says whether it was.
+fn open_or_make(rt: &HostRuntime, path: &str) -> io::Result<(File, bool)> {
+    match File::options().read(true).write(true).open(rt, path) {
+        Ok(file) => return Ok((file, false)),
+        Err(error) if error.kind() == ErrorKind::NotFound => {}
+        Err(error) => return Err(error),
     }
-    Err(io::Error::from(ErrorKind::Interrupted))
-}
-
-// The bytes of a slot that keeps this record.
-fn slot_of(record: &Record) -> [u8; SLOT_BYTES] {
-    let mut slot = [0u8; SLOT_BYTES];
-    slot[0] = 1;
-    slot[8..16].copy_from_slice(&1u64.to_be_bytes());
-    slot[RECORD_AT..RECORD_AT + RECORD_BYTES].copy_from_slice(&record.encode());
-    slot
-}
-
-// Writes a slot over a file's first, and has it be on the disk.
-fn write_slot(rt: &HostRuntime, path: &str, slot: &[u8; SLOT_BYTES]) -> io::Result<()> {
-    let mut file = File::options().write(true).create(true).open(rt, path)?;
-    file.seek(SeekFrom::Start(0))?;
-    file.write_all(slot)?;
-    file.sync_all()
+    let file = File::options()
+        .read(true)
+        .write(true)
+        .create_new(true)
+        .mode(OWNER_ALONE)
+        .open(rt, path)?;
+    Ok((file, true))
 }
 
 impl Records {
@@ -136,28 +117,47 @@ impl Records {
             Some(lock) => Ok(Records {
                 directory: directory.copy(),
                 is_new,
+                has_names: false,
+                has_failed: false,
                 lock,
             }),
             None => Err(io::Error::from(ErrorKind::WouldBlock)),
         }
     }
 
-    /// The record that a ticket's file keeps, if it keeps one.
-    pub(super) fn read(&self, rt: &HostRuntime, ticket: &Name) -> io::Result<Option<Record>> {
-        let path = path_in(&self.directory, file_name(ticket)?.as_str())?;
-        let mut file = match File::open(rt, path.as_str()) {
-            Ok(file) => file,
-            Err(error) if error.kind() == ErrorKind::NotFound => return Ok(None),
-            Err(error) => return Err(error),
-        };
-        let mut slot = [0u8; SLOT_BYTES];
-        fill(&mut file, &mut slot)?;
-        if slot[0] != 1 {
-            return Ok(None);
+    // The slots of an open file.
+    fn slots(&mut self, file: File) -> io::Result<Slots<FileDisk>> {
+        match Slots::open(FileDisk::new(file, self.has_failed)) {
+            Ok(slots) => Ok(slots),
+            Err(OpenFault::Torn(_)) => Err(io::Error::from(ErrorKind::InvalidData)),
+            Err(OpenFault::Disk(_)) => {
+                self.has_failed = true;
+                Err(io::Error::from(ErrorKind::Other))
+            }
         }
-        match Record::decode(&slot[RECORD_AT..RECORD_AT + RECORD_BYTES]) {
-            Ok(record) => Ok(Some(record)),
-            Err(_) => Err(io::Error::from(ErrorKind::InvalidData)),
+    }
+
+    // Has the names in the directory be on the disk, and that of a new directory.
+    fn keep_names(&mut self, rt: &HostRuntime) -> io::Result<()> {
+        if self.has_names {
+            return Ok(());
+        }
+        sync_directory(rt, self.directory.as_str())?;
+        if self.is_new {
+            sync_parent(rt, self.directory.as_str())?;
+            self.is_new = false;
+        }
+        self.has_names = true;
+        Ok(())
+    }
+
+    /// The record that a ticket's file keeps, if it keeps one.
+    pub(super) fn read(&mut self, rt: &HostRuntime, ticket: &Name) -> io::Result<Option<Record>> {
+        let path = path_in(&self.directory, file_name(ticket)?.as_str())?;
+        match File::open(rt, path.as_str()) {
+            Ok(file) => Ok(self.slots(file)?.record()),
+            Err(error) if error.kind() == ErrorKind::NotFound => Ok(None),
+            Err(error) => Err(error),
         }
     }
 
@@ -169,12 +169,18 @@ impl Records {
         record: &Record,
     ) -> io::Result<()> {
         let path = path_in(&self.directory, file_name(ticket)?.as_str())?;
-        write_slot(rt, path.as_str(), &slot_of(record))?;
-        sync_directory(rt, self.directory.as_str())?;
-        if self.is_new {
-            sync_parent(rt, self.directory.as_str())?;
-            self.is_new = false;
+        let (file, is_new) = open_or_make(rt, path.as_str())?;
+        if is_new {
+            self.has_names = false;
         }
-        Ok(())
+        self.keep_names(rt)?;
+        match self.slots(file)?.put(record) {
+            Ok(()) => Ok(()),
+            Err(PutFault::Spent) => Err(io::Error::from(ErrorKind::InvalidData)),
+            Err(PutFault::Disk | PutFault::Again) => {
+                self.has_failed = true;
+                Err(io::Error::from(ErrorKind::Other))
+            }
+        }
     }
 }

@@ -207,6 +207,58 @@ fn a_commit_byte_before_no_record_is_a_failure(rt: HostRuntime) -> Result<(), Fa
     Ok(())
 }
 
+// The number and the term of a slot that holds a record without a lease.
+type Written = (u8, u8);
+
+// The two slots of a file.
+fn slots(first: Written, second: Written) -> [u8; 128] {
+    let mut bytes = [0u8; 128];
+    for (at, (number, term)) in [(0usize, first), (64, second)] {
+        bytes[at] = 1;
+        bytes[at + 15] = number;
+        bytes[at + 19] = 1;
+        bytes[at + 23] = term;
+    }
+    bytes
+}
+
+// A file of 64 bytes is from before there were two slots.
+#[test]
+fn the_next_record_goes_into_the_other_slot(rt: HostRuntime) -> Result<(), Fail> {
+    let name = ticket()?;
+    let mut host = keeper(&rt, "booth-host-slots")?;
+    let file = "booth-host-slots/7469636b65742d646238.rec";
+    let mut old = [0u8; 64];
+    old[0] = 1;
+    old[15] = 1;
+    old[19] = 1;
+    old[23] = 7;
+    fs::write(&rt, file, old.as_slice())?;
+    assert!(rt; host.kept(&name) == Ok(Some(Record::plain(7, None))));
+    for (term, bytes) in [(8, slots((1, 7), (2, 8))), (9, slots((3, 9), (2, 8)))] {
+        assert!(rt; host.keep(&name, &Record::plain(term, None)).is_ok());
+        assert!(rt; host.kept(&name) == Ok(Some(Record::plain(term, None))));
+        let read = host.read_file(rt.alloc(), file);
+        let is_as_said = read.is_ok_and(|read| read.bytes().len() == 112
+            && bytes.starts_with(read.bytes()));
+        assert!(rt; is_as_said, "{term}");
+    }
+    fs::remove_dir_all(&rt, "booth-host-slots")?;
+    Ok(())
+}
+
+#[test]
+fn a_record_file_is_made_for_its_owner(rt: HostRuntime) -> Result<(), Fail> {
+    let mut host = keeper(&rt, "booth-host-owner")?;
+    assert!(rt; host.keep(&ticket()?, &Record::plain(1, None)).is_ok());
+    assert_eq!(rt;
+        mode(&rt, "booth-host-owner/7469636b65742d646238.rec")?,
+        0o600
+    );
+    fs::remove_dir_all(&rt, "booth-host-owner")?;
+    Ok(())
+}
+
 #[test]
 fn a_record_that_has_no_place_is_a_failure(rt: HostRuntime) -> Result<(), Fail> {
     let name = ticket()?;
