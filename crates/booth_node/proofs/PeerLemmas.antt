@@ -16,7 +16,8 @@ use Rattle.booth_base.specs.Address.{IsAddress, printed}
 use Rattle.booth_base.specs.Name.{is_line_byte}
 use Rattle.booth_conf.proofs.SegmentLemmas.{segments_below}
 
-all_pass : (P : ℕ → Type 0) (xs : List ℕ) → ((b : ℕ) → P b → is_line_byte b ≡ true) → All P xs → list_all is_line_byte xs ≡ true
+all_pass : (P : ℕ → Type 0) (xs : List ℕ) → ((b : ℕ) → P b → is_line_byte b ≡ true) → All P xs
+    → list_all is_line_byte xs ≡ true
 all_pass P xs f h = list_all-from_AllPass is_line_byte xs (λ k d l. f _ (h k d l))
 
 dotted : (b : ℕ) → IsDigitOrDot b → is_line_byte b ≡ true
@@ -30,7 +31,8 @@ hex b (inr h) = grind (arith, nat_tests, h.0, h.1)
 pub address_is_line : (a : Address) → IsAddress a → list_all is_line_byte (printed a) ≡ true
 address_is_line (V4 bytes) h = all_pass IsDigitOrDot (ipv4_text bytes) dotted (All-ipv4_text bytes h.1)
 address_is_line (V6 bytes) h =
-    all_pass IsHexOrColon (hex_groups_text (segments_of bytes)) hex (All-hex_groups_text (segments_of bytes) (segments_below bytes h.1))
+    all_pass IsHexOrColon (hex_groups_text (segments_of bytes)) hex (All-hex_groups_text (segments_of bytes)
+    (segments_below bytes h.1))
 
 digit : (c : ℕ) → digit_value c < 10 → is_line_byte c ≡ true
 digit c h = grind (arith, nat_tests, h)

@@ -1,12 +1,13 @@
 -- What a node counts, and how the counters change.
-use Rattle.std.specs.Prelude.{ℕ, ◌+◌, ◌-◌, ◌/◌, ◌^◌, min, List, Option, Some, None, position, slice_index, slice_index_or, slice_set, replicate}
-use Rattle.booth_base.specs.declared.address.MemberId.{MemberId}
-use Rattle.booth_conf.specs.Config.{has_id}
+use Rattle.std.specs.Prelude.{ℕ, ◌+◌, ◌-◌, ◌/◌, ◌^◌, min, Bool, true, false, slice_index, slice_index_or, slice_set, replicate}
+use Rattle.booth_base.specs.declared.limits.TheConstants.{MEMBERS}
 use Rattle.booth_auth.specs.declared.admission.DropFault.{DropFault}
 use Rattle.booth_auth.specs.declared.admission.DropFault.TheVariants.{Frame, NoMac, BadMac, TooOld, Stranger, Own, Ticket, Leader}
+use Rattle.booth_ticket.specs.declared.hands.To.{To}
+use Rattle.booth_ticket.specs.declared.hands.To.TheVariants.{Member, Client}
+use Rattle.booth_node.specs.declared.state.Common.{Common}
 use Rattle.booth_node.specs.declared.state.Counters.{Counters}
-use Rattle.booth_node.specs.declared.state.State.{State}
-use Rattle.booth_node.specs.declared.node_config.NodeConfig.{NodeConfig}
+use Rattle.booth_node.specs.State.{State}
 
 -- a counter that stays at its greatest value
 abbrev pub more : ℕ → ℕ
@@ -24,37 +25,44 @@ place_of Ticket = 6
 place_of Leader = 7
 
 -- one more datagram was dropped for this fault
+abbrev pub with_drop : Common → DropFault → Common
+with_drop common fault =
+    let count = more (slice_index common.drops (place_of fault)) in
+    record common { drops = slice_set common.drops (place_of fault) count }
+
 abbrev pub dropped : State → DropFault → State
-dropped state fault =
-    let drops = state.common.drops in
-    let count = more (slice_index drops (place_of fault)) in
-    record state { common = record state.common { drops = slice_set drops (place_of fault) count } }
+dropped state fault = record state { common = with_drop state.common fault }
 
 -- the counters of a member of whom nothing came and to whom nothing went
 abbrev pub no_counts : Counters
 no_counts = record { accepted = 0; sent = 0; errors = 0; last = 0 }
 
+-- the counters of the member at a place
+abbrev pub counters_at : Common → ℕ → Counters
+counters_at common place = slice_index_or common.members place no_counts
+
+abbrev pub with_counters : Common → ℕ → Counters → Common
+with_counters common place counters = record common { members = slice_set common.members place counters }
+
 -- one more datagram of the member was let in, at this moment
 abbrev pub counted : Counters → ℕ → Counters
 counted counters moment = record counters { accepted = more counters.accepted; last = moment / 1000 }
 
-abbrev pub counted_at : List Counters → ℕ → Option ℕ → List Counters
-counted_at members moment None = members
-counted_at members moment (Some place) =
-    slice_set members place (counted (slice_index_or members place no_counts) moment)
-
--- a command of the member with this id was let in: its counters alone change
-abbrev pub accepted : NodeConfig → ℕ → State → MemberId → State
-accepted node moment state from =
-    record state {
-      common = record state.common {
-        members = counted_at state.common.members moment (position (has_id from) node.config.members);
-      };
-    }
-
--- the state of a node that was opened at this reading
-abbrev pub opened_at : ℕ → State
-opened_at reading = record {
-  common = record { drops = replicate 8 0; members = replicate 16 no_counts };
-  last = min reading (2 ^ 62 - 1);
+abbrev pub accepted : State → ℕ → ℕ → State
+accepted state place moment = record state {
+  common = with_counters state.common place (counted (counters_at state.common place) moment);
 }
+
+-- one more message was sent to the member, or failed to be
+abbrev pub tried : Counters → Bool → Counters
+tried counters true = record counters { sent = more counters.sent }
+tried counters false = record counters { errors = more counters.errors }
+
+-- a send by a rule counts for its member; a reply to a client counts for nobody
+abbrev pub with_send : Common → To → Bool → Common
+with_send common (Member place) ok = with_counters common place (tried (counters_at common place) ok)
+with_send common (Client peer) ok = common
+
+-- nothing was counted
+abbrev pub nothing_counted : Common
+nothing_counted = record { drops = replicate 8 0; members = replicate MEMBERS no_counts }

@@ -1,15 +1,102 @@
--- Laws of what a datagram demands, over every state and all bytes.
-use Rattle.std.specs.Prelude.{◌≡◌, ℕ, List, Some, Ok}
-use Rattle.booth_wire.specs.declared.command.Direction.TheVariants.{ToDaemon}
+-- Laws of turns, over every state and all bytes.
+use Rattle.std.specs.Prelude.{◌≡◌, ◌⊎◌, ◌<◌, ℕ, List, ◌∷◌, ◌++◌, length, position, Option, Some, None, Result, Ok, Err}
+use Rattle.std.specs.List.{All}
+use Rattle.booth_base.specs.declared.address.Peer.{Peer}
+use Rattle.booth_base.specs.Tree.{Ends, Leads}
+use Rattle.booth_conf.specs.Config.{has_id}
+use Rattle.booth_conf.specs.Lookups.{is_called}
+use Rattle.booth_rec.specs.declared.record.Record.{Record}
+use Rattle.booth_wire.specs.declared.command.Direction.{Direction}
+use Rattle.booth_wire.specs.declared.command.Direction.TheVariants.{ToDaemon, ToClient, BetweenMembers}
 use Rattle.booth_wire.specs.Command.{direction_of, answer_of}
 use Rattle.booth_wire.specs.PlainMessage.{PlainMessage}
+use Rattle.booth_auth.specs.declared.admission.DropFault.{DropFault}
+use Rattle.booth_auth.specs.Sealed.{sealed}
 use Rattle.booth_auth.specs.Verdict.{verdict}
+use Rattle.booth_host.specs.declared.host.Arrival.{Arrival}
+use Rattle.booth_host.specs.declared.host.Arrival.TheVariants as arrivals
+use Rattle.booth_host.specs.declared.host.Failed.{Failed}
+use Rattle.booth_host.specs.declared.entry.Entry.{Entry}
+use Rattle.booth_host.specs.declared.entry.Entry.TheVariants as calls
+use Rattle.booth_ticket.specs.declared.waiters.Waiter.{Waiter}
+use Rattle.booth_ticket.specs.Waiting.{waiting_at}
+use Rattle.booth_node.specs.declared.node.Turn.TheVariants.{Went}
 use Rattle.booth_node.specs.declared.node_config.NodeConfig.{NodeConfig}
-use Rattle.booth_node.specs.declared.state.State.{State}
-use Rattle.booth_node.specs.Reaction.{Answers, Rests, action}
+use Rattle.booth_node.specs.declared.state.Common.{Common}
+use Rattle.booth_node.specs.Calls.{IsAmong, IsToldIn, LetsIn, ReachesWaiters}
+use Rattle.booth_node.specs.Counting.{dropped, with_drop}
+use Rattle.booth_node.specs.Opening.{AreSetUp, opened}
+use Rattle.booth_node.specs.Reaction.{Action, Drops, Hears, Asks, Answers, Rests, IsDone, action, dues, react}
+use Rattle.booth_node.specs.State.{State}
 
--- This reply answers the message: its command's answer, with its number and neither options nor a reason, from this
--- member.
+-- ---- the tickets of a node
+
+-- A node opens with the tickets of its configuration, each set up for it.
+abbrev pub OpensWithItsTickets : Type 0
+OpensWithItsTickets =
+    (node : NodeConfig) (records : List (Option Record)) (reading : ℕ)
+    → length records ≡ length node.config.tickets
+    → AreSetUp node (opened node records reading)
+
+-- They stay those through every turn.
+abbrev pub KeepsItsTickets : Type 0
+KeepsItsTickets =
+    (node : NodeConfig) (old new : State) (moment : ℕ) (arrival : Result Arrival Failed) (bytes : List ℕ)
+    (entries : List Entry) → AreSetUp node old
+    → Leads (IsDone node.key) (react node old moment arrival bytes) entries (Ends new) → AreSetUp node new
+
+-- ---- what a datagram comes to
+
+-- A member's message goes to the ticket that it names, as the word of the member that its head names; a client's
+-- request of a ticket goes to that ticket.
+abbrev pub IsSettled : NodeConfig → Action → Type 0
+IsSettled node (Drops fault) = Unit {0}
+IsSettled node (Hears from ticket head part) =
+    (position (has_id head.from) node.config.members ≡ Some from)
+    × (position (is_called part.ticket) node.config.tickets ≡ Some ticket)
+IsSettled node (Asks ticket request) = ticket < length node.config.tickets
+IsSettled node (Answers letter) = Unit {0}
+IsSettled node Rests = ⊥
+
+-- No datagram demands nothing: each is dropped, heard by its ticket, asked of its ticket, or answered at once.
+abbrev pub NothingRests : Type 0
+NothingRests =
+    (node : NodeConfig) (moment : ℕ) (state : State) (from : Peer) (bytes : List ℕ)
+    → IsSettled node (action node moment state.tickets state.common from bytes)
+
+-- ---- dropped for its named fault
+
+-- Of a datagram with a fault nothing comes but that its fault is counted: what is done in its turn is what the
+-- deadlines demand.
+abbrev pub DropsAlone : Type 0
+DropsAlone =
+    (node : NodeConfig) (old new : State) (moment : ℕ) (from : Peer) (bytes : List ℕ) (fault : DropFault)
+    (entries : List Entry) → verdict node.config node.key node.me moment bytes ≡ Err fault
+    → Leads (IsDone node.key) (react node old moment (Ok (arrivals.Datagram from)) bytes) entries (Ends new)
+    → Leads (IsDone node.key) (dues node moment Went (dropped (record old { last_reading = moment }) fault))
+    entries (Ends new)
+
+-- the drop counters after a verdict, and after an arrival
+abbrev pub drops_by : Common → Result PlainMessage DropFault → List ℕ
+drops_by common (Err fault) = (with_drop common fault).drops
+drops_by common (Ok letter) = common.drops
+
+abbrev pub drops_after : NodeConfig → ℕ → Common → Result Arrival Failed → List ℕ → List ℕ
+drops_after node moment common (Ok (arrivals.Datagram from)) bytes =
+    drops_by common (verdict node.config node.key node.me moment bytes)
+drops_after node moment common answer bytes = common.drops
+
+-- A turn counts a fault exactly where its datagram has it, and no other.
+abbrev pub CountsEachFault : Type 0
+CountsEachFault =
+    (node : NodeConfig) (old new : State) (moment : ℕ) (arrival : Result Arrival Failed) (bytes : List ℕ)
+    (entries : List Entry) → Leads (IsDone node.key) (react node old moment arrival bytes) entries (Ends new)
+    → new.common.drops ≡ drops_after node moment old.common arrival bytes
+
+-- ---- clients
+
+-- This reply answers the message: its command's answer, with its number and neither options nor a reason, from
+-- this member.
 pub record IsReplyTo (node : NodeConfig) (letter reply : PlainMessage) : Type 0 where
   pub cmd : answer_of letter.head.cmd ≡ Some reply.head.cmd
   pub request : reply.head.request ≡ letter.head.request
@@ -17,16 +104,59 @@ pub record IsReplyTo (node : NodeConfig) (letter reply : PlainMessage) : Type 0 
   pub reason : reply.head.reason ≡ 0
   pub from : reply.head.from ≡ node.me
 
--- Each request of a client that is let in is answered.
+-- The last call of the arrival is the reply, to who asked. Each other call of the turn that reaches a client tells one
+-- that waits what became of its grant: before the reply one that waited when the turn began, after it one that waits
+-- then.
+pub record IsAnswered (node : NodeConfig) (old : State) (moment : ℕ) (from : Peer) (letter : PlainMessage)
+    (entries : List Entry) (new : State) : Type 0 where
+  pub before : List Entry
+  pub reply : PlainMessage
+  pub answer : Result (Unit {0}) Failed
+  pub deadlines : List Entry
+  pub whole : entries ≡ before ++ calls.Send from (sealed node.key reply) answer ∷ deadlines
+  pub replies : IsReplyTo node letter reply
+  pub waited : All (ReachesWaiters node old.waiters) before
+  pub after : State
+  pub waiting : All (ReachesWaiters node after.waiters) deadlines
+  pub follow : Leads (IsDone node.key) (dues node moment Went after) deadlines (Ends new)
+
+-- Each client's request that is let in has its one reply in that turn.
 abbrev pub ClientsAreAnswered : Type 0
 ClientsAreAnswered =
-    (node : NodeConfig) (moment : ℕ) (state : State) (bytes : List ℕ) (letter : PlainMessage) →
-    verdict node.config node.key node.me moment bytes ≡ Ok letter →
-    direction_of letter.head.cmd ≡ ToDaemon →
-    (reply : PlainMessage) × (action node moment state bytes ≡ Answers reply) × IsReplyTo node letter reply
+    (node : NodeConfig) (old new : State) (moment : ℕ) (from : Peer) (letter : PlainMessage)
+    (entries : List Entry)
+    → AreSetUp node old → LetsIn node old moment from letter entries new
+    → direction_of letter.head.cmd ≡ ToDaemon
+    → IsAnswered node old moment from letter entries new
 
--- No datagram demands nothing: each is dropped, counted for its member, or answered.
-abbrev pub NothingRests : Type 0
-NothingRests =
-    (node : NodeConfig) (moment : ℕ) (state : State) (bytes : List ℕ) →
-    action node moment state bytes ≡ Rests → ⊥
+-- the request of a client that a datagram brings, where it brings one that is let in
+abbrev pub asked_by : Direction → PlainMessage → Option PlainMessage
+asked_by ToDaemon letter = Some letter
+asked_by BetweenMembers letter = None
+asked_by ToClient letter = None
+
+abbrev pub request_let_in : Result PlainMessage DropFault → Option PlainMessage
+request_let_in (Err fault) = None
+request_let_in (Ok letter) = asked_by (direction_of letter.head.cmd) letter
+
+abbrev pub request_of : NodeConfig → ℕ → Result Arrival Failed → List ℕ → Option PlainMessage
+request_of node moment (Ok (arrivals.Datagram from)) bytes =
+    request_let_in (verdict node.config node.key node.me moment bytes)
+request_of node moment answer bytes = None
+
+-- In each other turn nothing reaches a client but the outcome of a grant, one that waited when the turn began.
+abbrev pub OthersAreNotAnswered : Type 0
+OthersAreNotAnswered =
+    (node : NodeConfig) (old new : State) (moment : ℕ) (arrival : Result Arrival Failed) (bytes : List ℕ)
+    (entries : List Entry) → AreSetUp node old
+    → Leads (IsDone node.key) (react node old moment arrival bytes) entries (Ends new)
+    → request_of node moment arrival bytes ≡ None → All (ReachesWaiters node old.waiters) entries
+
+-- No client that waits is forgotten: after each turn it waits for the same ticket still, or it was told in the turn.
+abbrev pub NobodyIsForgotten : Type 0
+NobodyIsForgotten =
+    (node : NodeConfig) (old new : State) (moment : ℕ) (arrival : Result Arrival Failed) (bytes : List ℕ)
+    (entries : List Entry) → AreSetUp node old
+    → Leads (IsDone node.key) (react node old moment arrival bytes) entries (Ends new)
+    → (place : ℕ) (waiter : Waiter) → IsAmong waiter (waiting_at old.waiters place)
+    → IsAmong waiter (waiting_at new.waiters place) ⊎ IsToldIn node waiter entries

@@ -1,7 +1,7 @@
 -- The calls of many turns, one after the other.
 use Rattle.std.specs.Prelude.{◌≡◌, ◌++◌, ℕ, List, [], ◌∷◌, length}
 use Rattle.booth_host.specs.declared.entry.Entry.{Entry}
-use Rattle.booth_node.specs.declared.state.State.{State}
+use Rattle.booth_node.specs.State.{State}
 use Rattle.booth_node.specs.declared.node.Turn.TheVariants.{Went, Stopped}
 use Rattle.booth_node.specs.declared.node_config.NodeConfig.{NodeConfig}
 use Rattle.booth_node.specs.Reaction.{IsTurn}
@@ -17,7 +17,8 @@ joined_turns [] = []
 joined_turns (turn ∷ turns) = turn ++ joined_turns turns
 
 -- so many turns, none of which stopped
-pub record IsNodeLog (node : NodeConfig) (old : State) (count : ℕ) (new : State) (entries : List Entry) : Type 0 where
+pub record IsNodeLog (node : NodeConfig) (old : State) (count : ℕ) (new : State) (entries : List Entry)
+    : Type 0 where
   pub turns : List (List Entry)
   pub number : length turns ≡ count
   pub whole : entries ≡ joined_turns turns

@@ -1,12 +1,17 @@
--- What a node does with an arrival: the deeds of one turn, as a tree.
-use Rattle.std.specs.Prelude.{◌≡◌, ◌-◌, ◌^◌, ℕ, min, max, Bool, List, ◌∷◌, Option, Some, None, Result, Ok, Err, is_ok}
-use Rattle.booth_base.specs.declared.address.MemberId.{MemberId}
+-- What a node does with an arrival and with its deadlines: the deeds of one turn, as a tree.
+use Rattle.std.specs.Prelude.{◌≡◌, ◌-◌, ◌^◌, ℕ, min, max, Bool, true, List, [], ◌∷◌, map, position, slice_get, Option, Some, None, Result, Ok, Err, is_ok}
 use Rattle.booth_base.specs.declared.address.Peer.{Peer}
 use Rattle.booth_base.specs.Tree.{Deeds, Ends, Does, Leads, next}
+use Rattle.booth_conf.specs.Config.{ConfigSays, has_id}
+use Rattle.booth_conf.specs.Lookups.{is_called}
+use Rattle.booth_conf.specs.declared.members.Member.{Member}
+use Rattle.booth_rec.specs.declared.record.Record.{Record}
 use Rattle.booth_wire.specs.declared.command.Direction.{Direction}
 use Rattle.booth_wire.specs.declared.command.Direction.TheVariants.{ToDaemon, ToClient, BetweenMembers}
+use Rattle.booth_wire.specs.declared.message.Head.{Head}
+use Rattle.booth_wire.specs.declared.message.TicketPart.{TicketPart}
 use Rattle.booth_wire.specs.Command.{direction_of}
-use Rattle.booth_wire.specs.PlainMessage.{PlainMessage}
+use Rattle.booth_wire.specs.PlainMessage.{PlainMessage, Content, Ticket}
 use Rattle.booth_wire.specs.Spelling.{Fits}
 use Rattle.booth_auth.specs.declared.admission.DropFault.{DropFault}
 use Rattle.booth_auth.specs.Verdict.{verdict}
@@ -16,30 +21,103 @@ use Rattle.booth_host.specs.declared.host.Arrival.{Arrival}
 use Rattle.booth_host.specs.declared.host.Arrival.TheVariants as arrivals
 use Rattle.booth_host.specs.declared.entry.Entry.{Entry}
 use Rattle.booth_host.specs.declared.entry.Entry.TheVariants as calls
-use Rattle.booth_node.specs.declared.state.State.{State}
+use Rattle.booth_chain.specs.DueList.{due_list}
+use Rattle.booth_ticket.specs.declared.hands.To.{To}
+use Rattle.booth_ticket.specs.declared.hands.To.TheVariants as whom
+use Rattle.booth_ticket.specs.declared.request.Request.{Request}
+use Rattle.booth_ticket.specs.declared.waiters.Waiter.{Waiter}
+use Rattle.booth_ticket.specs.Acts.{Ask as TicketAsk, Keep as KeepsRecord, Say}
+use Rattle.booth_ticket.specs.Ticket.{TicketState, TicketLeft, deadline, ticket_asked, ticket_due, ticket_heard}
+use Rattle.booth_ticket.specs.Waiting.{spare_in, waiting_at}
+use Rattle.booth_node.specs.declared.event.Event.{Event}
+use Rattle.booth_node.specs.declared.event.Event.TheVariants.{Due, Heard, Asked}
 use Rattle.booth_node.specs.declared.node.Turn.{Turn}
 use Rattle.booth_node.specs.declared.node.Turn.TheVariants.{Went, Stopped}
 use Rattle.booth_node.specs.declared.node_config.NodeConfig.{NodeConfig}
-use Rattle.booth_node.specs.Counting.{dropped, accepted}
-use Rattle.booth_node.specs.Replies.{reply_to}
+use Rattle.booth_node.specs.declared.state.Common.{Common}
+use Rattle.booth_node.specs.Counting.{dropped, accepted, with_send}
+use Rattle.booth_node.specs.Replies.{reply_to, request_in}
+use Rattle.booth_node.specs.State.{State, with_ticket}
 
--- What a turn asks of the host. A message is as it is sent, with its time.
+-- ---- what is asked of the host
+
+-- A message is as it is sent, with its time; a record is kept under its ticket's name.
 pub data Ask : Type 0 where
   Send : Peer → PlainMessage → Ask
+  Keep : List ℕ → Record → Ask
 
--- This entry is what was asked, with this answer: the bytes of a send are the message, sealed with the key where there is
--- one.
+-- This entry is what was asked, with this answer: the bytes of a send are the message, sealed with the key where there
+-- is one.
 abbrev pub IsDone : Option (List ℕ) → Ask → Bool → Entry → Type 0
 IsDone key (Send peer letter) ok (calls.Send to bytes answer) =
     (to ≡ peer) × (bytes ≡ sealed key letter) × Fits letter × (ok ≡ is_ok answer)
+IsDone key (Keep name tried) ok (calls.Keep ticket rec answer) =
+    (ticket ≡ name) × (rec ≡ tried) × (ok ≡ is_ok answer)
 IsDone key ask ok entry = ⊥
+
+-- ---- one ticket's deeds, among the others
+
+-- where a member listens
+abbrev pub peer_at : ConfigSays → Option Member → Option Peer
+peer_at config None = None
+peer_at config (Some member) = Some (record { address = member.address; port = config.port })
+
+-- where a message goes
+abbrev pub peer_of : ConfigSays → To → Option Peer
+peer_of config (whom.Member place) = peer_at config (slice_get config.members place)
+peer_of config (whom.Client peer) = Some peer
+
+-- a message of a ticket, as it is sent at this moment
+abbrev pub sent_as : NodeConfig → ℕ → Head → TicketPart → PlainMessage
+sent_as node moment head part = stamped node.key moment (record { head = head; content = Ticket part })
+
+-- a send to a peer, where there is one, and what is counted then
+abbrev pub sends : {S : Type 0} → Option Peer → PlainMessage → Common → To → (Common → Deeds Ask S)
+    → Deeds Ask S
+sends None letter common to rest = rest common
+sends (Some peer) letter common to rest = Does (Send peer letter) (λ ok. rest (with_send common to ok))
+
+-- The deeds of a ticket as the node's. The ticket goes on by the answers of its keeps, and hears nothing of its sends,
+-- which are counted.
+abbrev pub lifted :
+    {S : Type 0} → NodeConfig → ℕ → List ℕ → Common → Deeds TicketAsk TicketLeft
+    → (Common → TicketLeft → Deeds Ask S) → Deeds Ask S
+lifted node moment name common (Ends left) rest = rest common left
+lifted node moment name common (Does (KeepsRecord tried) goes_on) rest =
+    Does (Keep name tried) (λ ok. lifted node moment name common (goes_on ok) rest)
+lifted node moment name common (Does (Say to head part) goes_on) rest =
+    sends (peer_of node.config to) (sent_as node moment head part) common to
+    (λ counted. lifted node moment name counted (goes_on true) rest)
+
+-- what befalls a ticket at this moment, for which these clients wait, and for all tickets so many more may
+abbrev pub befalls : TicketState → List Waiter → ℕ → Event → ℕ → Deeds TicketAsk TicketLeft
+befalls ticket waiters spare Due moment = ticket_due ticket.setup ticket.known waiters moment
+befalls ticket waiters spare (Heard from head part) moment =
+    ticket_heard ticket.setup ticket.known waiters from head part moment
+befalls ticket waiters spare (Asked request) moment =
+    ticket_asked ticket.setup ticket.known waiters spare request moment
+
+abbrev pub acts_as : NodeConfig → ℕ → State → ℕ → Event → Option TicketState → Deeds Ask State
+acts_as node moment state place event None = Ends state
+acts_as node moment state place event (Some ticket) =
+    lifted node moment ticket.setup.ticket state.common
+    (befalls ticket (waiting_at state.waiters place) (spare_in state.waiters) event moment)
+    (λ common left. Ends (with_ticket state place common left))
+
+-- what the ticket at a place does
+abbrev pub acts : NodeConfig → ℕ → State → ℕ → Event → Deeds Ask State
+acts node moment state place event = acts_as node moment state place event (slice_get state.tickets place)
+
+-- ---- the arrival
 
 -- What a datagram demands.
 pub data Action : Type 0 where
   -- it is dropped, for this fault
   Drops : DropFault → Action
-  -- a command of the member with this id was let in
-  Notes : MemberId → Action
+  -- the member at a place says something about the ticket at a place
+  Hears : (from ticket : ℕ) → Head → TicketPart → Action
+  -- a client asks something of the ticket at a place
+  Asks : (ticket : ℕ) → Request → Action
   -- a client's request is answered with this message
   Answers : PlainMessage → Action
   -- nothing
@@ -50,45 +128,90 @@ abbrev pub answers : Option (List ℕ) → ℕ → Option PlainMessage → Actio
 answers key moment (Some letter) = Answers (stamped key moment letter)
 answers key moment None = Rests
 
+abbrev pub asks : Option ℕ → Request → Action → Action
+asks None request other = other
+asks (Some ticket) request other = Asks ticket request
+
+-- a request about a ticket of the configuration goes to it, and each other one is answered at once
+abbrev pub requested : NodeConfig → ℕ → List TicketState → Common → PlainMessage
+    → Option (TicketPart × Request) → Action
+requested node moment tickets common letter None =
+    answers node.key moment (reply_to node moment tickets common letter)
+requested node moment tickets common letter (Some found) =
+    asks (position (is_called found.0.ticket) node.config.tickets) found.1
+    (answers node.key moment (reply_to node moment tickets common letter))
+
+abbrev pub hears : Option ℕ → Option ℕ → Head → TicketPart → Action
+hears (Some from) (Some ticket) head part = Hears from ticket head part
+hears from ticket head part = Rests
+
+-- what a member says goes to the ticket that it is about
+abbrev pub said : NodeConfig → Head → Content → Action
+said node head (Ticket part) =
+    hears (position (has_id head.from) node.config.members)
+    (position (is_called part.ticket) node.config.tickets) head part
+said node head content = Rests
+
 -- what a message that was let in demands, by whom it is for
-abbrev pub routed : NodeConfig → ℕ → State → PlainMessage → Direction → Action
-routed node moment state letter ToDaemon = answers node.key moment (reply_to node state letter)
-routed node moment state letter BetweenMembers = Notes letter.head.from
-routed node moment state letter ToClient = Rests
+abbrev pub routed : NodeConfig → ℕ → List TicketState → Common → Peer → PlainMessage → Direction → Action
+routed node moment tickets common from letter ToDaemon =
+    requested node moment tickets common letter (request_in from letter)
+routed node moment tickets common from letter BetweenMembers = said node letter.head letter.content
+routed node moment tickets common from letter ToClient = Rests
 
-abbrev pub demanded : NodeConfig → ℕ → State → Result PlainMessage DropFault → Action
-demanded node moment state (Err fault) = Drops fault
-demanded node moment state (Ok letter) = routed node moment state letter (direction_of letter.head.cmd)
+abbrev pub demanded : NodeConfig → ℕ → List TicketState → Common → Peer → Result PlainMessage DropFault
+    → Action
+demanded node moment tickets common from (Err fault) = Drops fault
+demanded node moment tickets common from (Ok letter) =
+    routed node moment tickets common from letter (direction_of letter.head.cmd)
 
--- what these bytes action, by the gate's verdict
-abbrev pub action : NodeConfig → ℕ → State → List ℕ → Action
-action node moment state bytes =
-    demanded node moment state (verdict node.config node.key node.me moment bytes)
+-- what these bytes demand, by the gate's verdict
+abbrev pub action : NodeConfig → ℕ → List TicketState → Common → Peer → List ℕ → Action
+action node moment tickets common from bytes =
+    demanded node moment tickets common from (verdict node.config node.key node.me moment bytes)
 
--- the deeds of an action: a dropped datagram changes one counter, and a reply is the one send
+-- The deeds of an action. A dropped datagram changes one counter; a member's command is counted for it, and then its
+-- ticket hears it.
 abbrev pub met : NodeConfig → ℕ → State → Peer → Action → Deeds Ask State
 met node moment state from (Drops fault) = Ends (dropped state fault)
-met node moment state from (Notes member) = Ends (accepted node moment state member)
+met node moment state from (Hears member ticket head part) =
+    acts node moment (accepted state member moment) ticket (Heard member head part)
+met node moment state from (Asks ticket request) = acts node moment state ticket (Asked request)
 met node moment state from (Answers letter) = Does (Send from letter) (λ ok. Ends state)
 met node moment state from Rests = Ends state
 
 -- the row of an arrival; a failed next counts as Quiet
 abbrev pub arrived : NodeConfig → ℕ → State → Result Arrival Failed → List ℕ → Deeds Ask State
 arrived node moment state (Ok (arrivals.Datagram from)) bytes =
-    met node moment state from (action node moment state bytes)
-arrived node moment state (Ok arrivals.Quiet) bytes = Ends state
-arrived node moment state (Ok arrivals.Stop) bytes = Ends state
-arrived node moment state (Err failed) bytes = Ends state
+    met node moment state from (action node moment state.tickets state.common from bytes)
+arrived node moment state answer bytes = Ends state
 
 abbrev pub turn_end : Result Arrival Failed → Turn
-turn_end (Ok (arrivals.Datagram from)) = Went
-turn_end (Ok arrivals.Quiet) = Went
 turn_end (Ok arrivals.Stop) = Stopped
-turn_end (Err failed) = Went
+turn_end answer = Went
 
--- the rows of the deadlines, of which there are none yet
-abbrev pub dues : ℕ → Turn → State → Deeds Ask State
-dues moment ending state = Ends state
+-- ---- the deadlines
+
+-- when each ticket is next to be looked at
+abbrev pub deadline_of : TicketState → Option ℕ
+deadline_of ticket = deadline ticket.known
+
+-- the places of the tickets whose deadline has come, by deadline and then place
+abbrev pub due_places : ℕ → List TicketState → List ℕ
+due_places moment tickets = map (λ entry. entry.1) (due_list moment (map deadline_of tickets))
+
+-- the deadlines of these tickets, one after the other
+abbrev pub each_due : NodeConfig → ℕ → List ℕ → State → Deeds Ask State
+each_due node moment [] state = Ends state
+each_due node moment (place ∷ places) state =
+    next (acts node moment state place Due) (each_due node moment places)
+
+-- each ticket whose deadline has come, as the arrival left it, once; none after Stop
+abbrev pub dues : NodeConfig → ℕ → Turn → State → Deeds Ask State
+dues node moment Went state = each_due node moment (due_places moment state.tickets) state
+dues node moment Stopped state = Ends state
+
+-- ---- the turn
 
 -- the reading that a turn uses: never before the last one, and below 2 ^ 62
 abbrev pub used : ℕ → ℕ → ℕ
@@ -97,11 +220,12 @@ used last reading = max last (min reading (2 ^ 62 - 1))
 -- the whole turn at this moment: the arrival's row, and then the deadlines'
 abbrev pub react : NodeConfig → State → ℕ → Result Arrival Failed → List ℕ → Deeds Ask State
 react node state moment arrival bytes =
-    next (arrived node moment (record state { last = moment }) arrival bytes) (dues moment (turn_end arrival))
+    next (arrived node moment (record state { last_reading = moment }) arrival bytes)
+    (dues node moment (turn_end arrival))
 
--- one next with a wait of 100 ms, one now, and then exactly the deeds that these action
+-- one next with a wait of 100 ms, one now, and then exactly the deeds that these demand
 abbrev pub IsTurn : NodeConfig → State → Turn → List Entry → State → Type 0
 IsTurn node old turn (calls.Next wait answer bytes ∷ calls.Now reading ∷ entries) new =
     (wait ≡ 100) × (turn ≡ turn_end answer)
-    × Leads (IsDone node.key) (react node old (used old.last reading) answer bytes) entries (Ends new)
+    × Leads (IsDone node.key) (react node old (used old.last_reading reading) answer bytes) entries (Ends new)
 IsTurn node old turn entries new = ⊥

@@ -1,35 +1,58 @@
--- What a client is answered.
-use Rattle.std.specs.Prelude.{ℕ, ◌++◌, false, Bool, List, [], ◌∷◌, Option, Some, None, codes, decimal, if◌then◌else◌}
+-- What a client is answered, and what it asks of a ticket.
+use Rattle.std.specs.Prelude.{ℕ, ◌++◌, false, Bool, List, [], ◌∷◌, Option, Some, None, codes, decimal, position, slice_get, if◌then◌else◌}
 use Rattle.std.specs.List.{flat_map, zip}
 use Rattle.booth_base.specs.declared.address.MemberId.{MemberId}
+use Rattle.booth_base.specs.declared.address.Peer.{Peer as Sender}
 use Rattle.booth_base.specs.declared.address.TheConstants.{NO_ONE}
 use Rattle.booth_base.specs.Address.{printed}
-use Rattle.booth_conf.specs.Config.{has_id}
+use Rattle.booth_conf.specs.Config.{ConfigSays, has_id}
 use Rattle.booth_conf.specs.declared.members.Member.{Member}
-use Rattle.booth_conf.specs.declared.tickets.TicketConf.{TicketConf}
 use Rattle.booth_wire.specs.declared.codes.results.TheConstants.{SUCCESS, IARG}
 use Rattle.booth_wire.specs.declared.command.Cmd.{Cmd}
-use Rattle.booth_wire.specs.declared.command.Cmd.TheVariants.{CLst, Peer, CGnt, CRvk, ASet, AGet, ADel, ALst, RLst, RPer, RALs, RGnt, RRvk, RAtr, Stat, MIdx, RVot, VtFr, HrtB, Ack, UpdE, Revk, Rjc}
+use Rattle.booth_wire.specs.declared.command.Cmd.TheVariants.{CLst, Peer, CGnt, CRvk, ASet, AGet, ADel, ALst}
 use Rattle.booth_wire.specs.Command.{answer_of}
 use Rattle.booth_wire.specs.declared.message.AttrPart.{AttrPart}
+use Rattle.booth_wire.specs.declared.message.Head.{Head}
+use Rattle.booth_wire.specs.declared.message.TicketPart.{TicketPart}
 use Rattle.booth_wire.specs.PlainMessage.{PlainMessage, Content, Bare, Ticket, Attr, Text}
-use Rattle.booth_node.specs.declared.state.Counters.{Counters}
-use Rattle.booth_node.specs.declared.state.State.{State}
+use Rattle.booth_ticket.specs.declared.request.Request.{Request}
+use Rattle.booth_ticket.specs.declared.request.Wish.{Wish}
+use Rattle.booth_ticket.specs.declared.request.Wish.TheVariants.{Grant, Revoke}
+use Rattle.booth_ticket.specs.declared.ticket.Owner.{Owner}
+use Rattle.booth_ticket.specs.Ticket.{TicketState, owner}
 use Rattle.booth_node.specs.declared.node_config.NodeConfig.{NodeConfig}
+use Rattle.booth_node.specs.declared.state.Counters.{Counters}
+use Rattle.booth_node.specs.declared.state.Common.{Common}
 
 -- TEXTS
-
--- the line of a ticket that nobody holds
-abbrev pub list_line : TicketConf → List ℕ
-list_line ticket = ticket.name ++ codes " none 0\n"
-
--- a line for each ticket, in the order of the configuration
-abbrev pub list_text : NodeConfig → List ℕ
-list_text node = flat_map list_line node.config.tickets
 
 -- a number behind a blank
 abbrev pub spaced : ℕ → List ℕ
 spaced n = codes " " ++ decimal n
+
+-- the member's address and the end of its lease in seconds; nobody's
+abbrev pub owner_at : Option Member → ℕ → List ℕ
+owner_at None until_secs = codes "none 0"
+owner_at (Some member) until_secs = printed member.address ++ spaced until_secs
+
+abbrev pub owner_in : List Member → Option ℕ → ℕ → List ℕ
+owner_in members None until_secs = codes "none 0"
+owner_in members (Some place) until_secs = owner_at (slice_get members place) until_secs
+
+-- who is shown as a ticket's owner
+abbrev pub owner_text : ConfigSays → Option Owner → List ℕ
+owner_text config None = codes "none 0"
+owner_text config (Some shown) =
+    owner_in config.members (position (has_id shown.site) config.members) shown.until_secs
+
+-- the line of a ticket: its name, its owner at this moment, and the end of the owner's lease in seconds
+abbrev pub list_line : ConfigSays → ℕ → TicketState → List ℕ
+list_line config moment ticket =
+    ticket.setup.ticket ++ codes " " ++ owner_text config (owner ticket.known moment) ++ codes "\n"
+
+-- a line for each ticket, in the order of the configuration
+abbrev pub list_text : NodeConfig → ℕ → List TicketState → List ℕ
+list_text node moment tickets = flat_map (list_line node.config moment) tickets
 
 -- how many datagrams were dropped for each fault, in the gate's order
 abbrev pub drops_line : List ℕ → List ℕ
@@ -49,15 +72,15 @@ abbrev pub other_line : NodeConfig → Member × Counters → List ℕ
 other_line node p = if has_id node.me p.0 then [] else peer_line p
 
 -- the drops, and a line for each other member, in the order of the configuration
-abbrev pub peers_text : NodeConfig → State → List ℕ
-peers_text node state =
-    drops_line state.common.drops ++ flat_map (other_line node) (zip node.config.members state.common.members)
+abbrev pub peers_text : NodeConfig → Common → List ℕ
+peers_text node common =
+    drops_line common.drops ++ flat_map (other_line node) (zip node.config.members common.members)
 
 -- the text of the reply to a command: where it has none, it is empty
-abbrev pub text_for : NodeConfig → State → Cmd → List ℕ
-text_for node state CLst = list_text node
-text_for node state Peer = peers_text node state
-text_for node state cmd = []
+abbrev pub text_for : NodeConfig → ℕ → List TicketState → Common → Cmd → List ℕ
+text_for node moment tickets common CLst = list_text node moment tickets
+text_for node moment tickets common Peer = peers_text node common
+text_for node moment tickets common cmd = []
 
 -- REPLIES
 
@@ -65,7 +88,7 @@ pub record Reply : Type 0 where
   pub result : ℕ
   pub content : Content
 
--- Nothing can be granted, revoked or set yet: such a request is answered as one for an unknown ticket.
+-- the ticket is unknown
 abbrev pub no_ticket : Content → Option Reply
 no_ticket (Ticket part) =
     Some (record {
@@ -121,9 +144,25 @@ answered me request (Some cmd) (Some reply) = Some (reply_letter me request cmd 
 answered me request (Some cmd) None = None
 answered me request None reply = None
 
--- what a client's message is answered with
-abbrev pub reply_to : NodeConfig → State → PlainMessage → Option PlainMessage
-reply_to node state letter =
+-- what a client's message is answered with at once, at this moment
+abbrev pub reply_to : NodeConfig → ℕ → List TicketState → Common → PlainMessage → Option PlainMessage
+reply_to node moment tickets common letter =
     let cmd : Cmd = letter.head.cmd in
     answered node.me letter.head.request (answer_of cmd)
-    (reply_with (text_for node state cmd) cmd letter.content)
+    (reply_with (text_for node moment tickets common cmd) cmd letter.content)
+
+-- ---- requests about a ticket
+
+abbrev pub wish_of : Cmd → Option Wish
+wish_of CGnt = Some Grant
+wish_of CRvk = Some Revoke
+wish_of cmd = None
+
+abbrev pub request_of : Sender → Head → Option Wish → Content → Option (TicketPart × Request)
+request_of from head (Some wish) (Ticket part) =
+    Some (part, record { wish = wish; from = from; number = head.request; options = head.options })
+request_of from head wish content = None
+
+-- what a client's message asks of a ticket, where it does
+abbrev pub request_in : Sender → PlainMessage → Option (TicketPart × Request)
+request_in from letter = request_of from letter.head (wish_of letter.head.cmd) letter.content

@@ -1,14 +1,25 @@
 //! What a datagram demands.
 use booth_auth::DropFault;
-use booth_base::MemberId;
+use booth_ticket::Request;
+use booth_wire::{Head, TicketPart};
 
 /// What a datagram demands of the node.
-#[derive(Clone, Copy, Debug, PartialEq, Eq)]
+#[derive(Drop)]
 pub(crate) enum Action {
     /// It is dropped.
     Drop(DropFault),
-    /// A command of this member was let in.
-    Note(MemberId),
+    /// The member at the place `from` says something about the ticket at a place.
+    Hear {
+        from: u32,
+        ticket: usize,
+        head: Head,
+        part: TicketPart,
+    },
+    /// A client asks something of the ticket at a place.
+    Ask {
+        ticket: usize,
+        request: Request,
+    },
     /// The reply that stands in the frame is sent.
     Answer,
     /// Nothing.

@@ -1,12 +1,59 @@
-//! Laws of what a datagram demands.
-ghost use Rattle.booth_node.specs.Laws.{ClientsAreAnswered, NothingRests};
+//! Laws of turns, each the contract of a function that does nothing.
+ghost use Rattle.booth_node.specs.Laws.{OpensWithItsTickets, KeepsItsTickets, NothingRests, DropsAlone, CountsEachFault, ClientsAreAnswered, OthersAreNotAnswered, NobodyIsForgotten};
+ghost use Rattle.booth_node.specs.Completeness.{RoundsAreAnswered, GrantsAskAll, MajoritiesGain};
 
-/// Each request of a client that is let in has a reply, with its number, from this member.
+/// A node opens with the tickets of its configuration, each set up for it.
+pub fn opens_with_its_tickets()
+    ensures { OpensWithItsTickets }
+{}
+
+/// They stay those through every turn.
+pub fn keeps_its_tickets()
+    ensures { KeepsItsTickets }
+{}
+
+/// Each datagram is dropped, heard by its ticket, asked of its ticket, or answered at once.
+pub fn nothing_rests()
+    ensures { NothingRests }
+{}
+
+/// Of a datagram with a fault nothing comes but that its fault is counted.
+pub fn drops_alone()
+    ensures { DropsAlone }
+{}
+
+/// A turn counts a fault exactly where its datagram has it, and no other.
+pub fn counts_each_fault()
+    ensures { CountsEachFault }
+{}
+
+/// Each request of a client that is let in has its one reply in that turn, to its sender.
 pub fn clients_are_answered()
     ensures { ClientsAreAnswered }
 {}
 
-/// Each datagram is dropped, counted for its member, or answered.
-pub fn nothing_rests()
-    ensures { NothingRests }
+/// In a turn without a client's request nothing reaches a client but one that waits.
+pub fn others_are_not_answered()
+    ensures { OthersAreNotAnswered }
+{}
+
+/// A client that waits does so after the turn too, or was told in it.
+pub fn nobody_is_forgotten()
+    ensures { NobodyIsForgotten }
+{}
+
+/// Where a member may answer a round that it heard, the answer goes out in that turn.
+pub fn rounds_are_answered()
+    ensures { RoundsAreAnswered }
+{}
+
+/// A grant without refusal asks every other member for its vote in that turn, where its keep answers Ok.
+pub fn grants_ask_all()
+    ensures { GrantsAskAll }
+{}
+
+/// A majority in time is granted the ticket until `expire` after its round was opened, where its keep answers Ok, and
+/// all that wait for it are told.
+pub fn majorities_gain()
+    ensures { MajoritiesGain }
 {}

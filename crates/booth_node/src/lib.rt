@@ -2,16 +2,22 @@
 #![tactic(auto)]
 
 mod action;
+mod deadlines;
+mod event;
+mod hands;
 pub mod laws;
+mod lists;
 mod node;
 mod node_config;
+mod opening;
 mod peers;
 mod replies;
 mod reply_buffer;
 mod state;
 #[cfg(test)]
 mod tests;
+mod tickets;
 
 pub use node::{Node, Turn};
 pub use node_config::NodeConfig;
-pub use state::{Common, Counters, State};
+pub use state::{Common, Counters};

@@ -1,21 +1,26 @@
 //! A node, and its turn.
-ghost use Rattle.std.specs.Prelude.{◌≡◌, ◌≤◌, ◌<◌, ◌^◌, length, slice_index, slice_index_or, IfOk};
+ghost use Rattle.std.specs.Prelude.{◌≡◌, ◌≤◌, ◌<◌, ◌^◌, ℕ, map, length, position, slice_index, vec_capacity, IfOk, IsSome, IsSomeAnd};
+ghost use Rattle.booth_conf.specs.Config.{has_id};
+ghost use Rattle.booth_node.specs.Opening.{opened};
 ghost use Rattle.booth_host.specs.Past.{GrewSome};
 ghost use Rattle.booth_base.specs.Tree.{Deeds, Leads};
-ghost use Rattle.booth_auth.specs.declared.admission.DropFault.{DropFault};
-ghost use Rattle.booth_node.specs.declared.state.State.{State};
-ghost use Rattle.booth_node.specs.Counting.{dropped, accepted, no_counts, opened_at};
-ghost use Rattle.booth_node.specs.Reaction.{IsDone, action, met, arrived, turn_end, used, IsTurn};
-ghost use Rattle.booth_node.specs.Actions.{IsAction};
+ghost use Rattle.booth_node.specs.Counting.{counters_at};
+ghost use Rattle.booth_node.specs.Reaction.{IsDone, action, met, arrived, turn_end, used, dues, each_due, due_places, deadline_of, IsTurn};
+ghost use Rattle.booth_node.specs.State.{State};
 
-use crate::action::Action;
+use crate::deadlines::{drain, expire_each, look_again};
+use crate::opening::{start_tickets, start_wheel};
 use crate::reply_buffer::ReplyBuffer;
 use crate::state::READINGS_END;
-use crate::{Counters, NodeConfig, State};
-use booth_auth::{DropFault, Key};
+use crate::tickets::TicketTable;
+use crate::{Common, Counters, NodeConfig};
+use booth_auth::Key;
 use booth_base::{MemberId, Peer};
+use booth_chain::Wheel;
 use booth_conf::Config;
 use booth_host::{Arrival, Datagram, Failed, Host};
+use booth_rec::Record;
+use booth_ticket::Waiters;
 use std::alloc::{AllocError, Global};
 
 /// How long a turn waits for an arrival, in milliseconds.
@@ -33,17 +38,23 @@ pub enum Turn {
 /// A node, with all the memory of its turns.
 #[derive(Drop)]
 pub struct Node {
-    node: NodeConfig,
-    state: State,
+    table: TicketTable,
+    /// The last reading that was used, in milliseconds since 1970.
+    last_reading: u64,
     datagram: Datagram,
-    buffer: ReplyBuffer,
-    ghost early: { state.last < 2 ^ 62 },
+    wheel: Wheel,
+    due: Vec<u32>,
+    ghost early: { last_reading < 2 ^ 62 },
+    ghost timed: { wheel.deadlines ≡ map deadline_of table.tickets.items },
+    ghost waited: { wheel.last ≤ last_reading },
+    ghost room: { length table.tickets.items ≤ vec_capacity due },
 }
 
 impl Node {
     ghost use Rattle.booth_node.specs.View.{node_config, state_of};
 
-    /// A node of this configuration, with this key where there is one, at the member with this id.
+    /// A node of this configuration, with this key where there is one, at the member with this id, with the record of
+    /// each ticket where one was kept.
     ///
     /// `now` is the reading of its start, in milliseconds since 1970.
     pub fn open(
@@ -51,17 +62,34 @@ impl Node {
         config: Config,
         key: Option<Key>,
         me: MemberId,
+        records: &[Option<Record>],
         now: u64,
     ) -> Result<Node, AllocError>
+        requires member { IsSome (position (has_id me) config.members) }
+        requires records { length records.now ≡ length config.tickets }
         ensures node { IfOk result (λ node.
             node_config node ≡ record { config = config; key = key; me = me }) }
-        ensures state { IfOk result (λ node. state_of node ≡ opened_at now) }
+        ensures state { IfOk result (λ node. state_of node
+            ≡ opened (record { config = config; key = key; me = me }) records.now now) }
     {
+        let node = NodeConfig { config, key, me };
+        let last_reading = now.min(READINGS_END - 1);
+        let tickets = start_tickets(alloc, &node, records, last_reading)?;
+        let wheel = start_wheel(alloc, &tickets)?;
+        let waiters = Waiters::new(alloc, tickets.len() as u32)?;
+        let due = Vec::with_capacity(alloc, tickets.len())?;
         Ok(Node {
-            node: NodeConfig { config, key, me },
-            state: State::opened(now),
+            table: TicketTable {
+                node,
+                tickets,
+                waiters,
+                common: Common::nothing_counted(),
+                buffer: ReplyBuffer::new(alloc)?,
+            },
+            last_reading,
             datagram: Datagram::new(alloc)?,
-            buffer: ReplyBuffer::new(alloc)?,
+            wheel,
+            due,
         })
     }
 
@@ -70,110 +98,83 @@ impl Node {
         requires { kind < 8 }
         ensures { result ≡ slice_index (state_of self.now).common.drops kind }
     {
-        self.state.common.drops[kind as usize]
+        self.table.common.drops[kind as usize]
     }
 
     /// What was counted of the member at this place.
     pub fn counters(&self, member: usize) -> Counters
         requires { member < length (node_config self.now).config.members }
-        ensures { result ≡ slice_index_or (state_of self.now).common.members member no_counts }
+        ensures { result ≡ counters_at (state_of self.now).common member }
     {
-        self.state
-            .common
-            .members
-            .get(member)
-            .copied()
-            .unwrap_or(Counters::NONE)
+        self.table.common.counters_at(member)
     }
 
-    // What the datagram demands at this reading. An answer stands in the frame.
-    fn action(&mut self, now: u64) -> Action
-        ensures action { IsAction (node_config self.old).key
-            (action (node_config self.old) now (state_of self.old) self.old.datagram)
-            result self.new.buffer.frame }
+    // The reading that this turn uses, which is then the last one.
+    fn clamp(&mut self, reading: u64)
+        ensures state { state_of self.new ≡
+            record (state_of self.old) { last_reading = used (state_of self.old).last_reading reading } }
         ensures node { node_config self.new ≡ node_config self.old }
-        ensures state { state_of self.new ≡ state_of self.old }
+        ensures datagram { self.new.datagram ≡ self.old.datagram }
     {
-        match self.node.admit(now, self.datagram.bytes()) {
-            Ok(message) => self.buffer.route(&self.node, &self.state, &message, now),
-            Err(fault) => Action::Drop(fault),
-        }
+        self.last_reading = self.last_reading.max(reading.min(READINGS_END - 1));
     }
 
-    // Counts a dropped datagram.
-    fn refuse(&mut self, fault: DropFault)
-        ensures state { state_of self.new ≡ dropped (state_of self.old) fault }
-        ensures node { node_config self.new ≡ node_config self.old }
-    {
-        self.state = self.state.with_drop(fault);
-    }
-
-    // Counts a datagram of a member.
-    fn note(&mut self, member: MemberId, now: u64)
-        ensures state { state_of self.new ≡ accepted (node_config self.old) now (state_of self.old) member }
-        ensures node { node_config self.new ≡ node_config self.old }
-    {
-        let place = self.node.place(member);
-        self.state = self.state.with_accepted(place, now);
-    }
-
-    // Does what a datagram demands.
-    fn receive<H: Host>(&mut self, from: &Peer, now: u64, host: &mut H)
+    // Does what an arrival demands at this turn's moment.
+    fn arrive<H: Host>(&mut self, arrival: &Result<Arrival, Failed>, host: &mut H)
         ensures past { GrewSome (λ es. Leads {S = State} (IsDone (node_config self.old).key)
-            (met (node_config self.old) now (state_of self.old) from.now
-            (action (node_config self.old) now (state_of self.old) self.old.datagram))
+            (arrived (node_config self.old) (state_of self.old).last_reading (state_of self.old) arrival.now
+            self.old.datagram)
             es (Deeds.Ends (state_of self.new))) (H.past host.old) (H.past host.new) }
-        ensures node { node_config self.new ≡ node_config self.old }
         ensures later { H.faults host.old ≤ H.faults host.new }
-    {
-        match self.action(now) {
-            Action::Drop(fault) => self.refuse(fault),
-            Action::Note(member) => self.note(member, now),
-            Action::Answer => {
-                let _ = host.send(from, self.buffer.frame.bytes());
-            }
-            Action::Rest => {}
-        }
-    }
-
-    // Does what an arrival demands.
-    fn arrive<H: Host>(&mut self, arrival: &Result<Arrival, Failed>, now: u64, host: &mut H)
-        ensures past { GrewSome (λ es. Leads {S = State} (IsDone (node_config self.old).key)
-            (arrived (node_config self.old) now (state_of self.old) arrival.now self.old.datagram)
-            es (Deeds.Ends (state_of self.new))) (H.past host.old) (H.past host.new) }
         ensures node { node_config self.new ≡ node_config self.old }
-        ensures later { H.faults host.old ≤ H.faults host.new }
+        ensures reading { (state_of self.new).last_reading ≡ (state_of self.old).last_reading }
     {
         let Ok(Arrival::Datagram(from)) = arrival else {
             return;
         };
-        self.receive(from, now, host);
+        let place = self
+            .table
+            .receive(*from, self.datagram.bytes(), self.last_reading, host);
+        look_again(&self.table, &mut self.wheel, place);
     }
 
-    // The reading that this turn uses, which is then the last one.
-    fn clamp(&mut self, reading: u64) -> u64
-        ensures value { result ≡ used (state_of self.old).last reading }
-        ensures state { state_of self.new ≡
-            record (state_of self.old) { last = used (state_of self.old).last reading } }
+    // What the tickets do whose deadlines have come at this turn's moment.
+    fn expire<H: Host>(&mut self, host: &mut H)
+        ensures past { GrewSome (λ es. Leads {S = State} (IsDone (node_config self.old).key)
+            (each_due (node_config self.old) (state_of self.old).last_reading
+            (due_places (state_of self.old).last_reading (state_of self.old).tickets) (state_of self.old))
+            es (Deeds.Ends (state_of self.new))) (H.past host.old) (H.past host.new) }
+        ensures later { H.faults host.old ≤ H.faults host.new }
         ensures node { node_config self.new ≡ node_config self.old }
-        ensures datagram { self.new.datagram ≡ self.old.datagram }
     {
-        self.state.last = self.state.last.max(reading.min(READINGS_END - 1));
-        self.state.last
+        drain(&mut self.wheel, self.last_reading, &mut self.due);
+        expire_each(
+            &mut self.table,
+            &mut self.wheel,
+            &self.due,
+            self.last_reading,
+            host,
+        );
     }
 
-    /// One arrival, one reading of the clock, and what they action. It takes no memory.
+    /// One arrival, one reading of the clock, and what they demand. It takes no memory.
     pub fn turn<H: Host>(&mut self, host: &mut H) -> Turn
-        ensures past { GrewSome (λ es. IsTurn (node_config self.old) (state_of self.old) result es (state_of self.new))
+        ensures past { GrewSome (λ es. IsTurn (node_config self.old) (state_of self.old) result es
+            (state_of self.new))
             (H.past host.old) (H.past host.new) }
         ensures node { node_config self.new ≡ node_config self.old }
         ensures later { H.faults host.old ≤ H.faults host.new }
     {
         let answer = host.next(WAIT_MS, &mut self.datagram);
         let reading = host.now();
-        let now = self.clamp(reading);
-        self.arrive(&answer, now, host);
-        end_of(&answer)
+        self.clamp(reading);
+        self.arrive(&answer, host);
+        let turn = end_of(&answer);
+        match turn {
+            Turn::Went => self.expire(host),
+            Turn::Stopped => {}
+        }
+        turn
     }
 }
 

@@ -1,6 +1,4 @@
 //! What a node is set up with.
-ghost use Rattle.std.specs.Prelude.{◌≡◌, ◌<◌, position, IfSome};
-ghost use Rattle.booth_conf.specs.Config.{has_id};
 ghost use Rattle.booth_auth.specs.Verdict.{verdict, Passes};
 
 use booth_auth::{DropFault, Key, gate};
@@ -22,13 +20,5 @@ impl NodeConfig {
         ensures { Passes result (verdict self.now.config self.now.key self.now.me now bytes.now) }
     {
         gate(&self.config, self.key.as_ref(), self.me, now, bytes)
-    }
-
-    /// The place of the member with this id, where there is one.
-    pub(crate) fn place(&self, member: MemberId) -> Option<usize>
-        ensures place { result ≡ position (has_id member) self.now.config.members }
-        ensures within { IfSome result (λ p. p < 16) }
-    {
-        self.config.member(member)
     }
 }

@@ -1,38 +1,18 @@
-//! The texts of replies: the list of tickets, and the list of members.
+//! The text of the list of members.
 ghost use Rattle.std.specs.Prelude.{◌≡◌, ◌≤◌, ◌<◌, ◌+◌, ◌*◌, ◌++◌, ◌∷◌, [], length, codes, decimal};
 ghost use Rattle.std.specs.List.{flat_map, zip};
 ghost use Rattle.booth_base.specs.Address.{IsAddress, printed};
-ghost use Rattle.booth_node.specs.Replies.{list_line, list_text, spaced, drops_line, role_of, peer_line, other_line};
+ghost use Rattle.booth_base.specs.declared.buffer.TheConstants.{TEXT_BYTES};
+ghost use Rattle.booth_node.specs.Replies.{spaced, drops_line, role_of, peer_line, other_line, peers_text};
 
 use crate::{Common, Counters, NodeConfig};
 use booth_base::{Address, TextBuf};
-use booth_conf::{Member, TicketConf};
+use booth_conf::Member;
 use itoa::Buffer;
 
-// Appends the line of a ticket that nobody holds.
-#[tactic(auto, using(booth_base::proofs::TextLemmas::line_of_name))]
-fn put_ticket(ticket: &TicketConf, text: &mut TextBuf)
-    requires { length text.old + 71 ≤ 16384 }
-    ensures bytes { text.new ≡ text.old ++ list_line ticket.now }
-    ensures len { length text.new ≤ length text.old + 71 }
-{
-    text.put(ticket.name.bytes());
-    text.put(b" none 0\n");
-}
-
-/// Makes the text of a list in which nobody holds any of the tickets.
-pub(crate) fn write_list(node: &NodeConfig, text: &mut TextBuf)
-    ensures { text.new ≡ list_text node.now }
-{
-    text.clear();
-    for ticket in node.config.tickets() {
-        put_ticket(ticket, text);
-    }
-}
-
-// Appends a number behind a blank.
-fn put_number(number: u64, text: &mut TextBuf)
-    requires { length text.old + 21 ≤ 16384 }
+/// Appends a number after a blank.
+pub(crate) fn put_number(number: u64, text: &mut TextBuf)
+    requires { length text.old + 21 ≤ TEXT_BYTES }
     ensures bytes { text.new ≡ text.old ++ spaced number }
     ensures len { length text.new ≤ length text.old + 21 }
 {
@@ -42,7 +22,7 @@ fn put_number(number: u64, text: &mut TextBuf)
 }
 
 fn put_numbers(numbers: &[u64], text: &mut TextBuf)
-    requires { length text.old + 21 * length numbers.now ≤ 16384 }
+    requires { length text.old + 21 * length numbers.now ≤ TEXT_BYTES }
     ensures bytes { text.new ≡ text.old ++ flat_map spaced numbers.now }
     ensures len { length text.new ≤ length text.old + 21 * length numbers.now }
 {
@@ -52,7 +32,7 @@ fn put_numbers(numbers: &[u64], text: &mut TextBuf)
 }
 
 fn put_drops(drops: &[u64; 8], text: &mut TextBuf)
-    requires { length text.old + 176 ≤ 16384 }
+    requires { length text.old + 176 ≤ TEXT_BYTES }
     ensures bytes { text.new ≡ text.old ++ drops_line drops.now }
     ensures len { length text.new ≤ length text.old + 176 }
 {
@@ -62,7 +42,7 @@ fn put_drops(drops: &[u64; 8], text: &mut TextBuf)
 }
 
 fn put_role(site: bool, text: &mut TextBuf)
-    requires { length text.old + 11 ≤ 16384 }
+    requires { length text.old + 11 ≤ TEXT_BYTES }
     ensures bytes { text.new ≡ text.old ++ role_of site }
     ensures len { length text.new ≤ length text.old + 11 }
 {
@@ -82,8 +62,9 @@ fn is_whole(address: Address)
     }
 }
 
-fn put_address(address: Address, text: &mut TextBuf)
-    requires { length text.old + 39 ≤ 16384 }
+/// Appends an address.
+pub(crate) fn put_address(address: Address, text: &mut TextBuf)
+    requires { length text.old + 39 ≤ TEXT_BYTES }
     ensures bytes { text.new ≡ text.old ++ printed address }
     ensures len { length text.new ≤ length text.old + 39 }
 {
@@ -93,7 +74,7 @@ fn put_address(address: Address, text: &mut TextBuf)
 
 // Appends the line of a member.
 fn put_peer(member: &Member, counters: &Counters, text: &mut TextBuf)
-    requires { length text.old + 135 ≤ 16384 }
+    requires { length text.old + 135 ≤ TEXT_BYTES }
     ensures bytes { text.new ≡ text.old ++ peer_line (member.now, counters.now) }
     ensures len { length text.new ≤ length text.old + 135 }
 {
@@ -113,7 +94,7 @@ fn put_peer(member: &Member, counters: &Counters, text: &mut TextBuf)
 
 // Appends the line of a member that is another one.
 fn put_other(node: &NodeConfig, member: &Member, counters: &Counters, text: &mut TextBuf)
-    requires { length text.old + 135 ≤ 16384 }
+    requires { length text.old + 135 ≤ TEXT_BYTES }
     ensures bytes { text.new ≡ text.old ++ other_line node.now (member.now, counters.now) }
     ensures len { length text.new ≤ length text.old + 135 }
 {
@@ -124,8 +105,7 @@ fn put_other(node: &NodeConfig, member: &Member, counters: &Counters, text: &mut
 
 /// Makes the text of the drops and of the other members.
 pub(crate) fn write_peers(node: &NodeConfig, common: &Common, text: &mut TextBuf)
-    ensures { text.new ≡ drops_line common.now.drops
-        ++ flat_map (other_line node.now) (zip node.now.config.members common.now.members) }
+    ensures { text.new ≡ peers_text node.now common.now }
 {
     text.clear();
     put_drops(&common.drops, text);

@@ -1,13 +1,15 @@
 //! What a client is answered.
-ghost use Rattle.std.specs.Prelude.{◌≡◌, true, Option, option_map, IfSome};
+ghost use Rattle.std.specs.Prelude.{◌≡◌, ◌≤◌, true, Option, option_map, IfSome, length};
 ghost use Rattle.booth_wire.specs.Command.{answer_of};
 ghost use Rattle.booth_wire.specs.PlainMessage.{plain_of, content_of, has_text, Text};
-ghost use Rattle.booth_node.specs.Replies.{text_for, no_ticket, no_attribute, no_attribute_of, reply_with, reply_letter, answered, reply_to};
+ghost use Rattle.booth_node.specs.Replies.{text_for, no_ticket, no_attribute, no_attribute_of, reply_with, reply_letter, answered, wish_of, request_of, request_in};
 ghost use Rattle.booth_node.specs.Actions.{HasForm, reply_of};
 
-use crate::peers::{write_list, write_peers};
-use crate::{NodeConfig, State};
-use booth_base::{MemberId, NO_ONE, TextBuf};
+use crate::lists::write_list;
+use crate::peers::write_peers;
+use crate::{Common, NodeConfig};
+use booth_base::{MemberId, NO_ONE, Peer, TextBuf};
+use booth_ticket::{Request, Ticket, Wish};
 use booth_wire::{AttrPart, Body, Cmd, Head, Message, TicketPart, results};
 
 /// The result and the body of a reply.
@@ -17,13 +19,21 @@ pub(crate) struct Reply<'a> {
     pub body: Body<'a>,
 }
 
-/// Makes the text of the reply to this command. Where it has none, it is empty.
-pub(crate) fn write_text(node: &NodeConfig, state: &State, cmd: Cmd, text: &mut TextBuf)
-    ensures { text.new ≡ text_for node.now state.now cmd }
+/// Makes the text of the reply to this command at this reading in ms. Where it has none, it is empty.
+pub(crate) fn write_text(
+    node: &NodeConfig,
+    tickets: &[Ticket],
+    common: &Common,
+    now: u64,
+    cmd: Cmd,
+    text: &mut TextBuf,
+)
+    requires { length tickets.now ≤ 64 }
+    ensures { text.new ≡ text_for node.now now tickets.now common.now cmd }
 {
     match cmd {
-        Cmd::CLst => write_list(node, text),
-        Cmd::Peer => write_peers(node, &state.common, text),
+        Cmd::CLst => write_list(node, tickets, now, text),
+        Cmd::Peer => write_peers(node, common, text),
         Cmd::CGnt | Cmd::CRvk | Cmd::ASet | Cmd::AGet | Cmd::ADel | Cmd::ALst => text.clear(),
         Cmd::RLst | Cmd::RPer | Cmd::RALs | Cmd::RGnt | Cmd::RRvk | Cmd::RAtr => text.clear(),
         Cmd::Stat | Cmd::MIdx | Cmd::RVot | Cmd::VtFr | Cmd::HrtB => text.clear(),
@@ -31,7 +41,7 @@ pub(crate) fn write_text(node: &NodeConfig, state: &State, cmd: Cmd, text: &mut 
     }
 }
 
-// The ticket is unknown, as all are to whom asks for a grant.
+// The ticket is unknown.
 fn no_ticket<'a>(body: &Body<'_>) -> Option<Reply<'a>>
     ensures { option_map reply_of result ≡ no_ticket (content_of body.now) }
 {
@@ -127,4 +137,34 @@ pub(crate) fn answer<'a>(me: MemberId, message: &Message<'_>, text: &'a [u8]) ->
     let cmd = message.head.cmd.answer()?;
     let reply = body_for(message.head.cmd, &message.body, text)?;
     Some(letter(me, message.head.request, cmd, reply))
+}
+
+fn wish_of(cmd: Cmd) -> Option<Wish>
+    ensures { result ≡ wish_of cmd }
+{
+    match cmd {
+        Cmd::CGnt => Some(Wish::Grant),
+        Cmd::CRvk => Some(Wish::Revoke),
+        Cmd::CLst | Cmd::Peer | Cmd::ASet | Cmd::AGet | Cmd::ADel | Cmd::ALst => None,
+        Cmd::RLst | Cmd::RPer | Cmd::RALs | Cmd::RGnt | Cmd::RRvk | Cmd::RAtr => None,
+        Cmd::Stat | Cmd::MIdx | Cmd::RVot | Cmd::VtFr | Cmd::HrtB => None,
+        Cmd::Ack | Cmd::UpdE | Cmd::Revk | Cmd::Rjc => None,
+    }
+}
+
+/// What a client's message asks of a ticket, where it does, and the part that names the ticket.
+pub(crate) fn request_in(from: Peer, message: &Message<'_>) -> Option<(TicketPart, Request)>
+    ensures { result ≡ request_in from (plain_of message.now) }
+{
+    let wish = wish_of(message.head.cmd)?;
+    let Body::Ticket(part) = &message.body else {
+        return None;
+    };
+    let request = Request {
+        wish,
+        from,
+        number: message.head.request,
+        options: message.head.options,
+    };
+    Some((part.copy(), request))
 }

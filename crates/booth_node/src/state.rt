@@ -1,9 +1,10 @@
-//! What a node remembers from turn to turn.
-ghost use Rattle.std.specs.Prelude.{◌≡◌, ◌<◌, IfSome};
-ghost use Rattle.booth_node.specs.Counting.{place_of, dropped, counted, counted_at, opened_at};
+//! What a node counts.
+ghost use Rattle.std.specs.Prelude.{◌≡◌, ◌<◌};
+ghost use Rattle.booth_node.specs.Counting.{place_of, with_drop, no_counts, counters_at, with_counters, counted, tried, with_send, nothing_counted};
 
 use booth_auth::DropFault;
-use booth_conf::MEMBERS;
+use booth_base::MEMBERS;
+use booth_ticket::To;
 
 /// The least reading that is too late to be used, in milliseconds.
 pub(crate) const READINGS_END: u64 = 1 << 62;
@@ -26,20 +27,12 @@ pub struct Counters {
 pub struct Common {
     /// How many datagrams were dropped for each fault, in the gate's order.
     pub drops: [u64; 8],
-    /// The counters of the members, in the order of the configuration. Behind the last member they are 0.
+    /// The counters of the members, in the order of the configuration. After the last member they are 0.
     pub members: [Counters; MEMBERS],
 }
 
-/// What a node remembers.
-#[derive(Clone, Copy, Debug, PartialEq, Eq)]
-pub struct State {
-    pub common: Common,
-    /// The last reading that was used, in milliseconds since 1970.
-    pub last: u64,
-}
-
 /// The place of a fault among the eight drop counters.
-fn place(fault: DropFault) -> usize
+fn place_of(fault: DropFault) -> usize
     ensures place { result ≡ place_of fault }
     ensures within { result < 8 }
 {
@@ -64,7 +57,7 @@ impl Counters {
         last: 0,
     };
 
-    // One more datagram was let in.
+    // One more datagram was let in, at this reading in ms.
     fn counted(&self, now: u64) -> Counters
         ensures { result ≡ counted self.now now }
     {
@@ -74,43 +67,81 @@ impl Counters {
             ..*self
         }
     }
+
+    // One more message was sent, or failed to be.
+    fn tried(&self, ok: bool) -> Counters
+        ensures { result ≡ tried self.now ok }
+    {
+        if ok {
+            Counters {
+                sent: self.sent.saturating_add(1),
+                ..*self
+            }
+        } else {
+            Counters {
+                errors: self.errors.saturating_add(1),
+                ..*self
+            }
+        }
+    }
 }
 
-impl State {
-    /// The state of a node that is opened at this reading, in milliseconds since 1970.
-    pub(crate) fn opened(now: u64) -> State
-        ensures { result ≡ opened_at now }
+impl Common {
+    /// Nothing was counted.
+    pub(crate) fn nothing_counted() -> Common
+        ensures { result ≡ nothing_counted }
     {
-        State {
-            common: Common {
-                drops: [0; 8],
-                members: [Counters::NONE; MEMBERS],
-            },
-            last: now.min(READINGS_END - 1),
+        Common {
+            drops: [0; 8],
+            members: [Counters::NONE; MEMBERS],
         }
     }
 
-    /// The state after a datagram was dropped for this fault.
-    pub(crate) fn with_drop(&self, fault: DropFault) -> State
-        ensures { result ≡ dropped self.now fault }
+    /// One more datagram was dropped for this fault.
+    pub(crate) fn with_drop(&self, fault: DropFault) -> Common
+        ensures { result ≡ with_drop self.now fault }
     {
-        let mut state = *self;
-        let place = place(fault);
-        state.common.drops[place] = state.common.drops[place].saturating_add(1);
-        state
+        let mut common = *self;
+        let place = place_of(fault);
+        common.drops[place] = common.drops[place].saturating_add(1);
+        common
     }
 
-    /// The state after a datagram of the member at this place was let in.
-    pub(crate) fn with_accepted(&self, place: Option<usize>, now: u64) -> State
-        requires { IfSome place (λ p. p < 16) }
-        ensures { result ≡ record self.now {
-          common = record self.now.common { members = counted_at self.now.common.members now place };
-        } }
+    /// The counters of the member at a place.
+    pub(crate) fn counters_at(&self, place: usize) -> Counters
+        ensures { result ≡ counters_at self.now place }
     {
-        let mut state = *self;
-        if let Some(place) = place {
-            state.common.members[place] = state.common.members[place].counted(now);
+        self.members.get(place).copied().unwrap_or(Counters::NONE)
+    }
+
+    // Other counters of the member at a place.
+    fn with_counters(&self, place: usize, counters: Counters) -> Common
+        ensures { result ≡ with_counters self.now place counters }
+    {
+        let mut common = *self;
+        if place < MEMBERS {
+            common.members[place] = counters;
         }
-        state
+        common
+    }
+
+    /// One more datagram of the member at a place was let in, at this reading in ms.
+    pub(crate) fn with_accepted(&self, place: usize, now: u64) -> Common
+        ensures { result ≡ with_counters self.now place (counted (counters_at self.now place) now) }
+    {
+        self.with_counters(place, self.counters_at(place).counted(now))
+    }
+
+    /// One more send, with this success. A reply to a client counts for nobody.
+    pub(crate) fn with_send(&self, to: To, ok: bool) -> Common
+        ensures { result ≡ with_send self.now to ok }
+    {
+        match to {
+            To::Member(place) => {
+                let place = place as usize;
+                self.with_counters(place, self.counters_at(place).tried(ok))
+            }
+            To::Client(_) => *self,
+        }
     }
 }

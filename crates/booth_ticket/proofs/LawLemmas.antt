@@ -1,5 +1,5 @@
 -- What is done where it may be: a round is answered, a grant asks all, a majority gains.
-use Rattle.std.proofs.Common.{◌≡◌, ◌≢◌, ℕ, ◌+◌, ◌<◌, Bool, true, false, cond, ◌&&◌, ◌||◌, ◌∷◌, ◌++◌, [], arith, refl, sym, ap, subst}
+use Rattle.std.proofs.Common.{◌≡◌, ◌≢◌, ℕ, ◌+◌, ◌<◌, Bool, true, false, cond, ◌&&◌, ◌||◌, List, ◌∷◌, ◌++◌, [], arith, refl, sym, ap, subst}
 use Rattle.std.proofs.lemmas.Bool.Decides.{nat_tests}
 use Rattle.std.specs.Prelude.{Option, Some, None, nat_lt, not, ◌==◌, if◌then◌else◌}
 use Rattle.booth_base.specs.declared.address.MemberId.{MemberId}
@@ -7,13 +7,14 @@ use Rattle.booth_base.specs.declared.address.TheConstants.{NO_ONE}
 use Rattle.booth_base.specs.Tree.{Deeds, Ends, Leads}
 use Rattle.booth_base.specs.Times.{promise_of}
 use Rattle.booth_base.proofs.TreeLemmas.{leads_on}
+use Rattle.booth_rec.specs.declared.record.Record.{Record}
 use Rattle.booth_wire.specs.declared.command.Cmd.{Cmd}
 use Rattle.booth_wire.specs.declared.command.Cmd.TheVariants.{UpdE, RGnt}
 use Rattle.booth_wire.specs.declared.message.Head.{Head}
 use Rattle.booth_wire.specs.declared.message.TicketPart.{TicketPart}
 use Rattle.booth_wire.specs.declared.message.Setup.{Setup}
 use Rattle.booth_wire.specs.declared.codes.reasons.TheConstants.{ADMN}
-use Rattle.booth_wire.specs.declared.codes.results.TheConstants.{ASYN}
+use Rattle.booth_wire.specs.declared.codes.results.TheConstants.{ASYN, SUCCESS}
 use Rattle.booth_raft.specs.declared.deed.Note.TheVariants.{Asked}
 use Rattle.booth_raft.specs.declared.deed.Told.TheVariants as tells
 use Rattle.booth_raft.specs.declared.view.Role.{Role}
@@ -36,12 +37,14 @@ use Rattle.booth_raft.proofs.AnswerLemmas.{tests_may_answer}
 use Rattle.booth_raft.proofs.FactsLemmas.{on_cond}
 use Rattle.booth_ticket.specs.declared.hands.To.TheVariants.{Client}
 use Rattle.booth_ticket.specs.declared.request.Request.{Request}
-use Rattle.booth_ticket.specs.Acts.{IsAct, Ask, said, said_to_each}
+use Rattle.booth_ticket.specs.declared.waiters.Waiter.{Waiter}
+use Rattle.booth_ticket.specs.Acts.{Act, IsAct, Ask, said, said_to_each}
 use Rattle.booth_ticket.specs.Automatic.{Left, ends}
 use Rattle.booth_ticket.specs.Keeping.{carry_out, keep_once, say_last}
-use Rattle.booth_ticket.specs.Laws.{AnswersWhereItMay, BeginsWith, Completes, GrantAsksAll, HasLease, IsDoneBy, MajorityGains, answer_to, asking_acts, gaining_acts, lease_of}
-use Rattle.booth_ticket.specs.Requests.{grant, grant_result, is_holder, is_shown_elsewhere, refused_grant, reply}
+use Rattle.booth_ticket.specs.Laws.{AnswersWhereItMay, AsksVotes, BeginsWith, Completes, GrantAsksAll, HasLease, IsDoneBy, MajorityGains, answer_to, asking_acts, gaining_acts, lease_of, told_granted}
+use Rattle.booth_ticket.specs.Requests.{grant, grant_result, is_holder, is_shown_elsewhere, refused_grant, reply, replies}
 use Rattle.booth_ticket.specs.Saying.{others, say_each}
+use Rattle.booth_ticket.specs.Waiting.{joined, staying, tell_each, waits}
 use Rattle.booth_ticket.proofs.SayLemmas.{each_first}
 
 -- ---- cases and tests
@@ -69,15 +72,15 @@ is_below m n e = grind (arith, nat_tests)
 
 -- ---- a round is heard
 
-answered : (setup : Setup) (view : View) (from : ℕ) (kind : RoundKind) (head : Head)
-    (part : TicketPart) (now : ℕ)
+answered : (setup : Setup) (view : View) (waiters : List Waiter) (from : ℕ) (kind : RoundKind)
+    (head : Head) (part : TicketPart) (now : ℕ)
     → MayAnswer view head.from part.term now
     → BeginsWith (carry_out setup (Some from) now
-    (hear_round setup (with_seen view part.term) kind head part now) ends)
+    (hear_round setup (with_seen view part.term) kind head part now) (ends setup now waiters))
     (answer_to setup from kind head part)
-answered setup view from kind head part now may =
+answered setup view waiters from kind head part now may =
     when_true
-    (λ (o : Outcome). BeginsWith (carry_out setup (Some from) now o ends)
+    (λ (o : Outcome). BeginsWith (carry_out setup (Some from) now o (ends setup now waiters))
     (answer_to setup from kind head part))
     (may_answer (with_seen view part.term) head.from part.term now) _ _
     ((tests_may_answer (with_seen view part.term) head.from part.term now).1
@@ -90,28 +93,28 @@ answered setup view from kind head part now may =
     refl
 
 pub answers : AnswersWhereItMay
-answers setup view from Election head part now is may =
+answers setup view waiters from Election head part now is may =
     subst
     (λ (cmd : Cmd).
-    BeginsWith (carry_out setup (Some from) now (hear setup view from head part now cmd) ends)
+    BeginsWith (carry_out setup (Some from) now (hear setup view from head part now cmd) (ends setup now waiters))
     (answer_to setup from Election head part))
     (sym is.0)
     (when_true
-    (λ (o : Outcome). BeginsWith (carry_out setup (Some from) now o ends)
+    (λ (o : Outcome). BeginsWith (carry_out setup (Some from) now o (ends setup now waiters))
     (answer_to setup from Election head part))
     (head.options == 0) _ _ (is_number head.options 0 is.1)
-    (answered setup view from Election head part now may))
-answers setup view from Renewal head part now is may =
+    (answered setup view waiters from Election head part now may))
+answers setup view waiters from Renewal head part now is may =
     subst
     (λ (cmd : Cmd).
-    BeginsWith (carry_out setup (Some from) now (hear setup view from head part now cmd) ends)
+    BeginsWith (carry_out setup (Some from) now (hear setup view from head part now cmd) (ends setup now waiters))
     (answer_to setup from Renewal head part))
     (sym is.0)
     (when_false
-    (λ (o : Outcome). BeginsWith (carry_out setup (Some from) now o ends)
+    (λ (o : Outcome). BeginsWith (carry_out setup (Some from) now o (ends setup now waiters))
     (answer_to setup from Renewal head part))
     (head.options == 0) _ _ (is_other head.options 0 is.1)
-    (answered setup view from Renewal head part now may))
+    (answered setup view waiters from Renewal head part now may))
 
 -- ---- a grant
 
@@ -121,12 +124,12 @@ first_none : (b : Bool) (answer : ℕ) (rest : Option ℕ) → cond b (Some answ
 first_none true answer rest e = absurd (cc)
 first_none false answer rest e = (refl, e)
 
-unrefused : (setup : Setup) (view : View) (options now : ℕ)
-    → refused_grant setup view options now ≡ None
+unrefused : (setup : Setup) (view : View) (spare options now : ℕ)
+    → refused_grant setup view spare options now ≡ None
     → (not (is_follower view.role) || is_promised_elsewhere view.promise setup.me now ≡ false)
     × (are_terms_spent view ≡ false)
-unrefused setup view options now e =
-    let one = first_none (not setup.site || not (options == 0)) _ _ e in
+unrefused setup view spare options now e =
+    let one = first_none (not setup.site || not (options == 0 || waits options)) _ _ e in
     let two = first_none (is_holder setup view now) _ _ one.1 in
     let three = first_none (is_shown_elsewhere view.shown setup.me now) _ _ two.1 in
     let four =
@@ -142,95 +145,118 @@ follows Working promised e = refl
 follows Candidate promised e = refl
 follows Leader promised e = absurd (cc)
 
-abbrev told_client : Setup → Request → ℕ → Outcome → Deeds Ask Left
-told_client setup request now outcome =
-    reply setup request RGnt (grant_result outcome.deed.told) outcome.view now
+module _ (setup : Setup) (waiters : List Waiter) (request : Request) (now : ℕ) where
+  -- the client is told, and waits where it asked to
+  abbrev told_client : Outcome → Deeds Ask Left
+  told_client outcome =
+      replies setup waiters request RGnt now (grant_result request.options outcome.deed.told) outcome
 
--- all are asked, and then the client is told
-asks_then : (setup : Setup) (view : View) (request : Request) (now : ℕ)
-    → is_leader view.role ≡ false
-    → IsDoneBy
-    (keep_once setup now (saying (asked_all setup view now) (asks_all setup view 0 now)
-    tells.Nothing)
-    (say_last setup None (told_client setup request now)))
-    (said_to_each (others setup) (round_head setup view 0) (round_part setup view now)
-    ++ said (Client request.from) (head_of setup RGnt request.number 0 0 ASYN)
-    (state_part setup view now) ∷ [])
-    (λ left. (left.role ≡ Candidate) × (left.kept ≡ view.kept))
-asks_then setup view request now other =
-    when_false
-    (λ (after : View).
-    IsDoneBy
-    (keep_once setup now (saying after (asks_all setup view 0 now) tells.Nothing)
-    (say_last setup None (told_client setup request now)))
-    (said_to_each (others setup) (round_head setup view 0) (round_part setup view now)
-    ++ said (Client request.from) (head_of setup RGnt request.number 0 0 ASYN)
-    (state_part setup view now) ∷ [])
-    (λ left. (left.role ≡ Candidate) × (left.kept ≡ view.kept)))
-    (is_leader view.role) _ _ other
-    (let after : View = record view { role = Candidate; due = Some (now + setup.times.timeout) } in
-    let last : Outcome = saying after (asks_all setup view 0 now) tells.Nothing in
-    record {
-      left = after;
-      all =
-          leads_on IsAct
-          (say_each (others setup) (round_head setup view 0) (round_part setup view now)
-          (told_client setup request now last))
-          (told_client setup request now last) (Ends (record { view = after }))
-          (said_to_each (others setup) (round_head setup view 0) (round_part setup view now))
-          (said (Client request.from) (head_of setup RGnt request.number 0 0 ASYN)
-          (state_part setup view now) ∷ [])
-          (each_first (others setup) (round_head setup view 0) (round_part setup view now)
-          (told_client setup request now last))
-          (true, refl, refl);
-      holds = (refl, refl);
-    })
+  abbrev asking : View → List Act
+  asking view =
+      said_to_each (others setup) (round_head setup view 0) (round_part setup view now)
+      ++ said (Client request.from) (head_of setup RGnt request.number 0 0 ASYN)
+      (state_part setup view now) ∷ []
 
--- the first term's record was kept: its round is opened
-opens : (setup : Setup) (view : View) (request : Request) (now : ℕ) → is_leader view.role ≡ false
-    → is_majority setup (own_answer setup view now) ≡ false
-    → IsDoneBy
-    (keep_once setup now (begin_round setup view 0 now)
-    (say_last setup None (told_client setup request now)))
-    (said_to_each (others setup) (round_head setup view 0) (round_part setup view now)
-    ++ said (Client request.from) (head_of setup RGnt request.number 0 0 ASYN)
-    (state_part setup view now) ∷ [])
-    (λ left. (left.role ≡ Candidate) × (left.kept ≡ view.kept))
-opens setup view request now other few =
-    let round : Round = new_round setup view 0 now in
-    when_false
-    (λ (o : Outcome).
-    IsDoneBy (keep_once setup now o (say_last setup None (told_client setup request now)))
-    (said_to_each (others setup) (round_head setup view 0) (round_part setup view now)
-    ++ said (Client request.from) (head_of setup RGnt request.number 0 0 ASYN)
-    (state_part setup view now) ∷ [])
-    (λ left. (left.role ≡ Candidate) × (left.kept ≡ view.kept)))
-    (is_majority setup (own_answer setup view now)) _ _ few
-    (on_cond
-    (λ (promised : View).
-    IsDoneBy
-    (keep_once setup now
-    (saying (asked_all setup (record promised { round = Some round }) now)
-    (asks_all setup (record promised { round = Some round }) 0 now) tells.Nothing)
-    (say_last setup None (told_client setup request now)))
-    (said_to_each (others setup) (round_head setup view 0) (round_part setup view now)
-    ++ said (Client request.from) (head_of setup RGnt request.number 0 0 ASYN)
-    (state_part setup view now) ∷ [])
-    (λ left. (left.role ≡ Candidate) × (left.kept ≡ view.kept)))
-    (answers_itself setup view now)
-    (record view {
-      promise = Some
-          (record { to = setup.me; term = view.term; until = now + promise_of setup.times });
-    })
-    view
-    (asks_then setup
-    (record view {
-      promise = Some (record
-          { to = setup.me; term = view.term; until = now + promise_of setup.times });
-      round = Some round;
-    })
-    request now other)
-    (asks_then setup (record view { round = Some round }) request now other))
+  abbrev asks_now : Record → Left → Type 0
+  asks_now rec left = AsksVotes rec (joined request ASYN waiters) left
+
+  -- nobody that waits is told anything
+  none_told : (view : View) (ws : List Waiter) (rest : Deeds Ask Left)
+      → tell_each setup view now tells.Nothing ws rest ≡ rest
+  none_told view [] rest = refl
+  none_told view (w ∷ ws) rest = none_told view ws rest
+
+  all_stay : (ws : List Waiter) → staying tells.Nothing ws ≡ ws
+  all_stay [] = refl
+  all_stay (w ∷ ws) = ap (λ (more : List Waiter). w ∷ more) (all_stay ws)
+
+  -- all are asked, and then the client is told
+  asks_then : (view : View) → is_leader view.role ≡ false
+      → IsDoneBy
+      (keep_once setup now (saying (asked_all setup view now) (asks_all setup view 0 now)
+      tells.Nothing)
+      (say_last setup None told_client))
+      (asking view)
+      (asks_now view.kept)
+  asks_then view other =
+      when_false
+      (λ (after : View).
+      IsDoneBy
+      (keep_once setup now (saying after (asks_all setup view 0 now) tells.Nothing)
+      (say_last setup None told_client))
+      (asking view)
+      (asks_now view.kept))
+      (is_leader view.role) _ _ other
+      (let after : View = record view { role = Candidate; due = Some (now + setup.times.timeout) } in
+      let last : Outcome = saying after (asks_all setup view 0 now) tells.Nothing in
+      let left : Left = record { view = after; waiters = joined request ASYN waiters } in
+      let replied : Leads IsAct (told_client last)
+      (said (Client request.from) (head_of setup RGnt request.number 0 0 ASYN)
+      (state_part setup view now) ∷ []) (Ends left) =
+      subst (λ (t : Deeds Ask Left). Leads IsAct t
+      (said (Client request.from) (head_of setup RGnt request.number 0 0 ASYN)
+      (state_part setup view now) ∷ []) (Ends left))
+      (sym (none_told after waiters (reply setup request RGnt ASYN after now (staying tells.Nothing waiters)))) (
+        true,
+        refl,
+        ap (λ (ws : List Waiter). Ends (record { view = after; waiters = joined request ASYN ws }))
+            (sym (all_stay waiters)),
+      ) in
+      record {
+        left = left;
+        all =
+            leads_on IsAct
+            (say_each (others setup) (round_head setup view 0) (round_part setup view now)
+            (told_client last))
+            (told_client last) (Ends left)
+            (said_to_each (others setup) (round_head setup view 0) (round_part setup view now))
+            (said (Client request.from) (head_of setup RGnt request.number 0 0 ASYN)
+            (state_part setup view now) ∷ [])
+            (each_first (others setup) (round_head setup view 0) (round_part setup view now)
+            (told_client last))
+            replied;
+        holds = record { asks = refl; kept_record = refl; waiting = refl };
+      })
+
+  -- the first term's record was kept: its round is opened
+  opens : (view : View) → is_leader view.role ≡ false
+      → is_majority setup (own_answer setup view now) ≡ false
+      → IsDoneBy
+      (keep_once setup now (begin_round setup view 0 now)
+      (say_last setup None told_client))
+      (asking view)
+      (asks_now view.kept)
+  opens view other few =
+      let round : Round = new_round setup view 0 now in
+      when_false
+      (λ (o : Outcome).
+      IsDoneBy (keep_once setup now o (say_last setup None told_client))
+      (asking view)
+      (asks_now view.kept))
+      (is_majority setup (own_answer setup view now)) _ _ few
+      (on_cond
+      (λ (promised : View).
+      IsDoneBy
+      (keep_once setup now
+      (saying (asked_all setup (record promised { round = Some round }) now)
+      (asks_all setup (record promised { round = Some round }) 0 now) tells.Nothing)
+      (say_last setup None told_client))
+      (asking view)
+      (asks_now view.kept))
+      (answers_itself setup view now)
+      (record view {
+        promise = Some
+            (record { to = setup.me; term = view.term; until = now + promise_of setup.times });
+      })
+      view
+      (asks_then
+      (record view {
+        promise = Some (record
+            { to = setup.me; term = view.term; until = now + promise_of setup.times });
+        round = Some round;
+      })
+      other)
+      (asks_then (record view { round = Some round }) other))
 
 -- the view in the new term, once that is kept
 abbrev in_kept_term : Setup → View → ℕ → View
@@ -243,104 +269,127 @@ in_kept_term setup view now =
     }
 
 pub asks_everyone : GrantAsksAll
-asks_everyone setup view request now none few =
-    let free = unrefused setup view request.options now none in
-    let Holds : View → Type 0 =
-    λ left. (left.role ≡ Candidate) × (left.kept ≡ (in_kept_term setup view now).kept) in
+asks_everyone setup view waiters spare request now none few =
+    let free = unrefused setup view spare request.options now none in
+    let Holds : Left → Type 0 = asks_now setup waiters request now (in_kept_term setup view now).kept in
     let later =
-    opens setup (in_kept_term setup view now) request now
+    opens setup waiters request now (in_kept_term setup view now)
     (follows view.role (is_promised_elsewhere view.promise setup.me now) free.0) few in
     subst
     (λ (refused : Option ℕ).
-    IsDoneBy (grant setup view request refused now) (asking_acts setup view request now) Holds)
+    IsDoneBy (grant setup view request.options refused now (replies setup waiters request RGnt now))
+    (asking_acts setup view request now) Holds)
     (sym none)
     (when_false
     (λ (o : Outcome).
-    IsDoneBy (carry_out setup None now o (told_client setup request now))
+    IsDoneBy (carry_out setup None now o (told_client setup waiters request now))
     (asking_acts setup view request now) Holds)
     (are_terms_spent (noted setup view now Asked)) _ _ free.1
     (record { left = later.left; all = (true, refl, later.all); holds = later.holds }))
 
 -- ---- an answer is heard
 
-gain_done : (setup : Setup) (view : View) (round : Round) (from : Option ℕ) (now : ℕ)
-    → now < round.opened + setup.times.expire
-    → IsDoneBy (carry_out setup from now (gain setup view round now) ends)
-    (gaining_acts setup view (lease_of setup view round) now)
+-- all that wait are told of a kept lease, and nobody waits on
+all_told : (setup : Setup) (view : View) (now : ℕ) (waiters : List Waiter) (part : TicketPart)
+    (rest : Deeds Ask Left) → state_part setup view now ≡ part
+    → Leads IsAct (tell_each setup view now (tells.Gained true) waiters rest)
+    (told_granted setup waiters part) rest
+all_told setup view now [] part rest is = refl
+all_told setup view now (w ∷ ws) part rest is = (
+  true,
+  ap (λ (p : TicketPart). said (Client w.from) (head_of setup RGnt w.number 0 0 SUCCESS) p) (sym is),
+  all_told setup view now ws part rest is,
+)
+
+none_stay : (waiters : List Waiter) → staying (tells.Gained true) waiters ≡ []
+none_stay [] = refl
+none_stay (w ∷ ws) = none_stay ws
+
+gain_done : (setup : Setup) (view : View) (waiters : List Waiter) (round : Round) (from : Option ℕ)
+    (now : ℕ) → now < round.opened + setup.times.expire
+    → IsDoneBy (carry_out setup from now (gain setup view round now) (ends setup now waiters))
+    (gaining_acts setup view waiters (lease_of setup view round) now)
     (HasLease setup.me (lease_of setup view round))
-gain_done setup view round from now before =
+gain_done setup view waiters round from now before =
     let after : View = (finish setup (gain setup view round now).view now true).view in
+    let last : Outcome = finish setup (gain setup view round now).view now true in
     let told : MemberId → TicketPart =
     λ owner. part_of setup owner view.term (seconds_left (round.opened + setup.times.expire) now) in
-    let over : Deeds Ask Left = Ends (record { view = after }) in
+    let left : Left = record { view = after; waiters = [] } in
     let head : Head = head_of setup UpdE 0 0 0 0 in
-    let Tells : MemberId → Type 0 =
-    λ owner. Leads IsAct (say_each (others setup) head (told owner) over)
-    (said_to_each (others setup) head (told setup.me)) over in
-    let all_told =
-    when_true Tells (nat_lt now (round.opened + setup.times.expire)) _ NO_ONE
-    (is_below now (round.opened + setup.times.expire) before)
-    (each_first (others setup) head (told setup.me) over) in
+    let rest : Deeds Ask Left = ends setup now waiters last in
+    let owned : told (if nat_lt now (round.opened + setup.times.expire) then setup.me else NO_ONE) ≡ told setup.me =
+    when_true (λ (owner : MemberId). told owner ≡ told setup.me)
+    (nat_lt now (round.opened + setup.times.expire)) _ NO_ONE
+    (is_below now (round.opened + setup.times.expire) before) refl in
+    let clients : Leads IsAct rest (told_granted setup waiters (told setup.me)) (Ends left) =
+    subst (λ (ws : List Waiter). Leads IsAct rest (told_granted setup waiters (told setup.me))
+    (Ends (record { view = after; waiters = ws }))) (none_stay waiters)
+    (all_told setup after now waiters (told setup.me)
+    (Ends (record { view = after; waiters = staying (tells.Gained true) waiters })) owned) in
+    let members : Leads IsAct (say_each (others setup) head (told (if nat_lt now (round.opened + setup.times.expire) then setup.me else NO_ONE)) rest)
+    (said_to_each (others setup) head (told setup.me)) rest =
+    subst (λ (p : TicketPart). Leads IsAct (say_each (others setup) head p rest)
+    (said_to_each (others setup) head (told setup.me)) rest) (sym owned)
+    (each_first (others setup) head (told setup.me) rest) in
     record {
-      left = after;
-      all = (true, refl, all_told);
-      holds = record { leads = refl; kept_record = refl; sure = refl; shown = refl };
+      left = left;
+      all = (
+        true,
+        refl,
+        leads_on IsAct (say_each (others setup) head (told (if nat_lt now (round.opened + setup.times.expire) then setup.me else NO_ONE)) rest) rest (Ends left)
+            (said_to_each (others setup) head (told setup.me)) (told_granted setup waiters (told setup.me))
+            members clients,
+      );
+      holds = record { leads = refl; kept_record = refl; sure = refl; shown = refl; waiting = refl };
     }
 
-completed : (setup : Setup) (view : View) (round : Round) (from : ℕ) (head : Head)
-    (part : TicketPart) (now : ℕ)
-    → view.round ≡ Some round → Completes setup round from head part now
-    → IsDoneBy (carry_out setup (Some from) now
-    (hear_answer setup (with_seen view part.term) from head part now) ends)
-    (gaining_acts setup view (lease_of setup view round) now) (HasLease setup.me (lease_of setup view round))
-completed setup view round from head part now is answer =
-    let seen : View = with_seen view part.term in
-    let joined : View = record seen { round = Some (with_answer round from) } in
-    let Done : Outcome → Type 0 =
-    λ o. IsDoneBy (carry_out setup (Some from) now o ends) (gaining_acts setup view (lease_of setup view round) now)
-    (HasLease setup.me (lease_of setup view round)) in
-    subst
-    (λ (r : Option Round).
-    Done (elim r [
-      | None ↦ quiet seen
-      | Some r ↦
-          if is_answer_to setup r head part then join setup seen (with_answer r from) now else
-          quiet seen
-    ]))
-    (sym is)
-    (when_true Done (is_answer_to setup round head part) (join setup seen (with_answer round from) now) (quiet seen)
-    (both _ _
-    (both _ _ (is_number part.leader.0 setup.me.0 (ap (λ (m : MemberId). m.0) answer.leader))
-    (is_number round.term part.term (sym answer.term)))
-    (is_number round.number head.options (sym answer.number)))
-    (when_true Done (wins setup (with_answer round from) now)
-    (gain setup joined (with_answer round from) now) (quiet joined)
-    (both _ _ (both _ _ answer.majority (ap not answer.unwon))
-    (is_below now (round.opened + setup.times.expire) answer.in_time))
-    (gain_done setup joined (with_answer round from) (Some from) now answer.in_time)))
+module _ (setup : Setup) (view : View) (waiters : List Waiter) (round : Round) (from : ℕ) (head : Head)
+    (part : TicketPart) (now : ℕ) where
+  abbrev Gains : Outcome → Type 0
+  Gains o =
+      IsDoneBy (carry_out setup (Some from) now o (ends setup now waiters))
+      (gaining_acts setup view waiters (lease_of setup view round) now)
+      (HasLease setup.me (lease_of setup view round))
+
+  completed : view.round ≡ Some round → Completes setup round from head part now
+      → Gains (hear_answer setup (with_seen view part.term) from head part now)
+  completed is answer =
+      let seen : View = with_seen view part.term in
+      let joined_view : View = record seen { round = Some (with_answer round from) } in
+      subst
+      (λ (r : Option Round).
+      Gains (elim r [
+        | None ↦ quiet seen
+        | Some r ↦
+            if is_answer_to setup r head part then join setup seen (with_answer r from) now else
+            quiet seen
+      ]))
+      (sym is)
+      (when_true Gains (is_answer_to setup round head part)
+      (join setup seen (with_answer round from) now) (quiet seen)
+      (both _ _
+      (both _ _ (is_number part.leader.0 setup.me.0 (ap (λ (m : MemberId). m.0) answer.leader))
+      (is_number round.term part.term (sym answer.term)))
+      (is_number round.number head.options (sym answer.number)))
+      (when_true Gains (wins setup (with_answer round from) now)
+      (gain setup joined_view (with_answer round from) now) (quiet joined_view)
+      (both _ _ (both _ _ answer.majority (ap not answer.unwon))
+      (is_below now (round.opened + setup.times.expire) answer.in_time))
+      (gain_done setup joined_view waiters (with_answer round from) (Some from) now answer.in_time)))
 
 pub gains : MajorityGains
-gains setup view round from Election head part now is kind answer =
+gains setup view waiters round from Election head part now is kind answer =
     subst
-    (λ (cmd : Cmd).
-    IsDoneBy (carry_out setup (Some from) now (hear setup view from head part now cmd) ends)
-    (gaining_acts setup view (lease_of setup view round) now) (HasLease setup.me (lease_of setup view round)))
+    (λ (cmd : Cmd). Gains setup view waiters round from head part now (hear setup view from head part now cmd))
     (sym kind.0)
-    (when_true
-    (λ (o : Outcome).
-    IsDoneBy (carry_out setup (Some from) now o ends) (gaining_acts setup view (lease_of setup view round) now)
-    (HasLease setup.me (lease_of setup view round)))
+    (when_true (Gains setup view waiters round from head part now)
     (head.options == 0) _ _ (is_number head.options 0 kind.1)
-    (completed setup view round from head part now is answer))
-gains setup view round from Renewal head part now is kind answer =
+    (completed setup view waiters round from head part now is answer))
+gains setup view waiters round from Renewal head part now is kind answer =
     subst
-    (λ (cmd : Cmd).
-    IsDoneBy (carry_out setup (Some from) now (hear setup view from head part now cmd) ends)
-    (gaining_acts setup view (lease_of setup view round) now) (HasLease setup.me (lease_of setup view round)))
+    (λ (cmd : Cmd). Gains setup view waiters round from head part now (hear setup view from head part now cmd))
     (sym kind.0)
-    (when_false
-    (λ (o : Outcome).
-    IsDoneBy (carry_out setup (Some from) now o ends) (gaining_acts setup view (lease_of setup view round) now)
-    (HasLease setup.me (lease_of setup view round)))
+    (when_false (Gains setup view waiters round from head part now)
     (head.options == 0) _ _ (is_other head.options 0 kind.1)
-    (completed setup view round from head part now is answer))
+    (completed setup view waiters round from head part now is answer))

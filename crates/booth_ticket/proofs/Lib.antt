@@ -1,9 +1,12 @@
 pub mod DidLemmas
+pub mod WaiterLemmas
 pub mod PlaceLemmas
 pub mod GainLemmas
 pub mod SpeechLemmas
 pub mod SayLemmas
 pub mod KeepLemmas
+pub mod TellLemmas
 pub mod FollowLemmas
+pub mod RoomLemmas
 pub mod CallLemmas
 pub mod LawLemmas

@@ -1,5 +1,5 @@
--- What an automatic ticket does in each call, with neither handlers nor clients that wait.
-use Rattle.std.specs.Prelude.{◌≡◌, ℕ, Some, None, IsTrue, if◌then◌else◌}
+-- What an automatic ticket does in each call, without handlers.
+use Rattle.std.specs.Prelude.{◌≡◌, ℕ, List, Some, None, IsTrue, if◌then◌else◌}
 use Rattle.booth_base.specs.Tree.{Deeds, Ends}
 use Rattle.booth_wire.specs.declared.message.Head.{Head}
 use Rattle.booth_wire.specs.declared.message.TicketPart.{TicketPart}
@@ -15,21 +15,27 @@ use Rattle.booth_raft.specs.Members.{is_follower, is_leader, is_working}
 use Rattle.booth_raft.specs.Notes.{handler_failed}
 use Rattle.booth_raft.specs.OtherMessages.{hear}
 use Rattle.booth_raft.specs.Outcome.{Outcome, quiet, telling}
+use Rattle.booth_ticket.specs.declared.waiters.Waiter.{Waiter}
 use Rattle.booth_ticket.specs.Acts.{Ask}
 use Rattle.booth_ticket.specs.Keeping.{carry_out}
 use Rattle.booth_ticket.specs.Saying.{say}
+use Rattle.booth_ticket.specs.Waiting.{tell}
 
--- What a call leaves.
+-- What a call leaves: the view, and the clients that wait.
 pub record Left : Type 0 where
   pub view : View
+  pub waiters : List Waiter
 
-abbrev pub ends : Outcome → Deeds Ask Left
-ends outcome = Ends (record { view = outcome.view })
+-- those that wait are told of the last outcome, and nothing follows
+abbrev pub ends : Setup → ℕ → List Waiter → Outcome → Deeds Ask Left
+ends setup now waiters outcome =
+    tell setup now waiters outcome (λ stay. Ends (record { view = outcome.view; waiters = stay }))
 
 -- a member's message is heard
-abbrev pub hear_message : Setup → View → ℕ → Head → TicketPart → ℕ → Deeds Ask Left
-hear_message setup view from head part now =
-    carry_out setup (Some from) now (hear setup view from head part now head.cmd) ends
+abbrev pub hear_message : Setup → View → List Waiter → ℕ → Head → TicketPart → ℕ → Deeds Ask Left
+hear_message setup view waiters from head part now =
+    carry_out setup (Some from) now (hear setup view from head part now head.cmd)
+    (ends setup now waiters)
 
 -- The ticket is acquired: a new term is asked for. Where the terms are spent, the acquisition
 -- fails.
@@ -45,7 +51,7 @@ follow setup outcome wants.Nothing now = outcome
 follow setup outcome wants.Renew now = renew setup outcome.view now
 follow setup outcome wants.Acquire now = acquire setup outcome.view TLST now
 
--- what may follow: a leader renews, and a site that follows acquires; nothing waits then
+-- what may follow: a leader renews, and a site that follows acquires; no keep waits then
 abbrev pub MayFollow : Setup → View → Want → Type 0
 MayFollow setup view wants.Renew = IsTrue (is_leader view.role) × (view.waiting ≡ None)
 MayFollow setup view wants.Acquire =
@@ -61,8 +67,11 @@ abbrev pub role_due : Setup → View → ℕ → Outcome
 role_due setup view now =
     if is_working view.role then quiet (handler_failed setup view now) else rule_due setup view now
 
--- the deadline has come: hello, and then the rule of the role
-abbrev pub tick : Setup → View → ℕ → Deeds Ask Left
-tick setup view now =
+-- the deadline has come: hello, then the rule of the role, and then the rest
+abbrev pub comes_due : {S : Type 0} → Setup → View → ℕ → (Outcome → Deeds Ask S) → Deeds Ask S
+comes_due setup view now rest =
     say setup None (hello setup view now)
-    (carry_out setup None now (role_due setup (greeted view) now) ends)
+    (carry_out setup None now (role_due setup (greeted view) now) rest)
+
+abbrev pub tick : Setup → View → List Waiter → ℕ → Deeds Ask Left
+tick setup view waiters now = comes_due setup view now (ends setup now waiters)

@@ -1,5 +1,5 @@
 -- Laws over the trees: what is done where it may be, whatever the setup, the view and the message.
-use Rattle.std.specs.Prelude.{◌≡◌, ◌≢◌, ℕ, ◌+◌, ◌<◌, true, false, List, [], ◌∷◌, ◌++◌, Some, None}
+use Rattle.std.specs.Prelude.{◌≡◌, ◌≢◌, ℕ, ◌+◌, ◌<◌, true, false, List, [], ◌∷◌, ◌++◌, map, Some, None}
 use Rattle.booth_base.specs.declared.address.MemberId.{MemberId}
 use Rattle.booth_base.specs.Tree.{Deeds, Ends, Does, Leads}
 use Rattle.booth_rec.specs.declared.record.Lease.{Lease}
@@ -10,7 +10,7 @@ use Rattle.booth_wire.specs.declared.message.Head.{Head}
 use Rattle.booth_wire.specs.declared.message.TicketPart.{TicketPart}
 use Rattle.booth_wire.specs.declared.message.Setup.{Setup}
 use Rattle.booth_wire.specs.declared.codes.reasons.TheConstants.{ADMN}
-use Rattle.booth_wire.specs.declared.codes.results.TheConstants.{ASYN}
+use Rattle.booth_wire.specs.declared.codes.results.TheConstants.{ASYN, SUCCESS}
 use Rattle.booth_raft.specs.declared.view.Role.TheVariants.{Candidate, Leader}
 use Rattle.booth_raft.specs.declared.view.Round.{Round}
 use Rattle.booth_raft.specs.declared.view.RoundKind.{RoundKind}
@@ -24,22 +24,23 @@ use Rattle.booth_raft.specs.RoundsAndAnswers.{MayAnswer}
 use Rattle.booth_ticket.specs.declared.hands.To.TheVariants.{Client, Member}
 use Rattle.booth_ticket.specs.declared.request.Request.{Request}
 use Rattle.booth_ticket.specs.declared.request.Wish.TheVariants.{Grant}
+use Rattle.booth_ticket.specs.declared.waiters.Waiter.{Waiter}
 use Rattle.booth_ticket.specs.Acts.{Ask, Say, Act, IsAct, kept, said, said_to_each}
 use Rattle.booth_ticket.specs.Automatic.{Left, hear_message}
 use Rattle.booth_ticket.specs.Requests.{refused_grant, wish}
 use Rattle.booth_ticket.specs.Saying.{others}
+use Rattle.booth_ticket.specs.Waiting.{joined}
 
 -- the first ask of a tree, whatever it is answered
 abbrev pub BeginsWith : Deeds Ask Left → Ask → Type 0
 BeginsWith (Does first rest) ask = first ≡ ask
 BeginsWith (Ends left) ask = ⊥
 
--- these acts are all of the tree along its path of these answers, and this holds of the view that
--- they leave
-pub record IsDoneBy (deeds : Deeds Ask Left) (acts : List Act) (Holds : View → Type 0) : Type 0
+-- these acts are all of the tree along its path of these answers, and this holds of what they leave
+pub record IsDoneBy (deeds : Deeds Ask Left) (acts : List Act) (Holds : Left → Type 0) : Type 0
   where
-    pub left : View
-    pub all : Leads IsAct deeds acts (Ends (record { view = left }))
+    pub left : Left
+    pub all : Leads IsAct deeds acts (Ends left)
     pub holds : Holds left
 
 -- ---- a round is heard
@@ -58,10 +59,10 @@ answer_to setup from kind head part =
 -- A round that may be answered is answered, before all else.
 abbrev pub AnswersWhereItMay : Type 0
 AnswersWhereItMay =
-    (setup : Setup) (view : View) (from : ℕ) (kind : RoundKind) (head : Head) (part : TicketPart)
-    (now : ℕ)
+    (setup : Setup) (view : View) (waiters : List Waiter) (from : ℕ) (kind : RoundKind) (head : Head)
+    (part : TicketPart) (now : ℕ)
     → IsRound kind head → MayAnswer view head.from part.term now
-    → BeginsWith (hear_message setup view from head part now) (answer_to setup from kind head part)
+    → BeginsWith (hear_message setup view waiters from head part now) (answer_to setup from kind head part)
 
 -- ---- a grant
 
@@ -77,15 +78,21 @@ asking_acts setup view request now =
     (seconds_left (shown_end view.shown) now))
     ∷ []
 
+-- A member asks for votes, with this term kept and these clients waiting.
+pub record AsksVotes (kept : Record) (waiters : List Waiter) (left : Left) : Type 0 where
+  pub asks : left.view.role ≡ Candidate
+  pub kept_record : left.view.kept ≡ kept
+  pub waiting : left.waiters ≡ waiters
+
 -- A grant that meets no refusal asks every other member, where the new term is kept and this member
--- is no majority by itself.
+-- is no majority by itself; and its client waits, where it asked to.
 abbrev pub GrantAsksAll : Type 0
 GrantAsksAll =
-    (setup : Setup) (view : View) (request : Request) (now : ℕ)
-    → refused_grant setup view request.options now ≡ None
+    (setup : Setup) (view : View) (waiters : List Waiter) (spare : ℕ) (request : Request) (now : ℕ)
+    → refused_grant setup view spare request.options now ≡ None
     → is_majority setup (own_answer setup view now) ≡ false
-    → IsDoneBy (wish setup view request Grant now) (asking_acts setup view request now)
-    (λ left. (left.role ≡ Candidate) × (left.kept ≡ plain (next_term view) view.kept.lease))
+    → IsDoneBy (wish setup view waiters spare request Grant now) (asking_acts setup view request now)
+    (AsksVotes (plain (next_term view) view.kept.lease) (joined request ASYN waiters))
 
 -- ---- an answer is heard
 
@@ -112,25 +119,32 @@ lease_of setup view round = record { term = view.term; until = round.opened + se
 abbrev pub lease_kept : Lease → Record
 lease_kept lease = plain lease.term (Some lease)
 
--- what a member does that gains: the lease is kept, and told to all others
-abbrev pub gaining_acts : Setup → View → Lease → ℕ → List Act
-gaining_acts setup view lease now =
+-- each of these clients is told that it was granted, first to last
+abbrev pub told_granted : Setup → List Waiter → TicketPart → List Act
+told_granted setup waiters part =
+    map (λ waiter. said (Client waiter.from) (head_of setup RGnt waiter.number 0 0 SUCCESS) part) waiters
+
+-- what a member does that gains: the lease is kept, and told to all others and to each client that waits
+abbrev pub gaining_acts : Setup → View → List Waiter → Lease → ℕ → List Act
+gaining_acts setup view waiters lease now =
+    let state : TicketPart = part_of setup setup.me view.term (seconds_left lease.until now) in
     kept (lease_kept lease) true
-    ∷ said_to_each (others setup) (head_of setup UpdE 0 0 0 0)
-    (part_of setup setup.me view.term (seconds_left lease.until now))
+    ∷ said_to_each (others setup) (head_of setup UpdE 0 0 0 0) state ++ told_granted setup waiters state
 
--- A view of a leader that has the lease: its record is kept, and it is shown as the owner.
-pub record HasLease (owner : MemberId) (lease : Lease) (view : View) : Type 0 where
-  pub leads : view.role ≡ Leader
-  pub kept_record : view.kept ≡ lease_kept lease
-  pub sure : view.sure ≡ true
-  pub shown : view.shown ≡ Some (record { owner = owner; until = lease.until })
+-- A leader has the lease: its record is kept, it is shown as the owner, and no client waits.
+pub record HasLease (owner : MemberId) (lease : Lease) (left : Left) : Type 0 where
+  pub leads : left.view.role ≡ Leader
+  pub kept_record : left.view.kept ≡ lease_kept lease
+  pub sure : left.view.sure ≡ true
+  pub shown : left.view.shown ≡ Some (record { owner = owner; until = lease.until })
+  pub waiting : left.waiters ≡ []
 
--- A majority in time gives the lease, where its record is kept.
+-- A majority in time gives the lease, where its record is kept, and each client that waits is told.
 abbrev pub MajorityGains : Type 0
 MajorityGains =
-    (setup : Setup) (view : View) (round : Round) (from : ℕ) (kind : RoundKind) (head : Head)
-    (part : TicketPart) (now : ℕ) → view.round ≡ Some round → IsAnswer kind head
+    (setup : Setup) (view : View) (waiters : List Waiter) (round : Round) (from : ℕ) (kind : RoundKind)
+    (head : Head) (part : TicketPart) (now : ℕ) → view.round ≡ Some round → IsAnswer kind head
     → Completes setup round from head part now
-    → IsDoneBy (hear_message setup view from head part now) (gaining_acts setup view (lease_of setup view round) now)
+    → IsDoneBy (hear_message setup view waiters from head part now)
+    (gaining_acts setup view waiters (lease_of setup view round) now)
     (HasLease setup.me (lease_of setup view round))

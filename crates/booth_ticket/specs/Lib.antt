@@ -2,6 +2,8 @@ pub use Rattle.booth_base.specs.Tree
 pub mod Acts
 pub mod Saying
 pub mod Keeping
+pub mod Waiting
+pub mod Pooled
 pub mod Requests
 pub mod Automatic
 pub mod Ticket

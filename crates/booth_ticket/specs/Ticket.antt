@@ -1,5 +1,5 @@
 -- A ticket between two calls, and what it does in each.
-use Rattle.std.specs.Prelude.{◌≤◌, ℕ, ◌/◌, nat_lt, Option, Some, None, IsSomeAnd, if◌then◌else◌}
+use Rattle.std.specs.Prelude.{◌≤◌, ℕ, ◌/◌, nat_lt, List, Option, Some, None, IsSomeAnd, if◌then◌else◌}
 use Rattle.booth_base.specs.Tree.{Deeds, Ends, next}
 use Rattle.booth_rec.specs.declared.record.Record.{Record}
 use Rattle.booth_wire.specs.declared.message.Head.{Head}
@@ -10,6 +10,7 @@ use Rattle.booth_raft.specs.declared.view.View.{View}
 use Rattle.booth_raft.specs.StartAndLearn.{started}
 use Rattle.booth_ticket.specs.declared.ticket.Owner.{Owner}
 use Rattle.booth_ticket.specs.declared.request.Request.{Request}
+use Rattle.booth_ticket.specs.declared.waiters.Waiter.{Waiter}
 use Rattle.booth_ticket.specs.Acts.{Ask}
 use Rattle.booth_ticket.specs.Automatic.{Left, hear_message, tick}
 use Rattle.booth_ticket.specs.Requests.{wish}
@@ -27,24 +28,34 @@ pub record TicketState : Type 0 where
 abbrev pub opened : Setup → Record → ℕ → TicketState
 opened setup rec now = record { setup = setup; known = Automatic (started setup rec now) }
 
--- the deeds of an automatic ticket are those of its rules, which change the view alone
-abbrev pub by_rules : Setup → Deeds Ask Left → Deeds Ask TicketState
-by_rules setup deeds =
-    next deeds (λ left. Ends (record { setup = setup; known = Automatic left.view }))
+-- What a call leaves: the ticket, and the clients that wait for it.
+pub record TicketLeft : Type 0 where
+  pub ticket : TicketState
+  pub waiters : List Waiter
+
+abbrev pub left_as : Setup → Left → TicketLeft
+left_as setup left = record {
+  ticket = record { setup = setup; known = Automatic left.view };
+  waiters = left.waiters;
+}
+
+-- the deeds of an automatic ticket are those of its rules, which leave the setup as it is
+abbrev pub by_rules : Setup → Deeds Ask Left → Deeds Ask TicketLeft
+by_rules setup deeds = next deeds (λ left. Ends (left_as setup left))
 
 -- the message of the member at a place is heard
-abbrev pub ticket_heard : Setup → Known → ℕ → Head → TicketPart → ℕ → Deeds Ask TicketState
-ticket_heard setup (Automatic view) from head part now =
-    by_rules setup (hear_message setup view from head part now)
+abbrev pub ticket_heard : Setup → Known → List Waiter → ℕ → Head → TicketPart → ℕ → Deeds Ask TicketLeft
+ticket_heard setup (Automatic view) waiters from head part now =
+    by_rules setup (hear_message setup view waiters from head part now)
 
--- a client's request is followed
-abbrev pub ticket_asked : Setup → Known → Request → ℕ → Deeds Ask TicketState
-ticket_asked setup (Automatic view) request now =
-    by_rules setup (wish setup view request request.wish now)
+-- a client's request is followed; so many more clients may wait
+abbrev pub ticket_asked : Setup → Known → List Waiter → ℕ → Request → ℕ → Deeds Ask TicketLeft
+ticket_asked setup (Automatic view) waiters spare request now =
+    by_rules setup (wish setup view waiters spare request request.wish now)
 
 -- the deadline has come
-abbrev pub ticket_due : Setup → Known → ℕ → Deeds Ask TicketState
-ticket_due setup (Automatic view) now = by_rules setup (tick setup view now)
+abbrev pub ticket_due : Setup → Known → List Waiter → ℕ → Deeds Ask TicketLeft
+ticket_due setup (Automatic view) waiters now = by_rules setup (tick setup view waiters now)
 
 -- when the ticket is next to be looked at
 abbrev pub deadline : Known → Option ℕ

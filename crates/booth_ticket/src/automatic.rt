@@ -1,13 +1,15 @@
 //! What an automatic ticket does in each call.
-ghost use Rattle.std.specs.Prelude.{◌≡◌, ◌≢◌, ◌<◌, ◌^◌, None, IsTrue, false};
+ghost use Rattle.std.specs.Prelude.{◌≡◌, ◌≢◌, ◌<◌, ◌^◌, Some, None, IsTrue, false};
 ghost use Rattle.booth_base.specs.Tree.{Deeds, Leads};
 ghost use Rattle.booth_raft.specs.Facts.{KeepWaits};
 ghost use Rattle.booth_raft.specs.Members.{is_follower, is_working};
+ghost use Rattle.booth_raft.specs.OtherMessages.{hear};
 ghost use Rattle.booth_raft.specs.Outcome.{Outcome};
 ghost use Rattle.booth_raft.specs.Speech.{IsSpeech};
 ghost use Rattle.booth_raft.specs.State.{IsDue};
 ghost use Rattle.booth_ticket.specs.Acts.{Ask, DidSome, IsAct};
-ghost use Rattle.booth_ticket.specs.Automatic.{Left, hear_message, acquire, follow, MayFollow, rule_due, role_due, tick};
+ghost use Rattle.booth_ticket.specs.Automatic.{Left, acquire, follow, MayFollow, rule_due, role_due, comes_due};
+ghost use Rattle.booth_ticket.specs.Keeping.{carry_out};
 
 use crate::hands::Hands;
 use crate::keeping::carry_out;
@@ -16,7 +18,7 @@ use booth_raft::{Core, Deed, Note, Role, Told, Want};
 use booth_wire::reasons::TLST;
 use booth_wire::{Head, Say, TicketPart};
 
-/// The message of the member at the place `from` is heard.
+/// The message of the member at the place `from` is heard. The last deed says what clients are told.
 pub(crate) fn hear_message<W: Hands>(
     core: &mut Core,
     from: u32,
@@ -24,23 +26,24 @@ pub(crate) fn hear_message<W: Hands>(
     part: &TicketPart,
     now: u64,
     hands: &mut W,
-)
+) -> Deed
     requires early { now < 2 ^ 62 }
     requires idle { core.old.view.waiting ≡ None }
     requires place { from < core.old.setup.members }
     requires other { from ≢ core.old.setup.place }
-    ensures did { DidSome W.did (λ acts. Leads IsAct
-        (hear_message core.old.setup core.old.view from head.now part.now now) acts
-        (Deeds.Ends (record { view = core.new.view }))) hands.old hands.new }
+    ensures did { DidSome W.did (λ acts. (rest : Outcome → Deeds Ask Left) → Leads IsAct
+        (carry_out core.old.setup (Some from) now
+        (hear core.old.setup core.old.view from head.now part.now now head.now.cmd) rest) acts
+        (rest (record { view = core.new.view; deed = result }))) hands.old hands.new }
     ensures setup { core.new.setup ≡ core.old.setup }
     ensures idle { core.new.view.waiting ≡ None }
 {
     let deed = core.hear(now, from, head, part);
-    carry_out(core, Some(from), now, deed, hands);
+    carry_out(core, Some(from), now, deed, hands)
 }
 
-// A deed in which clients alone are told.
-fn telling(told: Told) -> Deed
+/// A deed in which clients alone are told.
+pub(crate) fn telling(told: Told) -> Deed
     ensures { result ≡ record { keep = None; say = Say.Nothing; want = Want.Nothing; told = told } }
 {
     Deed {
@@ -129,18 +132,19 @@ fn role_due(core: &mut Core, now: u64) -> Deed
     rule_due(core, now)
 }
 
-/// The deadline has come.
-pub(crate) fn tick<W: Hands>(core: &mut Core, now: u64, hands: &mut W)
+/// The deadline has come. The last deed says what clients are told.
+pub(crate) fn tick<W: Hands>(core: &mut Core, now: u64, hands: &mut W) -> Deed
     requires early { now < 2 ^ 62 }
     requires idle { core.old.view.waiting ≡ None }
     requires due { IsDue core.old.view now }
-    ensures did { DidSome W.did (λ acts. Leads IsAct (tick core.old.setup core.old.view now) acts
-        (Deeds.Ends (record { view = core.new.view }))) hands.old hands.new }
+    ensures did { DidSome W.did (λ acts. (rest : Outcome → Deeds Ask Left) → Leads IsAct
+        (comes_due core.old.setup core.old.view now rest) acts
+        (rest (record { view = core.new.view; deed = result }))) hands.old hands.new }
     ensures setup { core.new.setup ≡ core.old.setup }
     ensures idle { core.new.view.waiting ≡ None }
 {
     let words = core.hello(now);
     say(core.setup(), None, &words, hands);
     let deed = role_due(core, now);
-    carry_out(core, None, now, deed, hands);
+    carry_out(core, None, now, deed, hands)
 }

@@ -9,11 +9,14 @@ pub mod laws;
 mod request;
 mod requests;
 mod saying;
+mod telling;
 #[cfg(test)]
 mod tests;
 mod ticket;
+mod waiters;
 
 pub use fake::{FakeHands, Noted};
 pub use hands::{Hands, To};
 pub use request::{Request, Wish};
 pub use ticket::{Owner, Ticket};
+pub use waiters::{WAITERS, Waiter, Waiters};

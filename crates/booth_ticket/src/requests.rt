@@ -1,26 +1,28 @@
 //! What a client asks of an automatic ticket.
-ghost use Rattle.std.specs.Prelude.{◌≡◌, ◌<◌, ◌^◌, None, IsTrue};
+ghost use Rattle.std.specs.Prelude.{◌≡◌, ◌≢◌, ◌<◌, ◌^◌, ◌&&◌, ◌==◌, ℕ, None, IsTrue, length, slice_set};
 ghost use Rattle.booth_base.specs.Tree.{Deeds, Leads};
-ghost use Rattle.booth_wire.specs.Command.{kind_of};
-ghost use Rattle.booth_wire.specs.declared.command.Kind.{Kind};
-ghost use Rattle.booth_raft.specs.Messages.{head_of, state_part};
+ghost use Rattle.booth_wire.specs.declared.codes.results.TheConstants.{ASYN};
+ghost use Rattle.booth_raft.specs.Members.{is_follower};
+ghost use Rattle.booth_raft.specs.Outcome.{Outcome};
 ghost use Rattle.booth_ticket.specs.Acts.{Ask, DidSome, IsAct};
 ghost use Rattle.booth_ticket.specs.Automatic.{Left};
-ghost use Rattle.booth_ticket.specs.Requests.{is_holder, is_shown_elsewhere, reply, refused_grant, grant_result, grant, refused_revoke, revoke_result, revoke, wish};
+ghost use Rattle.booth_ticket.specs.Requests.{is_holder, is_shown_elsewhere, holder_result, refused_grant, grant_result, grant, refused_revoke, revoke_result, revoke, done_for, wish};
+ghost use Rattle.booth_ticket.specs.Waiting.{waiting_at, spare_in, waits, joins};
 
-use crate::automatic::acquire;
-use crate::hands::{Hands, To};
+use crate::automatic::{acquire, telling};
+use crate::hands::Hands;
 use crate::keeping::carry_out;
 use crate::request::{Request, Wish};
+use crate::telling::{commits, join, reply, tell, waits};
+use crate::waiters::Waiters;
 use booth_base::MemberId;
 use booth_raft::{
-    Core, Note, Role, Shown, Told, View, are_terms_spent, is_promised_elsewhere, own_end,
-    owner_now, seconds_left, shown_end,
+    Core, Deed, Note, Role, Shown, Told, View, are_terms_spent, is_promised_elsewhere, own_end,
 };
+use booth_wire::Setup;
 use booth_wire::options::WAIT;
 use booth_wire::reasons::ADMN;
 use booth_wire::results::{ASYN, BUSY, FAIL, IARG, OVER, PEND, REDR, SUCCESS, TIDL};
-use booth_wire::{Cmd, Head, Setup, TicketPart};
 
 // This site leads, and its lease is not over.
 fn is_holder(setup: &Setup, view: &View, now: u64) -> bool
@@ -36,54 +38,29 @@ fn is_shown_elsewhere(shown: Option<Shown>, me: MemberId, now: u64) -> bool
     shown.is_some_and(|shown| now < shown.until && shown.owner != me)
 }
 
-fn reply_head(setup: &Setup, request: &Request, cmd: Cmd, answer: u32) -> Head
-    ensures { result ≡ head_of setup.now cmd request.now.number 0 0 answer }
+// What a grant is answered at a site that holds the ticket.
+fn holder_result(sure: bool, spare: u32, options: u32) -> u32
+    ensures { result ≡ holder_result sure spare options }
 {
-    Head {
-        auth: false,
-        secs: 0,
-        usecs: 0,
-        from: setup.me,
-        cmd,
-        request: request.number,
-        options: 0,
-        reason: 0,
-        result: answer,
+    if sure {
+        return SUCCESS;
     }
-}
-
-fn reply_part(setup: &Setup, view: &View, now: u64) -> TicketPart
-    ensures { result ≡ state_part setup.now view.now now }
-{
-    TicketPart {
-        ticket: setup.ticket.copy(),
-        leader: owner_now(view.shown, now),
-        term: view.term,
-        valid_for: seconds_left(shown_end(view.shown), now),
+    match (commits(options), spare) {
+        (false, _) => PEND,
+        (true, 0) => BUSY,
+        (true, _) => ASYN,
     }
-}
-
-// Replies to a request, with the state of the ticket.
-fn reply<W: Hands>(core: &Core, request: &Request, cmd: Cmd, answer: u32, now: u64, hands: &mut W)
-    requires kind { kind_of cmd ≡ Kind.Ticket }
-    ensures did { DidSome W.did (λ acts. Leads IsAct
-        (reply core.now.setup request.now cmd answer core.now.view now) acts
-        (Deeds.Ends (record { view = core.now.view }))) hands.old hands.new }
-{
-    let head = reply_head(core.setup(), request, cmd, answer);
-    let part = reply_part(core.setup(), core.view(), now);
-    hands.say(To::Client(request.from), &head, &part);
 }
 
 // What a grant is answered at once, or none where the ticket is acquired.
-fn refused_grant(setup: &Setup, view: &View, options: u32, now: u64) -> Option<u32>
-    ensures { result ≡ refused_grant setup.now view.now options now }
+fn refused_grant(setup: &Setup, view: &View, spare: u32, options: u32, now: u64) -> Option<u32>
+    ensures { result ≡ refused_grant setup.now view.now spare options now }
 {
-    if !setup.site || options != 0 {
+    if !setup.site || options != 0 && !waits(options) {
         return Some(IARG);
     }
     if is_holder(setup, view, now) {
-        return Some(if view.sure { SUCCESS } else { PEND });
+        return Some(holder_result(view.sure, spare, options));
     }
     if is_shown_elsewhere(view.shown, setup.me, now) {
         return Some(OVER);
@@ -94,60 +71,74 @@ fn refused_grant(setup: &Setup, view: &View, options: u32, now: u64) -> Option<u
     if are_terms_spent(view) {
         return Some(FAIL);
     }
+    if waits(options) && spare == 0 {
+        return Some(BUSY);
+    }
     None
 }
 
-// The result of an acquisition.
-fn grant_result(told: Told) -> u32
-    ensures { result ≡ grant_result told }
+// The result of an acquisition. To who wants to hear of the keep, a lease that could not be kept was
+// begun.
+fn grant_result(options: u32, told: Told) -> u32
+    ensures { result ≡ grant_result options told }
 {
     match told {
         Told::Gained { sure: true } => SUCCESS,
-        Told::Gained { sure: false } => PEND,
+        Told::Gained { sure: false } => if commits(options) { ASYN } else { PEND },
         Told::Nothing => ASYN,
         Told::RoundFailed | Told::AskFailed | Told::Released | Told::ReleaseFailed | Told::Lost =>
             FAIL,
     }
 }
 
-// The ticket is acquired for a client, who is told what became of it.
-fn acquire_for<W: Hands>(core: &mut Core, request: &Request, now: u64, hands: &mut W)
+/// What a client is answered, and the last deed that was done for it.
+#[derive(Drop)]
+pub(crate) struct Done {
+    pub answer: u32,
+    pub last: Deed,
+}
+
+// The ticket is acquired for a client.
+fn acquire_for<W: Hands>(core: &mut Core, options: u32, now: u64, hands: &mut W) -> Done
     requires early { now < 2 ^ 62 }
     requires idle { core.old.view.waiting ≡ None }
-    requires acquires { refused_grant core.old.setup core.old.view request.now.options now ≡ None }
-    ensures did { DidSome W.did (λ acts. Leads IsAct
-        (grant core.old.setup core.old.view request.now None now) acts
-        (Deeds.Ends (record { view = core.new.view }))) hands.old hands.new }
+    requires site { IsTrue core.old.setup.site }
+    requires follows { IsTrue (is_follower core.old.view.role) }
+    ensures did { DidSome W.did (λ acts. (rest : ℕ → Outcome → Deeds Ask Left) → Leads IsAct
+        (grant core.old.setup core.old.view options None now rest) acts
+        (rest result.answer (record { view = core.new.view; deed = result.last })))
+        hands.old hands.new }
     ensures setup { core.new.setup ≡ core.old.setup }
     ensures idle { core.new.view.waiting ≡ None }
 {
     core.note(now, Note::Asked);
     let deed = acquire(core, ADMN, now);
     let last = carry_out(core, None, now, deed, hands);
-    reply(
-        core,
-        request,
-        Cmd::RGnt,
-        grant_result(last.told),
-        now,
-        hands,
-    );
+    Done {
+        answer: grant_result(options, last.told),
+        last,
+    }
 }
 
-// The ticket is granted, or it is said why not, or that it was begun.
-fn grant<W: Hands>(core: &mut Core, request: &Request, now: u64, hands: &mut W)
+// The ticket is granted, or it is found why not.
+fn grant<W: Hands>(core: &mut Core, spare: u32, options: u32, now: u64, hands: &mut W) -> Done
     requires early { now < 2 ^ 62 }
     requires idle { core.old.view.waiting ≡ None }
-    ensures did { DidSome W.did (λ acts. Leads IsAct
-        (grant core.old.setup core.old.view request.now
-        (refused_grant core.old.setup core.old.view request.now.options now) now) acts
-        (Deeds.Ends (record { view = core.new.view }))) hands.old hands.new }
+    ensures did { DidSome W.did (λ acts. (rest : ℕ → Outcome → Deeds Ask Left) → Leads IsAct
+        (grant core.old.setup core.old.view options
+        (refused_grant core.old.setup core.old.view spare options now) now rest) acts
+        (rest result.answer (record { view = core.new.view; deed = result.last })))
+        hands.old hands.new }
+    ensures room { IsTrue (waits options && result.answer == ASYN) → 0 < spare }
     ensures setup { core.new.setup ≡ core.old.setup }
     ensures idle { core.new.view.waiting ≡ None }
 {
-    match refused_grant(core.setup(), core.view(), request.options, now) {
-        Some(answer) => reply(core, request, Cmd::RGnt, answer, now, hands),
-        None => acquire_for(core, request, now, hands),
+    match refused_grant(core.setup(), core.view(), spare, options, now) {
+        Some(answer) => Done {
+            answer,
+            last: telling(Told::Nothing),
+        },
+        None => acquire_for(core, options, now, hands),
     }
 }
 
@@ -181,58 +172,91 @@ fn revoke_result(told: Told) -> u32
     }
 }
 
-// The lease is given back for a client, who is told whether that is kept.
-fn release_for<W: Hands>(core: &mut Core, request: &Request, now: u64, hands: &mut W)
+// The lease is given back for a client.
+fn release_for<W: Hands>(core: &mut Core, now: u64, hands: &mut W) -> Done
     requires early { now < 2 ^ 62 }
     requires idle { core.old.view.waiting ≡ None }
     requires holds { IsTrue (is_holder core.old.setup core.old.view now) }
-    ensures did { DidSome W.did (λ acts. Leads IsAct
-        (revoke core.old.setup core.old.view request.now None now) acts
-        (Deeds.Ends (record { view = core.new.view }))) hands.old hands.new }
+    ensures did { DidSome W.did (λ acts. (rest : ℕ → Outcome → Deeds Ask Left) → Leads IsAct
+        (revoke core.old.setup core.old.view None now rest) acts
+        (rest result.answer (record { view = core.new.view; deed = result.last })))
+        hands.old hands.new }
+    ensures never { result.answer ≢ ASYN }
     ensures setup { core.new.setup ≡ core.old.setup }
     ensures idle { core.new.view.waiting ≡ None }
 {
     let deed = core.release(now, ADMN);
     let last = carry_out(core, None, now, deed, hands);
-    reply(
-        core,
-        request,
-        Cmd::RRvk,
-        revoke_result(last.told),
-        now,
-        hands,
-    );
-}
-
-// The lease is given back, or it is said why not.
-fn revoke<W: Hands>(core: &mut Core, request: &Request, now: u64, hands: &mut W)
-    requires early { now < 2 ^ 62 }
-    requires idle { core.old.view.waiting ≡ None }
-    ensures did { DidSome W.did (λ acts. Leads IsAct
-        (revoke core.old.setup core.old.view request.now
-        (refused_revoke core.old.setup core.old.view request.now.options now) now) acts
-        (Deeds.Ends (record { view = core.new.view }))) hands.old hands.new }
-    ensures setup { core.new.setup ≡ core.old.setup }
-    ensures idle { core.new.view.waiting ≡ None }
-{
-    match refused_revoke(core.setup(), core.view(), request.options, now) {
-        Some(answer) => reply(core, request, Cmd::RRvk, answer, now, hands),
-        None => release_for(core, request, now, hands),
+    Done {
+        answer: revoke_result(last.told),
+        last,
     }
 }
 
-/// What the client wishes is done, or it is told why not.
-pub(crate) fn wish<W: Hands>(core: &mut Core, request: &Request, now: u64, hands: &mut W)
+// The lease is given back, or it is found why not.
+fn revoke<W: Hands>(core: &mut Core, options: u32, now: u64, hands: &mut W) -> Done
     requires early { now < 2 ^ 62 }
     requires idle { core.old.view.waiting ≡ None }
-    ensures did { DidSome W.did (λ acts. Leads IsAct
-        (wish core.old.setup core.old.view request.now request.now.wish now) acts
-        (Deeds.Ends (record { view = core.new.view }))) hands.old hands.new }
+    ensures did { DidSome W.did (λ acts. (rest : ℕ → Outcome → Deeds Ask Left) → Leads IsAct
+        (revoke core.old.setup core.old.view
+        (refused_revoke core.old.setup core.old.view options now) now rest) acts
+        (rest result.answer (record { view = core.new.view; deed = result.last })))
+        hands.old hands.new }
+    ensures never { result.answer ≢ ASYN }
+    ensures setup { core.new.setup ≡ core.old.setup }
+    ensures idle { core.new.view.waiting ≡ None }
+{
+    match refused_revoke(core.setup(), core.view(), options, now) {
+        Some(answer) => Done {
+            answer,
+            last: telling(Told::Nothing),
+        },
+        None => release_for(core, now, hands),
+    }
+}
+
+// What the client wishes is done, or it is found why not.
+fn do_for<W: Hands>(core: &mut Core, request: &Request, spare: u32, now: u64, hands: &mut W) -> Done
+    requires early { now < 2 ^ 62 }
+    requires idle { core.old.view.waiting ≡ None }
+    ensures did { DidSome W.did (λ acts. (rest : ℕ → Outcome → Deeds Ask Left) → Leads IsAct
+        (done_for core.old.setup core.old.view spare request.now.options request.now.wish now rest)
+        acts (rest result.answer (record { view = core.new.view; deed = result.last })))
+        hands.old hands.new }
+    ensures room { IsTrue (joins request.now result.answer) → 0 < spare }
     ensures setup { core.new.setup ≡ core.old.setup }
     ensures idle { core.new.view.waiting ≡ None }
 {
     match request.wish {
-        Wish::Grant => grant(core, request, now, hands),
-        Wish::Revoke => revoke(core, request, now, hands),
+        Wish::Grant => grant(core, spare, request.options, now, hands),
+        Wish::Revoke => revoke(core, request.options, now, hands),
     }
+}
+
+/// A client's request is followed: what it wishes is done, those that wait are told, and then it is
+/// answered.
+pub(crate) fn follow_request<W: Hands>(
+    core: &mut Core,
+    request: &Request,
+    now: u64,
+    list: u32,
+    waiters: &mut Waiters,
+    hands: &mut W,
+)
+    requires early { now < 2 ^ 62 }
+    requires idle { core.old.view.waiting ≡ None }
+    requires exists { list < length waiters.old }
+    ensures did { DidSome W.did (λ acts. Leads IsAct
+        (wish core.old.setup core.old.view (waiting_at waiters.old list) (spare_in waiters.old)
+        request.now request.now.wish now) acts
+        (Deeds.Ends (record { view = core.new.view; waiters = waiting_at waiters.new list })))
+        hands.old hands.new }
+    ensures others { waiters.new ≡ slice_set waiters.old list (waiting_at waiters.new list) }
+    ensures setup { core.new.setup ≡ core.old.setup }
+    ensures idle { core.new.view.waiting ≡ None }
+{
+    let done = do_for(core, request, waiters.spare(), now, hands);
+    tell(core, done.last.told, now, list, waiters, hands);
+    reply(core, request, done.answer, now, hands);
+    join(request, done.answer, list, waiters);
 }

@@ -7,21 +7,21 @@ ghost use Rattle.booth_wire.specs.Command.{kind_of};
 ghost use Rattle.booth_wire.specs.declared.command.Kind.{Kind};
 ghost use Rattle.booth_raft.specs.Sound.{IsSound};
 ghost use Rattle.booth_raft.specs.Speech.{IsSpeech};
-ghost use Rattle.booth_raft.specs.declared.view.TheConstants.{MOST_MEMBERS};
+ghost use Rattle.booth_base.specs.declared.limits.TheConstants.{MEMBERS};
 ghost use Rattle.booth_ticket.specs.Acts.{Ask, DidSome, IsAct};
 ghost use Rattle.booth_ticket.specs.Automatic.{Left};
 ghost use Rattle.booth_ticket.specs.Saying.{others, places_in, say, say_back};
 
 use crate::hands::{Hands, To};
 use arrayvec::ArrayVec;
-use booth_raft::MOST_MEMBERS;
+use booth_base::MEMBERS;
 use booth_wire::{Head, Say, Setup, TicketPart};
 
-type Places = ArrayVec<u32, MOST_MEMBERS>;
+type Places = ArrayVec<u32, MEMBERS>;
 
 // A place joins the others where it is one of those looked for.
 fn add_where(places: &mut Places, place: u32, looked_for: bool)
-    requires room { array_vec_len places.old < MOST_MEMBERS }
+    requires room { array_vec_len places.old < MEMBERS }
     ensures { places.new.items ≡ places.old.items ++ cond looked_for (place ∷ []) [] }
 {
     if looked_for {
@@ -53,7 +53,7 @@ fn places_in(bits: u16) -> Places
     ensures { result.items ≡ places_in bits }
 {
     let mut places = ArrayVec::new();
-    for place in 0..MOST_MEMBERS as u32 {
+    for place in 0..MEMBERS as u32 {
         add_where(&mut places, place, is_set(bits, place));
     }
     places

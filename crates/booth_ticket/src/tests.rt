@@ -3,3 +3,4 @@ mod failed_keeps;
 mod lives;
 mod refusals;
 mod script;
+mod waiting;

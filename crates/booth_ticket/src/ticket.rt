@@ -1,9 +1,11 @@
 //! A ticket.
-ghost use Rattle.std.specs.Prelude.{◌≡◌, ◌≢◌, ◌<◌, ◌^◌};
+ghost use Rattle.std.specs.Prelude.{◌≡◌, ◌≢◌, ◌<◌, ◌^◌, length, slice_set};
 ghost use Rattle.booth_ticket.specs.Ticket.{shown_owner};
 
 use crate::hands::Hands;
 use crate::request::Request;
+use crate::telling::tell;
+use crate::waiters::Waiters;
 use crate::{automatic, requests};
 use booth_base::MemberId;
 use booth_raft::{Core, Shown};
@@ -21,8 +23,9 @@ pub struct Owner {
 
 /// A ticket at one member.
 ///
-/// Every `now` is a reading of the member's clock in milliseconds since 1970, below 2^62. No call
-/// takes memory.
+/// Every `now` is a reading of the member's clock in milliseconds since 1970, below 2^62. The clients
+/// that wait for it stand at the place `list` of `waiters`; no call changes another list. No call takes
+/// memory.
 #[derive(Drop)]
 pub struct Ticket {
     core: Core,
@@ -57,6 +60,7 @@ impl Ticket {
     ghost use Rattle.std.specs.Prelude.{option_copied};
     ghost use Rattle.booth_ticket.specs.Acts.{DidSome, IsAct};
     ghost use Rattle.booth_ticket.specs.Ticket.{opened, ticket_heard, ticket_asked, ticket_due, deadline, owner, IsDue};
+    ghost use Rattle.booth_ticket.specs.Waiting.{waiting_at, spare_in};
 
     /// An automatic ticket starts, from the record that was kept.
     pub fn open(setup: &Setup, kept: Option<&Record>, now: u64) -> Ticket
@@ -84,40 +88,62 @@ impl Ticket {
         from: u32,
         head: &Head,
         part: &TicketPart,
+        list: u32,
+        waiters: &mut Waiters,
         hands: &mut W,
     )
         requires early { now < 2 ^ 62 }
         requires place { from < self.old.setup.members }
         requires other { from ≢ self.old.setup.place }
+        requires exists { list < length waiters.old }
         ensures did { DidSome W.did (λ acts. Leads IsAct
-            (ticket_heard self.old.setup self.old.known from head.now part.now now) acts
-            (Deeds.Ends self.new)) hands.old hands.new }
+            (ticket_heard self.old.setup self.old.known (waiting_at waiters.old list) from head.now
+            part.now now) acts
+            (Deeds.Ends (record { ticket = self.new; waiters = waiting_at waiters.new list })))
+            hands.old hands.new }
         ensures setup { self.new.setup ≡ self.old.setup }
+        ensures others { waiters.new ≡ slice_set waiters.old list (waiting_at waiters.new list) }
     {
-        automatic::hear_message(&mut self.core, from, head, part, now, hands)
+        let last = automatic::hear_message(&mut self.core, from, head, part, now, hands);
+        tell(&self.core, last.told, now, list, waiters, hands);
     }
 
     /// A client's request is followed. The reply is the last deed.
-    pub fn client<W: Hands>(&mut self, now: u64, request: &Request, hands: &mut W)
+    pub fn client<W: Hands>(
+        &mut self,
+        now: u64,
+        request: &Request,
+        list: u32,
+        waiters: &mut Waiters,
+        hands: &mut W,
+    )
         requires early { now < 2 ^ 62 }
+        requires exists { list < length waiters.old }
         ensures did { DidSome W.did (λ acts. Leads IsAct
-            (ticket_asked self.old.setup self.old.known request.now now) acts
-            (Deeds.Ends self.new)) hands.old hands.new }
+            (ticket_asked self.old.setup self.old.known (waiting_at waiters.old list)
+            (spare_in waiters.old) request.now now) acts
+            (Deeds.Ends (record { ticket = self.new; waiters = waiting_at waiters.new list })))
+            hands.old hands.new }
         ensures setup { self.new.setup ≡ self.old.setup }
+        ensures others { waiters.new ≡ slice_set waiters.old list (waiting_at waiters.new list) }
     {
-        requests::wish(&mut self.core, request, now, hands)
+        requests::follow_request(&mut self.core, request, now, list, waiters, hands)
     }
 
     /// The deadline has come.
-    pub fn tick<W: Hands>(&mut self, now: u64, hands: &mut W)
+    pub fn tick<W: Hands>(&mut self, now: u64, list: u32, waiters: &mut Waiters, hands: &mut W)
         requires early { now < 2 ^ 62 }
         requires due { IsDue self.old.known now }
+        requires exists { list < length waiters.old }
         ensures did { DidSome W.did (λ acts. Leads IsAct
-            (ticket_due self.old.setup self.old.known now) acts
-            (Deeds.Ends self.new)) hands.old hands.new }
+            (ticket_due self.old.setup self.old.known (waiting_at waiters.old list) now) acts
+            (Deeds.Ends (record { ticket = self.new; waiters = waiting_at waiters.new list })))
+            hands.old hands.new }
         ensures setup { self.new.setup ≡ self.old.setup }
+        ensures others { waiters.new ≡ slice_set waiters.old list (waiting_at waiters.new list) }
     {
-        automatic::tick(&mut self.core, now, hands)
+        let last = automatic::tick(&mut self.core, now, hands);
+        tell(&self.core, last.told, now, list, waiters, hands);
     }
 
     /// When it is next to be looked at, in milliseconds since 1970.

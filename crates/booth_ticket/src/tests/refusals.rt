@@ -55,11 +55,11 @@ fn an_arbitrator_is_not_granted(rt: HostRuntime) {
 fn options_are_refused_first(rt: HostRuntime) {
     let mut s1 = holder(&rt, rt.alloc());
     let state = (S1, 1, 500);
-    for options in [1, 2, 4, 6] {
+    for options in [1, 3, 5, 7, 8, 14] {
         let reply = replies(S1, Cmd::RGnt, IARG, state);
         check(&rt, &mut s1, 1_100_000, Call::Grant(options), &[reply]);
     }
-    for options in [1, 3, 4, 6] {
+    for options in [1, 3, 4, 6, 8] {
         let reply = replies(S1, Cmd::RRvk, IARG, state);
         check(&rt, &mut s1, 1_100_000, Call::Revoke(options), &[reply]);
     }

@@ -1,8 +1,8 @@
 //! How a script drives a ticket: each step is one call, and its acts are compared as plain values.
-ghost use Rattle.std.specs.Prelude.{◌<◌, ◌^◌};
+ghost use Rattle.std.specs.Prelude.{◌≡◌, ◌<◌, ◌^◌, length};
 ghost use Rattle.booth_raft.specs.Sound.{IsSound};
 
-use crate::{FakeHands, Noted, Request, Ticket, To, Wish};
+use crate::{FakeHands, Noted, Request, Ticket, To, Waiters, Wish};
 use booth_base::{Address, MemberId, NO_ONE, Name, Peer, Times};
 use booth_rec::{Lease, Record};
 use booth_wire::{Cmd, Head, Setup, TicketPart};
@@ -15,13 +15,16 @@ pub const S2: MemberId = MemberId(2);
 
 pub const AR: MemberId = MemberId(3);
 
-/// Who asks in all scripts, and with which number.
-const CLIENT: Peer = Peer {
-    address: Address::V4([192, 168, 201, 9]),
-    port: 4_711,
-};
-
+/// The number of a request where a script names none.
 const NUMBER: u32 = 77;
+
+/// Who asks with this number: each client has a port of its own.
+fn client(number: u32) -> Peer {
+    Peer {
+        address: Address::V4([192, 168, 201, 9]),
+        port: (number % 60_000) as u16,
+    }
+}
 
 /// The default times: a lease of 600 s, a promise of 601,203 ms.
 const TIMES: Times = Times {
@@ -52,11 +55,15 @@ fn setup(rt: &impl Abort, place: u32, members: u32) -> Setup
     }
 }
 
-/// A ticket, and the hands by which it acts.
+/// A ticket, the hands by which it acts, and the clients that wait for it and for a second one.
 #[derive(Drop)]
 pub struct Stage {
     pub ticket: Ticket,
+    /// Whether the ticket is the second one.
+    pub second: bool,
+    waiters: Waiters,
     hands: FakeHands,
+    ghost two: { length waiters ≡ 2 },
 }
 
 /// A ticket that starts at 0, at the member at a place of so many.
@@ -69,6 +76,8 @@ pub fn opened(
 ) -> Stage {
     Stage {
         ticket: Ticket::open(&setup(rt, place, members), kept.as_ref(), 0),
+        second: false,
+        waiters: Waiters::new(alloc, 2).expect(rt, "memory for those that wait"),
         hands: FakeHands::new(alloc),
     }
 }
@@ -128,12 +137,23 @@ pub fn to(place: u32, said: Said) -> Did {
 
 /// The reply to the client: a result, and the state of the ticket at a member.
 pub fn replies(from: MemberId, cmd: Cmd, answer: u32, state: (MemberId, u32, u32)) -> Did {
+    tells(NUMBER, from, cmd, answer, state)
+}
+
+/// The same to the client with this number.
+pub fn tells(
+    number: u32,
+    from: MemberId,
+    cmd: Cmd,
+    answer: u32,
+    state: (MemberId, u32, u32),
+) -> Did {
     let said = Said {
-        request: NUMBER,
+        request: number,
         result: answer,
         ..Said::of(from, cmd, state.0, state.1, state.2)
     };
-    Did::Said(To::Client(CLIENT), said)
+    Did::Said(To::Client(client(number)), said)
 }
 
 fn said_as(rt: &impl Abort, head: &Head, part: &TicketPart) -> Said {
@@ -164,6 +184,8 @@ fn read_note(rt: &impl Abort, noted: &Noted) -> Did {
 pub enum Call {
     /// Of a client, with these options.
     Grant(u32),
+    /// The same of the client with this number.
+    GrantTo(u32, u32),
     Revoke(u32),
     /// The message of the member at a place.
     Hear(u32, Said),
@@ -179,66 +201,87 @@ pub enum Keeps {
     FailAfterOne,
 }
 
-fn ask(ticket: &mut Ticket, now: u64, wish: Wish, options: u32, hands: &mut FakeHands)
-    requires { now < 2 ^ 62 }
-{
-    let request = Request {
+// The wish of the client with this number, with these options.
+fn asked(wish: Wish, number: u32, options: u32) -> Request {
+    Request {
         wish,
-        from: CLIENT,
-        number: NUMBER,
+        from: client(number),
+        number,
         options,
-    };
-    ticket.client(now, &request, hands);
+    }
 }
 
-fn hear(
-    rt: &impl Abort,
-    ticket: &mut Ticket,
-    now: u64,
-    from: u32,
-    heard: Said,
-    hands: &mut FakeHands,
-)
-    requires { now < 2 ^ 62 }
-{
-    let head = Head {
-        auth: false,
-        secs: 0,
-        usecs: 0,
-        from: heard.from,
-        cmd: heard.cmd,
-        request: heard.request,
-        options: heard.number,
-        reason: heard.reason,
-        result: heard.result,
-    };
-    let part = TicketPart {
-        ticket: name(rt),
-        leader: heard.leader,
-        term: heard.term,
-        valid_for: heard.left_seconds,
-    };
-    assert!(rt; from < ticket.setup().members && from != ticket.setup().place);
-    ticket.hear(now, from, &head, &part, hands);
-}
+impl Stage {
+    // The place of those that wait for the ticket.
+    fn list(&self) -> u32
+        ensures { result < 2 }
+    {
+        if self.second { 1 } else { 0 }
+    }
 
-fn tick(rt: &impl Abort, ticket: &mut Ticket, now: u64, hands: &mut FakeHands)
-    requires { now < 2 ^ 62 }
-{
-    assert!(rt;
-        ticket.deadline().is_some_and(|due| due <= now),
-        "due at {now}"
-    );
-    ticket.tick(now, hands);
-}
+    fn ask(&mut self, now: u64, request: Request)
+        requires { now < 2 ^ 62 }
+    {
+        let list = self.list();
+        self.ticket
+            .client(now, &request, list, &mut self.waiters, &mut self.hands);
+    }
 
-fn play(rt: &impl Abort, ticket: &mut Ticket, now: u64, call: Call, hands: &mut FakeHands) {
-    assert!(rt; now < 1_000_000_000_000);
-    match call {
-        Call::Grant(options) => ask(ticket, now, Wish::Grant, options, hands),
-        Call::Revoke(options) => ask(ticket, now, Wish::Revoke, options, hands),
-        Call::Hear(from, heard) => hear(rt, ticket, now, from, heard, hands),
-        Call::Due => tick(rt, ticket, now, hands),
+    fn hear(&mut self, rt: &impl Abort, now: u64, from: u32, heard: Said)
+        requires { now < 2 ^ 62 }
+    {
+        let head = Head {
+            auth: false,
+            secs: 0,
+            usecs: 0,
+            from: heard.from,
+            cmd: heard.cmd,
+            request: heard.request,
+            options: heard.number,
+            reason: heard.reason,
+            result: heard.result,
+        };
+        let part = TicketPart {
+            ticket: name(rt),
+            leader: heard.leader,
+            term: heard.term,
+            valid_for: heard.left_seconds,
+        };
+        let setup = self.ticket.setup();
+        assert!(rt; from < setup.members && from != setup.place);
+        let list = self.list();
+        self.ticket.hear(
+            now,
+            from,
+            &head,
+            &part,
+            list,
+            &mut self.waiters,
+            &mut self.hands,
+        );
+    }
+
+    fn tick(&mut self, rt: &impl Abort, now: u64)
+        requires { now < 2 ^ 62 }
+    {
+        assert!(rt;
+            self.ticket.deadline().is_some_and(|due| due <= now),
+            "due at {now}"
+        );
+        let list = self.list();
+        self.ticket
+            .tick(now, list, &mut self.waiters, &mut self.hands);
+    }
+
+    fn play(&mut self, rt: &impl Abort, now: u64, call: Call) {
+        assert!(rt; now < 1_000_000_000_000);
+        match call {
+            Call::Grant(options) => self.ask(now, asked(Wish::Grant, NUMBER, options)),
+            Call::GrantTo(number, options) => self.ask(now, asked(Wish::Grant, number, options)),
+            Call::Revoke(options) => self.ask(now, asked(Wish::Revoke, NUMBER, options)),
+            Call::Hear(from, heard) => self.hear(rt, now, from, heard),
+            Call::Due => self.tick(rt, now),
+        }
     }
 }
 
@@ -261,7 +304,7 @@ pub fn check_with(
     stage.hands.acts.clear();
     stage.hands.fails = matches!(keeps, Keeps::Fail);
     stage.hands.breaks = matches!(keeps, Keeps::FailAfterOne);
-    play(rt, &mut stage.ticket, now, call, &mut stage.hands);
+    stage.play(rt, now, call);
     assert!(rt; stage.hands.tells);
     compare(rt, &stage.hands.acts, want, now, call);
 }

@@ -7,4 +7,5 @@ use Rattle.booth_node.proofs.peers.put_address.Goals as goal
 pub put-requires-clause-form : goal.put-requires-clause-form
 put-requires-clause-form c =
     let P : List ℕ → Type 0 = λ bytes. list_all is_line_byte bytes ≡ true in
-    subst P (sym (c.as_bytes.ensures.value ∙ c.deref.ensures.0 ∙ c.print.ensures)) (address_is_line c.args.address c.is_whole.ensures)
+    subst P (sym (c.as_bytes.ensures.value ∙ c.deref.ensures.0 ∙ c.print.ensures))
+    (address_is_line c.args.address c.is_whole.ensures)

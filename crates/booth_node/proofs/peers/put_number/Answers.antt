@@ -7,4 +7,5 @@ use Rattle.booth_node.proofs.peers.put_number.Goals as goal
 pub put-requires-2-clause-form : goal.put-requires-2-clause-form
 put-requires-2-clause-form c =
     let P : List ℕ → Type 0 = λ bytes. list_all is_line_byte bytes ≡ true in
-    subst P (sym (c.as_bytes.ensures.value ∙ c.format.ensures.text)) (number_is_line c.args.number c.ranges.number.fits)
+    subst P (sym (c.as_bytes.ensures.value ∙ c.format.ensures.text))
+    (number_is_line c.args.number c.ranges.number.fits)

@@ -12,6 +12,8 @@ over (inr h) = inr h.1.0
 
 pub returns : goal.returns
 returns c =
-    nothing_left (other_line c.args.node.now) c.loop-member.member-iterator.a.rest.now c.loop-member.member-iterator.b.rest.now c.loop-member.text
-    (drops_line c.args.common.now.drops ++ flat_map (other_line c.args.node.now) (zip c.args.node.now.config.members c.args.common.now.members))
+    nothing_left (other_line c.args.node.now) c.loop-member.member-iterator.a.rest.now
+    c.loop-member.member-iterator.b.rest.now c.loop-member.text
+    (drops_line c.args.common.now.drops ++ flat_map (other_line c.args.node.now)
+    (zip c.args.node.now.config.members c.args.common.now.members))
     (over c.in-None.ensures.steps) c.loop-member.invariant.bytes

@@ -1,10 +1,24 @@
 use Rattle.booth_node.specs.View.{node_config, state_of}
-use Rattle.booth_node.proofs.TurnLemmas.{turn_of}
+use Rattle.booth_node.proofs.TurnLemmas.{went, stopped}
 use Rattle.booth_node.proofs.node.Node.turn.Goals as goal
 
-pub returns-clause-past : goal.returns-clause-past
-returns-clause-past g c =
-    turn_of (node_config c.args.self.now) (state_of c.args.self.now) (state_of c.clamp-now.new.self) (state_of c.arrive.new.self)
-    c.next-answer.result c.next-answer.new.into c.now-reading.result c.end_of.result c.end_of.ensures c.clamp-now.ensures.state
-    c.next-answer.ensures.past c.now-reading.ensures.past
-    (rw (c.clamp-now.ensures.value, c.clamp-now.ensures.datagram, c.clamp-now.ensures.node) at c.arrive.ensures.past)
+pub returns-in-Went-clause-past : goal.returns-in-Went-clause-past
+returns-in-Went-clause-past g c =
+    went (node_config c.args.self.now) (node_config c.clamp.new.self) (state_of c.args.self.now)
+    (state_of c.clamp.new.self) (state_of c.arrive.new.self)
+    c.next-answer.result c.next-answer.new.into c.clamp.new.self.datagram c.now-reading.result
+    c.end_of-turn.result c.end_of-turn.ensures
+    c.clamp.ensures.state c.clamp.ensures.node c.clamp.ensures.datagram c.next-answer.ensures.past
+    c.now-reading.ensures.past c.arrive.ensures.past
+    (node_config c.arrive.new.self) (state_of c.expire.new.self) c.in-Went.is c.arrive.ensures.node
+    c.arrive.ensures.reading c.expire.ensures.past
+
+pub returns-in-Stopped-clause-past : goal.returns-in-Stopped-clause-past
+returns-in-Stopped-clause-past g c =
+    stopped (node_config c.args.self.now) (node_config c.clamp.new.self) (state_of c.args.self.now)
+    (state_of c.clamp.new.self) (state_of c.arrive.new.self)
+    c.next-answer.result c.next-answer.new.into c.clamp.new.self.datagram c.now-reading.result
+    c.end_of-turn.result c.end_of-turn.ensures
+    c.clamp.ensures.state c.clamp.ensures.node c.clamp.ensures.datagram c.next-answer.ensures.past
+    c.now-reading.ensures.past c.arrive.ensures.past
+    c.in-Stopped.is

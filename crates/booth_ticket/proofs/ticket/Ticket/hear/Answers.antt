@@ -1,12 +1,34 @@
+use Rattle.std.proofs.Common.{sym, ap, ◌∙◌, set}
+use Rattle.std.specs.Prelude.{Some}
+use Rattle.booth_raft.specs.OtherMessages.{hear}
 use Rattle.booth_ticket.specs.Automatic.{hear_message}
-use Rattle.booth_ticket.proofs.CallLemmas.{by_rules_did}
+use Rattle.booth_ticket.specs.Keeping.{carry_out}
+use Rattle.booth_ticket.specs.Waiting.{waiting_at}
+use Rattle.booth_ticket.proofs.CallLemmas.{finished_call, by_rules_did}
+use Rattle.booth_ticket.proofs.KeepLemmas.{outcome_of}
+use Rattle.booth_ticket.proofs.TellLemmas.{waiting_set}
 use Rattle.booth_ticket.proofs.ticket.Ticket.hear.Goals as goal
 
 pub returns-clause-did : goal.returns-clause-did
 returns-clause-did g c =
     let core = c.self.inside.core in
+    let after = c.hear_message-last.new.core in
+    let lists = c.args.waiters.now in
+    let waiters = waiting_at lists c.args.list in
+    let stay = waiting_at c.tell.new.waiters c.args.list in
     rw (← c.self.view_is)
-    (by_rules_did core.setup c.hear_message.new.core.setup
-    (hear_message core.setup core.view c.args.from c.args.head.now c.args.part.now c.args.now)
-    c.hear_message.new.core.view
-    c.hear_message.ensures.setup c.hear_message.ensures.did)
+    (by_rules_did core.setup after.setup (hear_message core.setup core.view waiters c.args.from c.args.head.now c.args.part.now c.args.now)
+    (record { view = after.view; waiters = stay }) c.hear_message-last.ensures.setup
+    (finished_call core.setup after.setup c.args.now waiters stay
+    (carry_out core.setup (Some c.args.from) c.args.now
+    (hear core.setup core.view c.args.from c.args.head.now c.args.part.now c.args.now c.args.head.now.cmd))
+    (outcome_of after.view c.hear_message-last.result) c.hear_message-last.ensures.setup
+    c.hear_message-last.ensures.did c.tell.ensures.did
+    (waiting_set lists c.args.list _ c.tell.new.waiters c.requires.exists c.tell.ensures.left)))
+
+pub returns-clause-others : goal.returns-clause-others
+returns-clause-others g c =
+    c.tell.ensures.left
+    ∙ ap (set c.args.waiters.now c.args.list)
+    (sym (waiting_set c.args.waiters.now c.args.list _ c.tell.new.waiters c.requires.exists
+    c.tell.ensures.left))

@@ -1,10 +1,30 @@
-use Rattle.booth_ticket.specs.Automatic.{tick}
-use Rattle.booth_ticket.proofs.CallLemmas.{by_rules_did}
+use Rattle.std.proofs.Common.{sym, ap, ◌∙◌, set}
+use Rattle.booth_ticket.specs.Automatic.{comes_due, tick}
+use Rattle.booth_ticket.specs.Waiting.{waiting_at}
+use Rattle.booth_ticket.proofs.CallLemmas.{finished_call, by_rules_did}
+use Rattle.booth_ticket.proofs.KeepLemmas.{outcome_of}
+use Rattle.booth_ticket.proofs.TellLemmas.{waiting_set}
 use Rattle.booth_ticket.proofs.ticket.Ticket.tick.Goals as goal
 
 pub returns-clause-did : goal.returns-clause-did
 returns-clause-did g c =
     let core = c.self.inside.core in
+    let after = c.tick-last.new.core in
+    let lists = c.args.waiters.now in
+    let waiters = waiting_at lists c.args.list in
+    let stay = waiting_at c.tell.new.waiters c.args.list in
     rw (← c.self.view_is)
-    (by_rules_did core.setup c.tick.new.core.setup (tick core.setup core.view c.args.now)
-    c.tick.new.core.view c.tick.ensures.setup c.tick.ensures.did)
+    (by_rules_did core.setup after.setup (tick core.setup core.view waiters c.args.now)
+    (record { view = after.view; waiters = stay }) c.tick-last.ensures.setup
+    (finished_call core.setup after.setup c.args.now waiters stay
+    (comes_due core.setup core.view c.args.now)
+    (outcome_of after.view c.tick-last.result) c.tick-last.ensures.setup
+    c.tick-last.ensures.did c.tell.ensures.did
+    (waiting_set lists c.args.list _ c.tell.new.waiters c.requires.exists c.tell.ensures.left)))
+
+pub returns-clause-others : goal.returns-clause-others
+returns-clause-others g c =
+    c.tell.ensures.left
+    ∙ ap (set c.args.waiters.now c.args.list)
+    (sym (waiting_set c.args.waiters.now c.args.list _ c.tell.new.waiters c.requires.exists
+    c.tell.ensures.left))

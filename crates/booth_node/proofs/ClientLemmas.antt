@@ -1,0 +1,522 @@
+-- The laws on tickets, drops and clients.
+use Rattle.std.proofs.Common.{◌≡◌, ◌<◌, ◌≤◌, ◌⊎◌, inl, inr, ℕ, List, [], ◌∷◌, ◌++◌, length, slice_get, get_or, refl, sym, ap, ◌∙◌, subst, arith, append_assoc}
+use Rattle.std.specs.Prelude.{Option, Some, None, Result, Ok, Err, position}
+use Rattle.std.specs.List.{All}
+use Rattle.std.proofs.lemmas.List.{length-replicate}
+use Rattle.std.proofs.lemmas.Option.{slice_get_cases}
+use Rattle.booth_base.specs.declared.address.Peer.{Peer}
+use Rattle.booth_base.specs.Tree.{Ends, Leads, next}
+use Rattle.booth_conf.specs.Lookups.{is_called}
+use Rattle.booth_wire.specs.declared.command.Direction.{Direction}
+use Rattle.booth_wire.specs.declared.command.Direction.TheVariants.{ToDaemon, ToClient, BetweenMembers}
+use Rattle.booth_wire.specs.declared.message.Setup.{Setup}
+use Rattle.booth_wire.specs.Command.{answer_of, direction_of}
+use Rattle.booth_wire.specs.PlainMessage.{PlainMessage}
+use Rattle.booth_auth.specs.declared.admission.DropFault.{DropFault}
+use Rattle.booth_auth.specs.Sealed.{sealed}
+use Rattle.booth_auth.specs.Verdict.{verdict}
+use Rattle.booth_host.specs.declared.entry.Entry.{Entry}
+use Rattle.booth_host.specs.declared.entry.Entry.TheVariants as calls
+use Rattle.booth_host.specs.declared.host.Arrival.{Arrival}
+use Rattle.booth_host.specs.declared.host.Arrival.TheVariants as arrivals
+use Rattle.booth_host.specs.declared.host.Failed.{Failed}
+use Rattle.booth_raft.specs.Messages.{head_of, state_part}
+use Rattle.booth_ticket.specs.declared.request.Request.{Request}
+use Rattle.booth_ticket.specs.declared.waiters.Waiter.{Waiter}
+use Rattle.booth_ticket.specs.Acts.{Act}
+use Rattle.booth_ticket.specs.Requests.{reply_cmd}
+use Rattle.booth_ticket.specs.Ticket.{TicketState}
+use Rattle.booth_ticket.specs.Waiting.{spare_in, waiting_at}
+use Rattle.booth_node.specs.declared.event.Event.{Event}
+use Rattle.booth_node.specs.declared.event.Event.TheVariants.{Due, Heard, Asked}
+use Rattle.booth_node.specs.declared.node.Turn.{Turn}
+use Rattle.booth_node.specs.declared.node.Turn.TheVariants.{Went, Stopped}
+use Rattle.booth_node.specs.declared.node_config.NodeConfig.{NodeConfig}
+use Rattle.booth_node.specs.Calls.{IsAmong, ReachesWaiters}
+use Rattle.booth_node.specs.Counting.{accepted, dropped}
+use Rattle.booth_node.specs.Laws.{IsSettled, NobodyIsForgotten, NothingRests, OpensWithItsTickets, KeepsItsTickets, DropsAlone, CountsEachFault, drops_by, drops_after, IsReplyTo, ClientsAreAnswered, asked_by, request_let_in, request_of, OthersAreNotAnswered}
+use Rattle.booth_node.specs.Opening.{AreSetUp, start_reading}
+use Rattle.booth_node.specs.Reaction.{Action, Drops, Hears, Asks, Answers, Rests, IsDone, action, acts, acts_as, arrived, demanded, due_places, dues, each_due, met, react, sent_as, turn_end}
+use Rattle.booth_node.specs.State.{State}
+use Rattle.booth_node.proofs.ActionLemmas.{ticket_below}
+use Rattle.booth_node.proofs.ComesLemmas.{Comes, IsAnsweredAtOnce, IsAsked, IsHeard, comes}
+use Rattle.booth_node.proofs.DueLemmas.{Each, all_of_each}
+use Rattle.booth_node.proofs.PathLemmas.{Seen, Split, at_end, is_send, seen_parts, split}
+use Rattle.booth_node.proofs.StayLemmas.{AllFewer, AllRemember, Stays, acted_at, acted_remember, acted_set_up, acted_undropped, acts_stay, all_among, as_many, dues_stay, each_fewer, remember_on, set_up_at, started_set_up, stays_here}
+use Rattle.booth_node.proofs.TalkLemmas.{Replies, asked_replied, each_joined, heard_among, reply_act}
+
+abbrev pub at_moment : State → ℕ → State
+at_moment state moment = record state { last_reading = moment }
+
+-- ---- the tickets
+
+pub opens : OpensWithItsTickets
+opens node records reading same = (
+  started_set_up node (start_reading reading) 0 node.config.tickets records same,
+  length-replicate {A = List Waiter} (length node.config.tickets) [],
+)
+
+module _ (node : NodeConfig) (moment : ℕ) where
+  acts_set_up : (state : State) (place : ℕ) (event : Event) (es : List Entry) (after : State)
+      → AreSetUp node state
+      → Leads (IsDone node.key) (acts node moment state place event) es (Ends after) → AreSetUp node after
+  acts_set_up state place event es after set_up leads = by_ticket (slice_get state.tickets place) refl
+    where
+      by_ticket : (o : Option TicketState) → slice_get state.tickets place ≡ o → AreSetUp node after
+      by_ticket None is =
+          (stays_here node state after es set_up
+          (subst (λ (o : Option TicketState). Leads (IsDone node.key)
+          (acts_as node moment state place event o) es (Ends after))
+          is leads)).set_up
+      by_ticket (Some ticket) is =
+          acted_set_up node moment state place event ticket es after set_up is
+          (acted_at node moment state place event ticket es after is leads)
+
+  met_set_up : (state : State) (from : Peer) (a : Action) (es : List Entry) (after : State)
+      → AreSetUp node state
+      → Leads (IsDone node.key) (met node moment state from a) es (Ends after) → AreSetUp node after
+  met_set_up state from (Drops fault) es after set_up leads =
+      (stays_here node (dropped state fault) after es set_up leads).set_up
+  met_set_up state from (Hears member ticket head part) es after set_up leads =
+      acts_set_up (accepted state member moment) ticket (Heard member head part) es after set_up leads
+  met_set_up state from (Asks ticket request) es after set_up leads =
+      acts_set_up state ticket (Asked request) es after set_up leads
+  met_set_up state from (Answers letter) [] after set_up leads = absurd cc
+  met_set_up state from (Answers letter) (e ∷ es) after set_up leads =
+      (stays_here node state after es set_up leads.2).set_up
+  met_set_up state from Rests es after set_up leads = (stays_here node state after es set_up leads).set_up
+
+  arrived_set_up : (state : State) (arrival : Result Arrival Failed) (bytes : List ℕ) (es : List Entry)
+      (after : State)
+      → AreSetUp node state
+      → Leads (IsDone node.key) (arrived node moment state arrival bytes) es (Ends after)
+      → AreSetUp node after
+  arrived_set_up state (Ok (arrivals.Datagram from)) bytes es after set_up leads =
+      met_set_up state from (action node moment state.tickets state.common from bytes) es after set_up leads
+  arrived_set_up state (Ok arrivals.Quiet) bytes es after set_up leads =
+      (stays_here node state after es set_up leads).set_up
+  arrived_set_up state (Ok arrivals.Stop) bytes es after set_up leads =
+      (stays_here node state after es set_up leads).set_up
+  arrived_set_up state (Err failed) bytes es after set_up leads =
+      (stays_here node state after es set_up leads).set_up
+
+-- the arrival's row of a turn, and then the deadlines'
+abbrev pub Parts : NodeConfig → State → ℕ → Result Arrival Failed → List ℕ → List Entry → State → Type 0
+Parts node old moment arrival bytes entries new =
+    Split (IsDone node.key) (arrived node moment (at_moment old moment) arrival bytes)
+    (dues node moment (turn_end arrival)) entries new
+
+pub parts_of : (node : NodeConfig) (old new : State) (moment : ℕ) (arrival : Result Arrival Failed)
+    (bytes : List ℕ)
+    (entries : List Entry) → Leads (IsDone node.key) (react node old moment arrival bytes) entries (Ends new)
+    → Parts node old moment arrival bytes entries new
+parts_of node old new moment arrival bytes entries leads =
+    split (IsDone node.key) (arrived node moment (at_moment old moment) arrival bytes)
+    (dues node moment (turn_end arrival))
+    entries new leads
+
+pub keeps : KeepsItsTickets
+keeps node old new moment arrival bytes entries set_up leads =
+    let parts = parts_of node old new moment arrival bytes entries leads in
+    (dues_stay node moment (turn_end arrival) parts.mid new parts.later
+    (arrived_set_up node moment (at_moment old moment) arrival bytes parts.first parts.mid set_up
+    parts.to_mid) parts.to_end).set_up
+
+-- ---- what a datagram comes to
+
+settled : (node : NodeConfig) (from : Peer) (letter : PlainMessage) (a : Action) → Comes node from letter a
+    → IsSettled node a
+settled node from letter a (IsAnsweredAtOnce to reply is replies) = subst (λ (x : Action). IsSettled node x)
+    (sym is) tt
+settled node from letter a (IsAsked to place request is part named same_from same_number answer) =
+    subst (λ (x : Action). IsSettled node x) (sym is)
+    (ticket_below node.config.tickets part.ticket place named)
+settled node from letter a (IsHeard to member place part is content known named) =
+    subst (λ (x : Action). IsSettled node x) (sym is) (known, named)
+
+pub rests_not : NothingRests
+rests_not node moment state from bytes = by_verdict (verdict node.config node.key node.me moment bytes) refl
+  where
+    by_verdict : (v : Result PlainMessage DropFault) → verdict node.config node.key node.me moment bytes ≡ v
+        → IsSettled node (action node moment state.tickets state.common from bytes)
+    by_verdict (Err fault) is =
+        subst (λ (v : Result PlainMessage DropFault). IsSettled node
+        (demanded node moment state.tickets state.common from v))
+        (sym is) tt
+    by_verdict (Ok letter) is =
+        settled node from letter (action node moment state.tickets state.common from bytes)
+        (comes node moment state.tickets state.common from bytes letter is)
+
+-- ---- drops
+
+pub alone : DropsAlone
+alone node old new moment from bytes fault entries is leads =
+    subst (λ (v : Result PlainMessage DropFault).
+    Leads (IsDone node.key)
+    (next (met node moment (at_moment old moment) from (demanded node moment old.tickets old.common from v))
+    (dues node moment Went))
+    entries (Ends new)) is leads
+
+module _ (node : NodeConfig) (moment : ℕ) where
+  acts_undropped : (state : State) (place : ℕ) (event : Event) (es : List Entry) (after : State)
+      → Leads (IsDone node.key) (acts node moment state place event) es (Ends after)
+      → after.common.drops ≡ state.common.drops
+  acts_undropped state place event es after leads = by_ticket (slice_get state.tickets place) refl
+    where
+      by_ticket : (o : Option TicketState) → slice_get state.tickets place ≡ o
+          → after.common.drops ≡ state.common.drops
+      by_ticket None is =
+          ap (λ (s : State). s.common.drops)
+          (at_end (IsDone node.key) state after es
+          (subst (λ (o : Option TicketState). Leads (IsDone node.key)
+          (acts_as node moment state place event o) es (Ends after))
+          is leads)).1
+      by_ticket (Some ticket) is =
+          acted_undropped node moment state place event ticket es after
+          (acted_at node moment state place event ticket es after is leads)
+
+  each_undropped : (places : List ℕ) (state after : State) (es : List Entry)
+      → Leads (IsDone node.key) (each_due node moment places state) es (Ends after)
+      → after.common.drops ≡ state.common.drops
+  each_undropped [] state after es leads = ap (λ (s : State). s.common.drops)
+      (at_end (IsDone node.key) state after es leads).1
+  each_undropped (place ∷ places) state after es leads =
+      let parts : Split (IsDone node.key) (acts node moment state place Due) (each_due node moment places)
+      es after =
+      split (IsDone node.key) (acts node moment state place Due) (each_due node moment places) es after
+      leads in
+      each_undropped places parts.mid after parts.later parts.to_end
+      ∙ acts_undropped state place Due parts.first parts.mid parts.to_mid
+
+  dues_undropped : (turn : Turn) (state after : State) (es : List Entry)
+      → Leads (IsDone node.key) (dues node moment turn state) es (Ends after)
+      → after.common.drops ≡ state.common.drops
+  dues_undropped Went state after es leads = each_undropped (due_places moment state.tickets) state after es
+      leads
+  dues_undropped Stopped state after es leads = ap (λ (s : State). s.common.drops)
+      (at_end (IsDone node.key) state after es leads).1
+
+  let_in_undropped : (state : State) (from : Peer) (letter : PlainMessage) (a : Action) (es : List Entry)
+      (after : State)
+      → Comes node from letter a → Leads (IsDone node.key) (met node moment state from a) es (Ends after)
+      → after.common.drops ≡ state.common.drops
+  let_in_undropped state from letter a es after (IsAnsweredAtOnce to reply is replies) leads =
+      sent es (subst (λ (x : Action). Leads (IsDone node.key) (met node moment state from x) es
+      (Ends after)) is leads)
+    where
+      sent : (es : List Entry)
+          → Leads (IsDone node.key) (met node moment state from (Answers reply)) es (Ends after)
+          → after.common.drops ≡ state.common.drops
+      sent [] leads = absurd cc
+      sent (e ∷ es) leads = ap (λ (s : State). s.common.drops)
+          (at_end (IsDone node.key) state after es leads.2).1
+  let_in_undropped state from letter a es after
+      (IsAsked to place request is part named same_from same_number answer) leads =
+      acts_undropped state place (Asked request) es after
+      (subst (λ (x : Action). Leads (IsDone node.key) (met node moment state from x) es (Ends after)) is
+      leads)
+  let_in_undropped state from letter a es after (IsHeard to member place part is content known named) leads =
+      acts_undropped (accepted state member moment) place (Heard member letter.head part) es after
+      (subst (λ (x : Action). Leads (IsDone node.key) (met node moment state from x) es (Ends after)) is
+      leads)
+
+  arrived_drops : (state : State) (arrival : Result Arrival Failed) (bytes : List ℕ) (es : List Entry)
+      (after : State)
+      → Leads (IsDone node.key) (arrived node moment state arrival bytes) es (Ends after)
+      → after.common.drops ≡ drops_after node moment state.common arrival bytes
+  arrived_drops state (Ok (arrivals.Datagram from)) bytes es after leads =
+      by_verdict (verdict node.config node.key node.me moment bytes) refl
+    where
+      by_verdict : (v : Result PlainMessage DropFault) → verdict node.config node.key node.me moment bytes ≡ v
+          → after.common.drops ≡ drops_by state.common (verdict node.config node.key node.me moment bytes)
+      by_verdict (Err fault) is =
+          ap (λ (s : State). s.common.drops)
+          (at_end (IsDone node.key) (dropped state fault) after es
+          (subst (λ (v : Result PlainMessage DropFault).
+          Leads (IsDone node.key)
+          (met node moment state from (demanded node moment state.tickets state.common from v)) es
+          (Ends after))
+          is leads)).1
+          ∙ ap (λ (v : Result PlainMessage DropFault). drops_by state.common v) (sym is)
+      by_verdict (Ok letter) is =
+          let_in_undropped state from letter (action node moment state.tickets state.common from bytes) es
+          after
+          (comes node moment state.tickets state.common from bytes letter is) leads
+          ∙ ap (λ (v : Result PlainMessage DropFault). drops_by state.common v) (sym is)
+  arrived_drops state (Ok arrivals.Quiet) bytes es after leads =
+      ap (λ (s : State). s.common.drops) (at_end (IsDone node.key) state after es leads).1
+  arrived_drops state (Ok arrivals.Stop) bytes es after leads =
+      ap (λ (s : State). s.common.drops) (at_end (IsDone node.key) state after es leads).1
+  arrived_drops state (Err failed) bytes es after leads =
+      ap (λ (s : State). s.common.drops) (at_end (IsDone node.key) state after es leads).1
+
+pub counts : CountsEachFault
+counts node old new moment arrival bytes entries leads =
+    let parts = parts_of node old new moment arrival bytes entries leads in
+    dues_undropped node moment (turn_end arrival) parts.mid new parts.later parts.to_end
+    ∙ arrived_drops node moment (at_moment old moment) arrival bytes parts.first parts.mid parts.to_mid
+
+-- ---- clients
+
+-- the calls of an arrival that is a client's request
+record Answered (node : NodeConfig) (state : State) (from : Peer) (letter : PlainMessage)
+    (es : List Entry) (after : State) : Type 0 where
+  before : List Entry
+  reply : PlainMessage
+  answer : Result (Unit {0}) Failed
+  whole : es ≡ before ++ calls.Send from (sealed node.key reply) answer ∷ []
+  replies : IsReplyTo node letter reply
+  among : Each (ReachesWaiters node state.waiters) before
+  set_up : AreSetUp node after
+
+module _ (node : NodeConfig) (moment : ℕ) (state : State) (from : Peer) (letter : PlainMessage)
+    (set_up : AreSetUp node state) where
+  answered_once : (reply : PlainMessage) (es : List Entry) (after : State) → IsReplyTo node letter reply
+      → Leads (IsDone node.key) (met node moment state from (Answers reply)) es (Ends after)
+      → Answered node state from letter es after
+  answered_once reply [] after replies leads = absurd cc
+  answered_once reply (e ∷ es) after replies leads =
+      let sent = is_send node.key from reply leads.0 e leads.1 in
+      let over = at_end (IsDone node.key) state after es leads.2 in
+      record {
+        before = [];
+        reply = reply;
+        answer = sent.0;
+        whole = ap (λ (l : List Entry). e ∷ l) over.0 ∙ ap (λ (x : Entry). x ∷ []) sent.1;
+        replies = replies;
+        among = tt;
+        set_up = subst (λ (s : State). AreSetUp node s) (sym over.1) set_up;
+      }
+
+  answered_so : (place : ℕ) (request : Request) (ticket : TicketState) (es : List Entry) (after : State)
+      → request.from ≡ from → request.number ≡ letter.head.request
+      → answer_of letter.head.cmd ≡ Some (reply_cmd request.wish)
+      → slice_get state.tickets place ≡ Some ticket
+      → Leads (IsDone node.key) (acts node moment state place (Asked request)) es (Ends after)
+      → Answered node state from letter es after
+  answered_so place request ticket es after same_from same_number answer there leads =
+      let acted = acted_at node moment state place (Asked request) ticket es after there leads in
+      let waiters : List Waiter = waiting_at state.waiters place in
+      let says : Replies ticket.setup waiters acted.left.waiters request (reply_cmd request.wish) moment
+      acted.did =
+      asked_replied ticket acted.left waiters (spare_in state.waiters) moment acted.did request acted.leads in
+      let last : Act = reply_act ticket.setup request (reply_cmd request.wish) says.result says.view moment
+      says.ok in
+      let own : ticket.setup.me ≡ node.me = ap (λ (s : Setup). s.me)
+      (set_up_at node state place ticket set_up there).2 in
+      let parts =
+      seen_parts node moment ticket.setup.ticket says.before (last ∷ []) es
+      (subst (λ (l : List Act). Seen node moment ticket.setup.ticket l es) says.whole acted.seen) in
+      let reply : PlainMessage =
+      sent_as node moment (head_of ticket.setup (reply_cmd request.wish) request.number 0 0 says.result)
+      (state_part ticket.setup says.view moment) in
+      let sent = parts.4.1 in
+      record {
+        before = parts.0;
+        reply = reply;
+        answer = sent.0;
+        whole = parts.2
+            ∙ ap (λ (l : List Entry). parts.0 ++ l)
+            (sent.2 ∙ ap (λ (l : List Entry). calls.Send request.from (sealed node.key reply) sent.0 ∷ l)
+            sent.3
+            ∙ ap (λ (p : Peer). calls.Send p (sealed node.key reply) sent.0 ∷ []) same_from);
+        replies = record { cmd = answer; request = same_number; options = refl; reason = refl; from = own };
+        among = all_among node moment ticket.setup.ticket ticket.setup own state.waiters place says.before
+            parts.0 says.among parts.3;
+        set_up = acted_set_up node moment state place (Asked request) ticket es after set_up there acted;
+      }
+
+  -- the ticket at a place of the configuration
+  ticket_there : (place : ℕ) (name : List ℕ) → position (is_called name) node.config.tickets ≡ Some place
+      → (ticket : TicketState) × (slice_get state.tickets place ≡ Some ticket)
+  ticket_there place name named = by_cases (slice_get_cases state.tickets place).1
+    where
+      below : place < length state.tickets
+      below = subst (λ (n : ℕ). place < n) (sym (as_many node state set_up))
+          (ticket_below node.config.tickets name place named)
+
+      by_cases : ((t : TicketState) × (place < length state.tickets)
+          × (slice_get state.tickets place ≡ Some t) × (get_or state.tickets place t ≡ t))
+          ⊎ ((length state.tickets ≤ place) × (slice_get state.tickets place ≡ None))
+          → (ticket : TicketState) × (slice_get state.tickets place ≡ Some ticket)
+      by_cases (inl h) = (h.0, h.2)
+      by_cases (inr h) = let low = below in absurd (omega (arith, low, h.0))
+
+  differ : (d e : Direction) → d ≡ ToDaemon → d ≡ BetweenMembers → ⊥
+  differ d e first second = cc
+
+  answered : (a : Action) (es : List Entry) (after : State) → direction_of letter.head.cmd ≡ ToDaemon
+      → Comes node from letter a
+      → Leads (IsDone node.key) (met node moment state from a) es (Ends after)
+      → Answered node state from letter es after
+  answered a es after asks (IsAnsweredAtOnce to reply is replies) leads =
+      answered_once reply es after replies
+      (subst (λ (x : Action). Leads (IsDone node.key) (met node moment state from x) es (Ends after)) is
+      leads)
+  answered a es after asks (IsAsked to place request is part named same_from same_number answer) leads =
+      let it = ticket_there place part.ticket named in
+      answered_so place request it.0 es after same_from same_number answer it.1
+      (subst (λ (x : Action). Leads (IsDone node.key) (met node moment state from x) es (Ends after)) is
+      leads)
+  answered a es after asks (IsHeard to member place part is content known named) leads = absurd
+      (differ _ ToDaemon asks to)
+
+pub clients : ClientsAreAnswered
+clients node old new moment from letter entries set_up turn asks =
+    let parts = parts_of node old new moment (Ok (arrivals.Datagram from)) turn.bytes entries turn.deeds in
+    let a : Action = action node moment old.tickets old.common from turn.bytes in
+    let it : Answered node (at_moment old moment) from letter parts.first parts.mid =
+    answered node moment (at_moment old moment) from letter set_up a parts.first parts.mid asks
+    (comes node moment old.tickets old.common from turn.bytes letter turn.let_in) parts.to_mid in
+    let due = dues_stay node moment Went parts.mid new parts.later it.set_up parts.to_end in
+    record {
+      before = it.before;
+      reply = it.reply;
+      answer = it.answer;
+      deadlines = parts.later;
+      whole = parts.whole ∙ ap (λ (l : List Entry). l ++ parts.later) it.whole
+          ∙ append_assoc it.before (calls.Send from (sealed node.key it.reply) it.answer ∷ []) parts.later;
+      replies = it.replies;
+      waited = all_of_each (ReachesWaiters node old.waiters) it.before it.among;
+      after = parts.mid;
+      waiting = all_of_each (ReachesWaiters node parts.mid.waiters) parts.later due.among;
+      follow = parts.to_end;
+    }
+
+-- ---- nobody else is answered
+
+asks_nothing : (d : Direction) (letter : PlainMessage) → asked_by d letter ≡ None → d ≡ ToDaemon → ⊥
+asks_nothing ToDaemon letter none to = cc
+asks_nothing BetweenMembers letter none to = cc
+asks_nothing ToClient letter none to = cc
+
+module _ (node : NodeConfig) (moment : ℕ) (state : State) (set_up : AreSetUp node state) where
+  -- these calls reach members and those that wait alone, and nobody waits that did not
+  record Quiet (es : List Entry) (after : State) : Type 0 where
+    among : Each (ReachesWaiters node state.waiters) es
+    fewer : AllFewer state.waiters after.waiters
+
+  quiet_by : (mid : State) (es : List Entry) (after : State) → mid.waiters ≡ state.waiters
+      → Stays node mid after es → Quiet es after
+  quiet_by mid es after same stays = record {
+    among = subst (λ (ws : List (List Waiter)). Each (ReachesWaiters node ws) es) same stays.among;
+    fewer = subst (λ (ws : List (List Waiter)). AllFewer ws after.waiters) same stays.fewer;
+  }
+
+  unasked_stays : (from : Peer) (letter : PlainMessage) (a : Action) (es : List Entry) (after : State)
+      → asked_by (direction_of letter.head.cmd) letter ≡ None → Comes node from letter a
+      → Leads (IsDone node.key) (met node moment state from a) es (Ends after)
+      → Quiet es after
+  unasked_stays from letter a es after none (IsAnsweredAtOnce to reply is replies) leads =
+      absurd (asks_nothing (direction_of letter.head.cmd) letter none to)
+  unasked_stays from letter a es after none
+      (IsAsked to place request is part named same_from same_number answer) leads =
+      absurd (asks_nothing (direction_of letter.head.cmd) letter none to)
+  unasked_stays from letter a es after none (IsHeard to member place part is content known named) leads =
+      quiet_by (accepted state member moment) es after refl
+      (acts_stay node moment (accepted state member moment) place (Heard member letter.head part) es after
+      (λ ticket left waiters spare did leads.
+      heard_among ticket left waiters spare moment did member letter.head part leads)
+      set_up
+      (subst (λ (x : Action). Leads (IsDone node.key) (met node moment state from x) es (Ends after)) is
+      leads))
+
+  arrived_unasked : (arrival : Result Arrival Failed) (bytes : List ℕ) (es : List Entry) (after : State)
+      → request_of node moment arrival bytes ≡ None
+      → Leads (IsDone node.key) (arrived node moment state arrival bytes) es (Ends after)
+      → Quiet es after
+  arrived_unasked (Ok (arrivals.Datagram from)) bytes es after none leads =
+      by_verdict (verdict node.config node.key node.me moment bytes) refl
+    where
+      by_verdict : (v : Result PlainMessage DropFault) → verdict node.config node.key node.me moment bytes ≡ v
+          → Quiet es after
+      by_verdict (Err fault) is =
+          quiet_by (dropped state fault) es after refl
+          (stays_here node (dropped state fault) after es set_up
+          (subst (λ (v : Result PlainMessage DropFault).
+          Leads (IsDone node.key)
+          (met node moment state from (demanded node moment state.tickets state.common from v)) es
+          (Ends after))
+          is leads))
+      by_verdict (Ok letter) is =
+          unasked_stays from letter (action node moment state.tickets state.common from bytes) es after
+          (ap (λ (v : Result PlainMessage DropFault). request_let_in v) (sym is) ∙ none)
+          (comes node moment state.tickets state.common from bytes letter is) leads
+  arrived_unasked (Ok arrivals.Quiet) bytes es after none leads =
+      quiet_by state es after refl (stays_here node state after es set_up leads)
+  arrived_unasked (Ok arrivals.Stop) bytes es after none leads =
+      quiet_by state es after refl (stays_here node state after es set_up leads)
+  arrived_unasked (Err failed) bytes es after none leads =
+      quiet_by state es after refl (stays_here node state after es set_up leads)
+
+pub others : OthersAreNotAnswered
+others node old new moment arrival bytes entries set_up leads none =
+    let parts = parts_of node old new moment arrival bytes entries leads in
+    let first = arrived_unasked node moment (at_moment old moment) set_up arrival bytes parts.first
+    parts.mid none parts.to_mid in
+    let due =
+    dues_stay node moment (turn_end arrival) parts.mid new parts.later
+    (arrived_set_up node moment (at_moment old moment) arrival bytes parts.first parts.mid set_up
+    parts.to_mid) parts.to_end in
+    subst (λ (l : List Entry). All (ReachesWaiters node old.waiters) l) (sym parts.whole)
+    (all_of_each (ReachesWaiters node old.waiters) (parts.first ++ parts.later)
+    (each_joined (ReachesWaiters node old.waiters) parts.first parts.later first.among
+    (each_fewer node old.waiters parts.mid.waiters parts.later first.fewer due.among)))
+
+-- ---- nobody is forgotten
+
+module _ (node : NodeConfig) (moment : ℕ) (state : State) (set_up : AreSetUp node state) where
+  abbrev Kept : List Entry → State → Type 0
+  Kept es after = AllRemember node state.waiters after.waiters es
+
+  asks_remember : (place : ℕ) (request : Request) (es : List Entry) (after : State)
+      → Leads (IsDone node.key) (acts node moment state place (Asked request)) es (Ends after) → Kept es after
+  asks_remember place request es after leads = by_ticket (slice_get state.tickets place) refl
+    where
+      by_ticket : (o : Option TicketState) → slice_get state.tickets place ≡ o → Kept es after
+      by_ticket None is =
+          (stays_here node state after es set_up
+          (subst (λ (o : Option TicketState). Leads (IsDone node.key)
+          (acts_as node moment state place (Asked request) o) es (Ends after)) is leads)).remember
+      by_ticket (Some ticket) is =
+          let acted = acted_at node moment state place (Asked request) ticket es after is leads in
+          acted_remember node moment state place (Asked request) ticket es after set_up is acted
+          (asked_replied ticket acted.left (waiting_at state.waiters place) (spare_in state.waiters) moment
+          acted.did request acted.leads).remembers
+
+  met_remember : (from : Peer) (a : Action) (es : List Entry) (after : State)
+      → Leads (IsDone node.key) (met node moment state from a) es (Ends after) → Kept es after
+  met_remember from (Drops fault) es after leads =
+      (stays_here node (dropped state fault) after es set_up leads).remember
+  met_remember from (Hears member ticket head part) es after leads =
+      (acts_stay node moment (accepted state member moment) ticket (Heard member head part) es after
+      (λ t left waiters spare did l. heard_among t left waiters spare moment did member head part l) set_up
+      leads).remember
+  met_remember from (Asks ticket request) es after leads = asks_remember ticket request es after leads
+  met_remember from (Answers letter) [] after leads = absurd cc
+  met_remember from (Answers letter) (e ∷ es) after leads = λ place w h.
+      inl (subst (λ (s : State). IsAmong w (waiting_at s.waiters place))
+      (sym (at_end (IsDone node.key) state after es leads.2).1) h)
+  met_remember from Rests es after leads = (stays_here node state after es set_up leads).remember
+
+  arrived_remember : (arrival : Result Arrival Failed) (bytes : List ℕ) (es : List Entry) (after : State)
+      → Leads (IsDone node.key) (arrived node moment state arrival bytes) es (Ends after) → Kept es after
+  arrived_remember (Ok (arrivals.Datagram from)) bytes es after leads =
+      met_remember from (action node moment state.tickets state.common from bytes) es after leads
+  arrived_remember (Ok arrivals.Quiet) bytes es after leads =
+      (stays_here node state after es set_up leads).remember
+  arrived_remember (Ok arrivals.Stop) bytes es after leads =
+      (stays_here node state after es set_up leads).remember
+  arrived_remember (Err failed) bytes es after leads = (stays_here node state after es set_up leads).remember
+
+pub nobody : NobodyIsForgotten
+nobody node old new moment arrival bytes entries set_up leads =
+    let parts = parts_of node old new moment arrival bytes entries leads in
+    let first = arrived_remember node moment (at_moment old moment) set_up arrival bytes parts.first parts.mid
+    parts.to_mid in
+    let due =
+    dues_stay node moment (turn_end arrival) parts.mid new parts.later
+    (arrived_set_up node moment (at_moment old moment) arrival bytes parts.first parts.mid set_up
+    parts.to_mid) parts.to_end in
+    remember_on node old.waiters parts.mid.waiters new.waiters parts.first parts.later entries parts.whole first
+    due.remember

@@ -1,0 +1,289 @@
+-- What a message that was let in comes to.
+use Rattle.std.proofs.Common.{◌≡◌, ℕ, true, false, List, Option, Some, None, Result, Ok, Err, refl, sym, ap, subst, ◌∙◌}
+use Rattle.std.specs.Prelude.{ok_or, option_map, position, is_some, not}
+use Rattle.booth_base.specs.declared.address.Peer.{Peer as Sender}
+use Rattle.booth_conf.specs.Config.{has_id}
+use Rattle.booth_conf.specs.Lookups.{is_called}
+use Rattle.booth_wire.specs.declared.command.Cmd.{Cmd}
+use Rattle.booth_wire.specs.declared.command.Cmd.TheVariants.{CLst, Peer, CGnt, CRvk, ASet, AGet, ADel, ALst, RLst, RPer, RALs, RGnt, RRvk, RAtr, Stat, MIdx, RVot, VtFr, HrtB, Ack, UpdE, Revk, Rjc}
+use Rattle.booth_wire.specs.declared.command.Direction.{Direction}
+use Rattle.booth_wire.specs.declared.command.Direction.TheVariants.{ToDaemon, ToClient, BetweenMembers}
+use Rattle.booth_wire.specs.declared.message.AttrPart.{AttrPart}
+use Rattle.booth_wire.specs.declared.message.FrameFault.{FrameFault}
+use Rattle.booth_wire.specs.declared.message.FrameFault.TheVariants as faults
+use Rattle.booth_wire.specs.declared.message.TicketPart.{TicketPart}
+use Rattle.booth_wire.specs.Command.{kind_of, direction_of, answer_of}
+use Rattle.booth_wire.specs.PlainMessage.{Content, Ticket, Attr, PlainMessage}
+use Rattle.booth_wire.specs.Layout.{field_at}
+use Rattle.booth_wire.specs.Reading.{◌>>=◌, name_in, value_in, head_read, body_read, ticket_with, ticket_in, attr_with, content_in, decoded}
+use Rattle.booth_auth.specs.Verdict.{is_stranger, may_come_from, names_no_ticket, part_of_member, member_part, verdict}
+use Rattle.booth_auth.specs.Sealed.{stamped}
+use Rattle.booth_auth.proofs.GateLemmas.{lets_in}
+use Rattle.booth_ticket.specs.declared.request.Request.{Request}
+use Rattle.booth_ticket.specs.declared.request.Wish.TheVariants.{Grant, Revoke}
+use Rattle.booth_ticket.specs.Ticket.{TicketState}
+use Rattle.booth_node.specs.declared.node_config.NodeConfig.{NodeConfig}
+use Rattle.booth_node.specs.declared.state.Common.{Common}
+use Rattle.booth_node.specs.Replies.{Reply, text_for, no_ticket, no_attribute, reply_with, reply_letter, reply_to, request_in, request_of, wish_of}
+use Rattle.booth_node.specs.Reaction.{Action, Hears, Asks, Answers, answers, asks, hears, requested, routed, said, demanded, action}
+use Rattle.booth_node.specs.Laws.{IsReplyTo}
+use Rattle.booth_ticket.specs.Requests.{reply_cmd}
+
+-- ---- what was read
+
+bind_ok : {A B : Type 0} (r : Result A FrameFault) (f : A → Result B FrameFault) (y : B) →
+    (r >>= f) ≡ Ok y → (x : A) × (r ≡ Ok x) × (f x ≡ Ok y)
+bind_ok (Ok x) f y h = (x, refl, h)
+bind_ok (Err e) f y h = absurd cc
+
+ok_or_ok : {A : Type 0} (o : Option A) (e : FrameFault) (x : A) → ok_or o e ≡ Ok x → o ≡ Some x
+ok_or_ok None e x h = absurd cc
+ok_or_ok (Some y) e x h = cc
+
+mapped : {A B : Type 0} (f : A → B) (o : Option A) (y : B) → option_map f o ≡ Some y →
+    (x : A) × (o ≡ Some x) × (f x ≡ y)
+mapped f None y h = absurd cc
+mapped f (Some x) y h = (x, refl, cc)
+
+-- these bytes are such a content, for this command
+abbrev IsRead : Cmd → Content → Type 0
+IsRead cmd content = (inner : List ℕ) × (content_in cmd (kind_of cmd) inner ≡ Some content)
+
+content_read : (bytes : List ℕ) (l : PlainMessage) → decoded bytes ≡ Ok l → IsRead l.head.cmd l.content
+content_read bytes l read =
+    let a =
+    bind_ok (head_read bytes)
+    (λ h. body_read h bytes >>= λ inner. ok_or (content_in h.cmd (kind_of h.cmd) inner) faults.Name
+    >>= λ c. Ok (record { head = h; content = c })) l read in
+    let b =
+    bind_ok (body_read a.0 bytes)
+    (λ inner. ok_or (content_in a.0.cmd (kind_of a.0.cmd) inner) faults.Name
+    >>= λ c. Ok (record { head = a.0; content = c })) l a.2 in
+    let c =
+    bind_ok (ok_or (content_in a.0.cmd (kind_of a.0.cmd) b.0) faults.Name)
+    (λ c. Ok (record { head = a.0; content = c })) l b.2 in
+    let made : PlainMessage = record { head = a.0; content = c.0 } in
+    let is : made ≡ l = cc (c.2) in
+    subst (λ (x : PlainMessage). IsRead x.head.cmd x.content) {x = made} is
+    (b.0, ok_or_ok (content_in a.0.cmd (kind_of a.0.cmd) b.0) faults.Name c.0 c.1)
+
+-- ---- replies that are made at once
+
+abbrev HasReply : Option Reply → Type 0
+HasReply found = (reply : Reply) × (found ≡ Some reply)
+
+-- a ticket command's content is a ticket's part
+abbrev IsPart : Content → Type 0
+IsPart content = (part : TicketPart) × (content ≡ Ticket part)
+
+ticket_part : (bytes : List ℕ) (c : Content) → ticket_in bytes ≡ Some c → IsPart c
+ticket_part bytes c read =
+    let t = mapped (ticket_with bytes) (name_in (field_at 0 64 bytes)) c read in
+    (_, sym t.2)
+
+attr_reply_with : (ticket name value : Option (List ℕ)) (c : Content) →
+    attr_with ticket (option_map (λ text. Some text) name) value ≡ Some c → HasReply (no_attribute c)
+attr_reply_with None name value c read = absurd cc
+attr_reply_with (Some ticket) None value c read = absurd cc
+attr_reply_with (Some ticket) (Some name) None c read = absurd cc
+attr_reply_with (Some ticket) (Some name) (Some value) c read =
+    let part : AttrPart = record { ticket = ticket; name = Some name; value = value } in
+    let is : Attr part ≡ c = cc in
+    (_, ap no_attribute (sym is))
+
+attr_reply : (bytes : List ℕ) (c : Content) →
+    attr_with (name_in (field_at 0 64 bytes))
+    (option_map (λ text. Some text) (name_in (field_at 64 64 bytes)))
+    (value_in (field_at 128 128 bytes)) ≡ Some c → HasReply (no_attribute c)
+attr_reply bytes c read =
+    attr_reply_with (name_in (field_at 0 64 bytes)) (name_in (field_at 64 64 bytes))
+    (value_in (field_at 128 128 bytes)) c read
+
+-- ---- what it comes to
+
+-- A client's message is answered at once or asked of a ticket, and a member's is heard by its ticket.
+pub data Comes (node : NodeConfig) (from : Sender) (letter : PlainMessage) (a : Action) : Type 0 where
+  IsAnsweredAtOnce : direction_of letter.head.cmd ≡ ToDaemon → (reply : PlainMessage) → a ≡ Answers reply
+      → IsReplyTo node letter reply → Comes node from letter a
+  IsAsked : direction_of letter.head.cmd ≡ ToDaemon → (place : ℕ) (request : Request) → a ≡ Asks place request
+      → (part : TicketPart) → position (is_called part.ticket) node.config.tickets ≡ Some place
+      → request.from ≡ from → request.number ≡ letter.head.request
+      → answer_of letter.head.cmd ≡ Some (reply_cmd request.wish) → Comes node from letter a
+  IsHeard : direction_of letter.head.cmd ≡ BetweenMembers → (member place : ℕ) (part : TicketPart)
+      → a ≡ Hears member place letter.head part → letter.content ≡ Ticket part
+      → position (has_id letter.head.from) node.config.members ≡ Some member
+      → position (is_called part.ticket) node.config.tickets ≡ Some place → Comes node from letter a
+
+module _ (node : NodeConfig) (moment : ℕ) (tickets : List TicketState) (common : Common) (from : Sender)
+    (letter : PlainMessage) where
+  abbrev Routed : Action
+  Routed = routed node moment tickets common from letter (direction_of letter.head.cmd)
+
+  at_once : (cmd out : Cmd) → letter.head.cmd ≡ cmd → answer_of cmd ≡ Some out → direction_of cmd ≡ ToDaemon
+      → HasReply (reply_with (text_for node moment tickets common cmd) cmd letter.content)
+      → Routed ≡ answers node.key moment (reply_to node moment tickets common letter)
+      → Comes node from letter Routed
+  at_once cmd out is answer to found routes =
+      let reply : PlainMessage = reply_letter node.me letter.head.request out found.0 in
+      let same : reply_to node moment tickets common letter ≡ Some reply = rw (is, answer, found.1) refl in
+      IsAnsweredAtOnce (ap direction_of is ∙ to) (stamped node.key moment reply)
+      (routes ∙ ap (λ r. answers node.key moment r) same)
+      (record { cmd = ap answer_of is ∙ answer; request = refl; options = refl; reason = refl; from = refl })
+
+  -- a request that is about no ticket goes to none
+  unasked : (cmd out : Cmd) → letter.head.cmd ≡ cmd → answer_of cmd ≡ Some out → direction_of cmd ≡ ToDaemon
+      → wish_of cmd ≡ None
+      → HasReply (reply_with (text_for node moment tickets common cmd) cmd letter.content)
+      → Comes node from letter Routed
+  unasked cmd out is answer to none found =
+      at_once cmd out is answer to found
+      (ap (λ d. routed node moment tickets common from letter d) (ap direction_of is ∙ to)
+      ∙ ap (λ w. requested node moment tickets common letter (request_of from letter.head w letter.content))
+      (ap wish_of is ∙ none))
+
+  asks_of : (cmd : Cmd) (request : Request) → letter.head.cmd ≡ cmd → direction_of cmd ≡ ToDaemon
+      → (part : TicketPart) → request_in from letter ≡ Some (part, request)
+      → answer_of cmd ≡ Some (reply_cmd request.wish)
+      → HasReply (reply_with (text_for node moment tickets common cmd) cmd letter.content)
+      → request.from ≡ from → request.number ≡ letter.head.request → Comes node from letter Routed
+  asks_of cmd request is to part asked answer found same_from same_number =
+      by_ticket (position (is_called part.ticket) node.config.tickets) refl
+    where
+      once : Action
+      once = answers node.key moment (reply_to node moment tickets common letter)
+
+      routes : (o : Option ℕ) → position (is_called part.ticket) node.config.tickets ≡ o
+          → Routed ≡ asks o request once
+      routes o e =
+          ap (λ d. routed node moment tickets common from letter d) (ap direction_of is ∙ to)
+          ∙ ap (λ r. requested node moment tickets common letter r) asked
+          ∙ ap (λ o. asks o request once) e
+
+      by_ticket : (o : Option ℕ) → position (is_called part.ticket) node.config.tickets ≡ o
+          → Comes node from letter Routed
+      by_ticket None e = at_once cmd (reply_cmd request.wish) is answer to found (routes None e)
+      by_ticket (Some place) e =
+          IsAsked (ap direction_of is ∙ to) place request (routes (Some place) e) part e same_from same_number
+          (ap answer_of is ∙ answer)
+
+  client_comes : (cmd : Cmd) → letter.head.cmd ≡ cmd → direction_of cmd ≡ ToDaemon → IsRead cmd letter.content
+      → Comes node from letter Routed
+  client_comes CLst is to read = unasked CLst RLst is refl refl refl (_, refl)
+  client_comes Peer is to read = unasked Peer RPer is refl refl refl (_, refl)
+  client_comes CGnt is to read =
+      let it = ticket_part read.0 letter.content read.1 in
+      asks_of CGnt
+      (record {
+        wish = Grant;
+        from = from;
+        number = letter.head.request;
+        options = letter.head.options;
+      }) is refl it.0
+      (ap (λ w. request_of from letter.head w letter.content) (ap wish_of is)
+      ∙ ap (λ c. request_of from letter.head (Some Grant) c) it.1) refl (_, ap no_ticket it.1) refl refl
+  client_comes CRvk is to read =
+      let it = ticket_part read.0 letter.content read.1 in
+      asks_of CRvk
+      (record {
+        wish = Revoke;
+        from = from;
+        number = letter.head.request;
+        options = letter.head.options;
+      }) is refl it.0
+      (ap (λ w. request_of from letter.head w letter.content) (ap wish_of is)
+      ∙ ap (λ c. request_of from letter.head (Some Revoke) c) it.1) refl (_, ap no_ticket it.1) refl refl
+  client_comes ASet is to read = unasked ASet RAtr is refl refl refl (attr_reply read.0 letter.content read.1)
+  client_comes AGet is to read = unasked AGet RAtr is refl refl refl (attr_reply read.0 letter.content read.1)
+  client_comes ADel is to read = unasked ADel RAtr is refl refl refl (attr_reply read.0 letter.content read.1)
+  client_comes ALst is to read = unasked ALst RALs is refl refl refl (_, refl)
+  client_comes RLst is to read = absurd cc
+  client_comes RPer is to read = absurd cc
+  client_comes RALs is to read = absurd cc
+  client_comes RGnt is to read = absurd cc
+  client_comes RRvk is to read = absurd cc
+  client_comes RAtr is to read = absurd cc
+  client_comes Stat is to read = absurd cc
+  client_comes MIdx is to read = absurd cc
+  client_comes RVot is to read = absurd cc
+  client_comes VtFr is to read = absurd cc
+  client_comes HrtB is to read = absurd cc
+  client_comes Ack is to read = absurd cc
+  client_comes UpdE is to read = absurd cc
+  client_comes Revk is to read = absurd cc
+  client_comes Rjc is to read = absurd cc
+
+  -- a member's command is about a ticket
+  member_part_of : (cmd : Cmd) → direction_of cmd ≡ BetweenMembers → IsRead cmd letter.content
+      → IsPart letter.content
+  member_part_of CLst to read = absurd cc
+  member_part_of Peer to read = absurd cc
+  member_part_of CGnt to read = absurd cc
+  member_part_of CRvk to read = absurd cc
+  member_part_of ASet to read = absurd cc
+  member_part_of AGet to read = absurd cc
+  member_part_of ADel to read = absurd cc
+  member_part_of ALst to read = absurd cc
+  member_part_of RLst to read = absurd cc
+  member_part_of RPer to read = absurd cc
+  member_part_of RALs to read = absurd cc
+  member_part_of RGnt to read = absurd cc
+  member_part_of RRvk to read = absurd cc
+  member_part_of RAtr to read = absurd cc
+  member_part_of Stat to read = ticket_part read.0 letter.content read.1
+  member_part_of MIdx to read = ticket_part read.0 letter.content read.1
+  member_part_of RVot to read = ticket_part read.0 letter.content read.1
+  member_part_of VtFr to read = ticket_part read.0 letter.content read.1
+  member_part_of HrtB to read = ticket_part read.0 letter.content read.1
+  member_part_of Ack to read = ticket_part read.0 letter.content read.1
+  member_part_of UpdE to read = ticket_part read.0 letter.content read.1
+  member_part_of Revk to read = ticket_part read.0 letter.content read.1
+  member_part_of Rjc to read = ticket_part read.0 letter.content read.1
+
+  found : (o : Option ℕ) → not (is_some o) ≡ false → (place : ℕ) × (o ≡ Some place)
+  found None some = absurd cc
+  found (Some place) some = (place, refl)
+
+  member_comes : direction_of letter.head.cmd ≡ BetweenMembers → IsRead letter.head.cmd letter.content
+      → is_stranger node.config letter.head ≡ false
+      → names_no_ticket node.config (part_of_member letter) ≡ false
+      → Comes node from letter Routed
+  member_comes to read known named =
+      let it = member_part_of letter.head.cmd to read in
+      let member = found (position (has_id letter.head.from) node.config.members)
+      (ap (λ d. not (may_come_from node.config d letter.head.from)) (sym to) ∙ known) in
+      let place = found (position (is_called it.0.ticket) node.config.tickets)
+      (ap (λ d. names_no_ticket node.config (member_part d (Ticket it.0))) (sym to)
+      ∙ ap (λ c. names_no_ticket node.config (member_part (direction_of letter.head.cmd) c)) (sym it.1)
+      ∙ named) in
+      IsHeard to member.0 place.0 it.0
+      (ap (λ d. routed node moment tickets common from letter d) to ∙ ap (λ c. said node letter.head c) it.1
+      ∙ ap (λ m. hears m (position (is_called it.0.ticket) node.config.tickets) letter.head it.0) member.1
+      ∙ ap (λ p. hears (Some member.0) p letter.head it.0) place.1)
+      it.1 member.1 place.1
+
+is_not : true ≡ false → ⊥
+is_not h = cc
+
+-- what is let in is answered at once, asked of its ticket, or heard by its ticket
+pub comes : (node : NodeConfig) (moment : ℕ) (tickets : List TicketState) (common : Common) (from : Sender)
+    (bytes : List ℕ)
+    (letter : PlainMessage) → verdict node.config node.key node.me moment bytes ≡ Ok letter
+    → Comes node from letter (action node moment tickets common from bytes)
+comes node moment tickets common from bytes letter is =
+    let free = (lets_in node.config node.key node.me moment bytes letter).0 is in
+    let read : IsRead letter.head.cmd letter.content = content_read bytes letter free.read in
+    subst (λ (a : Action). Comes node from letter a)
+    (sym (ap (λ v. demanded node moment tickets common from v) is))
+    (by_direction (direction_of letter.head.cmd) refl read free.known free.ticket)
+  where
+    by_direction : (d : Direction) → direction_of letter.head.cmd ≡ d → IsRead letter.head.cmd letter.content
+        → is_stranger node.config letter.head ≡ false
+        → names_no_ticket node.config (part_of_member letter) ≡ false
+        → Comes node from letter (routed node moment tickets common from letter
+        (direction_of letter.head.cmd))
+    by_direction ToDaemon to read known named = client_comes node moment tickets common from letter
+        letter.head.cmd refl to read
+    by_direction BetweenMembers to read known named = member_comes node moment tickets common from letter to
+        read known named
+    by_direction ToClient to read known named =
+        absurd (is_not (ap (λ d. not (may_come_from node.config d letter.head.from)) (sym to) ∙ known))

@@ -1,0 +1,454 @@
+-- What every turn leaves as it was: the tickets' setups and the counts of drops; and whom it reaches.
+use Rattle.std.proofs.Common.{◌≡◌, ◌⊎◌, inl, inr, ℕ, zero, suc, ◌+◌, Bool, List, [], ◌∷◌, ◌++◌, length, map, set, slice_get, refl, sym, ap, ◌∙◌, subst, arith, append_assoc}
+use Rattle.std.specs.Prelude.{Option, Some, None}
+use Rattle.std.proofs.Math.Seq.{map-set_same}
+use Rattle.std.proofs.lemmas.Option.{get_or_from_slice_get}
+use Rattle.std.proofs.lemmas.List.{length-map, length-set}
+use Rattle.booth_base.specs.declared.address.Peer.{Peer}
+use Rattle.booth_base.specs.Tree.{Ends, Leads}
+use Rattle.booth_conf.specs.declared.tickets.TicketConf.{TicketConf}
+use Rattle.booth_rec.specs.declared.record.Record.{Record}
+use Rattle.booth_wire.specs.declared.message.Head.{Head}
+use Rattle.booth_wire.specs.declared.message.Setup.{Setup}
+use Rattle.booth_wire.specs.declared.message.TicketPart.{TicketPart}
+use Rattle.booth_auth.specs.Sealed.{sealed}
+use Rattle.booth_host.specs.declared.entry.Entry.{Entry}
+use Rattle.booth_host.specs.declared.entry.Entry.TheVariants as calls
+use Rattle.booth_raft.specs.Speech.{IsOwn}
+use Rattle.booth_ticket.specs.declared.hands.To.TheVariants.{Client, Member}
+use Rattle.booth_ticket.specs.Acts.{Ask as TicketAsk, Keep as KeepsRecord, Say, Act, IsAct}
+use Rattle.booth_ticket.specs.declared.waiters.Waiter.{Waiter}
+use Rattle.booth_ticket.specs.Ticket.{TicketState, TicketLeft}
+use Rattle.booth_ticket.specs.Waiting.{spare_in, waiting_at}
+use Rattle.booth_node.specs.declared.event.Event.{Event}
+use Rattle.booth_node.specs.declared.event.Event.TheVariants.{Due}
+use Rattle.booth_node.specs.declared.node.Turn.{Turn}
+use Rattle.booth_node.specs.declared.node.Turn.TheVariants.{Went, Stopped}
+use Rattle.booth_node.specs.declared.node_config.NodeConfig.{NodeConfig}
+use Rattle.booth_node.specs.declared.state.Common.{Common}
+use Rattle.booth_node.specs.Calls.{IsAmong, IsToldIn, ReachesWaiters}
+use Rattle.booth_node.specs.Opening.{AreSetUp, setup_of, setups_from, started_from}
+use Rattle.booth_node.specs.Reaction.{IsDone, acts, acts_as, befalls, dues, due_places, each_due, peer_of, sent_as}
+use Rattle.booth_node.specs.State.{State, with_ticket}
+use Rattle.booth_node.proofs.DueLemmas.{Each}
+use Rattle.booth_node.proofs.PathLemmas.{ActFirst, SaidFirst, Seen, Split, at_end, path_of, seen_parts, split}
+use Rattle.booth_node.proofs.TalkLemmas.{AllAmong, Among, Fewer, IsTold, Remembers, Tells, due_among, each_joined, setup_stays}
+
+-- ---- setups
+
+pub started_set_up : (node : NodeConfig) (now index : ℕ) (confs : List TicketConf)
+    (records : List (Option Record))
+    → length records ≡ length confs
+    → map (λ (t : TicketState). t.setup) (started_from node now index confs records) ≡ setups_from node
+    index confs
+started_set_up node now index [] [] same = refl
+started_set_up node now index [] (r ∷ records) same = absurd (omega (arith, same))
+started_set_up node now index (c ∷ confs) [] same = absurd (omega (arith, same))
+started_set_up node now index (c ∷ confs) (r ∷ records) same =
+    ap (λ (l : List Setup). setup_of node index c ∷ l)
+    (started_set_up node now (index + 1) confs records (omega (arith, same)))
+
+set_up_from : (node : NodeConfig) (index : ℕ) (confs : List TicketConf) (tickets : List TicketState)
+    (place : ℕ) (t : TicketState)
+    → map (λ (t : TicketState). t.setup) tickets ≡ setups_from node index confs
+    → slice_get tickets place ≡ Some t
+    → (conf : TicketConf) × (slice_get confs place ≡ Some conf)
+    × (t.setup ≡ setup_of node (index + place) conf)
+set_up_from node index confs [] place t same there = absurd cc
+set_up_from node index [] (x ∷ tickets) place t same there = absurd cc
+set_up_from node index (c ∷ confs) (x ∷ tickets) zero t same there =
+    let here : x ≡ t = cc in
+    let is : x.setup ≡ setup_of node index c = cc in (
+      c,
+      refl,
+      ap (λ (t : TicketState). t.setup) (sym here) ∙ is
+          ∙ ap (λ (n : ℕ). setup_of node n c) (omega arith),
+    )
+set_up_from node index (c ∷ confs) (x ∷ tickets) (suc place) t same there =
+    let rest : map (λ (t : TicketState). t.setup) tickets ≡ setups_from node (index + 1) confs = cc in
+    let found = set_up_from node (index + 1) confs tickets place t rest there in
+    (found.0, found.1, found.2 ∙ ap (λ (n : ℕ). setup_of node n found.0) (omega arith))
+
+-- the setup of the ticket at a place is that of the configuration
+pub set_up_at : (node : NodeConfig) (state : State) (place : ℕ) (t : TicketState) → AreSetUp node state
+    → slice_get state.tickets place ≡ Some t
+    → (conf : TicketConf) × (slice_get node.config.tickets place ≡ Some conf)
+    × (t.setup ≡ setup_of node place conf)
+set_up_at node state place t same there =
+    let found = set_up_from node 0 node.config.tickets state.tickets place t same.0 there in
+    (found.0, found.1, found.2 ∙ ap (λ (n : ℕ). setup_of node n found.0) (omega arith))
+
+length_setups : (node : NodeConfig) (index : ℕ) (confs : List TicketConf)
+    → length (setups_from node index confs) ≡ length confs
+length_setups node index [] = refl
+length_setups node index (c ∷ confs) = ap suc (length_setups node (index + 1) confs)
+
+-- there are as many tickets as the configuration has
+pub as_many : (node : NodeConfig) (state : State) → AreSetUp node state
+    → length state.tickets ≡ length node.config.tickets
+as_many node state same =
+    sym (length-map state.tickets (λ (t : TicketState). t.setup)) ∙ ap (λ (l : List Setup). length l) same.0
+    ∙ length_setups node 0 node.config.tickets
+
+pub set_up_kept : (node : NodeConfig) (state : State) (place : ℕ) (before : TicketState) (after : TicketLeft)
+    (common : Common)
+    → AreSetUp node state → slice_get state.tickets place ≡ Some before → after.ticket.setup ≡ before.setup
+    → AreSetUp node (with_ticket state place common after)
+set_up_kept node state place before after common same there kept = (
+  map-set_same (λ (t : TicketState). t.setup) state.tickets place after.ticket before
+      (kept ∙ ap (λ (t : TicketState). t.setup)
+      (sym (get_or_from_slice_get state.tickets place before before there)))
+      ∙ same.0,
+  length-set state.waiters place after.waiters ∙ same.1,
+)
+
+-- ---- calls to members and to those that wait
+
+module _ (node : NodeConfig) (moment : ℕ) (name : List ℕ) (setup : Setup) (ours : setup.me ≡ node.me)
+    (waiters : List (List Waiter)) (list : ℕ) where
+  abbrev Reaches : List Entry → Type 0
+  Reaches es = Each (ReachesWaiters node waiters) es
+
+  to_member : (place : ℕ) (head : Head) (part : TicketPart) (ok : Bool) (es : List Entry) (More : List Entry
+      → Type 0)
+      → IsOwn setup head part
+      → SaidFirst (peer_of node.config (Member place)) (sealed node.key (sent_as node moment head part))
+      es More
+      → ((rest : List Entry) → More rest → Reaches rest) → Reaches es
+  to_member place head part ok es More own first later = by_peer (peer_of node.config (Member place)) refl
+      first
+    where
+      by_peer : (o : Option Peer) → peer_of node.config (Member place) ≡ o
+          → SaidFirst o (sealed node.key (sent_as node moment head part)) es More
+          → Reaches es
+      by_peer None is first = later es first
+      by_peer (Some peer) is first =
+          subst (λ (l : List Entry). Reaches l) (sym first.2) (
+            inl (record {
+              place = place;
+              letter = sent_as node moment head part;
+              there = is;
+              spelled = refl;
+              between = own.between;
+              from = own.from ∙ ours;
+            }),
+            later first.1 first.3,
+          )
+
+  one_among : (ask : TicketAsk) (ok : Bool) (es : List Entry) (More : List Entry → Type 0)
+      → Among setup (waiting_at waiters list) ask
+      → ActFirst node moment name ask ok es More
+      → ((rest : List Entry) → More rest → Reaches rest)
+      → Reaches es
+  one_among (KeepsRecord tried) ok es More among first later =
+      subst (λ (l : List Entry). Reaches l) (sym first.2) (tt, later first.1 first.4)
+  one_among (Say (Member place) head part) ok es More among first later = to_member place head part ok es
+      More among first.1 later
+  one_among (Say (Client peer) head part) ok es More among first later =
+      subst (λ (l : List Entry). Reaches l) (sym first.1.2) (
+        inr (record {
+          place = list;
+          waiter = among.waiter;
+          letter = sent_as node moment head part;
+          waits = among.waits;
+          to = among.to;
+          spelled = refl;
+          outcome = record {
+            cmd = among.outcome.cmd;
+            request = among.outcome.request;
+            options = among.outcome.options;
+            reason = among.outcome.reason;
+            from = among.outcome.from ∙ ours;
+          };
+        }),
+        later first.1.1 first.1.3,
+      )
+
+  pub all_among : (xs : List Act) (es : List Entry) → AllAmong setup (waiting_at waiters list) xs
+      → Seen node moment name xs es → Reaches es
+  all_among [] es among seen = subst (λ (l : List Entry). Reaches l) (sym seen) tt
+  all_among (act ∷ xs) es among seen =
+      one_among act.ask act.ok es (Seen node moment name xs) among.0 seen
+      (λ rest more. all_among xs rest among.1 more)
+
+  -- a client that one of the acts tells is told by one of these calls
+  pub told_in : (waiter : Waiter) (xs : List Act) (es : List Entry) → IsTold setup waiter xs
+      → Seen node moment name xs es → IsToldIn node waiter es
+  told_in waiter xs es told seen =
+      let act : Act = record { ask = Say (Client waiter.from) told.head told.part; ok = told.ok } in
+      let parts =
+      seen_parts node moment name told.before (act ∷ told.after) es
+      (subst (λ (l : List Act). Seen node moment name l es) told.whole seen) in
+      let sent = parts.4.1 in
+      record {
+        before = parts.0;
+        letter = sent_as node moment told.head told.part;
+        answer = sent.0;
+        after = sent.1;
+        whole = parts.2 ∙ ap (λ (l : List Entry). parts.0 ++ l) sent.2;
+        outcome = record {
+          cmd = told.outcome.cmd;
+          request = told.outcome.request;
+          options = told.outcome.options;
+          reason = told.outcome.reason;
+          from = told.outcome.from ∙ ours;
+        };
+      }
+
+-- ---- those that wait, from one state to another
+
+-- who waited for a ticket does so still, or one of these calls tells it
+abbrev pub AllRemember : NodeConfig → List (List Waiter) → List (List Waiter) → List Entry → Type 0
+AllRemember node before after es =
+    (place : ℕ) (waiter : Waiter) → IsAmong waiter (waiting_at before place)
+    → IsAmong waiter (waiting_at after place) ⊎ IsToldIn node waiter es
+
+told_before : (node : NodeConfig) (waiter : Waiter) (xs ys es : List Entry) → es ≡ xs ++ ys
+    → IsToldIn node waiter xs → IsToldIn node waiter es
+told_before node waiter xs ys es whole told = record {
+  before = told.before;
+  letter = told.letter;
+  answer = told.answer;
+  after = told.after ++ ys;
+  whole = whole ∙ ap (λ (l : List Entry). l ++ ys) told.whole
+      ∙ append_assoc told.before (calls.Send waiter.from (sealed node.key told.letter) told.answer ∷ told.after)
+      ys;
+  outcome = told.outcome;
+}
+
+told_after : (node : NodeConfig) (waiter : Waiter) (xs ys es : List Entry) → es ≡ xs ++ ys
+    → IsToldIn node waiter ys → IsToldIn node waiter es
+told_after node waiter xs ys es whole told = record {
+  before = xs ++ told.before;
+  letter = told.letter;
+  answer = told.answer;
+  after = told.after;
+  whole = whole ∙ ap (λ (l : List Entry). xs ++ l) told.whole
+      ∙ sym (append_assoc xs told.before
+      (calls.Send waiter.from (sealed node.key told.letter) told.answer ∷ told.after));
+  outcome = told.outcome;
+}
+
+pub remember_on : (node : NodeConfig) (a b c : List (List Waiter)) (xs ys es : List Entry) → es ≡ xs ++ ys
+    → AllRemember node a b xs → AllRemember node b c ys → AllRemember node a c es
+remember_on node a b c xs ys es whole first later place w h = by_first (first place w h) (later place w)
+  where
+    by_later : IsAmong w (waiting_at c place) ⊎ IsToldIn node w ys
+        → IsAmong w (waiting_at c place) ⊎ IsToldIn node w es
+    by_later (inl g) = inl g
+    by_later (inr told) = inr (told_after node w xs ys es whole told)
+
+    by_first : IsAmong w (waiting_at b place) ⊎ IsToldIn node w xs
+        → (IsAmong w (waiting_at b place) → IsAmong w (waiting_at c place) ⊎ IsToldIn node w ys)
+        → IsAmong w (waiting_at c place) ⊎ IsToldIn node w es
+    by_first (inl g) more = by_later (more g)
+    by_first (inr told) more = inr (told_before node w xs ys es whole told)
+
+-- one ticket's list is another
+remember_at : (node : NodeConfig) (lists : List (List Waiter)) (place : ℕ) (stay : List Waiter)
+    (es : List Entry)
+    → ((w : Waiter) → IsAmong w (waiting_at lists place) → IsAmong w stay ⊎ IsToldIn node w es)
+    → AllRemember node lists (set lists place stay) es
+remember_at node [] place stay es kept p w h = inl h
+remember_at node (ws ∷ lists) zero stay es kept zero w h = kept w h
+remember_at node (ws ∷ lists) zero stay es kept (suc p) w h = inl h
+remember_at node (ws ∷ lists) (suc place) stay es kept zero w h = inl h
+remember_at node (ws ∷ lists) (suc place) stay es kept (suc p) w h =
+    remember_at node lists place stay es kept p w h
+
+-- who waits in one state waited for the same ticket in the other
+abbrev pub AllFewer : List (List Waiter) → List (List Waiter) → Type 0
+AllFewer before after = (place : ℕ) → Fewer (waiting_at before place) (waiting_at after place)
+
+fewer_at : (lists : List (List Waiter)) (place : ℕ) (stay : List Waiter)
+    → Fewer (waiting_at lists place) stay → AllFewer lists (set lists place stay)
+fewer_at [] place stay fewer p w h = h
+fewer_at (ws ∷ lists) zero stay fewer zero w h = fewer w h
+fewer_at (ws ∷ lists) zero stay fewer (suc p) w h = h
+fewer_at (ws ∷ lists) (suc place) stay fewer zero w h = h
+fewer_at (ws ∷ lists) (suc place) stay fewer (suc p) w h = fewer_at lists place stay fewer p w h
+
+reaches_fewer : (node : NodeConfig) (before after : List (List Waiter)) → AllFewer before after → (e : Entry)
+    → ReachesWaiters node after e → ReachesWaiters node before e
+reaches_fewer node before after fewer (calls.Keep ticket rec answer) r = tt
+reaches_fewer node before after fewer (calls.Send peer bytes answer) (inl between) = inl between
+reaches_fewer node before after fewer (calls.Send peer bytes answer) (inr tells_one) =
+    inr (record {
+      place = tells_one.place;
+      waiter = tells_one.waiter;
+      letter = tells_one.letter;
+      waits = fewer tells_one.place tells_one.waiter tells_one.waits;
+      to = tells_one.to;
+      spelled = tells_one.spelled;
+      outcome = tells_one.outcome;
+    })
+reaches_fewer node before after fewer e r = absurd r
+
+pub each_fewer : (node : NodeConfig) (before after : List (List Waiter)) (es : List Entry)
+    → AllFewer before after → Each (ReachesWaiters node after) es → Each (ReachesWaiters node before) es
+each_fewer node before after [] fewer each = tt
+each_fewer node before after (e ∷ es) fewer each =
+    (reaches_fewer node before after fewer e each.0, each_fewer node before after es fewer each.1)
+
+-- ---- a ticket among the others
+
+-- these calls of the node reach members and those that wait alone, nobody waits that did not, nobody is forgotten, the
+-- setups stay, and no drop is counted
+pub record Stays (node : NodeConfig) (state after : State) (es : List Entry) : Type 0 where
+  pub set_up : AreSetUp node after
+  pub undropped : after.common.drops ≡ state.common.drops
+  pub among : Each (ReachesWaiters node state.waiters) es
+  pub fewer : AllFewer state.waiters after.waiters
+  pub remember : AllRemember node state.waiters after.waiters es
+
+pub stays_here : (node : NodeConfig) (state after : State) (es : List Entry) → AreSetUp node state
+    → Leads (IsDone node.key) (Ends state) es (Ends after) → Stays node state after es
+stays_here node state after es set_up leads =
+    let over = at_end (IsDone node.key) state after es leads in
+    subst (λ (l : List Entry). Stays node state after l) (sym over.0)
+    (subst (λ (s : State). Stays node state s []) (sym over.1)
+    (record { set_up = set_up; undropped = refl; among = tt; fewer = λ place w h. h; remember = λ place w h. inl h }))
+
+pub stays_on : (node : NodeConfig) (a b c : State) (xs ys es : List Entry) → es ≡ xs ++ ys → Stays node a b xs
+    → Stays node b c ys → Stays node a c es
+stays_on node a b c xs ys es whole first later =
+    subst (λ (l : List Entry). Stays node a c l) (sym whole) (record {
+      set_up = later.set_up;
+      undropped = later.undropped ∙ first.undropped;
+      among = each_joined (ReachesWaiters node a.waiters) xs ys first.among
+          (each_fewer node a.waiters b.waiters ys first.fewer later.among);
+      fewer = λ place w h. first.fewer place w (later.fewer place w h);
+      remember = remember_on node a.waiters b.waiters c.waiters xs ys (xs ++ ys) refl first.remember
+          later.remember;
+    })
+
+-- what the ticket at a place did, as it did it
+pub record Acted (node : NodeConfig) (moment : ℕ) (state : State) (place : ℕ) (event : Event)
+    (ticket : TicketState)
+    (es : List Entry) (after : State) : Type 0 where
+  pub did : List Act
+  pub left : TicketLeft
+  pub common : Common
+  pub leads : Leads IsAct
+      (befalls ticket (waiting_at state.waiters place) (spare_in state.waiters) event moment) did (Ends left)
+  pub seen : Seen node moment ticket.setup.ticket did es
+  pub undropped : common.drops ≡ state.common.drops
+  pub is : after ≡ with_ticket state place common left
+
+pub acted_at : (node : NodeConfig) (moment : ℕ) (state : State) (place : ℕ) (event : Event)
+    (ticket : TicketState)
+    (es : List Entry) (after : State) → slice_get state.tickets place ≡ Some ticket
+    → Leads (IsDone node.key) (acts node moment state place event) es (Ends after)
+    → Acted node moment state place event ticket es after
+acted_at node moment state place event ticket es after there leads =
+    let p =
+    path_of node moment ticket.setup.ticket (λ common left. with_ticket state place common left) after
+    (befalls ticket (waiting_at state.waiters place) (spare_in state.waiters) event moment) state.common es
+    (subst (λ (o : Option TicketState). Leads (IsDone node.key) (acts_as node moment state place event o) es
+    (Ends after)) there leads) in
+    record {
+      did = p.acts;
+      left = p.left;
+      common = p.after;
+      leads = p.leads;
+      seen = p.seen;
+      undropped = p.undropped;
+      is = p.ends;
+    }
+
+pub acted_set_up : (node : NodeConfig) (moment : ℕ) (state : State) (place : ℕ) (event : Event)
+    (ticket : TicketState)
+    (es : List Entry) (after : State) → AreSetUp node state → slice_get state.tickets place ≡ Some ticket
+    → Acted node moment state place event ticket es after → AreSetUp node after
+acted_set_up node moment state place event ticket es after set_up there acted =
+    subst (λ (s : State). AreSetUp node s) (sym acted.is)
+    (set_up_kept node state place ticket acted.left acted.common set_up there
+    (setup_stays ticket acted.left (waiting_at state.waiters place) (spare_in state.waiters) moment acted.did
+    event acted.leads))
+
+pub acted_undropped : (node : NodeConfig) (moment : ℕ) (state : State) (place : ℕ) (event : Event)
+    (ticket : TicketState)
+    (es : List Entry) (after : State) → Acted node moment state place event ticket es after
+    → after.common.drops ≡ state.common.drops
+acted_undropped node moment state place event ticket es after acted =
+    ap (λ (s : State). s.common.drops) acted.is ∙ acted.undropped
+
+-- who waited for the ticket does so still, or was told, and who waits for another is not touched
+pub acted_remember : (node : NodeConfig) (moment : ℕ) (state : State) (place : ℕ) (event : Event)
+    (ticket : TicketState)
+    (es : List Entry) (after : State) → AreSetUp node state → slice_get state.tickets place ≡ Some ticket
+    → (acted : Acted node moment state place event ticket es after)
+    → Remembers ticket.setup (waiting_at state.waiters place) acted.left.waiters acted.did
+    → AllRemember node state.waiters after.waiters es
+acted_remember node moment state place event ticket es after set_up is acted remembers =
+    subst (λ (s : State). AllRemember node state.waiters s.waiters es) (sym acted.is)
+    (remember_at node state.waiters place acted.left.waiters es (λ w h. seen_so w (remembers w h)))
+  where
+    ours : ticket.setup.me ≡ node.me
+    ours = ap (λ (s : Setup). s.me) (set_up_at node state place ticket set_up is).2
+
+    seen_so : (w : Waiter) → IsAmong w acted.left.waiters ⊎ IsTold ticket.setup w acted.did
+        → IsAmong w acted.left.waiters ⊎ IsToldIn node w es
+    seen_so w (inl h) = inl h
+    seen_so w (inr told) =
+        inr (told_in node moment ticket.setup.ticket ticket.setup ours state.waiters place w acted.did es told
+        acted.seen)
+
+-- what befalls a ticket reaches members and those that wait for it alone
+abbrev pub TalksAmong : Event → ℕ → Type 0
+TalksAmong event moment =
+    (ticket : TicketState) (left : TicketLeft) (waiters : List Waiter) (spare : ℕ) (did : List Act)
+    → Leads IsAct (befalls ticket waiters spare event moment) did (Ends left)
+    → Tells ticket.setup waiters left.waiters did
+
+pub acts_stay : (node : NodeConfig) (moment : ℕ) (state : State) (place : ℕ) (event : Event)
+    (es : List Entry) (after : State)
+    → TalksAmong event moment → AreSetUp node state
+    → Leads (IsDone node.key) (acts node moment state place event) es (Ends after) → Stays node state after es
+acts_stay node moment state place event es after talks set_up leads = by_ticket
+    (slice_get state.tickets place) refl
+  where
+    by_ticket : (o : Option TicketState) → slice_get state.tickets place ≡ o → Stays node state after es
+    by_ticket None is =
+        stays_here node state after es set_up
+        (subst (λ (o : Option TicketState). Leads (IsDone node.key)
+        (acts_as node moment state place event o) es (Ends after)) is leads)
+    by_ticket (Some ticket) is =
+        let acted = acted_at node moment state place event ticket es after is leads in
+        let own = set_up_at node state place ticket set_up is in
+        let told =
+        talks ticket acted.left (waiting_at state.waiters place) (spare_in state.waiters) acted.did
+        acted.leads in
+        record {
+          set_up = acted_set_up node moment state place event ticket es after set_up is acted;
+          undropped = acted_undropped node moment state place event ticket es after acted;
+          among = all_among node moment ticket.setup.ticket ticket.setup (ap (λ (s : Setup). s.me) own.2)
+              state.waiters place acted.did es told.among acted.seen;
+          fewer = subst (λ (s : State). AllFewer state.waiters s.waiters) (sym acted.is)
+              (fewer_at state.waiters place acted.left.waiters told.fewer);
+          remember = acted_remember node moment state place event ticket es after set_up is acted told.remembers;
+        }
+
+-- ---- the deadlines
+
+each_due_stays : (node : NodeConfig) (moment : ℕ) (places : List ℕ) (state after : State) (es : List Entry)
+    → AreSetUp node state
+    → Leads (IsDone node.key) (each_due node moment places state) es (Ends after) → Stays node state after es
+each_due_stays node moment [] state after es set_up leads = stays_here node state after es set_up leads
+each_due_stays node moment (place ∷ places) state after es set_up leads =
+    let parts : Split (IsDone node.key) (acts node moment state place Due) (each_due node moment places) es
+    after =
+    split (IsDone node.key) (acts node moment state place Due) (each_due node moment places) es after leads in
+    let one =
+    acts_stay node moment state place Due parts.first parts.mid
+    (λ ticket left waiters spare did leads. due_among ticket left waiters spare moment did leads) set_up
+    parts.to_mid in
+    stays_on node state parts.mid after parts.first parts.later es parts.whole one
+    (each_due_stays node moment places parts.mid after parts.later one.set_up parts.to_end)
+
+pub dues_stay : (node : NodeConfig) (moment : ℕ) (turn : Turn) (state after : State) (es : List Entry)
+    → AreSetUp node state
+    → Leads (IsDone node.key) (dues node moment turn state) es (Ends after) → Stays node state after es
+dues_stay node moment Went state after es set_up leads =
+    each_due_stays node moment (due_places moment state.tickets) state after es set_up leads
+dues_stay node moment Stopped state after es set_up leads = stays_here node state after es set_up leads

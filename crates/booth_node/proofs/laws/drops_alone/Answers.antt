@@ -1,0 +1,5 @@
+use Rattle.booth_node.proofs.ClientLemmas.{alone}
+use Rattle.booth_node.proofs.laws.drops_alone.Goals as goal
+
+pub returns : goal.returns
+returns c = alone

@@ -1,0 +1,5 @@
+use Rattle.booth_node.proofs.ClientLemmas.{keeps}
+use Rattle.booth_node.proofs.laws.keeps_its_tickets.Goals as goal
+
+pub returns : goal.returns
+returns c = keeps

@@ -1,0 +1,134 @@
+-- The calls of a turn, as what tickets do and as what members say to one another.
+use Rattle.std.specs.Prelude.{◌≡◌, ◌⊎◌, ℕ, Bool, true, List, [], ◌∷◌, ◌++◌, Some, Result, Ok, is_ok, slice_get}
+use Rattle.booth_base.specs.declared.address.MemberId.{MemberId}
+use Rattle.booth_base.specs.declared.address.Peer.{Peer}
+use Rattle.booth_base.specs.Tree.{Ends, Leads}
+use Rattle.booth_wire.specs.declared.command.Cmd.TheVariants.{RGnt}
+use Rattle.booth_wire.specs.declared.command.Direction.TheVariants.{BetweenMembers}
+use Rattle.booth_wire.specs.declared.message.Head.{Head}
+use Rattle.booth_wire.specs.declared.message.Setup.{Setup}
+use Rattle.booth_wire.specs.Command.{direction_of}
+use Rattle.booth_wire.specs.PlainMessage.{PlainMessage}
+use Rattle.booth_auth.specs.Sealed.{sealed}
+use Rattle.booth_auth.specs.Verdict.{verdict}
+use Rattle.booth_host.specs.declared.host.Arrival.TheVariants as arrivals
+use Rattle.booth_host.specs.declared.host.Failed.{Failed}
+use Rattle.booth_host.specs.declared.entry.Entry.{Entry}
+use Rattle.booth_host.specs.declared.entry.Entry.TheVariants as calls
+use Rattle.booth_ticket.specs.declared.hands.To.TheVariants.{Member}
+use Rattle.booth_ticket.specs.declared.waiters.Waiter.{Waiter}
+use Rattle.booth_ticket.specs.Acts.{Act, Ask as TicketAsk, Keep as KeepsRecord, Say}
+use Rattle.booth_ticket.specs.Automatic.{Left}
+use Rattle.booth_ticket.specs.Ticket.{Automatic}
+use Rattle.booth_ticket.specs.Waiting.{waiting_at}
+use Rattle.booth_node.specs.declared.node.Turn.TheVariants.{Went}
+use Rattle.booth_node.specs.declared.node_config.NodeConfig.{NodeConfig}
+use Rattle.booth_node.specs.Reaction.{IsDone, dues, peer_of, react, sent_as}
+use Rattle.booth_node.specs.State.{State}
+
+-- ---- calls that are a ticket's acts
+
+-- the call is that of what a ticket asks, with this answer: a keep under the ticket's name, or a send of the
+-- message, as it is sealed at this moment, to whom it goes
+abbrev pub IsCallOf : NodeConfig → ℕ → List ℕ → TicketAsk → Bool → Entry → Type 0
+IsCallOf node moment name (KeepsRecord tried) ok (calls.Keep ticket rec answer) =
+    (ticket ≡ name) × (rec ≡ tried) × (is_ok answer ≡ ok)
+IsCallOf node moment name (Say to head part) ok (calls.Send peer bytes answer) =
+    (peer_of node.config to ≡ Some peer) × (bytes ≡ sealed node.key (sent_as node moment head part))
+IsCallOf node moment name ask ok call = ⊥
+
+-- these calls are those acts, one for one
+abbrev pub AreCallsOf : NodeConfig → ℕ → List ℕ → List Act → List Entry → Type 0
+AreCallsOf node moment name [] [] = Unit {0}
+AreCallsOf node moment name (act ∷ acts) (call ∷ calls) =
+    IsCallOf node moment name act.ask act.ok call × AreCallsOf node moment name acts calls
+AreCallsOf node moment name acts calls = ⊥
+
+-- a call that is no keep, or one that answered Ok
+abbrev pub IsNoFailedKeep : Entry → Type 0
+IsNoFailedKeep (calls.Keep ticket rec answer) = is_ok answer ≡ true
+IsNoFailedKeep call = Unit {0}
+
+-- where the first call is a keep, it answered Ok
+abbrev pub KeepsFirst : List Entry → Type 0
+KeepsFirst [] = Unit {0}
+KeepsFirst (call ∷ calls) = IsNoFailedKeep call
+
+-- ---- whom calls reach
+
+-- the client is one of these
+abbrev pub IsAmong : Waiter → List Waiter → Type 0
+IsAmong waiter [] = ⊥
+IsAmong waiter (other ∷ others) = (waiter ≡ other) ⊎ IsAmong waiter others
+
+-- these bytes, to this peer, are a member's command, from this member to one of the configuration
+pub record IsBetweenMembers (node : NodeConfig) (peer : Peer) (bytes : List ℕ) : Type 0 where
+  pub place : ℕ
+  pub letter : PlainMessage
+  pub there : peer_of node.config (Member place) ≡ Some peer
+  pub spelled : bytes ≡ sealed node.key letter
+  pub between : direction_of letter.head.cmd ≡ BetweenMembers
+  pub from : letter.head.from ≡ node.me
+
+-- this message tells a client that waits what became of its grant: with its number and neither options nor a reason,
+-- from this member
+pub record IsOutcome (me : MemberId) (waiter : Waiter) (head : Head) : Type 0 where
+  pub cmd : head.cmd ≡ RGnt
+  pub request : head.request ≡ waiter.number
+  pub options : head.options ≡ 0
+  pub reason : head.reason ≡ 0
+  pub from : head.from ≡ me
+
+-- these bytes, to this peer, tell one of these clients that wait what became of its grant
+pub record TellsWaiter (node : NodeConfig) (waiters : List (List Waiter)) (peer : Peer) (bytes : List ℕ)
+    : Type 0 where
+  pub place : ℕ
+  pub waiter : Waiter
+  pub letter : PlainMessage
+  pub waits : IsAmong waiter (waiting_at waiters place)
+  pub to : waiter.from ≡ peer
+  pub spelled : bytes ≡ sealed node.key letter
+  pub outcome : IsOutcome node.me waiter letter.head
+
+-- one of these calls tells this client that waits what became of its grant
+pub record IsToldIn (node : NodeConfig) (waiter : Waiter) (entries : List Entry) : Type 0 where
+  pub before : List Entry
+  pub letter : PlainMessage
+  pub answer : Result (Unit {0}) Failed
+  pub after : List Entry
+  pub whole : entries ≡ before ++ calls.Send waiter.from (sealed node.key letter) answer ∷ after
+  pub outcome : IsOutcome node.me waiter letter.head
+
+-- a record is kept, or something is said between members or to one of these clients that wait: no other client is
+-- reached
+abbrev pub ReachesWaiters : NodeConfig → List (List Waiter) → Entry → Type 0
+ReachesWaiters node waiters (calls.Keep ticket rec answer) = Unit {0}
+ReachesWaiters node waiters (calls.Send peer bytes answer) =
+    IsBetweenMembers node peer bytes ⊎ TellsWaiter node waiters peer bytes
+ReachesWaiters node waiters call = ⊥
+
+-- ---- turns
+
+-- A turn at this moment, in which the datagram of this peer is let in as this message; these are the calls of its
+-- deeds.
+pub record LetsIn (node : NodeConfig) (old : State) (moment : ℕ) (from : Peer) (letter : PlainMessage)
+    (entries : List Entry) (new : State) : Type 0 where
+  pub bytes : List ℕ
+  pub let_in : verdict node.config node.key node.me moment bytes ≡ Ok letter
+  pub deeds : Leads (IsDone node.key) (react node old moment (Ok (arrivals.Datagram from)) bytes) entries
+      (Ends new)
+
+-- The calls of the arrival are these acts of the ticket at a place, and leave it with a view and with clients that
+-- wait, of which this holds. The deadlines' calls follow.
+pub record ArrivalDoes (node : NodeConfig) (moment place : ℕ) (setup : Setup) (acts : List Act)
+    (Holds : Left → Type 0) (entries : List Entry) (new : State) : Type 0 where
+  pub arrival : List Entry
+  pub deadlines : List Entry
+  pub whole : entries ≡ arrival ++ deadlines
+  pub done : AreCallsOf node moment setup.ticket acts arrival
+  pub after : State
+  pub left : Left
+  pub ticket : slice_get after.tickets place ≡ Some (record { setup = setup; known = Automatic left.view })
+  pub waiters : slice_get after.waiters place ≡ Some left.waiters
+  pub holds : Holds left
+  pub follow : Leads (IsDone node.key) (dues node moment Went after) deadlines (Ends new)

@@ -1,0 +1,91 @@
+-- What is done where it may be: a round is answered, a grant asks all, and a majority gains.
+use Rattle.std.specs.Prelude.{◌≡◌, ℕ, true, false, List, ◌∷◌, position, slice_get, Some, None}
+use Rattle.booth_base.specs.declared.address.Peer.{Peer}
+use Rattle.booth_conf.specs.Config.{has_id}
+use Rattle.booth_conf.specs.Lookups.{is_called}
+use Rattle.booth_rec.specs.Record.{plain}
+use Rattle.booth_wire.specs.declared.codes.results.TheConstants.{ASYN}
+use Rattle.booth_wire.specs.declared.command.Cmd.TheVariants.{CGnt}
+use Rattle.booth_wire.specs.declared.message.Setup.{Setup}
+use Rattle.booth_wire.specs.declared.message.TicketPart.{TicketPart}
+use Rattle.booth_wire.specs.PlainMessage.{PlainMessage, Ticket}
+use Rattle.booth_host.specs.declared.entry.Entry.{Entry}
+use Rattle.booth_raft.specs.declared.view.Round.{Round}
+use Rattle.booth_raft.specs.declared.view.RoundKind.{RoundKind}
+use Rattle.booth_raft.specs.declared.view.View.{View}
+use Rattle.booth_raft.specs.AskAndRenew.{next_term, own_answer}
+use Rattle.booth_raft.specs.Members.{is_majority}
+use Rattle.booth_raft.specs.RoundsAndAnswers.{MayAnswer}
+use Rattle.booth_ticket.specs.declared.request.Request.{Request}
+use Rattle.booth_ticket.specs.declared.request.Wish.TheVariants.{Grant}
+use Rattle.booth_ticket.specs.Laws.{AsksVotes, Completes, HasLease, IsAnswer, IsRound, answer_to, asking_acts, gaining_acts, lease_of}
+use Rattle.booth_ticket.specs.Requests.{refused_grant}
+use Rattle.booth_ticket.specs.Ticket.{Automatic}
+use Rattle.booth_ticket.specs.Waiting.{joined, spare_in, waiting_at}
+use Rattle.booth_node.specs.declared.node_config.NodeConfig.{NodeConfig}
+use Rattle.booth_node.specs.Calls.{ArrivalDoes, IsCallOf, KeepsFirst, LetsIn}
+use Rattle.booth_node.specs.Opening.{AreSetUp}
+use Rattle.booth_node.specs.State.{State}
+
+-- the message is about the automatic ticket at this place, which has this setup and this view
+pub record IsAbout (node : NodeConfig) (state : State) (letter : PlainMessage) (place : ℕ)
+    (part : TicketPart) (setup : Setup) (view : View) : Type 0 where
+  pub content : letter.content ≡ Ticket part
+  pub named : position (is_called part.ticket) node.config.tickets ≡ Some place
+  pub there : slice_get state.tickets place ≡ Some (record { setup = setup; known = Automatic view })
+
+-- the first call answers the round, to the member whose round it is
+pub record IsRoundAnswered (node : NodeConfig) (moment : ℕ) (setup : Setup) (kind : RoundKind)
+    (letter : PlainMessage) (part : TicketPart) (entries : List Entry) : Type 0 where
+  pub member : ℕ
+  pub is_member : position (has_id letter.head.from) node.config.members ≡ Some member
+  pub first : Entry
+  pub others : List Entry
+  pub whole : entries ≡ first ∷ others
+  pub answers : IsCallOf node moment setup.ticket (answer_to setup member kind letter.head part) true first
+
+-- Where a member may answer a round that it heard, the answer goes out in that turn, before all else.
+abbrev pub RoundsAreAnswered : Type 0
+RoundsAreAnswered =
+    (node : NodeConfig) (old new : State) (moment : ℕ) (from : Peer) (letter : PlainMessage)
+    (entries : List Entry) (place : ℕ) (part : TicketPart) (setup : Setup) (view : View) (kind : RoundKind)
+    → LetsIn node old moment from letter entries new → IsAbout node old letter place part setup view
+    → IsRound kind letter.head → MayAnswer view letter.head.from part.term moment
+    → IsRoundAnswered node moment setup kind letter part entries
+
+-- a client's message as the request for a grant
+abbrev pub grant_of : Peer → PlainMessage → Request
+grant_of from letter =
+    record { wish = Grant; from = from; number = letter.head.request; options = letter.head.options }
+
+-- A grant that meets no refusal asks every other member for its vote in that turn, and tells the client that it was
+-- begun, where the keep of the new term answers Ok and this member is no majority by itself. The client then waits,
+-- where it asked to.
+abbrev pub GrantsAskAll : Type 0
+GrantsAskAll =
+    (node : NodeConfig) (old new : State) (moment : ℕ) (from : Peer) (letter : PlainMessage)
+    (entries : List Entry) (place : ℕ) (part : TicketPart) (setup : Setup) (view : View)
+    → AreSetUp node old → LetsIn node old moment from letter entries new
+    → IsAbout node old letter place part setup view
+    → letter.head.cmd ≡ CGnt
+    → refused_grant setup view (spare_in old.waiters) letter.head.options moment ≡ None
+    → is_majority setup (own_answer setup view moment) ≡ false → KeepsFirst entries
+    → ArrivalDoes node moment place setup (asking_acts setup view (grant_of from letter) moment)
+    (AsksVotes (plain (next_term view) view.kept.lease)
+    (joined (grant_of from letter) ASYN (waiting_at old.waiters place))) entries new
+
+-- Where the answer that completes a majority is heard before the lease of its round would be over, and the keep
+-- answers Ok, the ticket is granted until `expire` after the round was opened, all others are told, and so is each
+-- client that waits for the ticket, in that turn; then none waits.
+abbrev pub MajoritiesGain : Type 0
+MajoritiesGain =
+    (node : NodeConfig) (old new : State) (moment : ℕ) (from : Peer) (letter : PlainMessage)
+    (entries : List Entry) (place : ℕ) (part : TicketPart) (setup : Setup) (view : View) (round : Round)
+    (kind : RoundKind) (member : ℕ)
+    → AreSetUp node old → LetsIn node old moment from letter entries new
+    → IsAbout node old letter place part setup view
+    → position (has_id letter.head.from) node.config.members ≡ Some member → view.round ≡ Some round
+    → IsAnswer kind letter.head → Completes setup round member letter.head part moment → KeepsFirst entries
+    → ArrivalDoes node moment place setup
+    (gaining_acts setup view (waiting_at old.waiters place) (lease_of setup view round) moment)
+    (HasLease setup.me (lease_of setup view round)) entries new

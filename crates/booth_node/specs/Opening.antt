@@ -1,0 +1,70 @@
+-- The state of a node that is opened.
+use Rattle.std.specs.Prelude.{◌≡◌, ℕ, ◌+◌, ◌-◌, ◌^◌, min, Bool, false, List, [], ◌∷◌, length, map, position, replicate, slice_get, Option, unwrap_or, if◌then◌else◌}
+use Rattle.std.specs.Option.{option_map_or}
+use Rattle.booth_conf.specs.Config.{has_id}
+use Rattle.booth_conf.specs.Lookups.{rank_of, weights_at}
+use Rattle.booth_conf.specs.declared.members.Member.{Member}
+use Rattle.booth_conf.specs.declared.tickets.TicketConf.{TicketConf}
+use Rattle.booth_rec.specs.declared.record.Record.{Record}
+use Rattle.booth_rec.specs.Record.{record_or_none}
+use Rattle.booth_wire.specs.declared.message.Setup.{Setup}
+use Rattle.booth_ticket.specs.Ticket.{TicketState, opened as ticket_opened}
+use Rattle.booth_node.specs.declared.node_config.NodeConfig.{NodeConfig}
+use Rattle.booth_node.specs.Counting.{nothing_counted}
+use Rattle.booth_node.specs.State.{State}
+
+-- the member's place in the configuration
+abbrev pub own_place : NodeConfig → ℕ
+own_place node = unwrap_or (position (has_id node.me) node.config.members) 0
+
+abbrev pub is_site_at : List Member → ℕ → Bool
+is_site_at members place = option_map_or (λ member. member.site) (slice_get members place) false
+
+-- how many sites come before this one; an arbitrator has no rank
+abbrev pub rank_at : NodeConfig → ℕ → ℕ
+rank_at node index =
+    if is_site_at node.config.members (own_place node)
+    then rank_of node.config.members (weights_at node.config.tickets index) (own_place node)
+    else 0
+
+-- the setup of the ticket at this place
+abbrev pub setup_of : NodeConfig → ℕ → TicketConf → Setup
+setup_of node index ticket = record {
+  ticket = ticket.name;
+  me = node.me;
+  place = own_place node;
+  members = length node.config.members;
+  site = is_site_at node.config.members (own_place node);
+  rank = rank_at node index;
+  times = ticket.times;
+}
+
+-- the setups of these tickets, from this place on
+abbrev pub setups_from : NodeConfig → ℕ → List TicketConf → List Setup
+setups_from node index [] = []
+setups_from node index (ticket ∷ tickets) = setup_of node index ticket ∷ setups_from node (index + 1) tickets
+
+-- the tickets are those of the configuration, each set up for this node, with a list of the clients that wait for it
+abbrev pub AreSetUp : NodeConfig → State → Type 0
+AreSetUp node state =
+    (map (λ ticket. ticket.setup) state.tickets ≡ setups_from node 0 node.config.tickets)
+    × (length state.waiters ≡ length node.config.tickets)
+
+-- each ticket starts from its record, from this place on
+abbrev pub started_from : NodeConfig → ℕ → ℕ → List TicketConf → List (Option Record) → List TicketState
+started_from node now index (ticket ∷ tickets) (rec ∷ records) =
+    ticket_opened (setup_of node index ticket) (record_or_none rec) now
+    ∷ started_from node now (index + 1) tickets records
+started_from node now index tickets records = []
+
+-- the reading that a start uses
+abbrev pub start_reading : ℕ → ℕ
+start_reading reading = min reading (2 ^ 62 - 1)
+
+abbrev pub opened : NodeConfig → List (Option Record) → ℕ → State
+opened node records reading = record {
+  tickets = started_from node (start_reading reading) 0 node.config.tickets records;
+  waiters = replicate (length node.config.tickets) [];
+  common = nothing_counted;
+  last_reading = start_reading reading;
+}

@@ -1,0 +1,93 @@
+-- What a member does over time: its sessions, each a start and then calls of a node log, up to any of them.
+use Rattle.std.specs.Prelude.{◌≡◌, ℕ, Bool, true, List, [], ◌∷◌, length, Option, Result, is_ok}
+use Rattle.booth_base.specs.declared.address.Peer.{Peer}
+use Rattle.booth_base.specs.Tree.{Deeds, Ends, Does}
+use Rattle.booth_rec.specs.declared.record.Record.{Record}
+use Rattle.booth_wire.specs.Spelling.{Fits}
+use Rattle.booth_auth.specs.Sealed.{sealed}
+use Rattle.booth_host.specs.declared.host.Failed.{Failed}
+use Rattle.booth_host.specs.declared.host.Arrival.{Arrival}
+use Rattle.booth_host.specs.declared.entry.Entry.{Entry}
+use Rattle.booth_host.specs.declared.entry.Entry.TheVariants as calls
+use Rattle.booth_node.specs.declared.node_config.NodeConfig.{NodeConfig}
+use Rattle.booth_node.specs.Opening.{opened}
+use Rattle.booth_node.specs.Reaction.{Ask, Send, Keep, IsDone, used, react}
+use Rattle.booth_node.specs.State.{State}
+
+-- ---- entries
+
+-- A call of a turn whose answer never came.
+pub data CutCall : Type 0 where
+  CutNext : CutCall
+  CutNow : CutCall
+  CutSend : (to : Peer) (bytes : List ℕ) → CutCall
+  CutKeep : (ticket : List ℕ) (tried : Record) → CutCall
+
+-- What a member does: it starts, with one reading and the record of each ticket in file order, as they were read; it
+-- makes a call, with its answer; or it makes a call that is cut, which is its session's last.
+pub data SessionEntry : Type 0 where
+  Starts : (node : NodeConfig) (reading : ℕ) (records : List (Option Record)) → SessionEntry
+  Makes : (call : Entry) → SessionEntry
+  IsCut : (call : CutCall) → SessionEntry
+
+-- ---- where they leave the member
+
+-- A member is down; or it has the deeds of a turn before it, of which none are left between two turns; or it has the
+-- answer of a next, and is to read its clock.
+pub data Stand : Type 0 where
+  Down : Stand
+  Doing : (node : NodeConfig) (deeds : Deeds Ask State) → Stand
+  Hearing : (node : NodeConfig) (old : State) (answer : Result Arrival Failed) (bytes : List ℕ) → Stand
+
+-- whether a call did what was asked; sends and keeps alone say so
+abbrev pub did : Entry → Bool
+did (calls.Send to bytes answer) = is_ok answer
+did (calls.Keep ticket rec answer) = is_ok answer
+did call = true
+
+-- a next with a wait of 100 ms begins a turn, then the clock is read, and then each deed of the reaction is done
+abbrev pub MayMake : Stand → Entry → Type 0
+MayMake (Doing node (Ends old)) (calls.Next wait answer bytes) = wait ≡ 100
+MayMake (Doing node (Does ask go)) call = IsDone node.key ask (did call) call
+MayMake (Hearing node old answer bytes) (calls.Now reading) = Unit {0}
+MayMake stand call = ⊥
+
+abbrev pub after_call : Stand → Entry → Stand
+after_call (Doing node (Ends old)) (calls.Next wait answer bytes) = Hearing node old answer bytes
+after_call (Doing node (Does ask go)) call = Doing node (go (did call))
+after_call (Hearing node old answer bytes) (calls.Now reading) =
+    Doing node (react node old (used old.last_reading reading) answer bytes)
+after_call stand call = stand
+
+-- the call that comes next may be cut
+abbrev pub IsNextDeed : NodeConfig → Ask → CutCall → Type 0
+IsNextDeed node (Send peer letter) (CutSend to bytes) = (to ≡ peer) × (bytes ≡ sealed node.key letter) × Fits letter
+IsNextDeed node (Keep name tried) (CutKeep ticket rec) = (ticket ≡ name) × (rec ≡ tried)
+IsNextDeed node ask call = ⊥
+
+abbrev pub MayBeCut : Stand → CutCall → Type 0
+MayBeCut (Doing node (Ends old)) CutNext = Unit {0}
+MayBeCut (Doing node (Does ask go)) call = IsNextDeed node ask call
+MayBeCut (Hearing node old answer bytes) CutNow = Unit {0}
+MayBeCut stand call = ⊥
+
+-- A session may end anywhere, and then the next may start; a cut call is its last.
+abbrev pub MayDo : Stand → SessionEntry → Type 0
+MayDo stand (Starts node reading records) = length records ≡ length node.config.tickets
+MayDo stand (Makes call) = MayMake stand call
+MayDo stand (IsCut call) = MayBeCut stand call
+
+-- a start leaves the state that the node is opened in, between two turns
+abbrev pub after_entry : Stand → SessionEntry → Stand
+after_entry stand (Starts node reading records) = Doing node (Ends (opened node records reading))
+after_entry stand (Makes call) = after_call stand call
+after_entry stand (IsCut call) = Down
+
+-- from where the member stands, these are the rest of a session and then sessions, one after the other
+abbrev pub AreSessions : Stand → List SessionEntry → Type 0
+AreSessions stand [] = Unit {0}
+AreSessions stand (entry ∷ entries) = MayDo stand entry × AreSessions (after_entry stand entry) entries
+
+abbrev pub after_entries : Stand → List SessionEntry → Stand
+after_entries stand [] = stand
+after_entries stand (entry ∷ entries) = after_entries (after_entry stand entry) entries

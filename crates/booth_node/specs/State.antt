@@ -1,0 +1,21 @@
+-- What a node is between two turns: plain data.
+use Rattle.std.specs.Prelude.{ℕ, List, slice_set}
+use Rattle.booth_node.specs.declared.state.Common.{Common}
+use Rattle.booth_ticket.specs.declared.waiters.Waiter.{Waiter}
+use Rattle.booth_ticket.specs.Ticket.{TicketState, TicketLeft}
+
+-- the tickets in the order of the configuration, the clients that wait for each, what is counted beside them, and the
+-- last reading that was used, in milliseconds
+pub record State : Type 0 where
+  pub tickets : List TicketState
+  pub waiters : List (List Waiter)
+  pub common : Common
+  pub last_reading : ℕ
+
+-- what a call of the ticket at a place left, in the place of what was there, and what its deeds changed beside it
+abbrev pub with_ticket : State → ℕ → Common → TicketLeft → State
+with_ticket state place common left = record state {
+  tickets = slice_set state.tickets place left.ticket;
+  waiters = slice_set state.waiters place left.waiters;
+  common = common;
+}

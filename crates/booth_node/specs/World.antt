@@ -1,0 +1,160 @@
+-- Worlds: the sessions of all members of a cluster, in the order of true time.
+use Rattle.std.specs.Prelude.{◌≡◌, ℕ, ◌<◌, ◌≤◌, ◌==◌, ◌++◌, if◌then◌else◌, List, [], ◌∷◌, length, slice_get, slice_index, Option, Some, Ok}
+use Rattle.std.specs.Option.{option_map_or}
+use Rattle.booth_base.specs.declared.address.MemberId.{MemberId}
+use Rattle.booth_base.specs.declared.address.TheConstants.{NO_ONE}
+use Rattle.booth_base.specs.declared.times.Times.{Times}
+use Rattle.booth_conf.specs.Config.{ConfigSays}
+use Rattle.booth_conf.specs.declared.tickets.TicketConf.{TicketConf}
+use Rattle.booth_conf.specs.Sound.{IsSound}
+use Rattle.booth_wire.specs.declared.command.Direction.TheVariants.{BetweenMembers}
+use Rattle.booth_wire.specs.Command.{direction_of}
+use Rattle.booth_wire.specs.PlainMessage.{PlainMessage}
+use Rattle.booth_wire.specs.Reading.{decoded}
+use Rattle.booth_auth.specs.Verdict.{verdict}
+use Rattle.booth_host.specs.declared.host.Arrival.TheVariants as arrivals
+use Rattle.booth_host.specs.declared.entry.Entry.TheVariants as calls
+use Rattle.booth_node.specs.declared.node_config.NodeConfig.{NodeConfig}
+use Rattle.booth_node.specs.Clock.{Cluster, IsClock}
+use Rattle.booth_node.specs.Opening.{is_site_at}
+use Rattle.booth_node.specs.Reaction.{used}
+use Rattle.booth_node.specs.Session.{SessionEntry, Starts, Makes, IsCut, CutSend, Stand, Down, Hearing, AreSessions, after_entries}
+use Rattle.booth_node.specs.Records.{Has, TicketPlace, record_at, may_be_kept}
+
+-- ---- a world
+
+-- What a member did at a true time, in whole milliseconds.
+pub record WorldEntry : Type 0 where
+  pub member : ℕ
+  pub time : ℕ
+  pub what : SessionEntry
+
+-- A configuration, a key or none, one clock for each member, all of one length, and the entries. Members are named by
+-- their places in the configuration.
+pub record World : Type 0 where
+  pub config : ConfigSays
+  pub key : Option (List ℕ)
+  pub span : ℕ
+  pub clock : ℕ → List ℕ
+  pub entries : List WorldEntry
+
+abbrev pub members_of : World → ℕ
+members_of w = length w.config.members
+
+abbrev pub id_at : World → ℕ → MemberId
+id_at w m = option_map_or (λ member. member.id) (slice_get w.config.members m) NO_ONE
+
+-- the member at a place, with the configuration and the key of all
+abbrev pub node_at : World → ℕ → NodeConfig
+node_at w m = record { config = w.config; key = w.key; me = id_at w m }
+
+-- the entries of one member, taken alone
+abbrev pub entries_of : ℕ → List WorldEntry → List SessionEntry
+entries_of m [] = []
+entries_of m (entry ∷ entries) =
+    if entry.member == m then entry.what ∷ entries_of m entries else entries_of m entries
+
+-- the ticket at a place
+abbrev pub ticket_at : ℕ → TicketConf → TicketPlace
+ticket_at place ticket = record { place = place; name = ticket.name }
+
+-- the cluster of a ticket with these times
+abbrev pub cluster_of : World → Times → Cluster
+cluster_of w times = record {
+  members = members_of w;
+  is_site = is_site_at w.config.members;
+  times = times;
+  span = w.span;
+  clock = w.clock;
+}
+
+-- this holds of each entry, with those before it
+abbrev pub AtEach : World → (List WorldEntry → WorldEntry → Type 0) → Type 0
+AtEach w P =
+    (before after : List WorldEntry) (entry : WorldEntry) → w.entries ≡ before ++ entry ∷ after → P before entry
+
+-- ---- the form of a world
+
+abbrev pub last_time : ℕ → List WorldEntry → ℕ
+last_time time [] = time
+last_time time (entry ∷ entries) = last_time entry.time entries
+
+-- The configuration is one that a text says; each entry is a member's; true times never fall along the list, and lie
+-- within the clocks.
+pub record HasForm (w : World) : Type 0 where
+  pub sound : IsSound w.config
+  pub members : AtEach w (λ before entry. entry.member < members_of w)
+  pub in_order : AtEach w (λ before entry. last_time 0 before ≤ entry.time)
+  pub within : AtEach w (λ before entry. entry.time < w.span)
+
+-- ---- its premises
+
+-- a start is one of this member, with the one configuration and the one key or none
+abbrev pub HasConfiguration : World → WorldEntry → SessionEntry → Type 0
+HasConfiguration w entry (Starts node reading records) = node ≡ node_at w entry.member
+HasConfiguration w entry what = Unit {0}
+
+-- what the member's clock reads at a true time
+abbrev pub clock_at : World → ℕ → ℕ → ℕ
+clock_at w m time = slice_index (w.clock m) time
+
+-- each reading is that of the member's clock at this true time; a start's too
+abbrev pub ReadsClock : World → WorldEntry → SessionEntry → Type 0
+ReadsClock w entry (Starts node reading records) = reading ≡ clock_at w entry.member entry.time
+ReadsClock w entry (Makes (calls.Now reading)) = reading ≡ clock_at w entry.member entry.time
+ReadsClock w entry what = Unit {0}
+
+-- Each member has one clock through all its starts, which drifts within the bounds, and reads nothing else.
+pub record HasTrueClocks (w : World) : Type 0 where
+  pub some : 0 < w.span
+  pub long : (m : ℕ) → m < members_of w → length (w.clock m) ≡ w.span
+  pub clocks : (m : ℕ) → m < members_of w → IsClock (w.clock m)
+  pub read : AtEach w (λ before entry. ReadsClock w entry entry.what)
+
+-- A start reads of each ticket a record that its member may have kept. So where the member never started before, it
+-- reads none, or one that counts as none.
+abbrev pub ReadsKept : World → List WorldEntry → WorldEntry → SessionEntry → Type 0
+ReadsKept w before entry (Starts node reading records) =
+    (place : ℕ) (ticket : TicketConf) → slice_get w.config.tickets place ≡ Some ticket
+    → Has
+    (may_be_kept (ticket_at place ticket) (entries_of entry.member before) (Starts node reading records ∷ []))
+    (record_at records place)
+ReadsKept w before entry what = Unit {0}
+
+-- the bytes of a send; one that failed, or was cut, is one too
+abbrev pub IsSend : SessionEntry → List ℕ → Type 0
+IsSend (Makes (calls.Send to bytes answer)) sent = bytes ≡ sent
+IsSend (IsCut (CutSend to bytes)) sent = bytes ≡ sent
+IsSend what sent = ⊥
+
+-- The member whose id a message bears sent the same message, by one of these entries.
+pub record WasSent (w : World) (before : List WorldEntry) (letter : PlainMessage) : Type 0 where
+  pub entry : WorldEntry
+  pub earlier : Has before entry
+  pub sender : id_at w entry.member ≡ letter.head.from
+  pub bytes : List ℕ
+  pub sent : IsSend entry.what bytes
+  pub same : decoded bytes ≡ Ok letter
+
+-- where the reading of a turn lets a member's message in, it was sent
+abbrev pub HearsSent : World → List WorldEntry → Stand → SessionEntry → Type 0
+HearsSent w before (Hearing node old (Ok (arrivals.Datagram from)) bytes) (Makes (calls.Now reading)) =
+    (letter : PlainMessage) → verdict node.config node.key node.me (used old.last_reading reading) bytes ≡ Ok letter
+    → direction_of letter.head.cmd ≡ BetweenMembers → WasSent w before letter
+HearsSent w before stand what = Unit {0}
+
+-- where a member stands after these entries of the world
+abbrev pub stand_after : ℕ → List WorldEntry → Stand
+stand_after m before = after_entries Down (entries_of m before)
+
+-- A world has five premises. All members have the one configuration and the one key or none; clocks are true; records
+-- return as they may have been kept; a member's message that is let in was sent by that member, earlier, and may come
+-- to any member, any number of times or never; and one daemon of each member runs at a time. All else is free: what
+-- clients ask, what fails, what is cut, and when.
+pub record IsWorld (w : World) : Type 0 where
+  pub form : HasForm w
+  pub one_configuration : AtEach w (λ before entry. HasConfiguration w entry entry.what)
+  pub true_clocks : HasTrueClocks w
+  pub records_return : AtEach w (λ before entry. ReadsKept w before entry entry.what)
+  pub members_speak : AtEach w (λ before entry. HearsSent w before (stand_after entry.member before) entry.what)
+  pub one_daemon : (m : ℕ) → m < members_of w → AreSessions Down (entries_of m w.entries)

@@ -1,0 +1,273 @@
+//! The hands of a ticket at a node: what it says is sealed and sent, what it keeps is kept by the host.
+ghost use Rattle.std.specs.Prelude.{◌≡◌, ◌≤◌, ◌<◌, ◌^◌, ℕ, [], ◌∷◌, length, slice_get, slice_set, is_ok, IsSomeAnd, option_copied};
+ghost use Rattle.booth_base.specs.Tree.{Deeds, Leads};
+ghost use Rattle.booth_wire.specs.Command.{kind_of};
+ghost use Rattle.booth_wire.specs.Spelling.{Fits};
+ghost use Rattle.booth_wire.specs.declared.command.Kind.{Kind};
+ghost use Rattle.booth_auth.specs.Sealed.{sealed};
+ghost use Rattle.booth_host.specs.declared.entry.Entry.{Entry};
+ghost use Rattle.booth_host.specs.Past.{GrewBy, GrewSome};
+ghost use Rattle.booth_ticket.specs.Acts.{said};
+ghost use Rattle.booth_ticket.specs.Ticket.{TicketLeft};
+ghost use Rattle.booth_ticket.specs.Waiting.{spare_in, waiting_at};
+ghost use Rattle.booth_node.specs.declared.state.Common as C;
+ghost use Rattle.booth_node.specs.Acting.{ActsAs, Scene, MayBefall, IsSetAt};
+ghost use Rattle.booth_node.specs.Counting.{with_send};
+ghost use Rattle.booth_node.specs.Reaction.{Ask, IsDone, peer_at, peer_of, sent_as, lifted, befalls, acts};
+ghost use Rattle.booth_node.specs.State.{State};
+
+use crate::event::Event;
+use crate::{Common, NodeConfig};
+use booth_auth::seal;
+use booth_base::{Name, Peer};
+use booth_conf::{Config, Member};
+use booth_host::{Failed, Host};
+use booth_rec::Record;
+use booth_ticket::{Hands, Ticket, To, Waiters};
+use booth_wire::{Body, Frame, Head, Message, TicketPart};
+
+/// A host, and what the acts of a ticket change beside it.
+#[derive(Drop)]
+pub(crate) struct NodeHands<'a, H: Host> {
+    pub host: &'a mut H,
+    pub common: &'a mut Common,
+    pub frame: &'a mut Frame,
+    pub node: &'a NodeConfig,
+    /// The ticket's name.
+    pub name: &'a Name,
+    pub now: u64,
+}
+
+fn peer_at(config: &Config, member: Option<&Member>) -> Option<Peer>
+    ensures { result ≡ peer_at config.now (option_copied member.entry) }
+{
+    let member = member?;
+    Some(Peer {
+        address: member.address,
+        port: config.port(),
+    })
+}
+
+fn peer_of(config: &Config, to: To) -> Option<Peer>
+    ensures { result ≡ peer_of config.now to }
+{
+    match to {
+        To::Member(place) => peer_at(config, config.members().get(place as usize)),
+        To::Client(peer) => Some(peer),
+    }
+}
+
+// Seals a message about a ticket into the frame.
+fn write(node: &NodeConfig, head: &Head, part: &TicketPart, now: u64, frame: &mut Frame)
+    requires kind { kind_of head.now.cmd ≡ Kind.Ticket }
+    ensures bytes { frame.new ≡ sealed node.now.key (sent_as node.now now head.now part.now) }
+    ensures fits { Fits (sent_as node.now now head.now part.now) }
+{
+    let message = Message {
+        head: *head,
+        body: Body::Ticket(part.copy()),
+    };
+    seal(&message, node.key.as_ref(), now, frame);
+}
+
+// Sends the frame to where a message goes, and counts that.
+fn send<H: Host>(
+    host: &mut H,
+    common: &mut Common,
+    to: To,
+    peer: &Peer,
+    frame: &Frame,
+) -> Result<(), Failed>
+    ensures past { GrewBy (H.past host.old) (H.past host.new) (Entry.Send peer.now frame.now result ∷ []) }
+    ensures common { common.new ≡ with_send common.old to (is_ok result) }
+    ensures later { H.faults host.old ≤ H.faults host.new }
+{
+    let answer = host.send(peer, frame.bytes());
+    *common = common.with_send(to, answer.is_ok());
+    answer
+}
+
+impl<'a, H: Host> NodeHands<'a, H> {
+    // Says what stands in the frame.
+    fn say_written(&mut self, to: To, head: &Head, part: &TicketPart)
+        requires written { self.old.frame.now
+            ≡ sealed self.old.node.now.key (sent_as self.old.node.now self.old.now head.now part.now) }
+        requires fits { Fits (sent_as self.old.node.now self.old.now head.now part.now) }
+        ensures host { self.new.host.ghost_name ≡ self.old.host.ghost_name }
+        ensures counts { self.new.common.ghost_name ≡ self.old.common.ghost_name }
+        ensures buffer { self.new.frame.ghost_name ≡ self.old.frame.ghost_name }
+        ensures frame { self.new.frame.now ≡ self.old.frame.now }
+        ensures acts { ActsAs (said to head.now part.now)
+            (record {
+              node = self.old.node.now;
+              moment = self.old.now;
+              name = self.old.name.now;
+              past = H.past self.old.host.now;
+              faults = H.faults self.old.host.now;
+              common = self.old.common.now;
+            })
+            (record {
+              node = self.new.node.now;
+              moment = self.new.now;
+              name = self.new.name.now;
+              past = H.past self.new.host.now;
+              faults = H.faults self.new.host.now;
+              common = self.new.common.now;
+            }) }
+    {
+        let Some(peer) = peer_of(&self.node.config, to) else {
+            return;
+        };
+        let _ = send(self.host, self.common, to, &peer, self.frame);
+    }
+
+    // Writes a message into the frame, and says it.
+    fn say_anew(&mut self, to: To, head: &Head, part: &TicketPart)
+        requires kind { kind_of head.now.cmd ≡ Kind.Ticket }
+        ensures written { self.new.frame.now
+            ≡ sealed self.old.node.now.key (sent_as self.old.node.now self.old.now head.now part.now) }
+        ensures fits { Fits (sent_as self.old.node.now self.old.now head.now part.now) }
+        ensures host { self.new.host.ghost_name ≡ self.old.host.ghost_name }
+        ensures counts { self.new.common.ghost_name ≡ self.old.common.ghost_name }
+        ensures buffer { self.new.frame.ghost_name ≡ self.old.frame.ghost_name }
+        ensures acts { ActsAs (said to head.now part.now)
+            (record {
+              node = self.old.node.now;
+              moment = self.old.now;
+              name = self.old.name.now;
+              past = H.past self.old.host.now;
+              faults = H.faults self.old.host.now;
+              common = self.old.common.now;
+            })
+            (record {
+              node = self.new.node.now;
+              moment = self.new.now;
+              name = self.new.name.now;
+              past = H.past self.new.host.now;
+              faults = H.faults self.new.host.now;
+              common = self.new.common.now;
+            }) }
+    {
+        write(self.node, head, part, self.now, self.frame);
+        self.say_written(to, head, part);
+    }
+}
+
+impl<'a, H: Host> Hands for NodeHands<'a, H> {
+    ghost use Rattle.booth_node.specs.Acting.{ActsAs, Scene};
+
+    ghost did = { λ old act new.
+        (new.host.ghost_name ≡ old.host.ghost_name) × (new.common.ghost_name ≡ old.common.ghost_name)
+        × (new.frame.ghost_name ≡ old.frame.ghost_name)
+        × ActsAs act
+        (record {
+          node = old.node.now;
+          moment = old.now;
+          name = old.name.now;
+          past = H.past old.host.now;
+          faults = H.faults old.host.now;
+          common = old.common.now;
+        })
+        (record {
+          node = new.node.now;
+          moment = new.now;
+          name = new.name.now;
+          past = H.past new.host.now;
+          faults = H.faults new.host.now;
+          common = new.common.now;
+        }) };
+
+    fn keep(&mut self, rec: &Record) -> bool {
+        let answer = self.host.keep(self.name, rec);
+        answer.is_ok()
+    }
+
+    fn say(&mut self, to: To, head: &Head, part: &TicketPart) {
+        self.say_anew(to, head, part);
+    }
+
+    fn say_each(&mut self, places: &[u32], head: &Head, part: &TicketPart) {
+        let [first, others @ ..] = places else {
+            return;
+        };
+        self.say_anew(To::Member(*first), head, part);
+        for place in others.iter() {
+            self.say_written(To::Member(*place), head, part);
+        }
+    }
+}
+
+/// What befalls a ticket, by these hands. Its clients wait at the place `list`.
+fn befall<H: Host>(
+    ticket: &mut Ticket,
+    event: &Event,
+    list: u32,
+    waiters: &mut Waiters,
+    hands: &mut NodeHands<'_, H>,
+)
+    requires early { hands.old.now < 2 ^ 62 }
+    requires may { MayBefall ticket.old event.now hands.old.now }
+    requires exists { list < length waiters.old }
+    ensures host { hands.new.host.ghost_name ≡ hands.old.host.ghost_name }
+    ensures counts { hands.new.common.ghost_name ≡ hands.old.common.ghost_name }
+    ensures buffer { hands.new.frame.ghost_name ≡ hands.old.frame.ghost_name }
+    ensures past { (rest : C.Common → TicketLeft → Deeds Ask State)
+        → GrewSome (λ es. Leads (IsDone hands.old.node.now.key)
+        (lifted hands.old.node.now hands.old.now hands.old.name.now hands.old.common.now
+        (befalls ticket.old (waiting_at waiters.old list) (spare_in waiters.old) event.now
+        hands.old.now) rest)
+        es (rest hands.new.common.now
+        (record { ticket = ticket.new; waiters = waiting_at waiters.new list })))
+        (H.past hands.old.host.now) (H.past hands.new.host.now) }
+    ensures later { H.faults hands.old.host.now ≤ H.faults hands.new.host.now }
+    ensures setup { ticket.new.setup ≡ ticket.old.setup }
+    ensures others { waiters.new ≡ slice_set waiters.old list (waiting_at waiters.new list) }
+{
+    let now = hands.now;
+    match event {
+        Event::Due => ticket.tick(now, list, waiters, hands),
+        Event::Heard { from, head, part } => {
+            ticket.hear(now, *from, head, part, list, waiters, hands)
+        }
+        Event::Asked(request) => ticket.client(now, request, list, waiters, hands),
+    }
+}
+
+/// What befalls the ticket at a place, by these hands, which have its name.
+pub(crate) fn act_at<H: Host>(
+    tickets: &mut Vec<Ticket>,
+    place: u32,
+    event: &Event,
+    waiters: &mut Waiters,
+    hands: &mut NodeHands<'_, H>,
+)
+    requires early { hands.old.now < 2 ^ 62 }
+    requires exists { place < length waiters.old }
+    requires may { IsSomeAnd (slice_get tickets.old.items place)
+        (λ ticket. MayBefall ticket event.now hands.old.now
+        × (hands.old.name.now ≡ ticket.setup.ticket)) }
+    ensures host { hands.new.host.ghost_name ≡ hands.old.host.ghost_name }
+    ensures counts { hands.new.common.ghost_name ≡ hands.old.common.ghost_name }
+    ensures buffer { hands.new.frame.ghost_name ≡ hands.old.frame.ghost_name }
+    ensures past { GrewSome (λ es. Leads (IsDone hands.old.node.now.key)
+        (acts hands.old.node.now hands.old.now
+        (record {
+          tickets = tickets.old.items;
+          waiters = waiters.old;
+          common = hands.old.common.now;
+          last_reading = hands.old.now;
+        }) place event.now)
+        es (Deeds.Ends
+        (record {
+          tickets = tickets.new.items;
+          waiters = waiters.new;
+          common = hands.new.common.now;
+          last_reading = hands.old.now;
+        })))
+        (H.past hands.old.host.now) (H.past hands.new.host.now) }
+    ensures later { H.faults hands.old.host.now ≤ H.faults hands.new.host.now }
+    ensures others { IsSetAt tickets.old.items place tickets.new.items }
+    ensures lists { length waiters.new ≡ length waiters.old }
+{
+    befall(&mut tickets[place as usize], event, place, waiters, hands);
+}

@@ -1,0 +1,71 @@
+-- A client waits only where there is room for it.
+use Rattle.std.proofs.Common.{◌≡◌, ℕ, ◌<◌, Bool, true, false, ◌&&◌, ◌||◌, arith, refl, sym, ◌∙◌, subst}
+use Rattle.std.proofs.lemmas.Bool.Decides.{nat_tests}
+use Rattle.std.specs.Prelude.{Option, Some, None, not, ◌==◌}
+use Rattle.booth_wire.specs.declared.message.Setup.{Setup}
+use Rattle.booth_wire.specs.declared.codes.results.TheConstants.{SUCCESS, ASYN, FAIL, IARG, PEND, OVER, BUSY}
+use Rattle.booth_raft.specs.declared.view.View.{View}
+use Rattle.booth_raft.specs.AskAndRenew.{are_terms_spent}
+use Rattle.booth_raft.specs.Members.{is_follower, is_promised_elsewhere}
+use Rattle.booth_raft.proofs.FactsLemmas.{on_cond, on_test}
+use Rattle.booth_ticket.specs.Requests.{is_holder, is_shown_elsewhere, holder_result, refused_grant}
+use Rattle.booth_ticket.specs.Waiting.{commits, waits}
+
+both_right : (a b : Bool) → a && b ≡ true → b ≡ true
+both_right true b e = e
+both_right false b e = absurd (cc)
+
+never : false ≡ true → ⊥
+never e = cc
+
+module _ (spare : ℕ) where
+  -- where this says that a request was begun, there is room
+  abbrev Fits : ℕ → Type 0
+  Fits answer = answer == ASYN ≡ true → 0 < spare
+
+  abbrev Fine : Option ℕ → Type 0
+  Fine refused = (answer : ℕ) → refused ≡ Some answer → Fits answer
+
+  fine : (n : ℕ) → Fits n → Fine (Some n)
+  fine n fits answer is = subst Fits (same n answer is) fits
+    where
+      same : (m k : ℕ) → Some m ≡ Some k → m ≡ k
+      same m k e = cc
+
+  other : (n : ℕ) → n == ASYN ≡ false → Fits n
+  other n is e = absurd (never (sym is ∙ e))
+
+  held : (sure : Bool) (options : ℕ) → Fits (holder_result sure spare options)
+  held sure options =
+      on_cond Fits sure _ _ (other SUCCESS refl)
+      (on_cond Fits (commits options) _ _
+      (on_test Fits (spare == 0) BUSY ASYN (λ e. other BUSY refl) (λ e begun. some spare e))
+      (other PEND refl))
+    where
+      some : (n : ℕ) → n == 0 ≡ false → 0 < n
+      some n e = grind (arith, nat_tests)
+
+  fine_none : Fine None
+  fine_none answer is = absurd (no answer is)
+    where
+      no : (n : ℕ) → None ≡ Some n → ⊥
+      no n e = cc
+
+  pub room_refused : (setup : Setup) (view : View) (options now answer : ℕ)
+      → refused_grant setup view spare options now ≡ Some answer
+      → waits options && answer == ASYN ≡ true → 0 < spare
+  room_refused setup view options now answer is begun =
+      every answer is (both_right (waits options) (answer == ASYN) begun)
+    where
+      every : Fine (refused_grant setup view spare options now)
+      every =
+          on_cond Fine (not setup.site || not (options == 0 || waits options)) _ _
+          (fine IARG (other IARG refl))
+          (on_cond Fine (is_holder setup view now) _ _
+          (fine (holder_result view.sure spare options) (held view.sure options))
+          (on_cond Fine (is_shown_elsewhere view.shown setup.me now) _ _ (fine OVER (other OVER refl))
+          (on_cond Fine
+          (not (is_follower view.role) || is_promised_elsewhere view.promise setup.me now) _ _
+          (fine BUSY (other BUSY refl))
+          (on_cond Fine (are_terms_spent view) _ _ (fine FAIL (other FAIL refl))
+          (on_cond Fine (waits options && spare == 0) _ _ (fine BUSY (other BUSY refl)) fine_none)))))

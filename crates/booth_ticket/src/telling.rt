@@ -1,0 +1,168 @@
+//! What clients are told: those that wait, and who asked.
+ghost use Rattle.std.specs.Prelude.{◌≡◌, ◌≤◌, ◌<◌, ◌++◌, List, [], ◌∷◌, IsTrue, length, slice_set};
+ghost use Rattle.booth_base.specs.Tree.{Deeds, Leads};
+ghost use Rattle.booth_wire.specs.Command.{kind_of};
+ghost use Rattle.booth_wire.specs.declared.command.Kind.{Kind};
+ghost use Rattle.booth_raft.specs.Messages.{head_of, state_part};
+ghost use Rattle.booth_ticket.specs.Acts.{Ask, DidSome, IsAct};
+ghost use Rattle.booth_ticket.specs.Automatic.{Left};
+ghost use Rattle.booth_ticket.specs.Requests.{reply, reply_cmd};
+ghost use Rattle.booth_ticket.specs.declared.waiters.Waiter as Waiting;
+ghost use Rattle.booth_ticket.specs.Waiting.{waiting_at, spare_in, commits, waits, joins, joined, result_for, staying, tell_one, tell_each};
+
+use crate::hands::{Hands, To};
+use crate::request::{Request, Wish};
+use crate::waiters::{Waiter, Waiters};
+use booth_raft::{Core, Told, View, owner_now, seconds_left, shown_end};
+use booth_wire::options::{COMMIT, WAIT};
+use booth_wire::results::{ASYN, FAIL, PEND, SUCCESS};
+use booth_wire::{Cmd, Head, Setup, TicketPart};
+
+/// Whether a client wants to hear of a grant only once that is kept.
+pub(crate) fn commits(options: u32) -> bool
+    ensures { result ≡ commits options }
+{
+    options == COMMIT || options == WAIT + COMMIT
+}
+
+/// Whether a client wants to hear the outcome too.
+pub(crate) fn waits(options: u32) -> bool
+    ensures { result ≡ waits options }
+{
+    options == WAIT || commits(options)
+}
+
+fn reply_head(setup: &Setup, number: u32, cmd: Cmd, answer: u32) -> Head
+    ensures { result ≡ head_of setup.now cmd number 0 0 answer }
+{
+    Head {
+        auth: false,
+        secs: 0,
+        usecs: 0,
+        from: setup.me,
+        cmd,
+        request: number,
+        options: 0,
+        reason: 0,
+        result: answer,
+    }
+}
+
+fn reply_part(setup: &Setup, view: &View, now: u64) -> TicketPart
+    ensures { result ≡ state_part setup.now view.now now }
+{
+    TicketPart {
+        ticket: setup.ticket.copy(),
+        leader: owner_now(view.shown, now),
+        term: view.term,
+        valid_for: seconds_left(shown_end(view.shown), now),
+    }
+}
+
+// What an outcome is to a client that waits: its result, or none where it waits on.
+fn result_for(told: Told, waiter: &Waiter) -> Option<u32>
+    ensures { result ≡ result_for told waiter.now }
+{
+    match told {
+        Told::Nothing | Told::ReleaseFailed => None,
+        Told::Gained { sure: true } => Some(SUCCESS),
+        Told::Gained { sure: false } => (!waiter.commit).then_some(PEND),
+        Told::RoundFailed | Told::AskFailed | Told::Released | Told::Lost => Some(FAIL),
+    }
+}
+
+// Tells a client that waits its result, where it has one.
+fn tell_one<W: Hands>(core: &Core, waiter: &Waiter, answer: Option<u32>, now: u64, hands: &mut W)
+    ensures did { DidSome W.did (λ acts. (rest : Deeds Ask Left) → Leads IsAct
+        (tell_one core.now.setup core.now.view now waiter.now answer rest) acts rest)
+        hands.old hands.new }
+{
+    if let Some(answer) = answer {
+        let head = reply_head(core.setup(), waiter.number, Cmd::RGnt, answer);
+        let part = reply_part(core.setup(), core.view(), now);
+        hands.say(To::Client(waiter.from), &head, &part);
+    }
+}
+
+// A client that was told nothing waits on, behind those that were not looked at yet.
+fn keep_waiting(waiter: Waiter, told: Told, list: u32, waiters: &mut Waiters)
+    requires exists { list < length waiters.old }
+    requires room { 0 < spare_in waiters.old }
+    ensures { waiters.new ≡ slice_set waiters.old list
+        (waiting_at waiters.old list ++ staying told (waiter ∷ [])) }
+{
+    if result_for(told, &waiter).is_none() {
+        waiters.push(list, waiter);
+    }
+}
+
+/// Tells those that wait for the ticket of an outcome, first to last. Who was told leaves the list.
+pub(crate) fn tell<W: Hands>(
+    core: &Core,
+    told: Told,
+    now: u64,
+    list: u32,
+    waiters: &mut Waiters,
+    hands: &mut W,
+)
+    requires exists { list < length waiters.old }
+    ensures did { DidSome W.did (λ acts. (rest : Deeds Ask Left) → Leads IsAct
+        (tell_each core.now.setup core.now.view now told (waiting_at waiters.old list) rest) acts
+        rest) hands.old hands.new }
+    ensures left { waiters.new
+        ≡ slice_set waiters.old list (staying told (waiting_at waiters.old list)) }
+    ensures room { spare_in waiters.old ≤ spare_in waiters.new }
+{
+    for _place in 0..waiters.count(list) {
+        let Some(waiter) = waiters.pop(list) else {
+            return;
+        };
+        tell_one(core, &waiter, result_for(told, &waiter), now, hands);
+        keep_waiting(waiter, told, list, waiters);
+    }
+}
+
+/// Who asked waits for the outcome, where its request was begun and it wants that.
+pub(crate) fn join(request: &Request, answer: u32, list: u32, waiters: &mut Waiters)
+    requires exists { list < length waiters.old }
+    requires room { IsTrue (joins request.now answer) → 0 < spare_in waiters.old }
+    ensures { waiters.new ≡ slice_set waiters.old list
+        (joined request.now answer (waiting_at waiters.old list)) }
+{
+    if waits(request.options) && answer == ASYN {
+        waiters.push(
+            list,
+            Waiter {
+                from: request.from,
+                number: request.number,
+                commit: commits(request.options),
+            },
+        );
+    }
+}
+
+fn reply_cmd(wish: Wish) -> Cmd
+    ensures cmd { result ≡ reply_cmd wish }
+    ensures kind { kind_of result ≡ Kind.Ticket }
+{
+    match wish {
+        Wish::Grant => Cmd::RGnt,
+        Wish::Revoke => Cmd::RRvk,
+    }
+}
+
+/// Replies to a request, with the state of the ticket.
+pub(crate) fn reply<W: Hands>(core: &Core, request: &Request, answer: u32, now: u64, hands: &mut W)
+    ensures did { DidSome W.did (λ acts. (waiters : List Waiting.Waiter) → Leads IsAct
+        (reply core.now.setup request.now (reply_cmd request.now.wish) answer core.now.view now
+        waiters) acts
+        (Deeds.Ends (record {
+          view = core.now.view;
+          waiters = joined request.now answer waiters;
+        }))) hands.old hands.new }
+{
+    let cmd = reply_cmd(request.wish);
+    let head = reply_head(core.setup(), request.number, cmd, answer);
+    let part = reply_part(core.setup(), core.view(), now);
+    hands.say(To::Client(request.from), &head, &part);
+}
