@@ -1,9 +1,10 @@
 -- Releases are the entries', and the three laws hold of entries of the cores.
-use Rattle.std.proofs.Common.{◌≡◌, ◌⊎◌, ℕ, ◌≤◌, List, [], ◌∷◌, ◌++◌, Bool, true, false, refl, sym, ap, ◌∙◌, subst, inl, inr, ⊎_elim}
+use Rattle.std.proofs.Common.{◌≡◌, ◌⊎◌, ℕ, ◌<◌, ◌≤◌, List, [], ◌∷◌, ◌++◌, Bool, true, false, refl, sym, ap, ◌∙◌, subst, inl, inr, ⊎_elim, arith}
 use Rattle.std.specs.Prelude.{Option, Some, None}
 use Rattle.booth_rec.specs.declared.record.Record.{Record}
 use Rattle.booth_rec.specs.Record.{plain, IsInForce}
 use Rattle.booth_wire.specs.declared.message.Setup.{Setup}
+use Rattle.booth_raft.specs.declared.view.Round.{Round as ViewRound}
 use Rattle.booth_raft.specs.declared.view.Rule.{Rule}
 use Rattle.booth_raft.specs.declared.view.Rule.TheVariants as rules
 use Rattle.booth_raft.specs.declared.view.View.{View}
@@ -21,6 +22,7 @@ use Rattle.booth_world.specs.CoreLaws.{IsReleaseAt, IsReleaseIn, CoreHoldsBy, Co
 use Rattle.booth_world.proofs.Views.{kept_of, record_has}
 use Rattle.booth_world.proofs.KeptSteps.{the_value}
 use Rattle.booth_world.proofs.Runs.{runs_hold_one, runs_hold_apart, runs_keep_terms}
+use Rattle.booth_world.proofs.WorldGood.{opening_good, run_good}
 use Rattle.booth_world.proofs.CoreSteps.{CoresHold, opens, enters, enter_all}
 
 module _ (c : Cluster) (cast : Cast) (clocks : HasClocks c) (is_cast : IsCast c cast) where
@@ -73,7 +75,7 @@ module _ (c : Cluster) (cast : Cast) (clocks : HasClocks c) (is_cast : IsCast c 
   entry_released cores w (Stops m) z i may has = inl has
   entry_released cores w (StartsWith m kept) z i may has = inl has
 
-  all_released : (cores : Cores) (entries : List CoreEntry) (steps : List WorldStep) (z : Release) → IsRun c (opening c) steps → CoresHold c cast cores (world_of c steps)
+  pub all_released : (cores : Cores) (entries : List CoreEntry) (steps : List WorldStep) (z : Release) → IsRun c (opening c) steps → CoresHold c cast cores (world_of c steps)
       → AreEntered c cast cores entries → Has (cores_after c cast cores entries).releases z → Has cores.releases z ⊎ IsReleaseIn c cast cores entries z
   all_released cores [] steps z run i all has = inl has
   all_released cores (entry ∷ entries) steps z run i all has =
@@ -89,7 +91,7 @@ module _ (c : Cluster) (cast : Cast) (clocks : HasClocks c) (is_cast : IsCast c 
 -- ---- the laws
 
 -- runs of the world for both parts
-record Runs (c : Cluster) (cast : Cast) (early late : List CoreEntry) : Type 0 where
+pub record Runs (c : Cluster) (cast : Cast) (early late : List CoreEntry) : Type 0 where
   pub first : List WorldStep
   pub more : List WorldStep
   pub run_first : IsRun c (opening c) first
@@ -97,7 +99,7 @@ record Runs (c : Cluster) (cast : Cast) (early late : List CoreEntry) : Type 0 w
   pub early_holds : CoresHold c cast (early_cores c cast early) (world_of c first)
   pub late_holds : CoresHold c cast (late_cores c cast early late) (world_of c (first ++ more))
 
-runs_of : (c : Cluster) (cast : Cast) (early late : List CoreEntry) → CoreCourse c cast early late → Runs c cast early late
+pub runs_of : (c : Cluster) (cast : Cast) (early late : List CoreEntry) → CoreCourse c cast early late → Runs c cast early late
 runs_of c cast early late i =
     let one = enter_all c cast i.clocks i.is_cast (opening_cores c) early [] tt (opens c cast i.clocks i.is_cast) i.enters_early in
     let two = enter_all c cast i.clocks i.is_cast (early_cores c cast early) late one.more one.run one.holds i.enters_late in record {
@@ -123,7 +125,7 @@ held_by c cast cores w s k i h =
       },
     )
 
-held : (c : Cluster) (cast : Cast) (cores : Cores) (w : WorldState) (s : ℕ) → CoresHold c cast cores w → CoreHolds c cores s → Held c w s
+pub held : (c : Cluster) (cast : Cast) (cores : Cores) (w : WorldState) (s : ℕ) → CoresHold c cast cores w → CoreHolds c cores s → Held c w s
 held c cast cores w s i h = let z = held_by c cast cores w s h.0 i h.1 in (z.0, z.2)
 
 pub cores_hold_one : CoresHoldOne
@@ -165,3 +167,30 @@ core_terms c cast early late course s term below at k has =
     (subst (λ (l : List Record). Has l (record_in cast.id_of y)) (r.early_holds.each s below).same_may (record_has cast.id_of (w.member s).may y h)))
     one.0 one.1 in
     subst (λ (k : Record). term ≤ k.term) one.2 l
+
+-- a record that is tried is of its rule's term
+tries_term : (setup : Setup) (term : ℕ) (kept : Record) (round : Option ViewRound) (rule : Rule) (tried : Record)
+    → Tries setup term kept round rule tried → tried.term ≡ term
+tries_term setup term kept None rules.Gain tried t = absurd t.1
+tries_term setup term kept (Some round) rules.Gain tried t = ap (λ (k : Record). k.term) t.1.1
+tries_term setup term kept round (rules.Ask reason) tried t = ap (λ (k : Record). k.term) t.1
+tries_term setup term kept round (rules.Release reason) tried t = ap (λ (k : Record). k.term) t
+tries_term setup term kept round rules.EndRound tried t = ap (λ (k : Record). k.term) t
+
+-- and so of at least the term of each record that may be kept
+pub tried_is_highest : (c : Cluster) (cast : Cast) (entries : List CoreEntry) → CoreCourse c cast entries [] → (m : ℕ) → m < c.members
+    → (view : View) → ((early_cores c cast entries).place m).view ≡ Some view → (waits : Waiting) → view.waiting ≡ Some waits
+    → (k : Record) → Has ((early_cores c cast entries).place m).may k → k.term ≤ waits.tried.term
+tried_is_highest c cast entries course m below view is waits waiting k h =
+    let r = runs_of c cast entries [] course in
+    let w = world_of c r.first in
+    let place = r.early_holds.each m below in
+    let agrees = place.agrees view is in
+    let facts = place.view_facts view is in
+    let tried = tries_term (cast.setup m) view.term view.kept view.round waits.rule waits.tried (facts.tried waits waiting) in
+    let z = kept_of cast.id_of (w.member m).may k (subst (λ (l : List Record). Has l k) (sym place.same_may) h) in
+    let good = (run_good c course.clocks (opening c) r.first (opening_good c course.clocks.some) r.run_first).each m in
+    let most : z.0.term ≤ (w.member m).term = good.term agrees.up z.0 z.1 in
+    let own : view.term ≡ (w.member m).term = agrees.term in
+    let same : z.0.term ≡ k.term = ap (λ (q : Record). q.term) z.2 in
+    omega (arith, most, own, same, tried)

@@ -1,7 +1,7 @@
 -- Entries of the hosts of one ticket are entries of its lease cores, and so the ticket has one
 -- holder.
-use Rattle.std.proofs.Common.{◌≡◌, ◌≢◌, ℕ, ◌^◌, ◌<◌, List, [], ◌∷◌, ◌++◌, Bool, true, false, refl, sym, ap, ◌∙◌, subst, inl, inr, ⊎_elim, arith, ◌⊎◌}
-use Rattle.std.specs.Prelude.{Option, Some, None}
+use Rattle.std.proofs.Common.{◌≡◌, ◌≢◌, ℕ, ◌^◌, ◌<◌, ◌≤◌, List, [], ◌∷◌, ◌++◌, Bool, true, false, refl, sym, ap, ◌∙◌, subst, inl, inr, ⊎_elim, arith, ◌⊎◌}
+use Rattle.std.specs.Prelude.{Option, Some, None, IsSomeAnd}
 use Rattle.std.specs.Option.{ForSome}
 use Rattle.booth_base.specs.Tree.{Ends, Does}
 use Rattle.booth_rec.specs.declared.record.Record.{Record}
@@ -21,24 +21,24 @@ use Rattle.booth_world.specs.CoreLaws.{CoreHoldsBy, CoreCourse, early_cores, lat
 use Rattle.booth_world.specs.Held.{AreApart, GivesBackLease}
 use Rattle.booth_world.specs.Turns.{TicketAsk, Keeps, Sends, AsksElse, TurnTree, Plan, turn_tree, MayTurn}
 use Rattle.booth_world.specs.Hosts.{MayBegin, HostEntry, LetsPass, BeginsTurn, DoesAsk, Halts, Boots, HostPlace, Hosts, opening_hosts, pending_in, pending, IsNextAsk, MayHost, begun, went_on, may_left, hosted, AreHosted, hosts_after}
-use Rattle.booth_world.specs.HostLaws.{IsHostReleaseAt, IsHostReleaseIn, HostHoldsBy, HostCourse, early_hosts, late_hosts, HostsHoldOne, HostsAreApart, HostTermsNeverFall}
+use Rattle.booth_world.specs.HostLaws.{IsHostReleaseAt, IsHostReleaseIn, host_may, HostHoldsBy, HostCourse, early_hosts, late_hosts, HostsHoldOne, HostsAreApart, HostTermsNeverFall}
 use Rattle.booth_world.proofs.Lists.{none_is, some_same, put_all}
 use Rattle.booth_world.proofs.KeptSteps.{the_value}
 use Rattle.booth_world.proofs.CallSteps.{put_same}
-use Rattle.booth_world.proofs.CoreRuns.{cores_hold_one, cores_are_apart, core_terms}
+use Rattle.booth_world.proofs.CoreRuns.{cores_hold_one, cores_are_apart, core_terms, tried_is_highest}
 use Rattle.booth_world.proofs.TurnPlaces.{IsOwn, own_given, put_other, MayMore, more_after, IsUp, up_given, IsLater, IsIdle, IsLed, At, Soon, at_later, at_no_more, release_split, entries_join, plan_at, heard_at}
 
 -- ---- the relation
 
 -- a member's place at its host, and its place
-record PlaceHolds (c : Cluster) (cast : Cast) (m : ℕ) (cores : Cores) (p : HostPlace) : Type 0 where
+pub record PlaceHolds (c : Cluster) (cast : Cast) (m : ℕ) (cores : Cores) (p : HostPlace) : Type 0 where
   pub down : p.tree ≡ None → (cores.place m).view ≡ None
   pub stands_at : (t : TurnTree) → p.tree ≡ Some t → At c cast m p.reading p.may t cores
   pub is_up : (t : TurnTree) → p.tree ≡ Some t → IsUp (cores.place m)
   pub more : MayMore (pending p.tree p.may) (cores.place m).may
   pub only : MayMore (cores.place m).may (pending p.tree p.may)
 
-record HostsHold (c : Cluster) (cast : Cast) (hosts : Hosts) (cores : Cores) : Type 0 where
+pub record HostsHold (c : Cluster) (cast : Cast) (hosts : Hosts) (cores : Cores) : Type 0 where
   pub same_now : cores.now ≡ hosts.now
   pub each : (m : ℕ) → m < c.members → PlaceHolds c cast m cores (hosts.place m)
   pub said : (l : MemberLetter) → Has hosts.sent l → Has cores.said l
@@ -342,7 +342,7 @@ module _ (c : Cluster) (cast : Cast) (clocks : HasClocks c) (is_cast : IsCast c 
   follows hosts cores (Halts m) i may = halts hosts cores m i may
   follows hosts cores (Boots m time kept) i may = boots hosts cores m time kept i may
 
-  follow_all : (hosts : Hosts) (cores : Cores) (entries : List HostEntry) → HostsHold c cast hosts cores → AreHosted c cast hosts entries → Follows c cast (hosts_after c cast hosts entries) cores (IsHostReleaseIn c cast hosts entries)
+  pub follow_all : (hosts : Hosts) (cores : Cores) (entries : List HostEntry) → HostsHold c cast hosts cores → AreHosted c cast hosts entries → Follows c cast (hosts_after c cast hosts entries) cores (IsHostReleaseIn c cast hosts entries)
   follow_all hosts cores [] i all = ([], tt, i, λ z n. n)
   follow_all hosts cores (entry ∷ entries) i all =
       let one = follows hosts cores entry i all.0 in
@@ -357,7 +357,7 @@ module _ (c : Cluster) (cast : Cast) (clocks : HasClocks c) (is_cast : IsCast c 
             (release_split c cast 0 0 cores one.0 rest.0 z h),
       )
 
-  opens_hosts : HostsHold c cast (opening_hosts c) (opening_cores c)
+  pub opens_hosts : HostsHold c cast (opening_hosts c) (opening_cores c)
   opens_hosts = record {
     same_now = refl;
     each = λ m below. record {
@@ -370,7 +370,7 @@ module _ (c : Cluster) (cast : Cast) (clocks : HasClocks c) (is_cast : IsCast c 
     said = λ l h. absurd h;
   }
 
-host_held : (c : Cluster) (cast : Cast) (hosts : Hosts) (cores : Cores) (s : ℕ) (k : Record) → HostsHold c cast hosts cores → HostHoldsBy c hosts s k → CoreHoldsBy c cores s k
+pub host_held : (c : Cluster) (cast : Cast) (hosts : Hosts) (cores : Cores) (s : ℕ) (k : Record) → HostsHold c cast hosts cores → HostHoldsBy c hosts s k → CoreHoldsBy c cores s k
 host_held c cast hosts cores s k i h =
     (h.0, (i.each s h.0).more k h.1, subst (λ (n : ℕ). IsInForce k (reads c s n)) (sym i.same_now) h.2)
 
@@ -426,3 +426,19 @@ host_terms c cast early late course s term below at k has =
     core_terms c cast f.first f.second f.course s term below
     (λ k h. at k ((f.early_holds.each s below).only k h))
     k ((f.late_holds.each s below).more k has)
+
+-- a keep that comes next is of at least the term of each record that may be kept
+pub next_is_highest : (c : Cluster) (cast : Cast) (entries : List HostEntry) → HostCourse c cast entries [] → (m : ℕ) → m < c.members
+    → (kept : Record) (g : Bool → TurnTree) → ((early_hosts c cast entries).place m).tree ≡ Some (Does (Keeps kept) g)
+    → (k : Record) → Has (host_may (early_hosts c cast entries) m) k → k.term ≤ kept.term
+next_is_highest c cast entries course m below kept g is k h =
+    let f = followed c cast entries [] course in
+    let cores = early_cores c cast f.first in
+    let place = f.early_holds.each m below in
+    let at = place.stands_at (Does (Keeps kept) g) is in
+    let next_answer = (at.2 true cores (record { same = refl; said_still = λ l x. x })).0 in
+    let view = the_value (λ (v : View). IsSomeAnd v.waiting (λ waits. waits.tried ≡ kept)) (cores.place m).view next_answer.1 in
+    let waits = the_value (λ (x : Waiting). x.tried ≡ kept) view.0.waiting view.2 in
+    subst (λ (r : Record). k.term ≤ r.term) waits.2
+    (tried_is_highest c cast f.first (record { clocks = course.clocks; is_cast = course.is_cast; enters_early = f.course.enters_early; enters_late = tt })
+    m below view.0 view.1 waits.0 waits.1 k (place.more k h))

@@ -33,7 +33,7 @@ use Rattle.booth_raft.specs.AskAndRenew.{answers_itself, asked_all, begin_round}
 use Rattle.booth_raft.specs.GainReleaseLost.{gain}
 use Rattle.booth_raft.specs.Messages.{asks_all, round_cmd, kind_of, round_head, round_part}
 use Rattle.booth_raft.specs.declared.deed.Told.TheVariants as tells
-use Rattle.booth_raft.specs.declared.view.TheConstants.{MOST_MEMBERS}
+use Rattle.booth_base.specs.declared.limits.TheConstants.{MEMBERS}
 use Rattle.booth_raft.proofs.AnswerLemmas.{is_same-true}
 use Rattle.booth_world.proofs.HearSteps.{LeadsToOutcome, untrue}
 use Rattle.booth_world.proofs.Places.{set_before, none_set}
@@ -182,7 +182,7 @@ module _ (c : Cluster) (id_of : ℕ → MemberId) (now m : ℕ) (ids : IsPlaced 
         term = n.own_term ∙ sym a.term;
         number = n.own_number;
         opened = n.opened_now;
-        answered = λ k h. absurd (untrue (sym (none_set MOST_MEMBERS k) ∙ h));
+        answered = λ k h. absurd (untrue (sym (none_set MEMBERS k) ∙ h));
       }
   opened_by clocks below f x view number own true good facts none a n to_me lasts may =
       leads_on c id_of (mark_of now m x) f x _ steps does f.releases (adds_answer (mark_of now m x) f (new_answer m x own) (refl, refl, refl))
@@ -251,7 +251,7 @@ module _ (c : Cluster) (id_of : ℕ → MemberId) (now m : ℕ) (ids : IsPlaced 
         opened = n.opened_now;
         answered = λ k h. ⊎_elim
             (λ (e : k ≡ m). (new_answer m x own, inl refl, sym e, refl))
-            (λ (old : slice_index_or nobody k false ≡ true). absurd (untrue (sym (none_set MOST_MEMBERS k) ∙ old)))
+            (λ (old : slice_index_or nobody k false ≡ true). absurd (untrue (sym (none_set MEMBERS k) ∙ old)))
             (set_before nobody m k h);
       }
 

@@ -18,6 +18,12 @@ pub mod CoreLaws
 pub mod Turns
 pub mod Hosts
 pub mod HostLaws
+pub mod Worlds
+pub mod Shadows
 pub mod Laws
 pub mod Examples
 pub mod LoneExamples
+pub mod Premises
+pub mod WorldExamples
+pub mod TakeOverExample
+pub mod PremiseExamples

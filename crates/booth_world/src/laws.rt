@@ -5,21 +5,31 @@ ghost use Rattle.booth_world.specs.HostLaws.{HostTermsNeverFall, HostsAreApart, 
 ghost use Rattle.booth_world.specs.Laws.{HasOneHolder, HoldersAreApart, KeptTermsNeverFall};
 ghost use Rattle.booth_world.specs.Rules.{lease_rules};
 ghost use Rattle.booth_world.specs.Stability.{AgreementStays, CallsLeadOn, MembersStay, RunsAppend};
+ghost use Rattle.booth_world.specs.Shadows.{WorldsHaveShadows};
+ghost use Rattle.booth_world.specs.Worlds.{LogsAreSessions, WorldTermsNeverFall, WorldsAreApart, WorldsHoldOne};
 
 /// At no moment is the ticket held at two sites.
 pub fn one_holder()
-    ensures { HasOneHolder }
+    ensures steps { HasOneHolder }
+    ensures worlds { WorldsHoldOne }
 {}
 
 /// Two sites that hold, the one after the other, have acquire-after between them, or the first gave
 /// the lease that it held by back between the two.
 pub fn apart()
-    ensures { HoldersAreApart }
+    ensures steps { HoldersAreApart }
+    ensures worlds { WorldsAreApart }
 {}
 
 /// The terms of the records that a site may have kept never fall.
 pub fn terms()
-    ensures { KeptTermsNeverFall }
+    ensures steps { KeptTermsNeverFall }
+    ensures worlds { WorldTermsNeverFall }
+{}
+
+/// A log of a node's turns is part of a session of a world.
+pub fn logs_are_sessions()
+    ensures { LogsAreSessions }
 {}
 
 /// All three laws at once, as a program takes them: by a call.
@@ -117,3 +127,11 @@ pub fn all_over_hosts()
     hosts_are_apart();
     host_terms();
 }
+
+/// Each world has a shadow: up to each of its moments, and of each automatic ticket, a list of
+/// the world's steps from the opening state. After them each member may have kept the records that
+/// it may have kept by the entries, and that which its turn keeps next; each release is an entry's;
+/// each message that an entry sent says a fact; and the ticket is held at each member that holds it.
+pub fn worlds_have_shadows()
+    ensures { WorldsHaveShadows }
+{}

@@ -1,0 +1,105 @@
+-- Entries of a host that a tree's words make, and what one member's entries leave as it was.
+use Rattle.std.proofs.Common.{◌≡◌, ◌≢◌, ◌⊎◌, ⊎_elim, inl, inr, ℕ, ◌<◌, Bool, true, List, [], ◌∷◌, ◌++◌, refl, sym, ap, ◌∙◌, subst}
+use Rattle.std.specs.Prelude.{Option, Some, IsSomeAnd}
+use Rattle.booth_base.specs.Tree.{Ends, Does}
+use Rattle.booth_node.specs.Clock.{Cluster}
+use Rattle.booth_world.specs.Facts.{Release}
+use Rattle.booth_world.specs.Cores.{Cast}
+use Rattle.booth_world.specs.Turns.{TicketAsk, Keeps, Sends, AsksElse, TurnTree}
+use Rattle.booth_world.specs.Hosts.{HostEntry, DoesAsk, HostPlace, Hosts, IsNextAsk, MayHost, went_on, hosted, AreHosted, hosts_after}
+use Rattle.booth_world.specs.HostLaws.{IsHostReleaseIn}
+use Rattle.booth_world.proofs.CallSteps.{put_same}
+use Rattle.booth_world.proofs.TurnPlaces.{put_other}
+use Rattle.booth_world.proofs.Mirrors.{skip, sent_by, SentMore}
+
+module _ (c : Cluster) (cast : Cast) where
+  pub hosted_join : (hosts : Hosts) (a b : List HostEntry) → AreHosted c cast hosts a → AreHosted c cast (hosts_after c cast hosts a) b
+      → AreHosted c cast hosts (a ++ b)
+  hosted_join hosts [] b x y = y
+  hosted_join hosts (e ∷ a) b x y = (x.0, hosted_join (hosted c cast hosts e) a b x.1 y)
+
+  pub after_join : (hosts : Hosts) (a b : List HostEntry) → hosts_after c cast hosts (a ++ b) ≡ hosts_after c cast (hosts_after c cast hosts a) b
+  after_join hosts [] b = refl
+  after_join hosts (e ∷ a) b = after_join (hosted c cast hosts e) a b
+
+  pub released_join : (hosts : Hosts) (a b : List HostEntry) (z : Release) → IsHostReleaseIn c cast hosts (a ++ b) z
+      → IsHostReleaseIn c cast hosts a z ⊎ IsHostReleaseIn c cast (hosts_after c cast hosts a) b z
+  released_join hosts [] b z r = inr r
+  released_join hosts (e ∷ a) b z (inl here) = inl (inl here)
+  released_join hosts (e ∷ a) b z (inr later) =
+      ⊎_elim (λ (x : IsHostReleaseIn c cast (hosted c cast hosts e) a z). inl (inr x))
+      (λ (y : IsHostReleaseIn c cast (hosts_after c cast (hosted c cast hosts e) a) b z). inr y)
+      (released_join (hosted c cast hosts e) a b z later)
+
+  -- Entries of one member: the time and the others are as they were, and what was sent is still sent.
+  pub record IsOf (m : ℕ) (hosts hosts' : Hosts) : Type 0 where
+    pub same_now : hosts'.now ≡ hosts.now
+    pub others : (k : ℕ) → k ≢ m → hosts'.place k ≡ hosts.place k
+    pub still_sent : SentMore hosts.sent hosts'.sent
+
+  pub of_none : (m : ℕ) (hosts : Hosts) → IsOf m hosts hosts
+  of_none m hosts = record { same_now = refl; others = λ k ne. refl; still_sent = λ l h. h }
+
+  pub of_both : (m : ℕ) (a b d : Hosts) → IsOf m a b → IsOf m b d → IsOf m a d
+  of_both m a b d x y = record {
+    same_now = y.same_now ∙ x.same_now;
+    others = λ k ne. y.others k ne ∙ x.others k ne;
+    still_sent = λ l h. y.still_sent l (x.still_sent l h);
+  }
+
+  module _ (m : ℕ) (below : m < c.members) where
+    -- the asks of a tree before its next keep, all answered
+    abbrev pub says : TurnTree → List HostEntry
+    says (Ends view) = []
+    says (Does (Keeps kept) go) = []
+    says (Does (Sends letter) go) = DoesAsk m (Sends letter) true ∷ says (go true)
+    says (Does AsksElse go) = DoesAsk m AsksElse true ∷ says (go true)
+
+    -- they lead to the next keep, or the end, with all said
+    pub record AreSaid (hosts : Hosts) (tree : TurnTree) : Type 0 where
+      pub hosted_all : AreHosted c cast hosts (says tree)
+      pub own : IsOf m hosts (hosts_after c cast hosts (says tree))
+      pub tree_now : ((hosts_after c cast hosts (says tree)).place m).tree ≡ Some (skip tree)
+      pub same_reading : ((hosts_after c cast hosts (says tree)).place m).reading ≡ (hosts.place m).reading
+      pub same_may : ((hosts_after c cast hosts (says tree)).place m).may ≡ (hosts.place m).may
+      pub all_sent : (hosts_after c cast hosts (says tree)).sent ≡ sent_by tree hosts.sent
+      pub unreleased : (z : Release) → IsHostReleaseIn c cast hosts (says tree) z → ⊥
+
+    at_ask : (hosts : Hosts) (ask : TicketAsk) (go : Bool → TurnTree) → (hosts.place m).tree ≡ Some (Does ask go) → MayHost c cast hosts (DoesAsk m ask true)
+    at_ask hosts ask go is = (below, subst (λ (o : Option TurnTree). IsSomeAnd o (IsNextAsk ask)) (sym is) refl)
+
+    pub all_said : (hosts : Hosts) (tree : TurnTree) → (hosts.place m).tree ≡ Some tree → AreSaid hosts tree
+    all_said hosts (Ends view) is =
+        record { hosted_all = tt; own = of_none m hosts; tree_now = is; same_reading = refl; same_may = refl; all_sent = refl; unreleased = λ z r. r }
+    all_said hosts (Does (Keeps kept) go) is =
+        record { hosted_all = tt; own = of_none m hosts; tree_now = is; same_reading = refl; same_may = refl; all_sent = refl; unreleased = λ z r. r }
+    all_said hosts (Does (Sends letter) go) is =
+        let next_hosts : Hosts = hosted c cast hosts (DoesAsk m (Sends letter) true) in
+        let there : (next_hosts.place m).tree ≡ Some (go true) =
+        ap (λ (p : HostPlace). p.tree) (put_same hosts.place m _) ∙ ap (λ (o : Option TurnTree). went_on true o) is in
+        let rest : AreSaid next_hosts (go true) = all_said next_hosts (go true) there in
+        record {
+          hosted_all = (at_ask hosts (Sends letter) go is, rest.hosted_all);
+          own = of_both m hosts next_hosts (hosts_after c cast next_hosts (says (go true)))
+              (record { same_now = refl; others = λ k ne. put_other hosts.place m k _ ne; still_sent = λ l h. inr h }) rest.own;
+          tree_now = rest.tree_now;
+          same_reading = rest.same_reading ∙ ap (λ (p : HostPlace). p.reading) (put_same hosts.place m _);
+          same_may = rest.same_may ∙ ap (λ (p : HostPlace). p.may) (put_same hosts.place m _);
+          all_sent = rest.all_sent;
+          unreleased = λ z r. ⊎_elim (λ (x : ⊥). x) (rest.unreleased z) r;
+        }
+    all_said hosts (Does AsksElse go) is =
+        let next_hosts : Hosts = hosted c cast hosts (DoesAsk m AsksElse true) in
+        let there : (next_hosts.place m).tree ≡ Some (go true) =
+        ap (λ (p : HostPlace). p.tree) (put_same hosts.place m _) ∙ ap (λ (o : Option TurnTree). went_on true o) is in
+        let rest : AreSaid next_hosts (go true) = all_said next_hosts (go true) there in
+        record {
+          hosted_all = (at_ask hosts AsksElse go is, rest.hosted_all);
+          own = of_both m hosts next_hosts (hosts_after c cast next_hosts (says (go true)))
+              (record { same_now = refl; others = λ k ne. put_other hosts.place m k _ ne; still_sent = λ l h. h }) rest.own;
+          tree_now = rest.tree_now;
+          same_reading = rest.same_reading ∙ ap (λ (p : HostPlace). p.reading) (put_same hosts.place m _);
+          same_may = rest.same_may ∙ ap (λ (p : HostPlace). p.may) (put_same hosts.place m _);
+          all_sent = rest.all_sent;
+          unreleased = λ z r. ⊎_elim (λ (x : ⊥). x) (rest.unreleased z) r;
+        }

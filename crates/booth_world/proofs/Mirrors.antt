@@ -1,0 +1,118 @@
+-- When a tree of the node's deeds does for one ticket what a host's tree does.
+use Rattle.std.proofs.Common.{◌≡◌, ◌≢◌, ◌⊎◌, inl, inr, ℕ, Bool, true, List, ◌∷◌, refl, sym, ◌∙◌}
+use Rattle.booth_base.specs.Tree.{Deeds, Ends, Does, next}
+use Rattle.booth_wire.specs.declared.command.Direction.TheVariants.{BetweenMembers}
+use Rattle.booth_wire.specs.declared.message.Head.{Head}
+use Rattle.booth_wire.specs.declared.message.TicketPart.{TicketPart}
+use Rattle.booth_wire.specs.declared.message.Setup.{Setup}
+use Rattle.booth_wire.specs.Command.{direction_of}
+use Rattle.booth_wire.specs.PlainMessage.{PlainMessage, Ticket}
+use Rattle.booth_auth.specs.Sealed.{stamped_head}
+use Rattle.booth_node.specs.Reaction.{Ask, Send, Keep}
+use Rattle.booth_world.specs.Facts.{Has}
+use Rattle.booth_world.specs.Rules.{MemberLetter}
+use Rattle.booth_world.specs.Turns.{Keeps, Sends, AsksElse, TurnTree}
+
+-- ---- a host's tree, with all behind it that is said before the next keep
+
+abbrev pub skip : TurnTree → TurnTree
+skip (Ends view) = Ends view
+skip (Does (Keeps kept) go) = Does (Keeps kept) go
+skip (Does (Sends letter) go) = skip (go true)
+skip (Does AsksElse go) = skip (go true)
+
+abbrev pub sent_by : TurnTree → List MemberLetter → List MemberLetter
+sent_by (Ends view) sent = sent
+sent_by (Does (Keeps kept) go) sent = sent
+sent_by (Does (Sends letter) go) sent = sent_by (go true) (letter ∷ sent)
+sent_by (Does AsksElse go) sent = sent_by (go true) sent
+
+abbrev pub SentMore : List MemberLetter → List MemberLetter → Type 0
+SentMore sent sent' = (l : MemberLetter) → Has sent l → Has sent' l
+
+pub grows : (tree : TurnTree) (sent : List MemberLetter) → SentMore sent (sent_by tree sent)
+grows (Ends view) sent l h = h
+grows (Does (Keeps kept) go) sent l h = h
+grows (Does (Sends letter) go) sent l h = grows (go true) (letter ∷ sent) l (inr h)
+grows (Does AsksElse go) sent l h = grows (go true) sent l h
+
+pub sent_more : (tree : TurnTree) (sent sent' : List MemberLetter) → SentMore sent sent' → SentMore (sent_by tree sent) (sent_by tree sent')
+sent_more (Ends view) sent sent' more l h = more l h
+sent_more (Does (Keeps kept) go) sent sent' more l h = more l h
+sent_more (Does (Sends letter) go) sent sent' more l h = sent_more (go true) (letter ∷ sent) (letter ∷ sent') longer l h
+  where
+    longer : SentMore (letter ∷ sent) (letter ∷ sent')
+    longer k (inl e) = inl e
+    longer k (inr h) = inr (more k h)
+sent_more (Does AsksElse go) sent sent' more l h = sent_more (go true) sent sent' more l h
+
+-- another host's tree, with the same next keep, that has said no less
+pub record IsNoLess (sent : List MemberLetter) (tree : TurnTree) (sent' : List MemberLetter) (tree' : TurnTree) : Type 0 where
+  pub same : skip tree ≡ skip tree'
+  pub more : SentMore (sent_by tree sent) (sent_by tree' sent')
+
+-- what is so of a place in a host's tree is so of each that is no less
+abbrev pub IsKept : {S : Type 0} → (List MemberLetter → S → TurnTree → Type 0) → Type 0
+IsKept {S} Q =
+    (state : S) (sent sent' : List MemberLetter) (tree tree' : TurnTree) → IsNoLess sent tree sent' tree' → Q sent state tree → Q sent' state tree'
+
+pub no_less_on : (sent sent' : List MemberLetter) (tree tree' rest : TurnTree) → IsNoLess sent tree sent' tree'
+    → IsNoLess (sent_by tree sent) rest (sent_by tree' sent') rest
+no_less_on sent sent' tree tree' rest x =
+    record { same = refl; more = sent_more rest (sent_by tree sent) (sent_by tree' sent') x.more }
+
+-- ---- the node's deeds against it
+
+module _ (auth : Bool) (s : Setup) where
+  -- What is sent says truly whether there is a key; and where it is a member's message about this ticket, the host's
+  -- tree has said it, but for its stamp.
+  pub record IsSpoken (sent : List MemberLetter) (letter : PlainMessage) : Type 0 where
+    pub truly : letter.head.auth ≡ auth
+    pub spoken : (part : TicketPart) → direction_of letter.head.cmd ≡ BetweenMembers → letter.content ≡ Ticket part
+        → part.ticket ≡ s.ticket
+        → (head : Head) × (now : ℕ) × (letter.head ≡ stamped_head auth now head)
+        × Has sent (record { sender = s.place; head = head; part = part })
+
+  pub spoken_more : (sent sent' : List MemberLetter) (letter : PlainMessage) → SentMore sent sent' → IsSpoken sent letter → IsSpoken sent' letter
+  spoken_more sent sent' letter more x = record {
+    truly = x.truly;
+    spoken = λ part between is named. let q = x.spoken part between is named in (q.0, q.1, q.2, more _ q.3);
+  }
+
+  -- The node's deeds keep of this ticket what the host's tree keeps, and say what it says before that; deeds of other
+  -- tickets stand between. Where they end, this is so of what is left and of the place in the host's tree.
+  abbrev pub Mirrors : {S : Type 0} → (List MemberLetter → S → TurnTree → Type 0) → List MemberLetter → Deeds Ask S → TurnTree → Type 0
+  Mirrors Q sent (Ends state) tree = Q sent state tree
+  Mirrors Q sent (Does (Send peer letter) go) tree =
+      IsSpoken (sent_by tree sent) letter × ((ok : Bool) → Mirrors Q sent (go ok) tree)
+  Mirrors Q sent (Does (Keep name tried) go) tree =
+      ((name ≢ s.ticket) × ((ok : Bool) → Mirrors Q sent (go ok) tree))
+      ⊎ ((name ≡ s.ticket) × (rest : Bool → TurnTree) × (skip tree ≡ Does (Keeps tried) rest)
+      × ((ok : Bool) → Mirrors Q (sent_by tree sent) (go ok) (rest ok)))
+
+  pub mirrors_kept : {S : Type 0} (Q : List MemberLetter → S → TurnTree → Type 0) (deeds : Deeds Ask S) → IsKept Q
+      → (sent sent' : List MemberLetter) (tree tree' : TurnTree) → IsNoLess sent tree sent' tree' → Mirrors Q sent deeds tree → Mirrors Q sent' deeds tree'
+  mirrors_kept Q (Ends state) kept sent sent' tree tree' x m = kept state sent sent' tree tree' x m
+  mirrors_kept Q (Does (Send peer letter) go) kept sent sent' tree tree' x m =
+      (spoken_more (sent_by tree sent) (sent_by tree' sent') letter x.more m.0, λ ok. mirrors_kept Q (go ok) kept sent sent' tree tree' x (m.1 ok))
+  mirrors_kept Q (Does (Keep name tried) go) kept sent sent' tree tree' x (inl m) =
+      inl (m.0, λ ok. mirrors_kept Q (go ok) kept sent sent' tree tree' x (m.1 ok))
+  mirrors_kept Q (Does (Keep name tried) go) kept sent sent' tree tree' x (inr m) =
+      inr (
+        m.0,
+        m.1,
+        sym x.same ∙ m.2,
+        λ ok. mirrors_kept Q (go ok) kept (sent_by tree sent) (sent_by tree' sent') (m.1 ok) (m.1 ok)
+            (no_less_on sent sent' tree tree' (m.1 ok) x) (m.3 ok),
+      )
+
+  -- one after the other
+  pub mirrors_next : {S T : Type 0} (P : List MemberLetter → S → TurnTree → Type 0) (Q : List MemberLetter → T → TurnTree → Type 0)
+      (f : S → Deeds Ask T) (sent : List MemberLetter) (deeds : Deeds Ask S) (tree : TurnTree)
+      → ((sent' : List MemberLetter) (state : S) (tree' : TurnTree) → P sent' state tree' → Mirrors Q sent' (f state) tree')
+      → Mirrors P sent deeds tree → Mirrors Q sent (next deeds f) tree
+  mirrors_next P Q f sent (Ends state) tree on m = on sent state tree m
+  mirrors_next P Q f sent (Does (Send peer letter) go) tree on m = (m.0, λ ok. mirrors_next P Q f sent (go ok) tree on (m.1 ok))
+  mirrors_next P Q f sent (Does (Keep name tried) go) tree on (inl m) = inl (m.0, λ ok. mirrors_next P Q f sent (go ok) tree on (m.1 ok))
+  mirrors_next P Q f sent (Does (Keep name tried) go) tree on (inr m) =
+      inr (m.0, m.1, m.2, λ ok. mirrors_next P Q f (sent_by tree sent) (go ok) (m.1 ok) on (m.3 ok))

@@ -1,0 +1,314 @@
+-- What an arrival is for one ticket: a member's message that is heard, a client's request, or nothing; and so the whole turn.
+use Rattle.std.proofs.Common.{◌≡◌, ◌≢◌, ◌⊎◌, inl, inr, ℕ, ◌<◌, Bool, List, length, refl, sym, subst}
+use Rattle.std.specs.Prelude.{Option, Some, None, is_some, position, Result, Ok, Err}
+use Rattle.std.specs.Option.{ForSome}
+use Rattle.booth_base.specs.declared.address.Peer.{Peer}
+use Rattle.booth_base.specs.Tree.{Deeds, next}
+use Rattle.booth_chain.proofs.NodesLemmas.{same_or_not}
+use Rattle.booth_conf.specs.Config.{has_id}
+use Rattle.booth_conf.specs.Lookups.{is_called}
+use Rattle.booth_wire.specs.declared.command.Cmd.{Cmd}
+use Rattle.booth_wire.specs.declared.command.Cmd.TheVariants as cmds
+use Rattle.booth_wire.specs.declared.command.Direction.{Direction}
+use Rattle.booth_wire.specs.declared.command.Direction.TheVariants.{ToDaemon, ToClient, BetweenMembers}
+use Rattle.booth_wire.specs.declared.message.Head.{Head}
+use Rattle.booth_wire.specs.declared.message.TicketPart.{TicketPart}
+use Rattle.booth_wire.specs.declared.message.Setup.{Setup}
+use Rattle.booth_wire.specs.Command.{direction_of, answer_of}
+use Rattle.booth_wire.specs.PlainMessage.{PlainMessage, Content, Bare, Ticket, Attr, Text}
+use Rattle.booth_auth.specs.declared.admission.DropFault.{DropFault}
+use Rattle.booth_auth.specs.Sealed.{stamped_head}
+use Rattle.booth_host.specs.declared.host.Failed.{Failed}
+use Rattle.booth_host.specs.declared.host.Arrival.{Arrival}
+use Rattle.booth_host.specs.declared.host.Arrival.TheVariants as arrivals
+use Rattle.booth_raft.specs.declared.view.View.{View}
+use Rattle.booth_ticket.specs.declared.request.Request.{Request}
+use Rattle.booth_ticket.specs.Automatic.{Left, hear_message}
+use Rattle.booth_ticket.specs.Requests.{wish}
+use Rattle.booth_ticket.specs.Ticket.{TicketState}
+use Rattle.booth_ticket.specs.Waiting.{spare_in, waiting_at}
+use Rattle.booth_node.specs.declared.node.Turn.{Turn}
+use Rattle.booth_node.specs.declared.node_config.NodeConfig.{NodeConfig}
+use Rattle.booth_node.specs.declared.state.Common.{Common}
+use Rattle.booth_node.specs.Befalling.{is_told, is_asked}
+use Rattle.booth_node.specs.Counting.{dropped, accepted}
+use Rattle.booth_auth.specs.Verdict.{verdict}
+use Rattle.booth_node.specs.Reaction.{Ask, Action, Drops, Hears, Asks, Answers, Rests, answers, asks, requested, hears, said, routed, demanded, action, met, turn_end, dues, acts, react}
+use Rattle.booth_node.specs.Replies.{Reply, answered, reply_to, request_in}
+use Rattle.booth_node.specs.State.{State, with_ticket}
+use Rattle.booth_world.specs.Rules.{MemberLetter, Hears as HearsLetter}
+use Rattle.booth_world.specs.Turns.{TurnTree, Plan, plan_tree, call_tree, turn_tree, MayPlan, MayTurn}
+use Rattle.booth_world.proofs.Lists.{none_is, some_same}
+use Rattle.booth_world.proofs.Mirrors.{IsKept, Mirrors, mirrors_kept, mirrors_next}
+use Rattle.booth_world.proofs.Echoes.{echoes_as}
+use Rattle.booth_world.proofs.Plans.{always, ask_plan, ask_may, heard, asked}
+use Rattle.booth_world.proofs.NodeTrees.{left_as, minds_heard, minds_asked}
+use Rattle.booth_world.proofs.NodeTurns.{IsPlacedAt, IsOver, Over, over_kept, own_set, own_acts, other_acts, after_plan, after_may, dues_over}
+
+-- ---- what an action stands for
+
+-- a message was let in, that a member said about the ticket at a place
+pub record IsLetIn (node : NodeConfig) (r : Result PlainMessage DropFault) (member place : ℕ) (head : Head) (part : TicketPart) : Type 0 where
+  pub letter : PlainMessage
+  pub let_in : r ≡ Ok letter
+  pub between : direction_of letter.head.cmd ≡ BetweenMembers
+  pub head_is : letter.head ≡ head
+  pub content_is : letter.content ≡ Ticket part
+  pub from : position (has_id head.from) node.config.members ≡ Some member
+  pub about : position (is_called part.ticket) node.config.tickets ≡ Some place
+
+-- a reply says truly whether there is a key, and is no member's message
+abbrev pub IsReply : NodeConfig → PlainMessage → Type 0
+IsReply node letter = (letter.head.auth ≡ is_some node.key) × (direction_of letter.head.cmd ≡ BetweenMembers → ⊥)
+
+-- what an action that hears or answers comes from
+abbrev Comes : NodeConfig → Result PlainMessage DropFault → Action → Type 0
+Comes node r (Hears member place head part) = IsLetIn node r member place head part
+Comes node r (Answers letter) = IsReply node letter
+Comes node r act = Unit {0}
+
+abbrev IsToClient : Option Cmd → Type 0
+IsToClient None = Unit {0}
+IsToClient (Some a) = direction_of a ≡ ToClient
+
+to_client : (cmd : Cmd) → IsToClient (answer_of cmd)
+to_client cmds.CLst = refl
+to_client cmds.Peer = refl
+to_client cmds.CGnt = refl
+to_client cmds.CRvk = refl
+to_client cmds.ASet = refl
+to_client cmds.AGet = refl
+to_client cmds.ADel = refl
+to_client cmds.ALst = refl
+to_client cmd = tt
+
+not_between : (d : Direction) → d ≡ ToClient → d ≡ BetweenMembers → ⊥
+not_between d is e = cc
+
+module _ (node : NodeConfig) (moment : ℕ) (tickets : List TicketState) (common : Common) (r : Result PlainMessage DropFault) where
+  from_answer : (request : ℕ) (cmd : Option Cmd) (made : Option Reply) → IsToClient cmd
+      → Comes node r (answers node.key moment (answered node.me request cmd made))
+  from_answer request None made client = tt
+  from_answer request (Some cmd) None client = tt
+  from_answer request (Some cmd) (Some made) client = (refl, not_between (direction_of cmd) client)
+
+  from_reply : (letter : PlainMessage) → Comes node r (answers node.key moment (reply_to node moment tickets common letter))
+  from_reply letter = from_answer letter.head.request (answer_of letter.head.cmd) _ (to_client letter.head.cmd)
+
+  from_ask : (place : Option ℕ) (request : Request) (letter : PlainMessage)
+      → Comes node r (asks place request (answers node.key moment (reply_to node moment tickets common letter)))
+  from_ask None request letter = from_reply letter
+  from_ask (Some place) request letter = tt
+
+  from_request : (letter : PlainMessage) (found : Option (TicketPart × Request)) → Comes node r (requested node moment tickets common letter found)
+  from_request letter None = from_reply letter
+  from_request letter (Some found) = from_ask (position (is_called found.0.ticket) node.config.tickets) found.1 letter
+
+  from_hear : (letter : PlainMessage) (part : TicketPart) (member place : Option ℕ) → r ≡ Ok letter → direction_of letter.head.cmd ≡ BetweenMembers
+      → letter.content ≡ Ticket part → position (has_id letter.head.from) node.config.members ≡ member
+      → position (is_called part.ticket) node.config.tickets ≡ place → Comes node r (hears member place letter.head part)
+  from_hear letter part None place is between content from about = tt
+  from_hear letter part (Some member) None is between content from about = tt
+  from_hear letter part (Some member) (Some place) is between content from about = record {
+    letter = letter;
+    let_in = is;
+    between = between;
+    head_is = refl;
+    content_is = content;
+    from = from;
+    about = about;
+  }
+
+  from_said : (letter : PlainMessage) (content : Content) → letter.content ≡ content → r ≡ Ok letter → direction_of letter.head.cmd ≡ BetweenMembers
+      → Comes node r (said node letter.head content)
+  from_said letter Bare e is between = tt
+  from_said letter (Ticket part) e is between =
+      from_hear letter part (position (has_id letter.head.from) node.config.members) (position (is_called part.ticket) node.config.tickets) is between e refl refl
+  from_said letter (Attr part) e is between = tt
+  from_said letter (Text text) e is between = tt
+
+  from_routed : (from : Peer) (letter : PlainMessage) (d : Direction) → direction_of letter.head.cmd ≡ d → r ≡ Ok letter
+      → Comes node r (routed node moment tickets common from letter d)
+  from_routed from letter ToDaemon e is = from_request letter (request_in from letter)
+  from_routed from letter ToClient e is = tt
+  from_routed from letter BetweenMembers e is = from_said letter letter.content refl is e
+
+  comes : (from : Peer) (o : Result PlainMessage DropFault) → r ≡ o → Comes node r (demanded node moment tickets common from o)
+  comes from (Err fault) e = tt
+  comes from (Ok letter) e = from_routed from letter (direction_of letter.head.cmd) refl e
+
+-- ---- the turn
+
+no_letter : (Good : MemberLetter → Type 0) → ForSome None Good
+no_letter Good = λ letter e. absurd (none_is letter e)
+
+one_letter : (Good : MemberLetter → Type 0) (letter : MemberLetter) → Good letter → ForSome (Some letter) Good
+one_letter Good letter good = λ other e. subst Good (some_same letter other e) good
+
+module _ (s : Setup) (place : ℕ) (node : NodeConfig) (moment : ℕ) (all : s.members ≡ length node.config.members) (own : s.place < s.members)
+    (Good : MemberLetter → Type 0) where
+  -- The deeds are those of a turn of the host: with the message that is heard, and a plan whose calls may be made.
+  pub record IsTurnOf (view : View) (deeds : Deeds Ask State) : Type 0 where
+    pub came : Option MemberLetter
+    pub plan : View → Plan
+    pub may : MayTurn s moment view came plan
+    pub good : ForSome came Good
+    pub over : (sent : List MemberLetter) → Over s place node moment all sent deeds (turn_tree s moment view came plan)
+
+  -- what is heard of the ticket is a letter that may come, but for its stamp
+  abbrev pub Unstamped : ℕ → Head → TicketPart → Type 0
+  Unstamped member head part =
+      (plain : Head) × (auth : Bool) × (time : ℕ) × (head ≡ stamped_head auth time plain) × Good (record { sender = member; head = plain; part = part })
+
+  module _ (turn : Turn) where
+    abbrev Then : List MemberLetter → State → TurnTree → Type 0
+    Then sent state tree = Over s place node moment all sent (dues node moment turn state) tree
+
+    abbrev then_plan : View → Plan
+    then_plan view = after_plan s place node moment all own turn view
+
+    then_dues : (state : State) (view : View) (sent : List MemberLetter) → IsPlacedAt s place view state.tickets → state.last_reading ≡ moment
+        → Then sent state (plan_tree s moment view (then_plan view))
+    then_dues state view sent at last_is = dues_over s place node moment all own turn state view sent at last_is
+
+    nothing : (state : State) (view : View) → IsPlacedAt s place view state.tickets → state.last_reading ≡ moment
+        → IsTurnOf view (dues node moment turn state)
+    nothing state view at last_is = record {
+      came = None;
+      plan = then_plan;
+      may = after_may s place node moment all own turn view;
+      good = no_letter Good;
+      over = λ sent. then_dues state view sent at last_is;
+    }
+
+    -- what the ticket leaves goes on with the deadlines
+    abbrev LeftThen : State → List MemberLetter → Left → TurnTree → Type 0
+    LeftThen state sent left tree = (counted : Common) → Then sent (with_ticket state place counted (left_as s moment left)) tree
+
+    left_kept : (state : State) → IsKept (LeftThen state)
+    left_kept state left sent sent' tree tree' x m =
+        λ counted. mirrors_kept (is_some node.key) s (IsOver s place node moment all) (dues node moment turn (with_ticket state place counted (left_as s moment left)))
+        (over_kept s place node moment all) sent sent' tree tree' x (m counted)
+
+    left_dues : (state : State) (view : View) → IsPlacedAt s place view state.tickets → state.last_reading ≡ moment
+        → (left : Left) (sent : List MemberLetter) → LeftThen state sent left (plan_tree s moment left.view (then_plan left.view))
+    left_dues state view at last_is left sent =
+        λ counted. then_dues (with_ticket state place counted (left_as s moment left)) left.view sent (own_set s place view left.view state.tickets at) last_is
+
+    joined : (deeds : Deeds Ask State) (sent : List MemberLetter) (tree : TurnTree)
+        → Mirrors (is_some node.key) s Then sent deeds tree → Over s place node moment all sent (next deeds (dues node moment turn)) tree
+    joined deeds sent tree m =
+        mirrors_next (is_some node.key) s Then (IsOver s place node moment all) (dues node moment turn) sent deeds tree (λ sent' state' tree' x. x) m
+
+    hears_own : (state : State) (view : View) (member : ℕ) (head : Head) (part : TicketPart) → IsPlacedAt s place view state.tickets
+        → state.last_reading ≡ moment → Unstamped member head part
+        → IsTurnOf view (next (acts node moment state place (is_told member head part)) (dues node moment turn))
+    hears_own state view member head part at last_is plain = record {
+      came = Some (record { sender = member; head = plain.0; part = part });
+      plan = then_plan;
+      may = always (λ left. MayPlan s moment left (then_plan left))
+          (call_tree s moment view (HearsLetter (record { sender = member; head = plain.0; part = part }))) (after_may s place node moment all own turn);
+      good = one_letter Good _ plain.4;
+      over = λ sent. joined (acts node moment state place (is_told member head part)) sent (heard_tree plain.0)
+          (subst (λ (h : Head). Mirrors (is_some node.key) s Then sent (acts node moment state place (is_told member h part)) (heard_tree plain.0))
+          (sym plain.3)
+          (own_acts s place node moment all Then state view (is_told member (stamped_head plain.1 plain.2 plain.0) part) sent (heard_tree plain.0) at.own
+          (echoes_as s (LeftThen state) (λ sent' left tree'. (counted : Common) → Then sent' (with_ticket state place counted left) tree') (left_as s moment)
+          sent (hear_message s view (waiting_at state.waiters place) member plain.0 part moment) (heard_tree plain.0) (λ sent' left tree' m. m)
+          (heard s moment own (LeftThen state) (left_kept state) then_plan (left_dues state view at last_is) view (waiting_at state.waiters place) member plain.0 part sent))));
+    }
+      where
+        heard_tree : Head → TurnTree
+        heard_tree h = turn_tree s moment view (Some (record { sender = member; head = h; part = part })) then_plan
+
+    asks_own : (state : State) (view : View) (request : Request) → IsPlacedAt s place view state.tickets → state.last_reading ≡ moment
+        → IsTurnOf view (next (acts node moment state place (is_asked request)) (dues node moment turn))
+    asks_own state view request at last_is = record {
+      came = None;
+      plan = ask_plan s moment (spare_in state.waiters) request then_plan;
+      may = ask_may s moment (spare_in state.waiters) request then_plan (after_may s place node moment all own turn) view;
+      good = no_letter Good;
+      over = λ sent. joined (acts node moment state place (is_asked request)) sent (plan_tree s moment view (ask_plan s moment (spare_in state.waiters) request then_plan view))
+          (own_acts s place node moment all Then state view (is_asked request) sent (plan_tree s moment view (ask_plan s moment (spare_in state.waiters) request then_plan view)) at.own
+          (echoes_as s (LeftThen state) (λ sent' left tree'. (counted : Common) → Then sent' (with_ticket state place counted left) tree') (left_as s moment)
+          sent (wish s view (waiting_at state.waiters place) (spare_in state.waiters) request request.wish moment) (plan_tree s moment view (ask_plan s moment (spare_in state.waiters) request then_plan view)) (λ sent' left tree' m. m)
+          (asked s moment own (LeftThen state) (left_kept state) then_plan (left_dues state view at last_is) view (waiting_at state.waiters place) (spare_in state.waiters) request sent)));
+    }
+
+    hears_other : (state : State) (view : View) (member other : ℕ) (head : Head) (part : TicketPart) → other ≢ place → IsPlacedAt s place view state.tickets
+        → state.last_reading ≡ moment → IsTurnOf view (next (acts node moment state other (is_told member head part)) (dues node moment turn))
+    hears_other state view member other head part ne at last_is = record {
+      came = None;
+      plan = then_plan;
+      may = after_may s place node moment all own turn view;
+      good = no_letter Good;
+      over = λ sent. joined (acts node moment state other (is_told member head part)) sent (plan_tree s moment view (then_plan view))
+          (other_acts s place node moment all Then state view other (is_told member head part) sent (plan_tree s moment view (then_plan view)) at ne
+          (λ t waiters spare. minds_heard t.setup moment t.known waiters member head part)
+          (λ tickets waiters counted placed_now. then_dues (record state { tickets = tickets; waiters = waiters; common = counted }) view sent placed_now last_is));
+    }
+
+    asks_other : (state : State) (view : View) (other : ℕ) (request : Request) → other ≢ place → IsPlacedAt s place view state.tickets
+        → state.last_reading ≡ moment → IsTurnOf view (next (acts node moment state other (is_asked request)) (dues node moment turn))
+    asks_other state view other request ne at last_is = record {
+      came = None;
+      plan = then_plan;
+      may = after_may s place node moment all own turn view;
+      good = no_letter Good;
+      over = λ sent. joined (acts node moment state other (is_asked request)) sent (plan_tree s moment view (then_plan view))
+          (other_acts s place node moment all Then state view other (is_asked request) sent (plan_tree s moment view (then_plan view)) at ne
+          (λ t waiters spare. minds_asked t.setup moment t.known waiters spare request)
+          (λ tickets waiters counted placed_now. then_dues (record state { tickets = tickets; waiters = waiters; common = counted }) view sent placed_now last_is));
+    }
+
+    meets : (r : Result PlainMessage DropFault) (state : State) (view : View) (from : Peer) (act : Action) → IsPlacedAt s place view state.tickets
+        → state.last_reading ≡ moment → Comes node r act
+        → ((member : ℕ) (head : Head) (part : TicketPart) → IsLetIn node r member place head part → Unstamped member head part)
+        → IsTurnOf view (next (met node moment state from act) (dues node moment turn))
+    meets r state view from (Drops fault) at last_is c unstamp = nothing (dropped state fault) view at last_is
+    meets r state view from (Hears member ticket head part) at last_is c unstamp = by_place (same_or_not ticket place)
+      where
+        by_place : (ticket ≡ place) ⊎ (ticket ≢ place)
+            → IsTurnOf view (next (acts node moment (accepted state member moment) ticket (is_told member head part)) (dues node moment turn))
+        by_place (inl e) =
+            subst (λ (p : ℕ). IsTurnOf view (next (acts node moment (accepted state member moment) p (is_told member head part)) (dues node moment turn))) (sym e)
+            (hears_own (accepted state member moment) view member head part at last_is
+            (unstamp member head part (subst (λ (p : ℕ). IsLetIn node r member p head part) e c)))
+        by_place (inr ne) = hears_other (accepted state member moment) view member ticket head part ne at last_is
+    meets r state view from (Asks ticket request) at last_is c unstamp = by_place (same_or_not ticket place)
+      where
+        by_place : (ticket ≡ place) ⊎ (ticket ≢ place)
+            → IsTurnOf view (next (acts node moment state ticket (is_asked request)) (dues node moment turn))
+        by_place (inl e) =
+            subst (λ (p : ℕ). IsTurnOf view (next (acts node moment state p (is_asked request)) (dues node moment turn))) (sym e)
+            (asks_own state view request at last_is)
+        by_place (inr ne) = asks_other state view ticket request ne at last_is
+    meets r state view from (Answers letter) at last_is c unstamp = record {
+      came = None;
+      plan = then_plan;
+      may = after_may s place node moment all own turn view;
+      good = no_letter Good;
+      over = λ sent. (
+        record { truly = c.0; spoken = λ part between is named. absurd (c.1 between) },
+        λ ok. then_dues state view sent at last_is,
+      );
+    }
+    meets r state view from Rests at last_is c unstamp = nothing state view at last_is
+
+  -- every message of this ticket that may be let in is one that may come, but for its stamp
+  abbrev pub HearsGood : Result Arrival Failed → List ℕ → Type 0
+  HearsGood (Ok (arrivals.Datagram from)) bytes =
+      (member : ℕ) (head : Head) (part : TicketPart)
+      → IsLetIn node (verdict node.config node.key node.me moment bytes) member place head part → Unstamped member head part
+  HearsGood answer bytes = Unit {0}
+
+  pub reacts : (old : State) (view : View) (answer : Result Arrival Failed) (bytes : List ℕ) → IsPlacedAt s place view old.tickets
+      → HearsGood answer bytes → IsTurnOf view (react node old moment answer bytes)
+  reacts old view (Ok (arrivals.Datagram from)) bytes at good =
+      meets (turn_end (Ok (arrivals.Datagram from))) (verdict node.config node.key node.me moment bytes) (record old { last_reading = moment }) view from
+      (action node moment old.tickets old.common from bytes) at refl
+      (comes node moment old.tickets old.common (verdict node.config node.key node.me moment bytes) from (verdict node.config node.key node.me moment bytes) refl)
+      good
+  reacts old view (Ok arrivals.Quiet) bytes at good = nothing (turn_end (Ok arrivals.Quiet)) (record old { last_reading = moment }) view at refl
+  reacts old view (Ok arrivals.Stop) bytes at good = nothing (turn_end (Ok arrivals.Stop)) (record old { last_reading = moment }) view at refl
+  reacts old view (Err failed) bytes at good = nothing (turn_end (Err failed)) (record old { last_reading = moment }) view at refl

@@ -1,0 +1,285 @@
+-- A ticket's tree of deeds in the node's: its own, and another ticket's, which passes by.
+use Rattle.std.proofs.Common.{◌≡◌, ◌≢◌, inl, inr, ℕ, ◌<◌, Bool, true, List, [], ◌∷◌, length, refl, sym, ap, ◌∙◌, subst}
+use Rattle.std.specs.Prelude.{Option, Some, None, is_some, slice_get}
+use Rattle.std.proofs.lemmas.Option.{slice_get_within}
+use Rattle.booth_base.specs.declared.address.Peer.{Peer}
+use Rattle.booth_base.specs.Tree.{Deeds, Ends, Does, next}
+use Rattle.booth_conf.specs.Config.{ConfigSays}
+use Rattle.booth_conf.specs.declared.members.Member.{Member as MemberConf}
+use Rattle.booth_rec.specs.declared.record.Record.{Record}
+use Rattle.booth_wire.specs.declared.codes.reasons.TheConstants.{ADMN}
+use Rattle.booth_wire.specs.declared.command.Cmd.{Cmd}
+use Rattle.booth_wire.specs.declared.command.Cmd.TheVariants.{RGnt, RRvk}
+use Rattle.booth_wire.specs.declared.command.Direction.TheVariants.{BetweenMembers, ToClient}
+use Rattle.booth_wire.specs.declared.message.Head.{Head}
+use Rattle.booth_wire.specs.declared.message.TicketPart.{TicketPart}
+use Rattle.booth_wire.specs.declared.message.Say.{Say as Words}
+use Rattle.booth_wire.specs.declared.message.Say.TheVariants as words
+use Rattle.booth_wire.specs.declared.message.Setup.{Setup}
+use Rattle.booth_wire.specs.Command.{direction_of}
+use Rattle.booth_wire.specs.PlainMessage.{Ticket}
+use Rattle.booth_auth.specs.Sealed.{stamped_head}
+use Rattle.booth_raft.specs.declared.deed.Want.{Want}
+use Rattle.booth_raft.specs.declared.deed.Want.TheVariants as wants
+use Rattle.booth_raft.specs.declared.view.View.{View}
+use Rattle.booth_raft.specs.AskAndRenew.{are_terms_spent, finish}
+use Rattle.booth_raft.specs.Deadlines.{due_now, greeted, hello}
+use Rattle.booth_raft.specs.GainReleaseLost.{release}
+use Rattle.booth_raft.specs.Members.{is_working}
+use Rattle.booth_raft.specs.Notes.{noted}
+use Rattle.booth_raft.specs.declared.deed.Note.TheVariants as notes
+use Rattle.booth_raft.specs.OtherMessages.{hear}
+use Rattle.booth_raft.specs.declared.deed.Told.{Told}
+use Rattle.booth_raft.specs.Outcome.{Outcome, quiet}
+use Rattle.booth_raft.specs.Speech.{IsSpeech, Speaks}
+use Rattle.booth_raft.proofs.FactsLemmas.{on_cond}
+use Rattle.booth_raft.proofs.SpeechLemmas.{rules_speak}
+use Rattle.booth_ticket.specs.declared.hands.To.{To}
+use Rattle.booth_ticket.specs.declared.hands.To.TheVariants.{Member, Client}
+use Rattle.booth_ticket.specs.declared.request.Request.{Request}
+use Rattle.booth_ticket.specs.declared.request.Wish.{Wish}
+use Rattle.booth_ticket.specs.declared.request.Wish.TheVariants.{Grant, Revoke}
+use Rattle.booth_ticket.specs.Acts.{Ask as TicketAsk, Keep as KeepsRecord, Say}
+use Rattle.booth_ticket.specs.Automatic.{Left, ends, hear_message, acquire, follow, role_due, tick}
+use Rattle.booth_ticket.specs.Keeping.{keep_of, keep_once, say_last, carry_out}
+use Rattle.booth_ticket.specs.Requests.{refused_grant, grant, grant_result, refused_revoke, revoke, revoke_result, replies, reply, wish}
+use Rattle.booth_ticket.specs.Saying.{others, places_in, say_each, say}
+use Rattle.booth_ticket.specs.declared.waiters.Waiter.{Waiter}
+use Rattle.booth_ticket.specs.Waiting.{result_for, staying, tell_each, tell_one}
+use Rattle.booth_ticket.specs.Ticket.{TicketLeft, Known, Automatic, ticket_due, ticket_heard, ticket_asked}
+use Rattle.booth_node.specs.declared.node_config.NodeConfig.{NodeConfig}
+use Rattle.booth_node.specs.declared.state.Common.{Common}
+use Rattle.booth_node.specs.Counting.{with_send}
+use Rattle.booth_node.specs.Reaction.{Ask, peer_at, peer_of, sent_as, sends, lifted}
+use Rattle.booth_world.specs.Facts.{Has}
+use Rattle.booth_world.specs.Rules.{MemberLetter}
+use Rattle.booth_world.specs.Turns.{TurnTree}
+use Rattle.booth_world.proofs.Lists.{none_is}
+use Rattle.booth_world.proofs.Mirrors.{sent_by, IsSpoken, Mirrors}
+use Rattle.booth_world.proofs.Echoes.{Echoes, Reaches}
+
+-- a stamp changes nothing of what the rules hear
+pub same_heard : (s : Setup) (view : View) (from : ℕ) (auth : Bool) (time : ℕ) (head : Head) (part : TicketPart) (now : ℕ)
+    → hear s view from (stamped_head auth time head) part now head.cmd ≡ hear s view from head part now head.cmd
+same_heard s view from auth time head part now = refl
+
+same_part : (a b : TicketPart) → Ticket a ≡ Ticket b → a ≡ b
+same_part a b e = cc
+
+-- a member is where a message goes to it
+is_member : (config : ConfigSays) (place : ℕ) (peer : Peer) → peer_of config (Member place) ≡ Some peer → place < length config.members
+is_member config place peer is = by_member (slice_get config.members place) refl is
+  where
+    by_member : (o : Option MemberConf) → slice_get config.members place ≡ o → peer_at config o ≡ Some peer → place < length config.members
+    by_member None e is = absurd (none_is peer is)
+    by_member (Some member) e is = slice_get_within config.members place member e
+
+-- ---- another ticket's deeds
+
+-- what is said is about this ticket, or to a client; and this is so of what is left
+abbrev pub IsAbout : List ℕ → To → Head → TicketPart → Type 0
+IsAbout name (Member place) head part = part.ticket ≡ name
+IsAbout name (Client peer) head part = direction_of head.cmd ≡ ToClient
+
+abbrev pub Minds : {V : Type 0} → (V → Type 0) → List ℕ → Deeds TicketAsk V → Type 0
+Minds P name (Ends left) = P left
+Minds P name (Does (Say to head part) go) = IsAbout name to head part × Minds P name (go true)
+Minds P name (Does (KeepsRecord tried) go) = (ok : Bool) → Minds P name (go ok)
+
+pub minds_as : {V W : Type 0} (P : V → Type 0) (Q : W → Type 0) (f : V → W) (name : List ℕ) (deeds : Deeds TicketAsk V)
+    → ((left : V) → P left → Q (f left)) → Minds P name deeds → Minds Q name (next deeds (λ left. Ends (f left)))
+minds_as P Q f name (Ends left) gives m = gives left m
+minds_as P Q f name (Does (Say to head part) go) gives m = (m.0, minds_as P Q f name (go true) gives m.1)
+minds_as P Q f name (Does (KeepsRecord tried) go) gives m = λ ok. minds_as P Q f name (go ok) gives (m ok)
+
+module _ (s : Setup) {V : Type 0} (P : V → Type 0) where
+  minds_each : (places : List ℕ) (head : Head) (part : TicketPart) (rest : Deeds TicketAsk V) → part.ticket ≡ s.ticket
+      → Minds P s.ticket rest → Minds P s.ticket (say_each places head part rest)
+  minds_each [] head part rest about m = m
+  minds_each (place ∷ places) head part rest about m = (about, minds_each places head part rest about m)
+
+  pub minds_say : (from : Option ℕ) (rule_words : Words) (rest : Deeds TicketAsk V) → IsSpeech s rule_words
+      → Minds P s.ticket rest → Minds P s.ticket (say s from rule_words rest)
+  minds_say from words.Nothing rest speaks m = m
+  minds_say (Some place) (words.Reply head part) rest speaks m = (speaks.ticket, m)
+  minds_say None (words.Reply head part) rest speaks m = m
+  minds_say from (words.All head part) rest speaks m = minds_each (others s) head part rest speaks.ticket m
+  minds_say from (words.Unanswered head part bits) rest speaks m = minds_each (places_in bits) head part rest speaks.ticket m
+
+  minds_keep : (now : ℕ) (keep : Option Record) (outcome : Outcome) (f : Outcome → Deeds TicketAsk V) → Speaks s outcome
+      → ((o : Outcome) → Speaks s o → Minds P s.ticket (f o)) → Minds P s.ticket (keep_of s now keep outcome f)
+  minds_keep now None outcome f speaks on = on outcome speaks
+  minds_keep now (Some tried) outcome f speaks on =
+      λ ok. on (finish s outcome.view now ok) (rules_speak.answered s outcome.view now ok)
+
+  -- those that wait are told, and that is said to clients
+  pub minds_told : (view : View) (now : ℕ) (told : Told) (waiters : List Waiter) (rest : Deeds TicketAsk V) → Minds P s.ticket rest
+      → Minds P s.ticket (tell_each s view now told waiters rest)
+  minds_told view now told [] rest m = m
+  minds_told view now told (w ∷ ws) rest m = by_result (result_for told w) (minds_told view now told ws rest m)
+    where
+      by_result : (r : Option ℕ) → Minds P s.ticket (tell_each s view now told ws rest)
+          → Minds P s.ticket (tell_one s view now w r (tell_each s view now told ws rest))
+      by_result None more = more
+      by_result (Some result) more = (refl, more)
+
+  pub minds_carried : (from : Option ℕ) (now : ℕ) (outcome : Outcome) (rest : Outcome → Deeds TicketAsk V) → Speaks s outcome
+      → ((o : Outcome) → Minds P s.ticket (rest o)) → Minds P s.ticket (carry_out s from now outcome rest)
+  minds_carried from now outcome rest speaks on =
+      minds_keep now outcome.deed.keep outcome (λ first. keep_once s now first (say_last s from rest)) speaks
+      (λ o speaks_first. minds_keep now o.deed.keep o (say_last s from rest) speaks_first
+      (λ last speaks_last. minds_say from last.deed.say (rest last) speaks_last (on last)))
+
+module _ (s : Setup) (now : ℕ) where
+  abbrev Any : Left → Type 0
+  Any left = Unit {0}
+
+  speaks_acquired : (view : View) (reason : ℕ) → Speaks s (acquire s view reason now)
+  speaks_acquired view reason = on_cond (Speaks s) (are_terms_spent view) _ _ tt (rules_speak.asked s view reason now)
+
+  speaks_follow : (outcome : Outcome) (want : Want) → Speaks s outcome → Speaks s (follow s outcome want now)
+  speaks_follow outcome wants.Nothing speaks = speaks
+  speaks_follow outcome wants.Renew speaks = rules_speak.renewed s outcome.view now
+  speaks_follow outcome wants.Acquire speaks = speaks_acquired outcome.view _
+
+  minds_ends : (waiters : List Waiter) (o : Outcome) → Minds Any s.ticket (ends s now waiters o)
+  minds_ends waiters o =
+      minds_told s Any o.view now o.deed.told waiters (Ends (record { view = o.view; waiters = staying o.deed.told waiters })) tt
+
+  pub minds_tick : (view : View) (waiters : List Waiter) → Minds Any s.ticket (tick s view waiters now)
+  minds_tick view waiters =
+      minds_say s Any None (hello s view now) (carry_out s None now (role_due s (greeted view) now) (ends s now waiters)) (rules_speak.greeted s view now)
+      (minds_carried s Any None now (role_due s (greeted view) now) (ends s now waiters)
+      (on_cond (Speaks s) (is_working (greeted view).role) _ _ tt
+      (speaks_follow (due_now s (greeted view) now) (due_now s (greeted view) now).deed.want (rules_speak.due s (greeted view) now)))
+      (minds_ends waiters))
+
+  pub minds_hear : (view : View) (waiters : List Waiter) (from : ℕ) (head : Head) (part : TicketPart)
+      → Minds Any s.ticket (hear_message s view waiters from head part now)
+  minds_hear view waiters from head part =
+      minds_carried s Any (Some from) now (hear s view from head part now head.cmd) (ends s now waiters)
+      (rules_speak.heard s view from head part now head.cmd) (minds_ends waiters)
+
+  minds_replies : (waiters : List Waiter) (request : Request) (cmd : Cmd) (result : ℕ) (o : Outcome) → direction_of cmd ≡ ToClient
+      → Minds Any s.ticket (replies s waiters request cmd now result o)
+  minds_replies waiters request cmd result o client =
+      minds_told s Any o.view now o.deed.told waiters (reply s request cmd result o.view now (staying o.deed.told waiters)) (client, tt)
+
+  minds_grant : (view : View) (waiters : List Waiter) (request : Request) (refused : Option ℕ)
+      → Minds Any s.ticket (grant s view request.options refused now (replies s waiters request RGnt now))
+  minds_grant view waiters request (Some result) = minds_replies waiters request RGnt result (quiet view) refl
+  minds_grant view waiters request None =
+      minds_carried s Any None now (acquire s (noted s view now notes.Asked) ADMN now)
+      (λ o. replies s waiters request RGnt now (grant_result request.options o.deed.told) o)
+      (speaks_acquired (noted s view now notes.Asked) ADMN)
+      (λ o. minds_replies waiters request RGnt (grant_result request.options o.deed.told) o refl)
+
+  minds_revoke : (view : View) (waiters : List Waiter) (request : Request) (refused : Option ℕ)
+      → Minds Any s.ticket (revoke s view refused now (replies s waiters request RRvk now))
+  minds_revoke view waiters request (Some result) = minds_replies waiters request RRvk result (quiet view) refl
+  minds_revoke view waiters request None =
+      minds_carried s Any None now (release view ADMN now) (λ o. replies s waiters request RRvk now (revoke_result o.deed.told) o)
+      (rules_speak.released s view ADMN now) (λ o. minds_replies waiters request RRvk (revoke_result o.deed.told) o refl)
+
+  pub minds_wish : (view : View) (waiters : List Waiter) (spare : ℕ) (request : Request) (w : Wish)
+      → Minds Any s.ticket (wish s view waiters spare request w now)
+  minds_wish view waiters spare request Grant = minds_grant view waiters request (refused_grant s view spare request.options now)
+  minds_wish view waiters spare request Revoke = minds_revoke view waiters request (refused_revoke s view request.options now)
+
+  -- what is left has the same setup
+  abbrev pub HasSetup : TicketLeft → Type 0
+  HasSetup left = left.ticket.setup ≡ s
+
+  abbrev pub left_as : Left → TicketLeft
+  left_as left = record { ticket = record { setup = s; known = Automatic left.view }; waiters = left.waiters }
+
+  pub minds_due : (known : Known) (waiters : List Waiter) → Minds HasSetup s.ticket (ticket_due s known waiters now)
+  minds_due (Automatic view) waiters =
+      minds_as Any HasSetup left_as s.ticket (tick s view waiters now) (λ left any. refl) (minds_tick view waiters)
+
+  pub minds_heard : (known : Known) (waiters : List Waiter) (from : ℕ) (head : Head) (part : TicketPart)
+      → Minds HasSetup s.ticket (ticket_heard s known waiters from head part now)
+  minds_heard (Automatic view) waiters from head part =
+      minds_as Any HasSetup left_as s.ticket (hear_message s view waiters from head part now) (λ left any. refl) (minds_hear view waiters from head part)
+
+  pub minds_asked : (known : Known) (waiters : List Waiter) (spare : ℕ) (request : Request)
+      → Minds HasSetup s.ticket (ticket_asked s known waiters spare request now)
+  minds_asked (Automatic view) waiters spare request =
+      minds_as Any HasSetup left_as s.ticket (wish s view waiters spare request request.wish now) (λ left any. refl)
+      (minds_wish view waiters spare request request.wish)
+
+-- ---- a ticket's deeds as the node's
+
+module _ (s : Setup) (node : NodeConfig) (moment : ℕ) {S : Type 0} (Q : List MemberLetter → S → TurnTree → Type 0) where
+  abbrev Mirror : List MemberLetter → Deeds Ask S → TurnTree → Type 0
+  Mirror sent deeds tree = Mirrors (is_some node.key) s Q sent deeds tree
+
+  said_own : (sent : List MemberLetter) (head : Head) (part : TicketPart) → Has sent (record { sender = s.place; head = head; part = part })
+      → IsSpoken (is_some node.key) s sent (sent_as node moment head part)
+  said_own sent head part h = record {
+    truly = refl;
+    spoken = λ other between is named. (
+      head,
+      moment,
+      refl,
+      subst (λ (p : TicketPart). Has sent (record { sender = s.place; head = head; part = p })) (same_part part other is) h,
+    );
+  }
+
+  said_client : (sent : List MemberLetter) (head : Head) (part : TicketPart) → direction_of head.cmd ≡ ToClient
+      → IsSpoken (is_some node.key) s sent (sent_as node moment head part)
+  said_client sent head part client = record { truly = refl; spoken = λ other between is named. absurd (never (sym client ∙ between)) }
+    where
+      never : ToClient ≡ BetweenMembers → ⊥
+      never e = cc
+
+  said_other : (sent : List MemberLetter) (head : Head) (part : TicketPart) (name : List ℕ) → name ≢ s.ticket → part.ticket ≡ name
+      → IsSpoken (is_some node.key) s sent (sent_as node moment head part)
+  said_other sent head part name other about = record {
+    truly = refl;
+    spoken = λ (p : TicketPart) between is named.
+        absurd (other (sym about ∙ ap (λ (q : TicketPart). q.ticket) (same_part part p is) ∙ named));
+  }
+
+  pub own_lifted : s.members ≡ length node.config.members → (common : Common) (sent : List MemberLetter) (deeds : Deeds TicketAsk TicketLeft) (tree : TurnTree)
+      (rest : Common → TicketLeft → Deeds Ask S)
+      → Echoes s (λ sent' left tree'. (counted : Common) → Mirror sent' (rest counted left) tree') sent deeds tree
+      → Mirror sent (lifted node moment s.ticket common deeds rest) tree
+  own_lifted all common sent (Ends left) tree rest m = m common
+  own_lifted all common sent (Does (KeepsRecord tried) go) tree rest m =
+      inr (refl, m.0, m.1, λ ok. own_lifted all common (sent_by tree sent) (go ok) (m.0 ok) rest (m.2 ok))
+  own_lifted all common sent (Does (Say to head part) go) tree rest m =
+      by_peer (peer_of node.config to) refl (λ counted. own_lifted all counted sent (go true) tree rest m.1)
+    where
+      spoken_to : (t : To) (peer : Peer) → peer_of node.config t ≡ Some peer → Reaches s (sent_by tree sent) t head part
+          → IsSpoken (is_some node.key) s (sent_by tree sent) (sent_as node moment head part)
+      spoken_to (Member place) peer is reaches =
+          said_own (sent_by tree sent) head part
+          (reaches (subst (λ (n : ℕ). place < n) (sym all) (is_member node.config place peer is)))
+      spoken_to (Client from) peer is reaches = said_client (sent_by tree sent) head part reaches
+
+      by_peer : (o : Option Peer) → peer_of node.config to ≡ o
+          → ((counted : Common) → Mirror sent (lifted node moment s.ticket counted (go true) rest) tree)
+          → Mirror sent (sends o (sent_as node moment head part) common to (λ counted. lifted node moment s.ticket counted (go true) rest)) tree
+      by_peer None is on = on common
+      by_peer (Some peer) is on = (spoken_to to peer is m.0, λ ok. on (with_send common to ok))
+
+  pub other_lifted : (name : List ℕ) → name ≢ s.ticket → (common : Common) (sent : List MemberLetter) (P : TicketLeft → Type 0)
+      (deeds : Deeds TicketAsk TicketLeft) (tree : TurnTree) (rest : Common → TicketLeft → Deeds Ask S)
+      → Minds P name deeds
+      → ((counted : Common) (left : TicketLeft) → P left → Mirror sent (rest counted left) tree)
+      → Mirror sent (lifted node moment name common deeds rest) tree
+  other_lifted name other common sent P (Ends left) tree rest m on = on common left m
+  other_lifted name other common sent P (Does (KeepsRecord tried) go) tree rest m on =
+      inl (other, λ ok. other_lifted name other common sent P (go ok) tree rest (m ok) on)
+  other_lifted name other common sent P (Does (Say to head part) go) tree rest m on =
+      by_peer (peer_of node.config to) (λ counted. other_lifted name other counted sent P (go true) tree rest m.1 on)
+    where
+      spoken_to : (t : To) → IsAbout name t head part → IsSpoken (is_some node.key) s (sent_by tree sent) (sent_as node moment head part)
+      spoken_to (Member place) about = said_other (sent_by tree sent) head part name other about
+      spoken_to (Client from) client = said_client (sent_by tree sent) head part client
+
+      by_peer : (o : Option Peer) → ((counted : Common) → Mirror sent (lifted node moment name counted (go true) rest) tree)
+          → Mirror sent (sends o (sent_as node moment head part) common to (λ counted. lifted node moment name counted (go true) rest)) tree
+      by_peer None on_rest = on_rest common
+      by_peer (Some peer) on_rest = (spoken_to to m.0, λ ok. on_rest (with_send common to ok))

@@ -1,0 +1,181 @@
+-- The worlds without one premise meet the others, and two hold in them.
+use Rattle.std.proofs.Common.{◌≢◌, zero, suc, [], refl, sym, inl, arith}
+use Rattle.booth_wire.specs.Spelling.{header}
+use Rattle.booth_wire.specs.Layout.{word, padded_to}
+use Rattle.booth_node.specs.Session.{AreSessions, Down}
+use Rattle.booth_node.specs.World.{HasForm, entries_of}
+use Rattle.booth_node.specs.Held.{Moment}
+use Rattle.booth_world.specs.Premises.{Premise, OneConfiguration, TrueClocks, RecordsReturn, MembersSpeak, OneDaemon, Meets, IsWorldBut, TwoHold}
+use Rattle.booth_world.specs.WorldExamples.{site_one, site_two, two_sites, web, lease}
+use Rattle.booth_world.specs.PremiseExamples.{with_foreign_records, with_forged_votes}
+use Rattle.booth_world.proofs.AlongWorlds.{◌&◌, at_each, reads_true, only_web, is_read_below}
+use Rattle.booth_world.proofs.WorldParts.{two_sound, has_form, exact_clocks, asks_votes_fit, is_open_fits}
+
+-- ---- records that were never kept
+
+foreign_daemons : Meets with_foreign_records OneDaemon
+foreign_daemons zero below = (refl, tt)
+foreign_daemons (suc zero) below = (refl, tt)
+foreign_daemons (suc (suc m)) below = absurd (omega (arith, below))
+
+foreign_meets : (premise : Premise) → premise ≢ RecordsReturn → Meets with_foreign_records premise
+foreign_meets OneConfiguration other = at_each with_foreign_records _ (refl, (refl, tt))
+foreign_meets TrueClocks other = exact_clocks two_sites _ (sym (reads_true 60000 0 (omega arith)), (sym (reads_true 60000 0 (omega arith)), tt))
+foreign_meets RecordsReturn other = absurd (other refl)
+foreign_meets MembersSpeak other = at_each with_foreign_records _ (tt, (tt, tt))
+foreign_meets OneDaemon other = foreign_daemons
+
+pub foreign_but : IsWorldBut RecordsReturn with_foreign_records
+foreign_but = (has_form with_foreign_records two_sound ((omega arith, omega arith, omega arith), ((omega arith, omega arith, omega arith), tt)), foreign_meets)
+
+abbrev foreign_moment : Moment with_foreign_records
+foreign_moment = record {
+  before = with_foreign_records.entries;
+  after = [];
+  time = 5999;
+  whole = refl;
+  since = omega arith;
+  until = tt;
+  within = omega arith;
+}
+
+pub foreign_two : TwoHold with_foreign_records
+foreign_two = record {
+  place = 0;
+  ticket = web;
+  automatic = (refl, refl);
+  moment = foreign_moment;
+  first = 0;
+  second = 1;
+  two = λ e. cc;
+  first_holds = (lease 1 6000, (omega arith, inl refl, is_read_below 60000 5999 6000 (omega arith) (omega arith)));
+  second_holds = (lease 1 6000, (omega arith, inl refl, is_read_below 60000 5999 6000 (omega arith) (omega arith)));
+}
+
+-- ---- forged votes
+
+first_session : AreSessions Down (entries_of 0 with_forged_votes.entries)
+unfolding header word padded_to
+first_session = (refl, (refl, (tt, ((refl, refl, refl), ((refl, refl, asks_votes_fit site_one 1 7000 (omega arith) (omega arith) (omega arith), refl), ((refl, refl, is_open_fits site_one 1 7000 (omega arith) (omega arith) (omega arith), refl), (refl, (tt, ((refl, refl, refl), tt)))))))))
+
+second_session : AreSessions Down (entries_of 1 with_forged_votes.entries)
+unfolding header word padded_to
+second_session = (refl, (refl, (tt, ((refl, refl, refl), ((refl, refl, asks_votes_fit site_two 1 7000 (omega arith) (omega arith) (omega arith), refl), ((refl, refl, is_open_fits site_two 1 7000 (omega arith) (omega arith) (omega arith), refl), (refl, (tt, ((refl, refl, refl), tt)))))))))
+
+forged_daemons : Meets with_forged_votes OneDaemon
+forged_daemons zero below = first_session
+forged_daemons (suc zero) below = second_session
+forged_daemons (suc (suc m)) below = absurd (omega (arith, below))
+
+forged_meets : (premise : Premise) → premise ≢ MembersSpeak → Meets with_forged_votes premise
+forged_meets OneConfiguration other =
+    at_each with_forged_votes _ (refl
+    & refl
+    & tt
+    & tt
+    & tt
+    & tt
+    & tt
+    & tt
+    & tt
+    & tt
+    & tt
+    & tt
+    & tt
+    & tt
+    & tt
+    & tt
+    & tt
+    & tt
+    & tt)
+forged_meets TrueClocks other =
+    exact_clocks two_sites _ (sym (reads_true 60000 0 (omega arith))
+    & sym (reads_true 60000 0 (omega arith))
+    & tt
+    & sym (reads_true 60000 7000 (omega arith))
+    & tt
+    & tt
+    & tt
+    & tt
+    & sym (reads_true 60000 7000 (omega arith))
+    & tt
+    & tt
+    & tt
+    & tt
+    & sym (reads_true 60000 7100 (omega arith))
+    & tt
+    & tt
+    & sym (reads_true 60000 7100 (omega arith))
+    & tt
+    & tt)
+forged_meets RecordsReturn other =
+    at_each with_forged_votes _ (only_web _ (inl refl)
+    & only_web _ (inl refl)
+    & tt
+    & tt
+    & tt
+    & tt
+    & tt
+    & tt
+    & tt
+    & tt
+    & tt
+    & tt
+    & tt
+    & tt
+    & tt
+    & tt
+    & tt
+    & tt
+    & tt)
+forged_meets MembersSpeak other = absurd (other refl)
+forged_meets OneDaemon other = forged_daemons
+
+pub forged_but : IsWorldBut MembersSpeak with_forged_votes
+forged_but = (forged_form, forged_meets)
+  where
+    forged_form : HasForm with_forged_votes
+    forged_form =
+        has_form with_forged_votes two_sound ((omega arith, omega arith, omega arith)
+        & (omega arith, omega arith, omega arith)
+        & (omega arith, omega arith, omega arith)
+        & (omega arith, omega arith, omega arith)
+        & (omega arith, omega arith, omega arith)
+        & (omega arith, omega arith, omega arith)
+        & (omega arith, omega arith, omega arith)
+        & (omega arith, omega arith, omega arith)
+        & (omega arith, omega arith, omega arith)
+        & (omega arith, omega arith, omega arith)
+        & (omega arith, omega arith, omega arith)
+        & (omega arith, omega arith, omega arith)
+        & (omega arith, omega arith, omega arith)
+        & (omega arith, omega arith, omega arith)
+        & (omega arith, omega arith, omega arith)
+        & (omega arith, omega arith, omega arith)
+        & (omega arith, omega arith, omega arith)
+        & (omega arith, omega arith, omega arith)
+        & tt)
+
+abbrev forged_moment : Moment with_forged_votes
+forged_moment = record {
+  before = with_forged_votes.entries;
+  after = [];
+  time = 12999;
+  whole = refl;
+  since = omega arith;
+  until = tt;
+  within = omega arith;
+}
+
+pub forged_two : TwoHold with_forged_votes
+forged_two = record {
+  place = 0;
+  ticket = web;
+  automatic = (refl, refl);
+  moment = forged_moment;
+  first = 0;
+  second = 1;
+  two = λ e. cc;
+  first_holds = (lease 1 13000, (omega arith, inl refl, is_read_below 60000 12999 13000 (omega arith) (omega arith)));
+  second_holds = (lease 1 13000, (omega arith, inl refl, is_read_below 60000 12999 13000 (omega arith) (omega arith)));
+}

@@ -1,0 +1,355 @@
+-- Each kind of entry of a world, as entries of the hosts of one ticket: a start, a call, a cut.
+use Rattle.std.proofs.Common.{◌≡◌, ⊎_elim, inl, inr, ℕ, zero, suc, ◌+◌, ◌^◌, ◌<◌, ◌≤◌, Bool, true, false, List, [], ◌∷◌, length, refl, sym, ap, ◌∙◌, subst, arith, if◌then◌else◌}
+use Rattle.std.specs.Prelude.{Option, Some, None, is_ok, slice_get, max, bytes_eq, unwrap_or, IsSomeAnd, Result, Ok, Err}
+use Rattle.std.proofs.Math.Nat.{max-eq_right, min-eq_left}
+use Rattle.booth_base.specs.Tree.{Deeds, Ends, Does}
+use Rattle.booth_conf.specs.declared.tickets.TicketConf.{TicketConf}
+use Rattle.booth_rec.specs.declared.record.Record.{Record}
+use Rattle.booth_rec.specs.Record.{record_or_none}
+use Rattle.booth_host.specs.declared.host.Failed.{Failed}
+use Rattle.booth_host.specs.declared.host.Arrival.{Arrival}
+use Rattle.booth_host.specs.declared.entry.Entry.{Entry}
+use Rattle.booth_host.specs.declared.entry.Entry.TheVariants as calls
+use Rattle.booth_raft.specs.declared.view.View.{View}
+use Rattle.booth_raft.specs.StartAndLearn.{started}
+use Rattle.booth_ticket.specs.Ticket.{TicketState, opened as ticket_opened}
+use Rattle.booth_node.specs.declared.node_config.NodeConfig.{NodeConfig}
+use Rattle.booth_node.specs.Clock.{HasClocks, reads}
+use Rattle.booth_node.specs.Opening.{setup_of, started_from, start_reading, opened}
+use Rattle.booth_node.specs.Reaction.{Ask, Send, Keep, used, react}
+use Rattle.booth_node.specs.Records.{may_after_keep, may_after, record_at}
+use Rattle.booth_node.specs.Session.{CutCall, CutNext, CutNow, CutSend, CutKeep, Makes, IsCut, Stand, Down, Doing, Hearing, MayMake, after_call, MayBeCut}
+use Rattle.booth_node.specs.State.{State}
+use Rattle.booth_node.specs.World.{World, members_of, node_at, clock_at, HasTrueClocks}
+use Rattle.booth_world.specs.Facts.{Has, Release}
+use Rattle.booth_world.specs.Turns.{Keeps, TurnTree, turn_tree}
+use Rattle.booth_world.specs.Hosts.{BeginsTurn, DoesAsk, Halts, Boots, HostPlace, Hosts, pending_in, pending, MayBegin, MayCome, begun, hosted, hosts_after}
+use Rattle.booth_world.specs.HostLaws.{IsHostReleaseAt}
+use Rattle.booth_world.proofs.Lists.{none_is, some_same}
+use Rattle.booth_world.proofs.CallSteps.{put_same}
+use Rattle.booth_world.specs.Shadows.{GivesTermBack}
+use Rattle.booth_world.proofs.NodeTurns.{IsPlacedAt}
+use Rattle.booth_world.proofs.NodeArrivals.{IsTurnOf, HearsGood, reacts}
+use Rattle.booth_world.proofs.HostRuns.{of_both}
+use Rattle.booth_world.proofs.WorldSteps.{Setting, same_bytes, other_bytes, cluster, setup_at, cast, own_ticket, own_below, Doings, StandsAt, Shows, Steps, rests_so, then_says, moved_one, keeps_own}
+
+when_true : {A : Type 0} (b : Bool) (x y : A) → b ≡ true → (if b then x else y) ≡ x
+when_true true x y e = refl
+when_true false x y e = absurd cc
+
+when_false : {A : Type 0} (b : Bool) (x y : A) → b ≡ false → (if b then x else y) ≡ y
+when_false true x y e = absurd cc
+when_false false x y e = refl
+
+-- a reading that is not before the last one, and early enough, is used as it is
+clamped : (last reading : ℕ) → last ≤ reading → reading < 2 ^ 62 → used last reading ≡ reading
+clamped last reading rises small =
+    ap (λ (n : ℕ). max last n) (min-eq_left (omega (arith, small))) ∙ max-eq_right rises
+
+clamped_start : (reading : ℕ) → reading < 2 ^ 62 → start_reading reading ≡ reading
+clamped_start reading small = min-eq_left (omega (arith, small))
+
+-- ---- a start
+
+started_at : (node : NodeConfig) (now first i : ℕ) (tickets : List TicketConf) (records : List (Option Record)) (t : TicketConf)
+    → length records ≡ length tickets → slice_get tickets i ≡ Some t
+    → slice_get (started_from node now first tickets records) i
+    ≡ Some (ticket_opened (setup_of node (first + i) t) (record_or_none (unwrap_or (slice_get records i) None)) now)
+started_at node now first i [] records t same is = absurd (none_is t is)
+started_at node now first i (x ∷ tickets) [] t same is = absurd (omega (arith, same))
+started_at node now first zero (x ∷ tickets) (r ∷ records) t same is =
+    ap (λ (y : TicketConf). Some (ticket_opened (setup_of node first y) (record_or_none r) now)) (some_same x t is)
+    ∙ ap (λ (n : ℕ). Some (ticket_opened (setup_of node n t) (record_or_none r) now)) (omega arith)
+started_at node now first (suc i) (x ∷ tickets) (r ∷ records) t same is =
+    started_at node now (first + 1) i tickets records t (omega (arith, same)) is
+    ∙ ap (λ (n : ℕ). Some (ticket_opened (setup_of node n t) (record_or_none (unwrap_or (slice_get records i) None)) now)) (omega arith)
+
+started_is : (node : NodeConfig) (now first i : ℕ) (tickets : List TicketConf) (records : List (Option Record)) (s : TicketState)
+    → slice_get (started_from node now first tickets records) i ≡ Some s
+    → (t : TicketConf) × (slice_get tickets i ≡ Some t) × (s.setup.ticket ≡ t.name)
+started_is node now first i [] records s is = absurd (none_is s is)
+started_is node now first i (x ∷ tickets) [] s is = absurd (none_is s is)
+started_is node now first zero (x ∷ tickets) (r ∷ records) s is =
+    (x, refl, ap (λ (y : TicketState). y.setup.ticket) (sym (some_same (ticket_opened (setup_of node first x) (record_or_none r) now) s is)))
+started_is node now first (suc i) (x ∷ tickets) (r ∷ records) s is = started_is node now (first + 1) i tickets records s is
+
+module _ (w : World) (clocks : HasTrueClocks w) (place : ℕ) (ticket : TicketConf) (setting : Setting w place ticket) where
+  pub has_clocks : HasClocks (cluster w place ticket setting)
+  has_clocks = record { some = clocks.some; long = clocks.long; clocks = clocks.clocks }
+
+  abbrev pub read_by : ℕ → ℕ → ℕ
+  read_by m time = reads (cluster w place ticket setting) m time
+
+  small_at : (m time : ℕ) → m < members_of w → time < w.span → read_by m time < 2 ^ 62
+  small_at m time below within = (clocks.clocks m below).small time (subst (λ (n : ℕ). time < n) (sym (clocks.long m below)) within)
+
+  rises_at : (m early late : ℕ) → m < members_of w → early ≤ late → late < w.span → read_by m early ≤ read_by m late
+  rises_at m early late below later within =
+      (clocks.clocks m below).rises early late later (subst (λ (n : ℕ). late < n) (sym (clocks.long m below)) within)
+
+  abbrev pub Stepping : Hosts → ℕ → Stand → List Record → (Release → Type 0) → Type 0
+  Stepping hosts m stand may R = Steps w place ticket setting hosts m stand may R
+
+  module _ (m : ℕ) (below : m < members_of w) (hosts : Hosts) (within : hosts.now < w.span) where
+    abbrev pub Stood : Stand → List Record → Type 0
+    Stood stand may = Shows w place ticket setting m stand may hosts.now (hosts.place m) hosts.sent
+
+    rests_here : (stand stand' : Stand) (may may' : List Record) (R : Release → Type 0) → Stood stand may → may' ≡ may
+        → StandsAt w place ticket setting m stand' (hosts.place m) hosts.sent → Stepping hosts m stand' may' R
+    rests_here stand stand' may may' R x same now_at =
+        rests_so w place ticket setting hosts m stand' may' R
+        (record { same_may = x.same_may ∙ sym same; time = x.time; past = x.past; read = x.read; stands = now_at })
+
+    -- ---- calls
+
+    keeps : (node : NodeConfig) (name : List ℕ) (tried : Record) (go : Bool → Deeds Ask State) (may : List Record) (ticket_name : List ℕ)
+        (rec : Record) (answer : Result (Unit {0}) Failed) → Stood (Doing node (Does (Keep name tried) go)) may
+        → ticket_name ≡ name → rec ≡ tried
+        → Stepping hosts m (Doing node (go (is_ok answer))) (may_after (own_ticket w place ticket setting) may (Makes (calls.Keep ticket_name rec answer)))
+        (GivesTermBack ticket.name m (Makes (calls.Keep ticket_name rec answer)))
+    keeps node name tried go may ticket_name rec answer x named same = by_ticket x.stands.5
+      where
+        R : Release → Type 0
+        R = GivesTermBack ticket.name m (Makes (calls.Keep ticket_name rec answer))
+
+        releases : (r : Record) (a : Result (Unit {0}) Failed) → r ≡ tried → ticket_name ≡ ticket.name → (z : Release)
+            → IsHostReleaseAt hosts (DoesAsk m (Keeps tried) (is_ok a)) z → GivesTermBack ticket.name m (Makes (calls.Keep ticket_name r a)) z
+        releases r (Ok done) e here z rel = (
+          here,
+          ap (λ (q : Record). q.lease) e ∙ rel.1,
+          ap (λ (q : Release). q.site) rel.0,
+          ap (λ (q : Release). q.term) rel.0 ∙ ap (λ (q : Record). q.term) (sym e),
+        )
+        releases r (Err failed) e here z rel = absurd rel
+
+        by_ticket : Doings w place ticket setting m (hosts.place m).reading x.stands.2 (Does (Keep name tried) go) x.stands.1
+            → Stepping hosts m (Doing node (go (is_ok answer))) (may_after (own_ticket w place ticket setting) may (Makes (calls.Keep ticket_name rec answer)))
+            (GivesTermBack ticket.name m (Makes (calls.Keep ticket_name rec answer)))
+        by_ticket (inl other) =
+            rests_here (Doing node (Does (Keep name tried) go)) (Doing node (go (is_ok answer))) may _ _ x
+            (when_false (bytes_eq ticket_name ticket.name) _ _ (other_bytes ticket_name ticket.name (λ e. other.0 (sym named ∙ e))))
+            (x.stands.0, x.stands.1, x.stands.2, x.stands.3, x.stands.4, other.1 (is_ok answer))
+        by_ticket (inr own) =
+            subst (λ (rs : List Record). Stepping hosts m (Doing node (go (is_ok answer))) rs (GivesTermBack ticket.name m (Makes (calls.Keep ticket_name rec answer))))
+            (ap (λ (r : Record). may_after_keep (is_ok answer) r may) (sym same)
+            ∙ sym (when_true (bytes_eq ticket_name ticket.name) _ _ (same_bytes ticket_name ticket.name (named ∙ own.0))))
+            (keeps_own w place ticket setting m below hosts node (Doing node (Does (Keep name tried) go)) (Doing node (go (is_ok answer))) may
+            (GivesTermBack ticket.name m (Makes (calls.Keep ticket_name rec answer))) tried (is_ok answer) go x.stands.1 x.stands.2 own.1
+            x.stands.0 refl x x.stands.3 x.stands.4 own.2 (own.3 (is_ok answer))
+            (releases rec answer same (named ∙ own.0)))
+
+    -- the turn uses the reading of the clock as it is
+    pub used_is : (last time reading : ℕ) → last ≡ read_by m time → time ≤ hosts.now → reading ≡ clock_at w m hosts.now
+        → used last reading ≡ read_by m hosts.now
+    used_is last time reading was past is =
+        ap (λ (n : ℕ). used last n) is
+        ∙ clamped last (read_by m hosts.now) (subst (λ (n : ℕ). n ≤ read_by m hosts.now) (sym was) (rises_at m time hosts.now below past within))
+        (small_at m hosts.now below within)
+
+    -- the clock is read, and the turn begins
+    begins : (node : NodeConfig) (old : State) (answer : Result Arrival Failed) (bytes : List ℕ) (may : List Record) (reading : ℕ) (R : Release → Type 0)
+        → Stood (Hearing node old answer bytes) may → reading ≡ clock_at w m hosts.now
+        → HearsGood (setup_at w place ticket setting m) place (node_at w m) (read_by m hosts.now) refl (own_below w place ticket setting m below)
+        (MayCome (cast w place ticket setting) hosts) answer bytes
+        → Stepping hosts m (Doing node (react node old (used old.last_reading reading) answer bytes)) may R
+    begins node old answer bytes may reading R x read_is good =
+        let view : View = x.stands.1 in
+        let moment : ℕ = read_by m hosts.now in
+        let used_so : used old.last_reading reading ≡ moment = used_is old.last_reading x.time reading (x.stands.4 ∙ x.read) x.past read_is in
+        let turn : IsTurnOf (setup_at w place ticket setting m) place (node_at w m) moment refl (own_below w place ticket setting m below)
+        (MayCome (cast w place ticket setting) hosts) view (react (node_at w m) old moment answer bytes) =
+        reacts (setup_at w place ticket setting m) place (node_at w m) moment refl (own_below w place ticket setting m below)
+        (MayCome (cast w place ticket setting) hosts) old view answer bytes x.stands.3 good in
+        let tree : TurnTree = turn_tree (setup_at w place ticket setting m) moment view turn.came turn.plan in
+        subst (λ (n : NodeConfig). Stepping hosts m (Doing n (react n old (used old.last_reading reading) answer bytes)) may R) (sym x.stands.0)
+        (subst (λ (at : ℕ). Stepping hosts m (Doing (node_at w m) (react (node_at w m) old at answer bytes)) may R) (sym used_so)
+        (then_says w place ticket setting m below hosts (BeginsTurn m hosts.now turn.came turn.plan) (Doing (node_at w m) (react (node_at w m) old moment answer bytes)) may R tree (
+          below,
+          omega arith,
+          within,
+          subst (λ (o : Option TurnTree). IsSomeAnd o (MayBegin (setup_at w place ticket setting m) moment turn.came turn.plan)) (sym x.stands.2) turn.may,
+          turn.good,
+        )
+        (moved_one w place ticket setting m below hosts _ hosts.sent (λ l h. h))
+        (ap (λ (p : HostPlace). p.tree) (put_same hosts.place m _)
+        ∙ ap (λ (o : Option TurnTree). begun (setup_at w place ticket setting m) moment turn.came turn.plan o) x.stands.2)
+        (λ p tree_is reading_is may_is. record {
+          same_may = may_is ∙ ap (λ (q : HostPlace). q.may) (put_same hosts.place m _) ∙ x.same_may;
+          time = hosts.now;
+          past = omega arith;
+          read = reading_is ∙ ap (λ (q : HostPlace). q.reading) (put_same hosts.place m _);
+          stands = (
+            refl,
+            tree,
+            hosts.sent,
+            tree_is,
+            (λ l h. h),
+            subst (λ (r : ℕ). Doings w place ticket setting m r hosts.sent (react (node_at w m) old moment answer bytes) tree)
+                (sym (reading_is ∙ ap (λ (q : HostPlace). q.reading) (put_same hosts.place m _))) (turn.over hosts.sent),
+          );
+        })
+        (λ z r. absurd r) (λ p. tt)))
+
+    -- what is heard at this stand may come
+    abbrev pub HearsGoodAt : Stand → Type 0
+    HearsGoodAt (Hearing node old answer bytes) =
+        HearsGood (setup_at w place ticket setting m) place (node_at w m) (read_by m hosts.now) refl (own_below w place ticket setting m below)
+        (MayCome (cast w place ticket setting) hosts) answer bytes
+    HearsGoodAt stand = Unit {0}
+
+    abbrev pub ReadsHere : Entry → Type 0
+    ReadsHere (calls.Now reading) = reading ≡ clock_at w m hosts.now
+    ReadsHere call = Unit {0}
+
+    pub makes : (stand : Stand) (call : Entry) (may : List Record) → Stood stand may → MayMake stand call → ReadsHere call → HearsGoodAt stand
+        → Stepping hosts m (after_call stand call) (may_after (own_ticket w place ticket setting) may (Makes call)) (GivesTermBack ticket.name m (Makes call))
+    makes Down call may x d r g = absurd d
+    makes (Doing node (Ends old)) (calls.Next wait answer bytes) may x d r g =
+        rests_here (Doing node (Ends old)) (Hearing node old answer bytes) may may _ x refl
+        (x.stands.0, x.stands.5.view, x.stands.3 ∙ ap (λ (t : TurnTree). Some t) x.stands.5.ended, x.stands.5.at, x.stands.5.moment_is)
+    makes (Doing node (Ends old)) call may x d r g = absurd d
+    makes (Doing node (Does (Send peer letter) go)) (calls.Send to bytes answer) may x d r g =
+        rests_here (Doing node (Does (Send peer letter) go)) (Doing node (go (is_ok answer))) may may _ x refl
+        (x.stands.0, x.stands.1, x.stands.2, x.stands.3, x.stands.4, x.stands.5.1 (is_ok answer))
+    makes (Doing node (Does (Send peer letter) go)) call may x d r g = absurd d
+    makes (Doing node (Does (Keep name tried) go)) (calls.Keep ticket_name rec answer) may x d r g =
+        keeps node name tried go may ticket_name rec answer x d.0 d.1
+    makes (Doing node (Does (Keep name tried) go)) call may x d r g = absurd d
+    makes (Hearing node old answer bytes) (calls.Now reading) may x d r g = begins node old answer bytes may reading _ x r g
+    makes (Hearing node old answer bytes) call may x d r g = absurd d
+
+    -- ---- cuts
+
+    cuts_keep : (node : NodeConfig) (name : List ℕ) (tried : Record) (go : Bool → Deeds Ask State) (may : List Record) (ticket_name : List ℕ)
+        (rec : Record) → Stood (Doing node (Does (Keep name tried) go)) may → ticket_name ≡ name → rec ≡ tried
+        → Stepping hosts m Down (may_after (own_ticket w place ticket setting) may (IsCut (CutKeep ticket_name rec))) (λ z. ⊥)
+    cuts_keep node name tried go may ticket_name rec x named same = by_ticket x.stands.5
+      where
+        by_ticket : Doings w place ticket setting m (hosts.place m).reading x.stands.2 (Does (Keep name tried) go) x.stands.1
+            → Stepping hosts m Down (may_after (own_ticket w place ticket setting) may (IsCut (CutKeep ticket_name rec))) (λ z. ⊥)
+        by_ticket (inl other) =
+            rests_here (Doing node (Does (Keep name tried) go)) Down may _ _ x
+            (when_false (bytes_eq ticket_name ticket.name) _ _ (other_bytes ticket_name ticket.name (λ e. other.0 (sym named ∙ e)))) tt
+        by_ticket (inr own) =
+            let at_keep : (hosts.place m).tree ≡ Some (Does (Keeps tried) own.1) = x.stands.3 ∙ ap (λ (t : TurnTree). Some t) own.2 in
+            record {
+              entries = Halts m ∷ [];
+              hosted_all = ((below, subst (λ (o : Option TurnTree). IsSomeAnd o (λ tree. Unit {0})) (sym at_keep) tt), tt);
+              own = moved_one w place ticket setting m below hosts _ hosts.sent (λ l h. h);
+              here = subst (λ (p : HostPlace). Shows w place ticket setting m Down (may_after (own_ticket w place ticket setting) may (IsCut (CutKeep ticket_name rec))) hosts.now p hosts.sent)
+                  (sym (put_same hosts.place m _))
+                  (record {
+                    same_may = ap (λ (o : Option TurnTree). pending o (hosts.place m).may) at_keep
+                        ∙ ap (λ (rs : List Record). tried ∷ rs) x.same_may ∙ ap (λ (q : Record). q ∷ may) (sym same)
+                        ∙ sym (when_true (bytes_eq ticket_name ticket.name) _ _ (same_bytes ticket_name ticket.name (named ∙ own.0)));
+                    time = x.time;
+                    past = x.past;
+                    read = x.read;
+                    stands = tt;
+                  });
+              at_cut = inl (ap (λ (p : HostPlace). p.tree) (put_same hosts.place m _));
+              released = λ z r. ⊎_elim (λ (a : ⊥). a) (λ (b : ⊥). b) r;
+            }
+
+    pub cuts : (stand : Stand) (call : CutCall) (may : List Record) → Stood stand may → MayBeCut stand call
+        → Stepping hosts m Down (may_after (own_ticket w place ticket setting) may (IsCut call)) (λ z. ⊥)
+    cuts stand CutNext may x d = rests_here stand Down may may _ x refl tt
+    cuts stand CutNow may x d = rests_here stand Down may may _ x refl tt
+    cuts stand (CutSend to bytes) may x d = rests_here stand Down may may _ x refl tt
+    cuts Down (CutKeep ticket_name rec) may x d = absurd d
+    cuts (Doing node (Ends old)) (CutKeep ticket_name rec) may x d = absurd d
+    cuts (Doing node (Does (Send peer letter) go)) (CutKeep ticket_name rec) may x d = absurd d
+    cuts (Doing node (Does (Keep name tried) go)) (CutKeep ticket_name rec) may x d = cuts_keep node name tried go may ticket_name rec x d.0 d.1
+    cuts (Hearing node old answer bytes) (CutKeep ticket_name rec) may x d = absurd d
+
+  -- ---- starts
+
+  -- the state that a start leaves has the ticket, with the view of its record
+  opened_at : (m : ℕ) (now reading : ℕ) (records : List (Option Record)) → length records ≡ length w.config.tickets → reading ≡ now → now < 2 ^ 62
+      → IsPlacedAt (setup_at w place ticket setting m) place (started (setup_at w place ticket setting m) (record_at records place) now)
+      (opened (node_at w m) records reading).tickets
+  opened_at m now reading records all is small = record {
+    own = started_at (node_at w m) (start_reading reading) 0 place w.config.tickets records ticket all setting.there
+        ∙ ap (λ (n : ℕ). Some (ticket_opened (setup_of (node_at w m) n ticket) (record_at records place) (start_reading reading))) (omega arith)
+        ∙ ap (λ (n : ℕ). Some (ticket_opened (setup_at w place ticket setting m) (record_at records place) n))
+        (ap start_reading is ∙ clamped_start now small);
+    others = λ other t read ne named.
+        let q : (conf : TicketConf) × (slice_get w.config.tickets other ≡ Some conf) × (t.setup.ticket ≡ conf.name) =
+        started_is (node_at w m) (start_reading reading) 0 other w.config.tickets records t read in
+        setting.names other q.0 q.1 ne (sym q.2 ∙ named);
+  }
+
+  module _ (m : ℕ) (below : m < members_of w) where
+    boots : (hosts : Hosts) (reading : ℕ) (records : List (Option Record)) → hosts.now < w.span → (hosts.place m).tree ≡ None
+        → length records ≡ length w.config.tickets → reading ≡ clock_at w m hosts.now → Has (hosts.place m).may (record_at records place)
+        → Stepping hosts m (Doing (node_at w m) (Ends (opened (node_at w m) records reading))) (record_at records place ∷ []) (λ z. ⊥)
+    boots hosts reading records within down all is may_read =
+        let now : ℕ = read_by m hosts.now in
+        let kept : Record = record_at records place in
+        then_says w place ticket setting m below hosts (Boots m hosts.now kept) (Doing (node_at w m) (Ends (opened (node_at w m) records reading))) (kept ∷ []) (λ z. ⊥)
+        (Ends (started (setup_at w place ticket setting m) kept now))
+        (below, omega arith, within, down, may_read)
+        (moved_one w place ticket setting m below hosts _ hosts.sent (λ l h. h))
+        (ap (λ (p : HostPlace). p.tree) (put_same hosts.place m _))
+        (λ p tree_is reading_is may_is. record {
+          same_may = may_is ∙ ap (λ (q : HostPlace). q.may) (put_same hosts.place m _);
+          time = hosts.now;
+          past = omega arith;
+          read = reading_is ∙ ap (λ (q : HostPlace). q.reading) (put_same hosts.place m _);
+          stands = (
+            refl,
+            Ends (started (setup_at w place ticket setting m) kept now),
+            hosts.sent,
+            tree_is,
+            (λ l h. h),
+            record {
+              view = started (setup_at w place ticket setting m) kept now;
+              ended = refl;
+              at = opened_at m now reading records all is (small_at m hosts.now below within);
+              moment_is = ap start_reading is ∙ clamped_start now (small_at m hosts.now below within)
+                  ∙ sym (reading_is ∙ ap (λ (q : HostPlace). q.reading) (put_same hosts.place m _));
+            },
+          );
+        })
+        (λ z r. absurd r) (λ p. tt)
+
+    -- what may be kept may still, where a host stops
+    still_may : (o : Option TurnTree) (may : List Record) (k : Record) → Has may k → Has (pending o may) k
+    still_may None may k h = h
+    still_may (Some t) may k h = by_tree t
+      where
+        by_tree : (u : TurnTree) → Has (pending_in u may) k
+        by_tree (Ends view) = h
+        by_tree (Does (Keeps kept) go) = inr h
+        by_tree (Does ask go) = h
+
+    pub starts : (hosts : Hosts) (node : NodeConfig) (reading : ℕ) (records : List (Option Record)) → hosts.now < w.span
+        → length records ≡ length node.config.tickets → node ≡ node_at w m → reading ≡ clock_at w m hosts.now
+        → Has (hosts.place m).may (record_at records place)
+        → Stepping hosts m (Doing node (Ends (opened node records reading))) (record_at records place ∷ []) (λ z. ⊥)
+    starts hosts node reading records within all node_is is may_read =
+        subst (λ (n : NodeConfig). Stepping hosts m (Doing n (Ends (opened n records reading))) (record_at records place ∷ []) (λ z. ⊥)) (sym node_is)
+        (by_tree (hosts.place m).tree refl)
+      where
+        all_read : length records ≡ length w.config.tickets
+        all_read = subst (λ (n : NodeConfig). length records ≡ length n.config.tickets) node_is all
+
+        by_tree : (o : Option TurnTree) → (hosts.place m).tree ≡ o
+            → Stepping hosts m (Doing (node_at w m) (Ends (opened (node_at w m) records reading))) (record_at records place ∷ []) (λ z. ⊥)
+        by_tree None down = boots hosts reading records within down all_read is may_read
+        by_tree (Some t) up =
+            let halted : Hosts = hosted (cluster w place ticket setting) (cast w place ticket setting) hosts (Halts m) in
+            let rest : Stepping halted m (Doing (node_at w m) (Ends (opened (node_at w m) records reading))) (record_at records place ∷ []) (λ z. ⊥) =
+            boots halted reading records within (ap (λ (p : HostPlace). p.tree) (put_same hosts.place m _)) all_read is
+            (subst (λ (p : HostPlace). Has p.may (record_at records place)) (sym (put_same hosts.place m _))
+            (still_may (hosts.place m).tree (hosts.place m).may (record_at records place) may_read)) in
+            record {
+              entries = Halts m ∷ rest.entries;
+              hosted_all = ((below, subst (λ (o : Option TurnTree). IsSomeAnd o (λ tree. Unit {0})) (sym up) tt), rest.hosted_all);
+              own = of_both (cluster w place ticket setting) (cast w place ticket setting) m hosts halted
+                  (hosts_after (cluster w place ticket setting) (cast w place ticket setting) halted rest.entries)
+                  (moved_one w place ticket setting m below hosts _ hosts.sent (λ l h. h)) rest.own;
+              here = rest.here;
+              at_cut = tt;
+              released = λ z r. ⊎_elim (λ (a : ⊥). a) (λ b. rest.released z b) r;
+            }

@@ -1,0 +1,380 @@
+-- The laws over worlds: each moment of a world is one of the hosts of each of its tickets.
+use Rattle.std.proofs.Common.{◌≡◌, ◌≢◌, ◌⊎◌, ⊎_elim, inl, inr, ℕ, ◌<◌, ◌≤◌, Bool, true, false, List, [], ◌∷◌, ◌++◌, refl, sym, ap, ◌∙◌, subst, arith, if◌then◌else◌}
+use Rattle.std.specs.Prelude.{Option, Some, None, position, bytes_eq, is_ok, Ok}
+use Rattle.booth_base.specs.Tree.{Deeds, Ends, Does}
+use Rattle.booth_base.specs.declared.address.MemberId.{MemberId}
+use Rattle.booth_conf.specs.Config.{has_id}
+use Rattle.booth_conf.specs.declared.tickets.TicketConf.{TicketConf}
+use Rattle.booth_rec.specs.declared.record.Record.{Record}
+use Rattle.booth_rec.specs.Record.{no_record, IsInForce}
+use Rattle.booth_wire.specs.declared.message.Setup.{Setup}
+use Rattle.booth_host.specs.declared.entry.Entry.TheVariants as calls
+use Rattle.booth_node.specs.declared.node_config.NodeConfig.{NodeConfig}
+use Rattle.booth_node.specs.State.{State}
+use Rattle.booth_world.specs.Rules.{MemberLetter}
+use Rattle.booth_node.specs.Clock.{reads}
+use Rattle.booth_node.specs.Opening.{is_site_at}
+use Rattle.booth_node.specs.Reaction.{Ask, Send, Keep}
+use Rattle.booth_node.specs.Records.{Has as Holds, may_after_keep, may_after, may_after_all, with_next}
+use Rattle.booth_node.specs.Session.{CutKeep, SessionEntry, Starts, Makes, IsCut, Stand, Down, Doing, Hearing, MayDo, AreSessions}
+use Rattle.booth_node.specs.World.{WorldEntry, World, members_of, entries_of, last_time, stand_after, IsWorld, cluster_of}
+use Rattle.booth_node.specs.Held.{IsBefore, Moment, may_at, HoldsBy, Holds as HoldsIt}
+use Rattle.booth_world.specs.Facts.{Has, Release}
+use Rattle.booth_world.specs.Held.{AreApart, GivesBackLease}
+use Rattle.booth_world.specs.Cores.{IsCast}
+use Rattle.booth_world.specs.Turns.{Keeps, TurnTree}
+use Rattle.booth_world.specs.Hosts.{HostEntry, LetsPass, HostPlace, Hosts, opening_hosts, pending, AreHosted}
+use Rattle.booth_world.specs.HostLaws.{IsHostReleaseIn, host_may, HostHoldsBy}
+use Rattle.booth_world.specs.Worlds.{IsLater, GivesBack, ReleasedIn}
+use Rattle.booth_world.specs.Shadows.{GivesTermBack}
+use Rattle.booth_world.proofs.Lists.{none_is, some_same}
+use Rattle.booth_world.proofs.HostSteps.{hosts_hold_one, hosts_are_apart, host_terms, next_is_highest}
+use Rattle.booth_world.proofs.HostRuns.{hosted_join, after_join, released_join}
+use Rattle.booth_world.proofs.WorldSteps.{Setting, equal_bytes, cluster, setup_at, cast, own_ticket, own_place_is, Shows, shows_more}
+use Rattle.booth_world.proofs.WorldEntries.{has_clocks}
+use Rattle.booth_world.proofs.WorldHosts.{has_here, entries_join, sessions_at, last_of, append_none, may_of, after_hosts, Shadows, Extends, one_step}
+
+pub append_both : {A : Type 0} (xs ys zs : List A) → (xs ++ ys) ++ zs ≡ xs ++ (ys ++ zs)
+append_both [] ys zs = refl
+append_both (x ∷ xs) ys zs = ap (λ rest. x ∷ rest) (append_both xs ys zs)
+
+last_join : (time : ℕ) (xs ys : List WorldEntry) (y : WorldEntry) → last_time time (xs ++ y ∷ ys) ≡ last_time y.time ys
+last_join time [] ys y = refl
+last_join time (x ∷ xs) ys y = last_join x.time xs ys y
+
+module _ (w : World) (is_world : IsWorld w) (place : ℕ) (ticket : TicketConf) (setting : Setting w place ticket) where
+  abbrev pub Opening : Hosts
+  Opening = opening_hosts (cluster w place ticket setting)
+
+  -- one of these entries gave this term back
+  abbrev pub IsReleasedIn : List WorldEntry → Release → Type 0
+  IsReleasedIn between z = (entry : WorldEntry) × Holds between entry × GivesTermBack ticket.name entry.member entry.what z
+
+  extends : (between before after : List WorldEntry) (hosts : Hosts) → w.entries ≡ before ++ (between ++ after) → IsBefore hosts.now between
+      → Shadows w is_world place ticket setting before hosts
+      → Extends w is_world place ticket setting hosts (before ++ between) (last_time hosts.now between) (IsReleasedIn between)
+  extends [] before after hosts whole later shadow = record {
+    entries = [];
+    now_is = refl;
+    hosted_all = tt;
+    shadow = subst (λ (es : List WorldEntry). Shadows w is_world place ticket setting es hosts) (sym (append_none before)) shadow;
+    released = λ z r. absurd r;
+  }
+  extends (e ∷ between) before after hosts whole later shadow =
+      let first : Extends w is_world place ticket setting hosts (before ++ e ∷ []) e.time (GivesTermBack ticket.name e.member e.what) =
+      one_step w is_world place ticket setting before (between ++ after) e hosts whole later shadow in
+      let mid : Hosts = after_hosts w is_world place ticket setting hosts first.entries in
+      let whole_rest : w.entries ≡ (before ++ e ∷ []) ++ (between ++ after) = whole ∙ sym (append_both before (e ∷ []) (between ++ after)) in
+      let rest : Extends w is_world place ticket setting mid ((before ++ e ∷ []) ++ between) (last_time mid.now between) (IsReleasedIn between) =
+      extends between (before ++ e ∷ []) after mid whole_rest (next_later between mid.now first.now_is whole_rest) first.shadow in
+      record {
+        entries = first.entries ++ rest.entries;
+        now_is = ap (λ (h : Hosts). h.now) (after_join (cluster w place ticket setting) (cast w place ticket setting) hosts first.entries rest.entries)
+            ∙ rest.now_is ∙ ap (λ (n : ℕ). last_time n between) first.now_is;
+        hosted_all = hosted_join (cluster w place ticket setting) (cast w place ticket setting) hosts first.entries rest.entries first.hosted_all rest.hosted_all;
+        shadow = subst (λ (h : Hosts). Shadows w is_world place ticket setting (before ++ e ∷ between) h)
+            (sym (after_join (cluster w place ticket setting) (cast w place ticket setting) hosts first.entries rest.entries))
+            (subst (λ (es : List WorldEntry). Shadows w is_world place ticket setting es (after_hosts w is_world place ticket setting mid rest.entries))
+            (append_both before (e ∷ []) between) rest.shadow);
+        released = λ z r. ⊎_elim
+            (λ (a : IsHostReleaseIn (cluster w place ticket setting) (cast w place ticket setting) hosts first.entries z). (e, inl refl, first.released z a))
+            (λ (b : IsHostReleaseIn (cluster w place ticket setting) (cast w place ticket setting) mid rest.entries z).
+            let q : IsReleasedIn between z = rest.released z b in (q.0, inr q.1, q.2))
+            (released_join (cluster w place ticket setting) (cast w place ticket setting) hosts first.entries rest.entries z r);
+      }
+    where
+      next_later : (es : List WorldEntry) (now : ℕ) → now ≡ e.time → w.entries ≡ (before ++ e ∷ []) ++ (es ++ after) → IsBefore now es
+      next_later [] now is all = tt
+      next_later (x ∷ es) now is all =
+          subst (λ (n : ℕ). n ≤ x.time) (last_of 0 before e ∙ sym is) (is_world.form.in_order (before ++ e ∷ []) (es ++ after) x all)
+
+  opening_shadow : Shadows w is_world place ticket setting [] Opening
+  opening_shadow = record {
+    each = λ m below. record { same_may = refl; time = 0; past = omega arith; read = refl; stands = tt };
+    said = λ entry h bytes is letter read. absurd h;
+    coming = λ m below kept go is. absurd (none_is (Does (Keeps kept) go) is);
+  }
+
+  -- ---- moments
+
+  -- the hosts at a moment, with time passed up to it
+  pub record Reaches (hosts : Hosts) (before : List WorldEntry) (time : ℕ) (R : Release → Type 0) : Type 0 where
+    pub entries : List HostEntry
+    pub hosted_all : AreHosted (cluster w place ticket setting) (cast w place ticket setting) hosts entries
+    pub now_is : (after_hosts w is_world place ticket setting hosts entries).now ≡ time
+    pub shadow : Shadows w is_world place ticket setting before (after_hosts w is_world place ticket setting hosts entries)
+    pub released : (z : Release) → IsHostReleaseIn (cluster w place ticket setting) (cast w place ticket setting) hosts entries z → R z
+
+  waits : (hosts : Hosts) (before : List WorldEntry) (now time : ℕ) (R : Release → Type 0) → now ≤ time → time < w.span
+      → Extends w is_world place ticket setting hosts before now R → Reaches hosts before time R
+  waits hosts before now time R later within x =
+      let last : Hosts = after_hosts w is_world place ticket setting hosts x.entries in
+      let on : last.now ≤ time = subst (λ (n : ℕ). n ≤ time) (sym x.now_is) later in
+      let passed : Hosts = record last { now = time } in
+      let joined : after_hosts w is_world place ticket setting hosts (x.entries ++ LetsPass time ∷ []) ≡ passed =
+      after_join (cluster w place ticket setting) (cast w place ticket setting) hosts x.entries (LetsPass time ∷ []) in
+      record {
+        entries = x.entries ++ LetsPass time ∷ [];
+        hosted_all = hosted_join (cluster w place ticket setting) (cast w place ticket setting) hosts x.entries (LetsPass time ∷ []) x.hosted_all ((on, within), tt);
+        now_is = ap (λ (h : Hosts). h.now) joined;
+        shadow = subst (λ (h : Hosts). Shadows w is_world place ticket setting before h) (sym joined) (record {
+          each = λ m below. shows_more w place ticket setting m (stand_after m before) (may_of w is_world place ticket setting m before) last.now time (last.place m) last.sent last.sent
+              on (λ l h. h) (x.shadow.each m below);
+          said = x.shadow.said;
+          coming = x.shadow.coming;
+        });
+        released = λ z r. ⊎_elim
+            (λ (a : IsHostReleaseIn (cluster w place ticket setting) (cast w place ticket setting) hosts x.entries z). x.released z a)
+            (λ (b : IsHostReleaseIn (cluster w place ticket setting) (cast w place ticket setting) last (LetsPass time ∷ []) z). ⊎_elim (λ (c : ⊥). absurd c) (λ (c : ⊥). absurd c) b)
+            (released_join (cluster w place ticket setting) (cast w place ticket setting) hosts x.entries (LetsPass time ∷ []) z r);
+      }
+
+  Any : Release → Type 0
+  Any z = Unit {0}
+
+  pub reached : (moment : Moment w) → Reaches Opening moment.before moment.time (IsReleasedIn moment.before)
+  reached moment =
+      waits Opening moment.before (last_time 0 moment.before) moment.time (IsReleasedIn moment.before) moment.since moment.within
+      (extends moment.before [] moment.after Opening moment.whole (first moment.before) opening_shadow)
+    where
+      first : (es : List WorldEntry) → IsBefore 0 es
+      first [] = tt
+      first (e ∷ es) = omega arith
+
+  pub reached_later : (early late : Moment w) (between : List WorldEntry) (hosts : Hosts) → IsLater w early late between → hosts.now ≡ early.time
+      → Shadows w is_world place ticket setting early.before hosts
+      → Reaches hosts late.before late.time (IsReleasedIn between)
+  reached_later early late between hosts later now_is shadow =
+      subst (λ (es : List WorldEntry). Reaches hosts es late.time (IsReleasedIn between)) (sym later.entries)
+      (waits hosts (early.before ++ between) (last_time hosts.now between) late.time (IsReleasedIn between)
+      (by_last between later.entries) late.within
+      (extends between early.before late.after hosts whole (by_first between (early_until between later.entries)) shadow))
+    where
+      whole : w.entries ≡ early.before ++ (between ++ late.after)
+      whole = late.whole ∙ ap (λ (es : List WorldEntry). es ++ late.after) later.entries ∙ append_both early.before between late.after
+
+      by_last : (es : List WorldEntry) → late.before ≡ early.before ++ es → last_time hosts.now es ≤ late.time
+      by_last [] is = subst (λ (n : ℕ). n ≤ late.time) (sym now_is) later.not_before
+      by_last (e ∷ es) is =
+          subst (λ (n : ℕ). n ≤ late.time) (ap (λ (xs : List WorldEntry). last_time 0 xs) is ∙ last_join 0 early.before es e) late.since
+
+      cancel : (xs ys zs : List WorldEntry) → xs ++ ys ≡ xs ++ zs → ys ≡ zs
+      cancel [] ys zs e = e
+      cancel (x ∷ xs) ys zs e = cancel xs ys zs (tail (x ∷ xs ++ ys) (x ∷ xs ++ zs) e)
+        where
+          rest_of : List WorldEntry → List WorldEntry
+          rest_of [] = []
+          rest_of (a ∷ others) = others
+
+          tail : (one other : List WorldEntry) → one ≡ other → rest_of one ≡ rest_of other
+          tail one other same = ap rest_of same
+
+      early_until : (es : List WorldEntry) → late.before ≡ early.before ++ es → IsBefore early.time es
+      early_until [] is = tt
+      early_until (e ∷ es) is =
+          subst (λ (xs : List WorldEntry). IsBefore early.time xs)
+          (cancel early.before early.after (e ∷ es ++ late.after)
+          (sym early.whole ∙ late.whole ∙ ap (λ (xs : List WorldEntry). xs ++ late.after) is ∙ append_both early.before (e ∷ es) late.after)) early.until
+
+      by_first : (es : List WorldEntry) → IsBefore early.time es → IsBefore hosts.now es
+      by_first [] b = tt
+      by_first (e ∷ es) b = subst (λ (n : ℕ). n ≤ e.time) (sym now_is) b
+
+  -- ---- what a moment's hosts may have kept
+
+  in_pending : (o : Option TurnTree) (may : List Record) (k : Record) → Has may k → Has (pending o may) k
+  in_pending None may k h = h
+  in_pending (Some (Ends view)) may k h = h
+  in_pending (Some (Does (Keeps kept) go)) may k h = inr h
+  in_pending (Some (Does ask go)) may k h = h
+
+  next_kept : (m : ℕ) (node : NodeConfig) (name : List ℕ) (tried : Record) (go : Bool → Deeds Ask State) (ticket_name : List ℕ) (rec k : Record)
+      (may : List Record) (now : ℕ) (p : HostPlace) (sent : List MemberLetter)
+      → Shows w place ticket setting m (Doing node (Does (Keep name tried) go)) may now p sent → ticket_name ≡ name → rec ≡ tried
+      → Holds (if bytes_eq ticket_name ticket.name then rec ∷ may else may) k → Has (pending p.tree p.may) k
+  next_kept m node name tried go ticket_name rec k may now p sent x named same h = by_name (bytes_eq ticket_name ticket.name) refl h
+    where
+      old : Holds may k → Has (pending p.tree p.may) k
+      old g = in_pending p.tree p.may k (subst (λ (rs : List Record). Has rs k) (sym x.same_may) (has_here may k g))
+
+      by_name : (b : Bool) → bytes_eq ticket_name ticket.name ≡ b → Holds (if b then rec ∷ may else may) k → Has (pending p.tree p.may) k
+      by_name false e g = old g
+      by_name true e (inr g) = old g
+      by_name true e (inl is) =
+          ⊎_elim
+          (λ other. absurd (other.0 (sym named ∙ equal_bytes ticket_name ticket.name e)))
+          (λ own. subst (λ (o : Option TurnTree). Has (pending o p.may) k) (sym (x.stands.3 ∙ ap (λ (t : TurnTree). Some t) own.2)) (inl (sym same ∙ is)))
+          x.stands.5
+
+  next_covers : (m : ℕ) (stand : Stand) (x : SessionEntry) (xs : List SessionEntry) (may : List Record) (now : ℕ) (p : HostPlace) (sent : List MemberLetter) (k : Record)
+      → Shows w place ticket setting m stand may now p sent → MayDo stand x → Holds (with_next (own_ticket w place ticket setting) may (x ∷ xs)) k
+      → Has (pending p.tree p.may) k
+  next_covers m (Doing node (Does (Keep name tried) go)) (Makes (calls.Keep ticket_name rec answer)) xs may now p sent k x d h =
+      next_kept m node name tried go ticket_name rec k may now p sent x d.0 d.1 h
+  next_covers m (Doing node (Does (Send peer letter) go)) (Makes (calls.Keep ticket_name rec answer)) xs may now p sent k x d h = absurd d
+  next_covers m (Doing node (Ends old)) (Makes (calls.Keep ticket_name rec answer)) xs may now p sent k x d h = absurd d
+  next_covers m Down (Makes (calls.Keep ticket_name rec answer)) xs may now p sent k x d h = absurd d
+  next_covers m (Hearing node old got into) (Makes (calls.Keep ticket_name rec answer)) xs may now p sent k x d h = absurd d
+  next_covers m (Doing node (Does (Keep name tried) go)) (IsCut (CutKeep ticket_name rec)) xs may now p sent k x d h =
+      next_kept m node name tried go ticket_name rec k may now p sent x d.0 d.1 h
+  next_covers m (Doing node (Does (Send peer letter) go)) (IsCut (CutKeep ticket_name rec)) xs may now p sent k x d h = absurd d
+  next_covers m (Doing node (Ends old)) (IsCut (CutKeep ticket_name rec)) xs may now p sent k x d h = absurd d
+  next_covers m Down (IsCut (CutKeep ticket_name rec)) xs may now p sent k x d h = absurd d
+  next_covers m (Hearing node old got into) (IsCut (CutKeep ticket_name rec)) xs may now p sent k x d h = absurd d
+  next_covers m stand what xs may now p sent k x d h =
+      in_pending p.tree p.may k (subst (λ (rs : List Record). Has rs k) (sym x.same_may) (has_here may k h))
+
+  pub covers : (moment : Moment w) (m : ℕ) → m < members_of w → (hosts : Hosts) → Shadows w is_world place ticket setting moment.before hosts → (k : Record)
+      → Holds (may_at w place ticket m moment) k → Has (host_may hosts m) k
+  covers moment m below hosts shadow k h = by_next (entries_of m moment.after) refl h
+    where
+      by_next : (es : List SessionEntry) → entries_of m moment.after ≡ es
+          → Holds (with_next (own_ticket w place ticket setting) (may_of w is_world place ticket setting m moment.before) es) k → Has (host_may hosts m) k
+      by_next [] is g =
+          in_pending (hosts.place m).tree (hosts.place m).may k
+          (subst (λ (rs : List Record). Has rs k) (sym (shadow.each m below).same_may) (has_here (may_of w is_world place ticket setting m moment.before) k g))
+      by_next (x ∷ xs) is g =
+          next_covers m (stand_after m moment.before) x xs (may_of w is_world place ticket setting m moment.before) hosts.now (hosts.place m) hosts.sent k
+          (shadow.each m below)
+          (sessions_at Down (entries_of m moment.before) xs x
+          (subst (λ (es : List SessionEntry). AreSessions Down es)
+          (ap (λ (es : List WorldEntry). entries_of m es) moment.whole ∙ entries_join m moment.before moment.after
+          ∙ ap (λ (es : List SessionEntry). entries_of m moment.before ++ es) is) (is_world.one_daemon m below))) g
+
+  -- ---- who stands at the places
+
+  abbrev seated_as : ℕ → ℕ → Setup
+  seated_as m n = record (setup_at w place ticket setting m) { place = n; site = is_site_at w.config.members n }
+
+  pub is_cast : IsCast (cluster w place ticket setting) (cast w place ticket setting)
+  is_cast = record {
+    ids = λ s t s_below t_below e.
+        some_same s t (sym (setting.ids s s_below) ∙ ap (λ (i : MemberId). position (has_id i) w.config.members) e ∙ setting.ids t t_below);
+    seated = λ m below. ap (seated_as m) (own_place_is w place ticket setting m below);
+    sound = setting.sound;
+  }
+
+  pub holds_so : (moment : Moment w) (m : ℕ) (hosts : Hosts) → hosts.now ≡ moment.time → Shadows w is_world place ticket setting moment.before hosts
+      → (k : Record) → HoldsBy w place ticket m moment k → HostHoldsBy (cluster w place ticket setting) hosts m k
+  holds_so moment m hosts now_is shadow k h = (
+    h.0,
+    covers moment m h.0 hosts shadow k h.1,
+    subst (λ (t : ℕ). IsInForce k (reads (cluster w place ticket setting) m t)) (sym now_is) h.2,
+  )
+
+  pub one_holds : (moment : Moment w) (s t : ℕ) → HoldsIt w place ticket s moment → HoldsIt w place ticket t moment → s ≡ t
+  one_holds moment s t by_s by_t =
+      let r = reached moment in
+      let hosts : Hosts = after_hosts w is_world place ticket setting Opening r.entries in
+      hosts_hold_one (cluster w place ticket setting) (cast w place ticket setting) r.entries
+      (record { clocks = has_clocks w is_world.true_clocks place ticket setting; is_cast = is_cast; hosted_early = r.hosted_all; hosted_late = tt })
+      s t (by_s.0, holds_so moment s hosts r.now_is r.shadow by_s.0 by_s.1) (by_t.0, holds_so moment t hosts r.now_is r.shadow by_t.0 by_t.1)
+
+  gave_back : (s : ℕ) (kept : Record) (z : Release) (entry : WorldEntry) (what : SessionEntry) → GivesTermBack ticket.name entry.member what z
+      → GivesBackLease s kept.lease z → GivesBack ticket.name kept what × (entry.member ≡ s)
+  gave_back s kept z entry (Makes (calls.Keep name rec (Ok done))) r gives =
+      ((r.0, r.1, λ given is. subst (λ (n : ℕ). given.term ≤ n) r.3 (gives.1 given is)), sym r.2 ∙ gives.0)
+  gave_back s kept z entry what r gives = absurd r
+
+  pub are_apart : (early late : Moment w) (between : List WorldEntry) → IsLater w early late between → (s t : ℕ) → s ≢ t → (kept : Record)
+      → HoldsBy w place ticket s early kept → HoldsIt w place ticket t late
+      → AreApart (cluster_of w ticket.times) early.time late.time ⊎ ReleasedIn ticket s kept between
+  are_apart early late between later s t ne kept by_s by_t =
+      let r = reached early in
+      let hosts : Hosts = after_hosts w is_world place ticket setting Opening r.entries in
+      let q = reached_later early late between hosts later r.now_is r.shadow in
+      let last : Hosts = after_hosts w is_world place ticket setting hosts q.entries in
+      ⊎_elim
+      (λ (apart : AreApart (cluster w place ticket setting) hosts.now last.now).
+      inl (subst (λ (n : ℕ). AreApart (cluster w place ticket setting) early.time n) q.now_is
+      (subst (λ (n : ℕ). AreApart (cluster w place ticket setting) n last.now) r.now_is apart)))
+      (λ x. let rel = q.released x.0 x.1 in
+      let back = gave_back s kept x.0 rel.0 rel.0.what rel.2 x.2 in
+      inr (record { entry = rel.0; one = rel.1; own = back.1; release = back.0 }))
+      (hosts_are_apart (cluster w place ticket setting) (cast w place ticket setting) r.entries q.entries
+      (record { clocks = has_clocks w is_world.true_clocks place ticket setting; is_cast = is_cast; hosted_early = r.hosted_all; hosted_late = q.hosted_all })
+      s t ne kept (holds_so early s hosts r.now_is r.shadow kept by_s) (by_t.0, holds_so late t last q.now_is q.shadow by_t.0 by_t.1))
+
+  -- ---- terms
+
+  some_after : (may : List Record) (x : SessionEntry) → (y : Record) × Has may y → (y : Record) × Has (may_after (own_ticket w place ticket setting) may x) y
+  some_after may (Starts node reading records) some = (_, inl refl)
+  some_after may (Makes (calls.Keep name rec answer)) some = by_name (bytes_eq name ticket.name) (is_ok answer)
+    where
+      by_name : (b ok : Bool) → (y : Record) × Has (if b then may_after_keep ok rec may else may) y
+      by_name false ok = some
+      by_name true true = (rec, inl refl)
+      by_name true false = (rec, inl refl)
+  some_after may (IsCut (CutKeep name rec)) some = by_name (bytes_eq name ticket.name)
+    where
+      by_name : (b : Bool) → (y : Record) × Has (if b then rec ∷ may else may) y
+      by_name false = some
+      by_name true = (rec, inl refl)
+  some_after may x some = some
+
+  some_after_all : (may : List Record) (xs : List SessionEntry) → (y : Record) × Has may y → (y : Record) × Has (may_after_all (own_ticket w place ticket setting) may xs) y
+  some_after_all may [] some = some
+  some_after_all may (x ∷ xs) some = some_after_all (may_after (own_ticket w place ticket setting) may x) xs (some_after may x some)
+
+  pub holds_back : (xs : List Record) (x : Record) → Has xs x → Holds xs x
+  holds_back [] x h = h
+  holds_back (y ∷ ys) x (inl e) = inl e
+  holds_back (y ∷ ys) x (inr h) = inr (holds_back ys x h)
+
+  pub still_next : (may : List Record) (es : List SessionEntry) (k : Record) → Holds may k → Holds (with_next (own_ticket w place ticket setting) may es) k
+  still_next may [] k h = h
+  still_next may (Makes (calls.Keep name rec answer) ∷ es) k h = by_name (bytes_eq name ticket.name)
+    where
+      by_name : (b : Bool) → Holds (if b then rec ∷ may else may) k
+      by_name true = inr h
+      by_name false = h
+  still_next may (IsCut (CutKeep name rec) ∷ es) k h = by_name (bytes_eq name ticket.name)
+    where
+      by_name : (b : Bool) → Holds (if b then rec ∷ may else may) k
+      by_name true = inr h
+      by_name false = h
+  still_next may (x ∷ es) k h = h
+
+  -- where each record that a member may have kept has at least a term, so has each one at its host, a keep that comes
+  -- next among them
+  at_host : (early : Moment w) (s term : ℕ) → (below : s < members_of w)
+      → ((k : Record) → Holds (may_at w place ticket s early) k → term ≤ k.term)
+      → (k : Record) → Has (host_may (after_hosts w is_world place ticket setting Opening (reached early).entries) s) k → term ≤ k.term
+  at_host early s term below least k h = by_tree (hosts.place s).tree refl h
+    where
+      hosts : Hosts
+      hosts = after_hosts w is_world place ticket setting Opening (reached early).entries
+
+      of_may : (y : Record) → Has (hosts.place s).may y → term ≤ y.term
+      of_may y g =
+          least y (still_next (may_of w is_world place ticket setting s early.before) (entries_of s early.after) y
+          (holds_back (may_of w is_world place ticket setting s early.before) y
+          (subst (λ (rs : List Record). Has rs y) ((reached early).shadow.each s below).same_may g)))
+
+      by_tree : (o : Option TurnTree) → (hosts.place s).tree ≡ o → Has (pending o (hosts.place s).may) k → term ≤ k.term
+      by_tree None is g = of_may k g
+      by_tree (Some (Ends view)) is g = of_may k g
+      by_tree (Some (Does (Keeps kept) go)) is (inr g) = of_may k g
+      by_tree (Some (Does (Keeps kept) go)) is (inl e) =
+          let some = some_after_all (no_record ∷ []) (entries_of s early.before) (no_record, inl refl) in
+          let there : Has (hosts.place s).may some.0 =
+          subst (λ (rs : List Record). Has rs some.0) (sym ((reached early).shadow.each s below).same_may) some.1 in
+          let low = of_may some.0 there in
+          let high = next_is_highest (cluster w place ticket setting) (cast w place ticket setting) (reached early).entries
+          (record { clocks = has_clocks w is_world.true_clocks place ticket setting; is_cast = is_cast; hosted_early = (reached early).hosted_all; hosted_late = tt })
+          s below kept go is some.0 (in_pending (hosts.place s).tree (hosts.place s).may some.0 there) in
+          let same : kept.term ≡ k.term = ap (λ (r : Record). r.term) e in
+          omega (arith, low, high, same)
+      by_tree (Some (Does ask go)) is g = of_may k g
+
+  pub terms_hold : (early late : Moment w) (between : List WorldEntry) → IsLater w early late between → (s term : ℕ) → s < members_of w
+      → ((k : Record) → Holds (may_at w place ticket s early) k → term ≤ k.term)
+      → (k : Record) → Holds (may_at w place ticket s late) k → term ≤ k.term
+  terms_hold early late between later s term below least k h =
+      let r = reached early in
+      let hosts : Hosts = after_hosts w is_world place ticket setting Opening r.entries in
+      let q = reached_later early late between hosts later r.now_is r.shadow in
+      let last : Hosts = after_hosts w is_world place ticket setting hosts q.entries in
+      host_terms (cluster w place ticket setting) (cast w place ticket setting) r.entries q.entries
+      (record { clocks = has_clocks w is_world.true_clocks place ticket setting; is_cast = is_cast; hosted_early = r.hosted_all; hosted_late = q.hosted_all })
+      s term below (at_host early s term below least) k (covers late s below last q.shadow k h)

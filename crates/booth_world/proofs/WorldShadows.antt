@@ -1,0 +1,113 @@
+-- The shadow of a world: its entries as those of the hosts of a ticket, those as entries of the cores,
+-- and those as steps.
+use Rattle.std.proofs.Common.{◌≡◌, ◌⊎◌, inl, inr, ⊎_elim, ℕ, ◌<◌, Bool, List, [], refl, sym, ◌∙◌, subst}
+use Rattle.std.specs.Prelude.{Option, Some, None}
+use Rattle.booth_base.specs.Tree.{Ends, Does}
+use Rattle.booth_base.specs.declared.address.MemberId.{MemberId}
+use Rattle.booth_conf.specs.declared.tickets.TicketConf.{TicketConf}
+use Rattle.booth_rec.specs.declared.record.Record.{Record}
+use Rattle.booth_wire.specs.declared.command.Cmd.{Cmd}
+use Rattle.booth_wire.specs.declared.command.Cmd.TheVariants as cmds
+use Rattle.booth_wire.specs.declared.message.Head.{Head}
+use Rattle.booth_wire.specs.declared.message.TicketPart.{TicketPart}
+use Rattle.booth_wire.specs.PlainMessage.{PlainMessage}
+use Rattle.booth_auth.specs.Sealed.{stamped_head}
+use Rattle.booth_node.specs.Held.{Moment, may_at}
+use Rattle.booth_node.specs.Records.{Has as Holds}
+use Rattle.booth_node.specs.World.{World, members_of, id_at, entries_of, IsWorld}
+use Rattle.booth_world.specs.Facts.{Has, Release, Facts}
+use Rattle.booth_world.specs.Messages.{IsFact}
+use Rattle.booth_world.specs.States.{WorldState}
+use Rattle.booth_world.specs.Steps.{world_of}
+use Rattle.booth_world.specs.Cores.{Cores, opening_cores, cores_after}
+use Rattle.booth_world.specs.Turns.{Keeps, TurnTree}
+use Rattle.booth_world.specs.Hosts.{Hosts, opening_hosts, pending}
+use Rattle.booth_world.specs.Shadows.{IsComing, IsSentIn, records_of, WorldsHaveShadows}
+use Rattle.booth_world.proofs.CoreSteps.{CoresHold, opens}
+use Rattle.booth_world.proofs.CoreRuns.{runs_of, held, all_released}
+use Rattle.booth_world.proofs.HostSteps.{HostsHold, follow_all, opens_hosts, host_held}
+use Rattle.booth_world.proofs.WorldSteps.{Setting, cluster, cast}
+use Rattle.booth_world.proofs.Configured.{setting_of}
+use Rattle.booth_world.proofs.WorldEntries.{has_clocks}
+use Rattle.booth_world.proofs.WorldHosts.{has_here, after_hosts, may_of, Shadows}
+use Rattle.booth_world.proofs.WorldRuns.{reached, is_cast, covers, holds_so, holds_back, still_next}
+
+-- a stamp changes nothing of what a message says
+same_fact : (id_of : ℕ → MemberId) (f : Facts) (m : ℕ) (auth : Bool) (time : ℕ) (head : Head) (part : TicketPart) (cmd : Cmd)
+    → IsFact id_of f m head part cmd → IsFact id_of f m (stamped_head auth time head) part cmd
+same_fact id_of f m auth time head part cmds.RVot fact = fact
+same_fact id_of f m auth time head part cmds.HrtB fact = fact
+same_fact id_of f m auth time head part cmds.VtFr fact = fact
+same_fact id_of f m auth time head part cmds.Ack fact = fact
+same_fact id_of f m auth time head part cmds.Revk fact = fact
+same_fact id_of f m auth time head part cmd fact = fact
+
+module _ (w : World) (is_world : IsWorld w) (place : ℕ) (ticket : TicketConf) (setting : Setting w place ticket) (moment : Moment w) (hosts : Hosts)
+    (shadow : Shadows w is_world place ticket setting moment.before hosts) where
+  -- what may be kept at a member's host may be kept by the entries, or comes next
+  no_more_at : (m : ℕ) → m < members_of w → (k : Record) → Has (pending (hosts.place m).tree (hosts.place m).may) k
+      → Holds (may_at w place ticket m moment) k ⊎ IsComing ticket.name (entries_of m moment.before) k
+  no_more_at m below k h = by_tree (hosts.place m).tree refl h
+    where
+      of_may : Has (hosts.place m).may k → Holds (may_at w place ticket m moment) k
+      of_may g =
+          still_next w is_world place ticket setting (may_of w is_world place ticket setting m moment.before) (entries_of m moment.after) k
+          (holds_back w is_world place ticket setting (may_of w is_world place ticket setting m moment.before) k
+          (subst (λ (rs : List Record). Has rs k) (shadow.each m below).same_may g))
+
+      by_tree : (o : Option TurnTree) → (hosts.place m).tree ≡ o → Has (pending o (hosts.place m).may) k
+          → Holds (may_at w place ticket m moment) k ⊎ IsComing ticket.name (entries_of m moment.before) k
+      by_tree None is g = inl (of_may g)
+      by_tree (Some (Ends view)) is g = inl (of_may g)
+      by_tree (Some (Does (Keeps kept) go)) is (inl e) =
+          inr (subst (λ (r : Record). IsComing ticket.name (entries_of m moment.before) r) e (shadow.coming m below kept go is))
+      by_tree (Some (Does (Keeps kept) go)) is (inr g) = inl (of_may g)
+      by_tree (Some (Does ask go)) is g = inl (of_may g)
+
+  -- a message that was sent says a fact, where the steps' world has what the hosts have sent
+  said_at : (cores : Cores) (state : WorldState)
+      → HostsHold (cluster w place ticket setting) (cast w place ticket setting) hosts cores
+      → CoresHold (cluster w place ticket setting) (cast w place ticket setting) cores state
+      → (m : ℕ) (letter : PlainMessage) (part : TicketPart) → IsSentIn ticket.name moment.before m letter part
+      → IsFact (id_at w) state.facts m letter.head part letter.head.cmd
+  said_at cores state hold core_hold m letter part is =
+      let q = shadow.said is.entry is.one is.bytes is.sent letter is.read part is.members is.about is.named in
+      let fact = core_hold.heard_now _ (hold.said _ q.4) in
+      subst (λ (n : ℕ). IsFact (id_at w) state.facts n letter.head part letter.head.cmd) is.own
+      (subst (λ (h : Head). IsFact (id_at w) state.facts is.entry.member h part h.cmd) (sym q.3)
+      (same_fact (id_at w) state.facts is.entry.member q.1 q.2 q.0 part q.0.cmd fact.1))
+
+pub worlds_have_shadows : WorldsHaveShadows
+worlds_have_shadows w is_world place ticket automatic moment =
+    let setting = setting_of w is_world.form.sound place ticket automatic.0 in
+    let c = cluster w place ticket setting in
+    let k = cast w place ticket setting in
+    let r = reached w is_world place ticket setting moment in
+    let hosts = after_hosts w is_world place ticket setting (opening_hosts c) r.entries in
+    let clocks = has_clocks w is_world.true_clocks place ticket setting in
+    let seated = is_cast w is_world place ticket setting in
+    let f = follow_all c k clocks seated (opening_hosts c) (opening_cores c) r.entries (opens_hosts c k clocks seated) r.hosted_all in
+    let cores = cores_after c k (opening_cores c) f.0 in
+    let runs = runs_of c k f.0 [] (record { clocks = clocks; is_cast = seated; enters_early = f.1; enters_late = tt }) in
+    record {
+      steps = runs.first;
+      run = runs.run_first;
+      now = runs.early_holds.same_now ∙ f.2.same_now ∙ r.now_is;
+      records = λ m below kept h.
+          holds_back w is_world place ticket setting (records_of w (world_of c runs.first) m) kept
+          (subst (λ (rs : List Record). Has rs kept) (sym (runs.early_holds.each m below).same_may)
+          ((f.2.each m below).more kept (covers w is_world place ticket setting moment m below hosts r.shadow kept h)));
+      no_more = λ m below kept h.
+          no_more_at w is_world place ticket setting moment hosts r.shadow m below kept
+          ((f.2.each m below).only kept
+          (subst (λ (rs : List Record). Has rs kept) (runs.early_holds.each m below).same_may
+          (has_here (records_of w (world_of c runs.first) m) kept h)));
+      releases = λ release h.
+          ⊎_elim (λ (none : ⊥). absurd none) (λ in_entries. r.released release (f.3 release in_entries))
+          (all_released c k clocks seated (opening_cores c) f.0 [] release tt (opens c k clocks seated) f.1
+          (subst (λ (rs : List Release). Has rs release) runs.early_holds.same_releases h));
+      said = said_at w is_world place ticket setting moment hosts r.shadow cores (world_of c runs.first) f.2 runs.early_holds;
+      held = λ m h.
+          held c k cores (world_of c runs.first) m runs.early_holds
+          (h.0, host_held c k hosts cores m h.0 f.2 (holds_so w is_world place ticket setting moment m hosts r.now_is r.shadow h.0 h.1));
+    }

@@ -1,0 +1,234 @@
+-- One entry of a world, as entries of the hosts of one ticket.
+use Rattle.std.proofs.Common.{◌≡◌, ◌≢◌, ◌⊎◌, inl, inr, ⊎_elim, ℕ, ◌<◌, ◌≤◌, Bool, true, false, List, [], ◌∷◌, refl, sym, ap, ◌∙◌, subst, arith}
+use Rattle.std.specs.Prelude.{Option, Some, None, slice_get, position, bytes_eq, IsSomeAnd}
+use Rattle.booth_base.specs.Tree.{Deeds, Ends, Does}
+use Rattle.booth_conf.specs.Config.{has_id}
+use Rattle.booth_conf.specs.declared.tickets.TicketConf.{TicketConf}
+use Rattle.booth_rec.specs.declared.record.Record.{Record}
+use Rattle.booth_wire.specs.declared.message.Setup.{Setup}
+use Rattle.booth_raft.specs.declared.view.View.{View}
+use Rattle.booth_raft.specs.Sound.{IsSound}
+use Rattle.booth_node.specs.declared.node_config.NodeConfig.{NodeConfig}
+use Rattle.booth_node.specs.Clock.{Cluster, reads}
+use Rattle.booth_node.specs.Opening.{setup_of}
+use Rattle.booth_node.specs.Reaction.{Ask, Send, Keep}
+use Rattle.booth_node.specs.Records.{TicketPlace, may_after_keep}
+use Rattle.booth_node.specs.Session.{Stand, Down, Doing, Hearing}
+use Rattle.booth_node.specs.State.{State}
+use Rattle.booth_node.specs.World.{World, members_of, id_at, node_at, cluster_of, ticket_at}
+use Rattle.booth_world.specs.Facts.{Release}
+use Rattle.booth_world.specs.States.{put}
+use Rattle.booth_world.specs.Rules.{MemberLetter}
+use Rattle.booth_world.specs.Cores.{Cast}
+use Rattle.booth_world.specs.Turns.{Keeps, TurnTree}
+use Rattle.booth_world.specs.Hosts.{HostEntry, DoesAsk, HostPlace, Hosts, MayHost, IsNextAsk, went_on, may_left, hosted, AreHosted, hosts_after}
+use Rattle.booth_world.specs.HostLaws.{IsHostReleaseAt, IsHostReleaseIn}
+use Rattle.booth_world.specs.Shadows.{KeepsNext, IsNextAt}
+use Rattle.booth_world.proofs.Lists.{some_same}
+use Rattle.booth_world.proofs.CallSteps.{put_same}
+use Rattle.booth_world.proofs.TurnPlaces.{put_other}
+use Rattle.booth_world.proofs.Mirrors.{skip, sent_by, SentMore, sent_more}
+use Rattle.booth_world.proofs.NodeTurns.{IsPlacedAt, Over}
+use Rattle.booth_world.proofs.HostRuns.{IsOf, of_none, of_both, says, AreSaid, all_said}
+use Rattle.std.proofs.lemmas.Slice.Eq.{bytes_eq-Decides}
+
+-- ---- the ticket in its configuration
+
+-- What a sound configuration gives: the ticket stands at its place, each member's id is its own, no other ticket has the
+-- name, and each member's setup is one that the rules take.
+pub record Setting (w : World) (place : ℕ) (ticket : TicketConf) : Type 0 where
+  pub there : slice_get w.config.tickets place ≡ Some ticket
+  pub ids : (m : ℕ) → m < members_of w → position (has_id (id_at w m)) w.config.members ≡ Some m
+  pub names : (other : ℕ) (t : TicketConf) → slice_get w.config.tickets other ≡ Some t → other ≢ place → t.name ≢ ticket.name
+  pub sound : (m : ℕ) → m < members_of w → IsSound (setup_of (node_at w m) place ticket)
+
+pub same_bytes : (a b : List ℕ) → a ≡ b → bytes_eq a b ≡ true
+same_bytes a b e = (bytes_eq-Decides a b).1 e
+
+pub equal_bytes : (a b : List ℕ) → bytes_eq a b ≡ true → a ≡ b
+equal_bytes a b e = (bytes_eq-Decides a b).0 e
+
+pub other_bytes : (a b : List ℕ) → a ≢ b → bytes_eq a b ≡ false
+other_bytes a b ne = by_test (bytes_eq a b) refl
+  where
+    by_test : (t : Bool) → bytes_eq a b ≡ t → bytes_eq a b ≡ false
+    by_test true is = absurd (ne (equal_bytes a b is))
+    by_test false is = is
+
+module _ (w : World) (place : ℕ) (ticket : TicketConf) (setting : Setting w place ticket) where
+  abbrev pub cluster : Cluster
+  cluster = cluster_of w ticket.times
+
+  abbrev pub setup_at : ℕ → Setup
+  setup_at m = setup_of (node_at w m) place ticket
+
+  abbrev pub cast : Cast
+  cast = record { id_of = id_at w; setup = setup_at }
+
+  abbrev pub own_ticket : TicketPlace
+  own_ticket = ticket_at place ticket
+
+  pub own_place_is : (m : ℕ) → m < members_of w → (setup_at m).place ≡ m
+  own_place_is m below = rw (setting.ids m below) refl
+
+  pub own_below : (m : ℕ) → m < members_of w → (setup_at m).place < (setup_at m).members
+  own_below m below = subst (λ (n : ℕ). n < members_of w) (sym (own_place_is m below)) below
+
+  -- ---- where a member of the world and its host stand
+
+  abbrev pub Doings : ℕ → ℕ → List MemberLetter → Deeds Ask State → TurnTree → Type 0
+  Doings m moment known deeds tree = Over (setup_at m) place (node_at w m) moment refl known deeds tree
+
+  -- The host is at the next keep of this ticket, or at the end of its turn; what comes before that is said already.
+  abbrev pub StandsAt : ℕ → Stand → HostPlace → List MemberLetter → Type 0
+  StandsAt m Down p sent = Unit {0}
+  StandsAt m (Doing node deeds) p sent =
+      (node ≡ node_at w m) × (tree : TurnTree) × (known : List MemberLetter) × (p.tree ≡ Some (skip tree))
+      × SentMore (sent_by tree known) sent × Doings m p.reading known deeds tree
+  StandsAt m (Hearing node old answer bytes) p sent =
+      (node ≡ node_at w m) × (view : View) × (p.tree ≡ Some (Ends view)) × IsPlacedAt (setup_at m) place view old.tickets
+      × (old.last_reading ≡ p.reading)
+
+  pub record Shows (m : ℕ) (stand : Stand) (may : List Record) (now : ℕ) (p : HostPlace) (sent : List MemberLetter) : Type 0 where
+    pub same_may : p.may ≡ may
+    pub time : ℕ
+    pub past : time ≤ now
+    pub read : p.reading ≡ reads cluster m time
+    pub stands : StandsAt m stand p sent
+
+  stands_more : (m : ℕ) (stand : Stand) (p : HostPlace) (sent sent' : List MemberLetter) → SentMore sent sent' → StandsAt m stand p sent → StandsAt m stand p sent'
+  stands_more m Down p sent sent' more x = tt
+  stands_more m (Doing node deeds) p sent sent' more x = (x.0, x.1, x.2, x.3, (λ l h. more l (x.4 l h)), x.5)
+  stands_more m (Hearing node old answer bytes) p sent sent' more x = x
+
+  pub shows_more : (m : ℕ) (stand : Stand) (may : List Record) (now now' : ℕ) (p : HostPlace) (sent sent' : List MemberLetter)
+      → now ≤ now' → SentMore sent sent' → Shows m stand may now p sent → Shows m stand may now' p sent'
+  shows_more m stand may now now' p sent sent' later more x = record {
+    same_may = x.same_may;
+    time = x.time;
+    past = let old = x.past in omega (arith, old, later);
+    read = x.read;
+    stands = stands_more m stand p sent sent' more x.stands;
+  }
+
+  -- the host's next keep is that of the node's deeds
+  keeps_next : (m moment : ℕ) (deeds : Deeds Ask State) (tree : TurnTree) (sent : List MemberLetter) (kept : Record) (go : Bool → TurnTree)
+      → Doings m moment sent deeds tree → skip tree ≡ Does (Keeps kept) go → KeepsNext ticket.name deeds kept
+  keeps_next m moment (Ends state) tree sent kept go over is = absurd (no_end over.view kept go (sym over.ended ∙ is))
+    where
+      no_end : (view : View) (kept : Record) (go : Bool → TurnTree) → Ends view ≡ Does (Keeps kept) go → ⊥
+      no_end view kept go e = cc
+  keeps_next m moment (Does (Send peer letter) more) tree sent kept go over is =
+      (true, keeps_next m moment (more true) tree sent kept go (over.1 true) is)
+  keeps_next m moment (Does (Keep name tried) more) tree sent kept go (inl other) is =
+      inr (other.0, true, keeps_next m moment (more true) tree sent kept go (other.1 true) is)
+  keeps_next m moment (Does (Keep name tried) more) tree sent kept go (inr own) is =
+      inl (own.0, same_keep tried kept own.1 go (sym own.2 ∙ is))
+    where
+      same_keep : (a b : Record) (f g : Bool → TurnTree) → Does (Keeps a) f ≡ Does (Keeps b) g → a ≡ b
+      same_keep a b f g e = cc
+
+  pub next_at : (m : ℕ) (stand : Stand) (p : HostPlace) (sent : List MemberLetter) (kept : Record) (go : Bool → TurnTree)
+      → StandsAt m stand p sent → p.tree ≡ Some (Does (Keeps kept) go) → IsNextAt ticket.name stand kept ⊎ (stand ≡ Down)
+  next_at m Down p sent kept go x is = inr refl
+  next_at m (Doing node deeds) p sent kept go x is =
+      inl (keeps_next m p.reading deeds x.1 x.2 kept go x.5
+      (some_same (skip x.1) (Does (Keeps kept) go) (sym x.3 ∙ is)))
+  next_at m (Hearing node old answer bytes) p sent kept go x is = absurd (no_end x.1 kept go (sym x.2 ∙ is))
+    where
+      no_end : (view : View) (kept : Record) (go : Bool → TurnTree) → Some (Ends view) ≡ Some (Does (Keeps kept) go) → ⊥
+      no_end view kept go e = cc
+
+  -- ---- what one entry leads to
+
+  -- where a member was cut its host has stopped, or rests where it was
+  abbrev pub AtCut : Stand → HostPlace → HostPlace → Type 0
+  AtCut Down old new = (new.tree ≡ None) ⊎ (new ≡ old)
+  AtCut stand old new = Unit {0}
+
+  at_same : (stand : Stand) (p : HostPlace) → AtCut stand p p
+  at_same Down p = inr refl
+  at_same (Doing node deeds) p = tt
+  at_same (Hearing node old answer bytes) p = tt
+
+  -- entries of this member's host, at one true time, after which it stands so
+  pub record Steps (hosts : Hosts) (m : ℕ) (stand : Stand) (may : List Record) (R : Release → Type 0) : Type 0 where
+    pub entries : List HostEntry
+    pub hosted_all : AreHosted cluster cast hosts entries
+    pub own : IsOf cluster cast m hosts (hosts_after cluster cast hosts entries)
+    pub here : Shows m stand may hosts.now ((hosts_after cluster cast hosts entries).place m) (hosts_after cluster cast hosts entries).sent
+    pub at_cut : AtCut stand (hosts.place m) ((hosts_after cluster cast hosts entries).place m)
+    pub released : (z : Release) → IsHostReleaseIn cluster cast hosts entries z → R z
+
+  -- nothing happens at the host
+  pub rests_so : (hosts : Hosts) (m : ℕ) (stand : Stand) (may : List Record) (R : Release → Type 0)
+      → Shows m stand may hosts.now (hosts.place m) hosts.sent → Steps hosts m stand may R
+  rests_so hosts m stand may R x =
+      record { entries = []; hosted_all = tt; own = of_none cluster cast m hosts; here = x; at_cut = at_same stand (hosts.place m); released = λ z r. absurd r }
+
+  module _ (m : ℕ) (below : m < members_of w) where
+    -- one entry at the host, and then what is said
+    pub then_says : (hosts : Hosts) (entry : HostEntry) (stand : Stand) (may : List Record) (R : Release → Type 0) (tree : TurnTree)
+        → MayHost cluster cast hosts entry → IsOf cluster cast m hosts (hosted cluster cast hosts entry)
+        → ((hosted cluster cast hosts entry).place m).tree ≡ Some tree
+        → ((p : HostPlace) → p.tree ≡ Some (skip tree) → p.reading ≡ ((hosted cluster cast hosts entry).place m).reading
+        → p.may ≡ ((hosted cluster cast hosts entry).place m).may
+        → Shows m stand may hosts.now p (sent_by tree (hosted cluster cast hosts entry).sent))
+        → ((z : Release) → IsHostReleaseAt hosts entry z → R z) → ((p : HostPlace) → AtCut stand (hosts.place m) p)
+        → Steps hosts m stand may R
+    then_says hosts entry stand may R tree may_do own is shows rel cut =
+        let after : Hosts = hosted cluster cast hosts entry in
+        let said : AreSaid cluster cast m below after tree = all_said cluster cast m below after tree is in
+        let last : Hosts = hosts_after cluster cast after (says cluster cast m below tree) in
+        record {
+          entries = entry ∷ says cluster cast m below tree;
+          hosted_all = (may_do, said.hosted_all);
+          own = of_both cluster cast m hosts after last own said.own;
+          here = subst (λ (sent : List MemberLetter). Shows m stand may hosts.now (last.place m) sent) (sym said.all_sent)
+              (shows (last.place m) said.tree_now said.same_reading said.same_may);
+          at_cut = cut (last.place m);
+          released = λ z r. ⊎_elim (λ (x : IsHostReleaseAt hosts entry z). rel z x)
+              (λ (x : IsHostReleaseIn cluster cast after (says cluster cast m below tree) z). absurd (said.unreleased z x)) r;
+        }
+
+    pub moved_one : (hosts : Hosts) (p : HostPlace) (sent : List MemberLetter) → SentMore hosts.sent sent
+        → IsOf cluster cast m hosts (record { now = hosts.now; place = put hosts.place m p; sent = sent })
+    moved_one hosts p sent more = record { same_now = refl; others = λ k ne. put_other hosts.place m k p ne; still_sent = more }
+
+    -- a keep of this ticket is answered
+    pub keeps_own : (hosts : Hosts) (node : NodeConfig) (before stand : Stand) (may : List Record) (R : Release → Type 0) (tried : Record) (ok : Bool)
+        (go : Bool → Deeds Ask State) (tree : TurnTree) (known : List MemberLetter) (rest : Bool → TurnTree)
+        → node ≡ node_at w m → stand ≡ Doing node (go ok)
+        → Shows m before may hosts.now (hosts.place m) hosts.sent
+        → (hosts.place m).tree ≡ Some (skip tree) → SentMore (sent_by tree known) hosts.sent
+        → skip tree ≡ Does (Keeps tried) rest
+        → Doings m (hosts.place m).reading (sent_by tree known) (go ok) (rest ok)
+        → ((z : Release) → IsHostReleaseAt hosts (DoesAsk m (Keeps tried) ok) z → R z)
+        → Steps hosts m stand (may_after_keep ok tried may) R
+    keeps_own hosts node before stand may R tried ok go tree known rest node_is stand_is x there more next_keep on rel =
+        let at_keep : (hosts.place m).tree ≡ Some (Does (Keeps tried) rest) = there ∙ ap (λ (t : TurnTree). Some t) next_keep in
+        then_says hosts (DoesAsk m (Keeps tried) ok) stand (may_after_keep ok tried may) R (rest ok)
+        (below, subst (λ (o : Option TurnTree). IsSomeAnd o (IsNextAsk (Keeps tried))) (sym at_keep) refl)
+        (moved_one hosts _ hosts.sent (λ l h. h))
+        (ap (λ (p : HostPlace). p.tree) (put_same hosts.place m _) ∙ ap (λ (o : Option TurnTree). went_on ok o) at_keep)
+        (λ p tree_is reading_is may_is. record {
+          same_may = may_is ∙ ap (λ (q : HostPlace). q.may) (put_same hosts.place m _) ∙ left_may ok;
+          time = x.time;
+          past = x.past;
+          read = reading_is ∙ ap (λ (q : HostPlace). q.reading) (put_same hosts.place m _) ∙ x.read;
+          stands = subst (λ (d : Stand). StandsAt m d p (sent_by (rest ok) hosts.sent)) (sym stand_is) (
+            node_is,
+            rest ok,
+            sent_by tree known,
+            tree_is,
+            sent_more (rest ok) (sent_by tree known) hosts.sent more,
+            subst (λ (r : ℕ). Doings m r (sent_by tree known) (go ok) (rest ok))
+                (sym (reading_is ∙ ap (λ (q : HostPlace). q.reading) (put_same hosts.place m _))) on,
+          );
+        })
+        rel
+        (λ p. subst (λ (d : Stand). AtCut d (hosts.place m) p) (sym stand_is) tt)
+      where
+        left_may : (b : Bool) → may_left (Keeps tried) b (hosts.place m).may ≡ may_after_keep b tried may
+        left_may true = refl
+        left_may false = ap (λ (rs : List Record). tried ∷ rs) x.same_may

@@ -1,0 +1,95 @@
+-- Every world has a shadow: at each moment, for each automatic ticket, a list of the world's steps.
+use Rattle.std.specs.Prelude.{◌≡◌, ◌≢◌, ◌⊎◌, ℕ, ◌<◌, Bool, List, [], ◌∷◌, Ok, None}
+use Rattle.booth_base.specs.Tree.{Deeds, Ends, Does}
+use Rattle.booth_conf.specs.declared.tickets.TicketConf.{TicketConf}
+use Rattle.booth_rec.specs.declared.record.Record.{Record}
+use Rattle.booth_wire.specs.declared.command.Direction.TheVariants.{BetweenMembers}
+use Rattle.booth_wire.specs.declared.message.TicketPart.{TicketPart}
+use Rattle.booth_wire.specs.Command.{direction_of}
+use Rattle.booth_wire.specs.PlainMessage.{PlainMessage, Ticket}
+use Rattle.booth_wire.specs.Reading.{decoded}
+use Rattle.booth_host.specs.declared.entry.Entry.TheVariants as calls
+use Rattle.booth_node.specs.Reaction.{Ask, Send, Keep}
+use Rattle.booth_node.specs.Records.{Has}
+use Rattle.booth_node.specs.Session.{SessionEntry, Makes, IsCut, Stand, Down, Doing, after_entry}
+use Rattle.booth_node.specs.State.{State}
+use Rattle.booth_node.specs.World.{WorldEntry, World, members_of, id_at, entries_of, IsSend, IsWorld, cluster_of}
+use Rattle.booth_node.specs.Held.{Moment, IsAutomatic, may_at, Holds}
+use Rattle.booth_world.specs.Agreement.{records_in}
+use Rattle.booth_world.specs.Facts.{Release, Has as HasFact}
+use Rattle.booth_world.specs.Held.{Held}
+use Rattle.booth_world.specs.Messages.{IsFact}
+use Rattle.booth_world.specs.States.{WorldState, opening}
+use Rattle.booth_world.specs.Steps.{WorldStep, IsRun, world_of}
+
+-- ---- the entries' side
+
+-- of these deeds, the first keep of the ticket that some answers lead to is of this record
+abbrev pub KeepsNext : List ℕ → Deeds Ask State → Record → Type 0
+KeepsNext name (Ends state) kept = ⊥
+KeepsNext name (Does (Send peer letter) go) kept = (ok : Bool) × KeepsNext name (go ok) kept
+KeepsNext name (Does (Keep ticket tried) go) kept =
+    ((ticket ≡ name) × (tried ≡ kept)) ⊎ ((ticket ≢ name) × (ok : Bool) × KeepsNext name (go ok) kept)
+
+-- where these entries leave a member that a cut call leaves where it stands
+abbrev pub stands_last : Stand → List SessionEntry → Stand
+stands_last stand [] = stand
+stands_last stand (IsCut call ∷ entries) = stands_last stand entries
+stands_last stand (entry ∷ entries) = stands_last (after_entry stand entry) entries
+
+abbrev pub IsNextAt : List ℕ → Stand → Record → Type 0
+IsNextAt name (Doing node deeds) kept = KeepsNext name deeds kept
+IsNextAt name stand kept = ⊥
+
+-- the member is in a turn, or was cut in one, and this is the record of the ticket that the turn keeps next
+abbrev pub IsComing : List ℕ → List SessionEntry → Record → Type 0
+IsComing name entries kept = IsNextAt name (stands_last Down entries) kept
+
+-- a keep of the ticket by this member that was done, of a record without a lease, gave its term back
+abbrev pub GivesTermBack : List ℕ → ℕ → SessionEntry → Release → Type 0
+GivesTermBack name m (Makes (calls.Keep ticket rec (Ok done))) release =
+    (ticket ≡ name) × (rec.lease ≡ None) × (release.site ≡ m) × (release.term ≡ rec.term)
+GivesTermBack name m what release = ⊥
+
+-- an entry sent this message of a member about the ticket; the send may have failed, or been cut
+pub record IsSentIn (name : List ℕ) (before : List WorldEntry) (m : ℕ) (letter : PlainMessage) (part : TicketPart) : Type 0 where
+  pub entry : WorldEntry
+  pub one : Has before entry
+  pub own : entry.member ≡ m
+  pub bytes : List ℕ
+  pub sent : IsSend entry.what bytes
+  pub read : decoded bytes ≡ Ok letter
+  pub members : direction_of letter.head.cmd ≡ BetweenMembers
+  pub about : letter.content ≡ Ticket part
+  pub named : part.ticket ≡ name
+
+-- ---- the shadow
+
+-- the records that a member may have kept, as the steps have them
+abbrev pub records_of : World → WorldState → ℕ → List Record
+records_of w state m = records_in (id_at w) (state.member m).may
+
+-- Steps from the opening state up to this moment. After them the records that a member may have kept are the entries',
+-- and that which the member's turn is to keep next; each release is an entry's; each message that an entry sent
+-- says a fact: that a round was opened, or answered, or a term released; and the ticket is held at each member that
+-- holds it.
+pub record HasShadow (w : World) (place : ℕ) (ticket : TicketConf) (moment : Moment w) : Type 0 where
+  pub steps : List WorldStep
+  pub run : IsRun (cluster_of w ticket.times) (opening (cluster_of w ticket.times)) steps
+  pub now : (world_of (cluster_of w ticket.times) steps).now ≡ moment.time
+  pub records : (m : ℕ) → m < members_of w → (kept : Record) → Has (may_at w place ticket m moment) kept
+      → Has (records_of w (world_of (cluster_of w ticket.times) steps) m) kept
+  pub no_more : (m : ℕ) → m < members_of w → (kept : Record)
+      → Has (records_of w (world_of (cluster_of w ticket.times) steps) m) kept
+      → Has (may_at w place ticket m moment) kept ⊎ IsComing ticket.name (entries_of m moment.before) kept
+  pub releases : (release : Release) → HasFact (world_of (cluster_of w ticket.times) steps).facts.releases release
+      → (entry : WorldEntry) × Has moment.before entry × GivesTermBack ticket.name entry.member entry.what release
+  pub said : (m : ℕ) (letter : PlainMessage) (part : TicketPart) → IsSentIn ticket.name moment.before m letter part
+      → IsFact (id_at w) (world_of (cluster_of w ticket.times) steps).facts m letter.head part letter.head.cmd
+  pub held : (m : ℕ) → Holds w place ticket m moment
+      → Held (cluster_of w ticket.times) (world_of (cluster_of w ticket.times) steps) m
+
+abbrev pub WorldsHaveShadows : Type 0
+WorldsHaveShadows =
+    (w : World) → IsWorld w → (place : ℕ) (ticket : TicketConf) → IsAutomatic w place ticket
+    → (moment : Moment w) → HasShadow w place ticket moment

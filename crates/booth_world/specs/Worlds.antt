@@ -1,0 +1,82 @@
+-- The three laws, over worlds of entries: of each ticket of each world.
+use Rattle.std.specs.Prelude.{◌≡◌, ◌≢◌, ◌⊎◌, ◌++◌, ℕ, ◌<◌, ◌≤◌, List, map, Ok, None}
+use Rattle.std.specs.Option.{ForSome}
+use Rattle.booth_conf.specs.declared.tickets.TicketConf.{TicketConf}
+use Rattle.booth_rec.specs.declared.record.Record.{Record}
+use Rattle.booth_base.specs.Tree.{Ends}
+use Rattle.booth_host.specs.declared.entry.Entry.{Entry}
+use Rattle.booth_host.specs.declared.entry.Entry.TheVariants as calls
+use Rattle.booth_node.specs.declared.node_config.NodeConfig.{NodeConfig}
+use Rattle.booth_node.specs.Log.{IsNodeLog}
+use Rattle.booth_node.specs.State.{State}
+use Rattle.booth_node.specs.Session.{SessionEntry, Makes, Doing, AreSessions, after_entries}
+use Rattle.booth_node.specs.Records.{Has}
+use Rattle.booth_node.specs.World.{WorldEntry, World, members_of, IsWorld, cluster_of}
+use Rattle.booth_node.specs.Held.{Moment, IsTicket, IsAutomatic, may_at, HoldsBy, Holds}
+use Rattle.booth_world.specs.Held.{AreApart}
+
+-- ---- two moments
+
+-- the second moment is not before the first, and these entries lie between
+pub record IsLater (w : World) (early late : Moment w) (between : List WorldEntry) : Type 0 where
+  pub entries : late.before ≡ early.before ++ between
+  pub not_before : early.time ≤ late.time
+
+-- a keep of the ticket by this member that answered Ok gave its lease back: its record has none, and a term at least
+-- that of the lease
+abbrev pub GivesBack : List ℕ → Record → SessionEntry → Type 0
+GivesBack name kept (Makes (calls.Keep ticket rec (Ok done))) =
+    (ticket ≡ name) × (rec.lease ≡ None) × ForSome kept.lease (λ given. given.term ≤ rec.term)
+GivesBack name kept what = ⊥
+
+pub record ReleasedIn (ticket : TicketConf) (s : ℕ) (kept : Record) (between : List WorldEntry) : Type 0 where
+  pub entry : WorldEntry
+  pub one : Has between entry
+  pub own : entry.member ≡ s
+  pub release : GivesBack ticket.name kept entry.what
+
+-- ---- the laws
+
+-- at no moment of the world is an automatic ticket held at two members
+abbrev pub HoldsOneIn : World → Type 0
+HoldsOneIn w =
+    (place : ℕ) (ticket : TicketConf) → IsAutomatic w place ticket
+    → (moment : Moment w) (s t : ℕ) → Holds w place ticket s moment → Holds w place ticket t moment → s ≡ t
+
+abbrev pub WorldsHoldOne : Type 0
+WorldsHoldOne = (w : World) → IsWorld w → HoldsOneIn w
+
+-- where one holds it by a record, and another later, acquire-after lies between, or a keep between the two gave the
+-- record's lease back
+abbrev pub WorldsAreApart : Type 0
+WorldsAreApart =
+    (w : World) → IsWorld w → (place : ℕ) (ticket : TicketConf) → IsAutomatic w place ticket
+    → (early late : Moment w) (between : List WorldEntry) → IsLater w early late between
+    → (s t : ℕ) → s ≢ t → (kept : Record)
+    → HoldsBy w place ticket s early kept → Holds w place ticket t late
+    → AreApart (cluster_of w ticket.times) early.time late.time ⊎ ReleasedIn ticket s kept between
+
+-- where each record that a member may have kept of a ticket has at least a term, so has each one later
+abbrev pub TermsNeverFallIn : World → Type 0
+TermsNeverFallIn w =
+    (place : ℕ) (ticket : TicketConf) → IsTicket w place ticket
+    → (early late : Moment w) (between : List WorldEntry) → IsLater w early late between
+    → (s term : ℕ) → s < members_of w
+    → ((kept : Record) → Has (may_at w place ticket s early) kept → term ≤ kept.term)
+    → (kept : Record) → Has (may_at w place ticket s late) kept → term ≤ kept.term
+
+abbrev pub WorldTermsNeverFall : Type 0
+WorldTermsNeverFall = (w : World) → IsWorld w → TermsNeverFallIn w
+
+-- ---- node logs
+
+-- calls that were all answered
+abbrev pub made : List Entry → List SessionEntry
+made calls = map (λ call. Makes call) calls
+
+-- the calls of many turns are those of a session, from the state in which they begin, and leave it between two turns
+abbrev pub LogsAreSessions : Type 0
+LogsAreSessions =
+    (node : NodeConfig) (old new : State) (count : ℕ) (entries : List Entry) → IsNodeLog node old count new entries
+    → AreSessions (Doing node (Ends old)) (made entries)
+    × (after_entries (Doing node (Ends old)) (made entries) ≡ Doing node (Ends new))
