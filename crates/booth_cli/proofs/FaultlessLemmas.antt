@@ -1,26 +1,43 @@
 -- Where the outside does not fail, a run ends well.
-use Rattle.std.specs.Prelude.{Contains, Some, Ok, Err, codes}
-use Rattle.std.proofs.Common.{◌≡◌, ℕ, false, true, List, [], ◌∷◌, ◌++◌, refl, sym, ap, ◌∙◌, subst, arith}
+use Rattle.std.specs.Prelude.{Contains, Some, None, Ok, Err}
+use Rattle.std.proofs.Common.{◌≡◌, ℕ, false, true, List, [], ◌∷◌, ◌++◌, refl, sym, ap}
+use Rattle.std.proofs.Common.{◌∙◌, subst, arith}
 use Rattle.std.proofs.lemmas.List.Elements.{Contains-append_left, Contains-append_right}
 use Rattle.booth_base.specs.declared.address.Address.{Address}
-use Rattle.booth_base.specs.Address.{Spells}
 use Rattle.booth_conf.specs.Config.{ConfigSays}
 use Rattle.booth_conf.specs.Says.{Says, IsFault}
 use Rattle.booth_conf.specs.declared.faults.ConfFault.{ConfFault}
 use Rattle.booth_conf.proofs.OneAnswers.{one_answer}
 use Rattle.booth_host.specs.declared.host.ReadFault.TheVariants as reads
 use Rattle.booth_host.specs.declared.entry.Entry.{Entry}
-use Rattle.booth_host.specs.declared.entry.Entry.TheVariants.{Open, Now, ReadFile, Lock}
+use Rattle.booth_host.specs.declared.entry.Entry.TheVariants.{Open, Now, ReadFile, Lock, Kept, Out}
 use Rattle.booth_cli.specs.declared.outcome.Outcome.{Outcome}
-use Rattle.booth_cli.specs.declared.outcome.Outcome.TheVariants.{Done, Usage, BadWord, ConfUnread, ConfBad, NotMember, Unbuilt, KeyUnread, KeyBad, LockFault, Running, OpenFault, TurnsSpent, OutOfMemory}
+use Rattle.booth_cli.specs.declared.outcome.Outcome.TheVariants.{Done, Usage, BadWord, ConfUnread, ConfBad}
+use Rattle.booth_cli.specs.declared.outcome.Outcome.TheVariants.{NotMember, Unbuilt, KeyUnread, KeyBad}
+use Rattle.booth_cli.specs.declared.outcome.Outcome.TheVariants.{LockFault, Running, NotRunning, OpenFault}
+use Rattle.booth_cli.specs.declared.outcome.Outcome.TheVariants.{RecordUnread, TurnsSpent, PrintFault}
+use Rattle.booth_cli.specs.declared.outcome.Outcome.TheVariants.{OutOfMemory}
 use Rattle.booth_cli.specs.Fitness.{has_member, IsUnserved}
-use Rattle.booth_cli.specs.Opening.{IsUnread, IsKeyless, IsLockless, IsUnopened, reads_of, lock_path}
-use Rattle.booth_cli.specs.Serving.{IsServing, Unread, Refused, Unkeyed, Unlocked, Unopened, Turning, IsStuck, IsTurning}
+use Rattle.booth_cli.specs.Opening.{IsUnread, IsKeyless, IsLockless, IsUnopened, opened, reads_of}
+use Rattle.booth_cli.specs.Serving.{IsServing, Unread, Refused, Unkeyed, Unlocked, Unopened, Turning, IsStuck}
+use Rattle.booth_cli.specs.Serving.{IsTurning}
+use Rattle.clap.specs.Words.{takes}
+use Rattle.clap.specs.declared.error.kind.ErrorKind.{ErrorKind}
 use Rattle.booth_cli.specs.declared.outcome.Word.{Word}
-use Rattle.booth_cli.specs.declared.outcome.Word.TheVariants.{Site, Configuration}
-use Rattle.booth_cli.specs.Words.{IsPath, HasBadWord}
-use Rattle.booth_cli.specs.Run.{AskSome, IsDaemonRun}
-use Rattle.booth_cli.specs.Faultless.{IsValid, IsFaultless, AreFaultless, EndsWell, FaultlessRuns}
+use Rattle.booth_cli.specs.declared.command.Verb.{Verb}
+use Rattle.booth_cli.specs.declared.command.Verb.TheVariants as verbs
+use Rattle.booth_cli.specs.declared.asking.DaemonWords.{DaemonWords}
+use Rattle.booth_cli.specs.declared.program.Program.{Program}
+use Rattle.booth_cli.specs.declared.program.Program.TheVariants.{Boothd}
+use Rattle.booth_cli.specs.Commands.{app_for, verb_in}
+use Rattle.booth_cli.specs.Given.{found_in}
+use Rattle.booth_cli.specs.Reading.{Refuses}
+use Rattle.booth_cli.specs.Status.{IsStatus, status_text}
+use Rattle.booth_cli.specs.Unasked.{IsUnasked}
+use Rattle.booth_cli.specs.Asking.{IsUntaken, HasBadWord}
+use Rattle.booth_cli.specs.Run.{IsMade, Unasked, Served, Looked}
+use Rattle.booth_cli.specs.Faultless.{AreValid, IsValid, IsFaultless, EndsWell, FaultlessRuns, IsUnfailing}
+use Rattle.booth_cli.specs.Faultless.{Tells, FaultlessLooks}
 
 -- a call among the calls of a part is one of the whole
 among : (x : Entry) (xs ys entries : List Entry) → Contains xs x → entries ≡ xs ++ ys → Contains entries x
@@ -54,39 +71,39 @@ same_member address text config valid says none =
     cc
 
 -- each part of a run whose calls are among these, and in which nothing fails, ends well
-module _ (address : Address) (path said : List ℕ) (body entries : List Entry) (all : (x : Entry) → Contains body x → Contains entries x)
-    (free : IsFaultless path address entries) where
+module _ (asked : DaemonWords) (said : List ℕ) (body entries : List Entry) (all : (x : Entry) → Contains body x → Contains entries x)
+    (free : IsFaultless asked entries) where
   -- the call at this place of the body was made
   made : (x : Entry) (xs : List Entry) → Contains xs x → body ≡ xs → Contains entries x
   made x xs here same = all x (same_calls x xs body here same)
 
-  unread : (outcome : Outcome) → IsUnread path outcome said body → EndsWell outcome
+  unread : (outcome : Outcome) → IsUnread asked.conf outcome said body → EndsWell outcome
   unread OutOfMemory u = tt
   unread ConfUnread u =
-      let call : Entry = ReadFile path (Err reads.Failed) in
-      free.read path (made call (call ∷ []) (first_of call []) u.1)
+      let call : Entry = ReadFile asked.conf (Err reads.Failed) in
+      free.read asked.conf (made call (call ∷ []) (first_of call []) u.1)
   unread (ConfBad fault) u =
-      let call : Entry = ReadFile path (Ok u.0) in
-      no_fault address u.0 fault (free.valid u.0 (made call (call ∷ []) (first_of call []) u.3)) u.1
+      let call : Entry = ReadFile asked.conf (Ok u.0) in
+      no_fault asked.site u.0 fault (free.valid u.0 (made call (call ∷ []) (first_of call []) u.3)) u.1
   unread outcome u = absurd u
 
-  unserved : (text : List ℕ) (config : ConfigSays) (outcome : Outcome) → Says text config → body ≡ ReadFile path (Ok text) ∷ [] →
-      IsUnserved address config outcome said → EndsWell outcome
+  unserved : (text : List ℕ) (config : ConfigSays) (outcome : Outcome) → Says text config → body ≡ ReadFile asked.conf (Ok text) ∷ [] →
+      IsUnserved asked.site config outcome said → EndsWell outcome
   unserved text config (Unbuilt key) says whole u = tt
   unserved text config NotMember says whole u =
-      let call : Entry = ReadFile path (Ok text) in
-      same_member address text config (free.valid text (made call (call ∷ []) (first_of call []) whole)) says u.0
+      let call : Entry = ReadFile asked.conf (Ok text) in
+      same_member asked.site text config (free.valid text (made call (call ∷ []) (first_of call []) whole)) says u.0
   unserved text config outcome says whole u = absurd u
 
-  keyless : (text : List ℕ) (config : ConfigSays) (rest : List Entry) (outcome : Outcome) → Says text config → body ≡ ReadFile path (Ok text) ∷ rest →
+  keyless : (text : List ℕ) (config : ConfigSays) (rest : List Entry) (outcome : Outcome) → Says text config → body ≡ ReadFile asked.conf (Ok text) ∷ rest →
       IsKeyless config.authfile outcome said rest → EndsWell outcome
   keyless text config rest OutOfMemory says whole k = tt
   keyless text config rest KeyUnread says whole k =
-      let conf : Entry = ReadFile path (Ok text) in
+      let conf : Entry = ReadFile asked.conf (Ok text) in
       let call : Entry = ReadFile k.0 (Err reads.Failed) in
       free.read k.0 (made call (conf ∷ call ∷ []) (second_of conf call []) (whole ∙ ap (λ es. conf ∷ es) k.3))
   keyless text config rest (KeyBad fault) says whole k =
-      let conf : Entry = ReadFile path (Ok text) in
+      let conf : Entry = ReadFile asked.conf (Ok text) in
       let call : Entry = ReadFile k.0 (Ok k.1) in
       let calls : body ≡ conf ∷ call ∷ [] = whole ∙ ap (λ es. conf ∷ es) k.5 in
       let key = free.keyed text k.0 k.1 config (made conf (conf ∷ call ∷ []) (first_of conf (call ∷ [])) calls) says k.2
@@ -97,33 +114,41 @@ module _ (address : Address) (path said : List ℕ) (body entries : List Entry) 
   keyless text config rest outcome says whole k = absurd k
 
   -- a call behind the reads was made
-  behind : {after : ConfigSays → List Entry → Type 0} (s : IsStuck address path after body) (x : Entry) (xs : List Entry) → Contains xs x → s.rest ≡ xs → Contains entries x
+  behind : {after : ConfigSays → List Entry → Type 0} (s : IsStuck asked after body) (x : Entry) (xs : List Entry) → Contains xs x → s.rest ≡ xs → Contains entries x
   behind s x xs here same =
-      all x (same_calls x (reads_of path s.ready ++ s.rest) body (Contains-append_right (reads_of path s.ready) s.rest x (same_calls x xs s.rest here same)) s.whole)
+      all x (same_calls x (reads_of asked.conf s.ready ++ s.rest) body (Contains-append_right (reads_of asked.conf s.ready) s.rest x (same_calls x xs s.rest here same)) s.whole)
 
-  unlocked : (outcome : Outcome) → IsStuck address path (λ config es. IsLockless outcome said es) body → EndsWell outcome
+  unlocked : (outcome : Outcome) → IsStuck asked (λ config es. IsLockless asked.lock outcome said es) body → EndsWell outcome
   unlocked Running s =
-      let call : Entry = Lock lock_path (Ok false) in
-      free.free lock_path (behind s call (call ∷ []) (first_of call []) s.here.1)
+      let call : Entry = Lock asked.lock (Ok false) in
+      free.free asked.lock (behind s call (call ∷ []) (first_of call []) s.here.1)
   unlocked LockFault s =
-      let call : Entry = Lock lock_path (Err s.here.1) in
-      free.locked lock_path s.here.1 (behind s call (call ∷ []) (first_of call []) s.here.2)
+      let call : Entry = Lock asked.lock (Err s.here.1) in
+      free.locked asked.lock s.here.1 (behind s call (call ∷ []) (first_of call []) s.here.2)
   unlocked outcome s = absurd s.here
 
-  unopened : (outcome : Outcome) → IsStuck address path (λ config es. IsUnopened address path config outcome said es) body → EndsWell outcome
+  unopened : (outcome : Outcome) → IsStuck asked (λ config es. IsUnopened asked config outcome said es) body → EndsWell outcome
   unopened OutOfMemory s = tt
   unopened OpenFault s =
-      let call : Entry = Open (Some address) s.config.port (codes "/var/lib/booth") path (Err s.here.2) in
-      free.opened (Some address) s.config.port (codes "/var/lib/booth") path s.here.2
-      (behind s call (Lock lock_path (Ok true) ∷ Now s.here.1 ∷ call ∷ []) (third_of (Lock lock_path (Ok true)) (Now s.here.1) call []) s.here.3)
+      let call : Entry = Open (Some asked.site) s.config.port asked.records asked.conf (Err s.here.2) in
+      free.opened (Some asked.site) s.config.port asked.records asked.conf s.here.2
+      (behind s call (Lock asked.lock (Ok true) ∷ Now s.here.1 ∷ call ∷ []) (third_of (Lock asked.lock (Ok true)) (Now s.here.1) call []) s.here.3)
+  unopened RecordUnread s =
+      let no = s.here.here in
+      let call : Entry = Kept no.ticket.name (Err no.failed) in
+      let calls : List Entry = opened asked s.config s.here.reading (Ok tt) ++ (no.early ++ call ∷ []) in
+      free.kept no.ticket.name no.failed (behind s call calls
+      (Contains-append_right (opened asked s.config s.here.reading (Ok tt)) (no.early ++ call ∷ []) call
+      (Contains-append_right no.early (call ∷ []) call (first_of call [])))
+      (s.here.whole ∙ ap (λ es. opened asked s.config s.here.reading (Ok tt) ++ es) no.whole))
   unopened outcome s = absurd s.here
 
-  turning : (outcome : Outcome) (t : IsTurning address path outcome said body) → EndsWell outcome
+  turning : (outcome : Outcome) (t : IsTurning asked outcome said body) → EndsWell outcome
   turning Done t = tt
   turning TurnsSpent t = tt
   turning outcome t = absurd t.log
 
-  served : (outcome : Outcome) → IsServing address path outcome said body → EndsWell outcome
+  served : (outcome : Outcome) → IsServing asked outcome said body → EndsWell outcome
   served outcome (Unread u) = unread outcome u
   served outcome (Refused r) = unserved r.text r.config outcome r.says r.whole r.here
   served outcome (Unkeyed u) = keyless u.text u.config u.rest outcome u.fit.says u.whole u.here
@@ -131,23 +156,58 @@ module _ (address : Address) (path said : List ℕ) (body entries : List Entry) 
   served outcome (Unopened s) = unopened outcome s
   served outcome (Turning t) = turning outcome t
 
--- words that ask for a daemon have no bad word
-bad_word : (words : List (List ℕ)) (word : Word) → AskSome words → HasBadWord words word → ⊥
-bad_word words Site some bad =
-    let both = sym some.asks.spelled ∙ bad.spelled in
-    let same : some.asks.site ≡ bad.site = cc in
-    bad.none some.address (subst (λ s. Spells s some.address) same some.asks.spells)
-bad_word words Configuration some bad =
-    let both = sym some.asks.spelled ∙ bad.spelled in
-    let same : some.path ≡ bad.path = cc in
-    bad.none (subst IsPath same some.asks.valid)
+-- ---- valid words ask for something
 
-asked : (words : List (List ℕ)) (outcome : Outcome) (entries : List Entry) → IsDaemonRun words outcome entries → AreFaultless words entries → EndsWell outcome
-asked words outcome entries d free =
-    served d.address d.path d.run.said d.run.body entries (λ x here. among x d.run.body d.run.last entries here d.run.whole)
-    (free d.path d.address d.asks) outcome d.run.made
+same_verb : (verb other : Verb) (program : Program) (words : List (List ℕ)) → verb_in program words ≡ Some verb → verb_in program words ≡ Some other → other ≡ verb
+same_verb verb other program words is named = cc
+
+-- valid words are taken
+pub taken_words : (program : Program) (words : List (List ℕ)) (verb : Verb) (kind : ErrorKind) → AreValid program words verb → IsUntaken program words kind → ⊥
+taken_words program words verb kind valid un =
+    un.untaken (subst (λ v. takes (app_for v) words ≡ true) (sym (same_verb verb un.verb program words valid.named un.named)) valid.taken)
+
+-- valid words have no bad word
+pub good_words : (program : Program) (words : List (List ℕ)) (verb : Verb) (word : Word) → AreValid program words verb → HasBadWord program words word → ⊥
+good_words program words verb word valid bad =
+    valid.accepted word (subst (λ v. Refuses (found_in v words) word) (same_verb verb bad.verb program words valid.named bad.named) bad.first.refused)
+
+-- the only outcome of valid words that ask for nothing is want of memory
+pub for_memory : (program : Program) (words : List (List ℕ)) (verb : Verb) (outcome : Outcome) (said : List ℕ) (es : List Entry) → AreValid program words verb →
+    IsUnasked program words outcome said es → outcome ≡ OutOfMemory
+for_memory program words verb (Usage None) said es valid is = let named = valid.named in let none = is.0 in cc
+for_memory program words verb (Usage (Some kind)) said es valid is = absurd (taken_words program words verb kind valid is.0)
+for_memory program words verb (BadWord word) said es valid is = absurd (good_words program words verb word valid is.0)
+for_memory program words verb PrintFault said es valid is = absurd (taken_words program words verb is.0 valid is.1)
+for_memory program words verb OutOfMemory said es valid is = refl
+for_memory program words verb outcome said es valid is = absurd is
 
 pub faultless_runs : FaultlessRuns
-faultless_runs words (Usage kind) entries some run free = run.1 some.path some.asks.site some.asks.spelled
-faultless_runs words (BadWord word) entries some run free = bad_word words word some run.0
-faultless_runs words outcome entries some run free = asked words outcome entries run free
+faultless_runs words outcome entries valid run free = go run.made
+  where
+    go : IsMade words outcome run.said run.body → EndsWell outcome
+    go (Unasked is) = subst EndsWell (sym (for_memory Boothd words verbs.Daemon outcome run.said run.body valid is)) tt
+    go (Served asked asks is) =
+        served asked run.said run.body entries (λ x here. among x run.body run.last entries here run.whole) (free asked asks) outcome is
+    go (Looked lock asks is) = let named = valid.named in let other = asks.asks.named in cc
+
+looked : (lock said : List ℕ) (body entries : List Entry) (outcome : Outcome) → ((x : Entry) → Contains body x → Contains entries x) →
+    IsUnfailing entries → IsStatus lock outcome said body → Tells outcome
+looked lock said body entries Done all free is = tt
+looked lock said body entries NotRunning all free is = tt
+looked lock said body entries LockFault all free is =
+    let call : Entry = Lock lock (Err is.1) in
+    free.locked lock is.1 (all call (same_calls call (call ∷ []) body (first_of call []) is.2))
+looked lock said body entries PrintFault all free is =
+    let first : Entry = Lock lock (Ok is.1) in
+    let call : Entry = Out (status_text is.1) (Err is.2) in
+    free.printed (status_text is.1) is.2 (all call (same_calls call (first ∷ call ∷ []) body (second_of first call []) is.3))
+looked lock said body entries outcome all free is = absurd is
+
+pub faultless_looks : FaultlessLooks
+faultless_looks words outcome entries valid run free = go run.made
+  where
+    go : IsMade words outcome run.said run.body → Tells outcome
+    go (Unasked is) = subst Tells (sym (for_memory Boothd words verbs.Status outcome run.said run.body valid is)) tt
+    go (Served asked asks is) = let named = valid.named in let other = asks.asks.named in cc
+    go (Looked lock asks is) =
+        looked lock run.said run.body entries outcome (λ x here. among x run.body run.last entries here run.whole) free is

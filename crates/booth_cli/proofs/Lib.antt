@@ -1,5 +1,14 @@
-pub mod WordLemmas
+pub mod RequiredLemmas
+pub mod GivenLemmas
+pub mod ReadingLemmas
+pub mod AskingLemmas
 pub mod TextLemmas
+pub mod FitnessLemmas
 pub mod ServeLemmas
+pub mod RecordLemmas
+pub mod TurnLemmas
+pub mod UsageLemmas
+pub mod StatusLemmas
 pub mod RunLemmas
 pub mod FaultlessLemmas
+pub mod ClientLemmas

@@ -1,5 +1,6 @@
--- Runs in which the outside does not fail and the files are as they must be.
+-- Runs in which the outside does not fail, and words and files are as they must be.
 use Rattle.std.specs.Prelude.{◌≡◌, ℕ, true, List, Contains, Option, Some, Ok, Err, false}
+use Rattle.clap.specs.Words.{takes}
 use Rattle.booth_base.specs.declared.address.Address.{Address}
 use Rattle.booth_conf.specs.Config.{ConfigSays}
 use Rattle.booth_conf.specs.Says.{Says}
@@ -7,12 +8,30 @@ use Rattle.booth_auth.specs.Key.{key_read}
 use Rattle.booth_host.specs.declared.host.Failed.{Failed}
 use Rattle.booth_host.specs.declared.host.ReadFault.TheVariants as reads
 use Rattle.booth_host.specs.declared.entry.Entry.{Entry}
-use Rattle.booth_host.specs.declared.entry.Entry.TheVariants.{Open, ReadFile, Lock}
+use Rattle.booth_host.specs.declared.entry.Entry.TheVariants.{Open, ReadFile, Lock, Kept, Out}
+use Rattle.booth_cli.specs.declared.command.Verb.{Verb}
+use Rattle.booth_cli.specs.declared.command.Verb.TheVariants as verbs
+use Rattle.booth_cli.specs.declared.outcome.Word.{Word}
 use Rattle.booth_cli.specs.declared.outcome.Outcome.{Outcome}
-use Rattle.booth_cli.specs.declared.outcome.Outcome.TheVariants.{Done, Unbuilt, TurnsSpent, OutOfMemory}
+use Rattle.booth_cli.specs.declared.outcome.Outcome.TheVariants.{Done, Unbuilt, TurnsSpent, NotRunning}
+use Rattle.booth_cli.specs.declared.outcome.Outcome.TheVariants.{OutOfMemory}
+use Rattle.booth_cli.specs.declared.asking.DaemonWords.{DaemonWords}
+use Rattle.booth_cli.specs.declared.program.Program.{Program}
+use Rattle.booth_cli.specs.declared.program.Program.TheVariants.{Boothd}
+use Rattle.booth_cli.specs.Commands.{app_for, verb_in}
+use Rattle.booth_cli.specs.Given.{found_in}
+use Rattle.booth_cli.specs.Reading.{Refuses}
+use Rattle.booth_cli.specs.Asking.{AsksDaemon}
 use Rattle.booth_cli.specs.Fitness.{has_member}
-use Rattle.booth_cli.specs.Words.{Asks}
-use Rattle.booth_cli.specs.Run.{AskSome, IsRun}
+use Rattle.booth_cli.specs.Run.{IsRun}
+
+-- the first word is this command of the program, which takes the others, and each reader accepts its word
+pub record AreValid (program : Program) (words : List (List ℕ)) (verb : Verb) : Type 0 where
+  pub named : verb_in program words ≡ Some verb
+  pub taken : takes (app_for verb) words ≡ true
+  pub accepted : (word : Word) → Refuses (found_in verb words) word → ⊥
+
+-- ---- a daemon
 
 -- the text says a configuration, which has a member at this address
 pub record IsValid (address : Address) (text : List ℕ) : Type 0 where
@@ -25,18 +44,20 @@ pub record IsKeyFile (text : List ℕ) : Type 0 where
   pub key : List ℕ
   pub reads : key_read text ≡ Ok key
 
--- No file, no lock and no socket failed, and the lock was free; what was read at the path says a configuration with
--- this member, and what was read at its `authfile` holds a key.
-pub record IsFaultless (path : List ℕ) (address : Address) (entries : List Entry) : Type 0 where
+-- No file, no lock, no socket and no record failed, and the lock was free; what was read at the path says a
+-- configuration with this member, and what was read at its `authfile` holds a key.
+pub record IsFaultless (asked : DaemonWords) (entries : List Entry) : Type 0 where
   pub read : (file : List ℕ) → Contains entries (ReadFile file (Err reads.Failed)) → ⊥
-  pub valid : (text : List ℕ) → Contains entries (ReadFile path (Ok text)) → IsValid address text
+  pub valid : (text : List ℕ) → Contains entries (ReadFile asked.conf (Ok text)) →
+      IsValid asked.site text
   pub keyed : (text file key_text : List ℕ) (config : ConfigSays) → Contains entries
-      (ReadFile path (Ok text)) → Says text config →
+      (ReadFile asked.conf (Ok text)) → Says text config →
       config.authfile ≡ Some file → Contains entries (ReadFile file (Ok key_text)) → IsKeyFile key_text
   pub locked : (lock : List ℕ) (failed : Failed) → Contains entries (Lock lock (Err failed)) → ⊥
   pub free : (lock : List ℕ) → Contains entries (Lock lock (Ok false)) → ⊥
   pub opened : (local : Option Address) (port : ℕ) (records conf : List ℕ) (failed : Failed) →
       Contains entries (Open local port records conf (Err failed)) → ⊥
+  pub kept : (ticket : List ℕ) (failed : Failed) → Contains entries (Kept ticket (Err failed)) → ⊥
 
 -- the outcomes that are no one's fault
 abbrev pub EndsWell : Outcome → Type 0
@@ -48,11 +69,29 @@ EndsWell outcome = ⊥
 
 -- the same of what the words ask for
 abbrev pub AreFaultless : List (List ℕ) → List Entry → Type 0
-AreFaultless words entries = (path : List ℕ) (address : Address) → Asks words path address →
-    IsFaultless path address entries
+AreFaultless words entries = (asked : DaemonWords) → AsksDaemon words asked → IsFaultless asked entries
 
--- Valid words, valid files, a free lock and an outside that does not fail give Done, TurnsSpent or OutOfMemory, or
--- Unbuilt where the configuration asks for a part that is not built yet.
+-- Valid words, valid files, a free lock and an outside that does not fail give Done, TurnsSpent or
+-- OutOfMemory, or Unbuilt where the configuration asks for a part that is not built yet.
 abbrev pub FaultlessRuns : Type 0
 FaultlessRuns = (words : List (List ℕ)) (outcome : Outcome) (entries : List Entry) →
-    AskSome words → IsRun words outcome entries → AreFaultless words entries → EndsWell outcome
+    AreValid Boothd words verbs.Daemon → IsRun words outcome entries → AreFaultless words entries →
+    EndsWell outcome
+
+-- ---- a look at the lock
+
+-- neither the lock nor a print failed
+pub record IsUnfailing (entries : List Entry) : Type 0 where
+  pub locked : (lock : List ℕ) (failed : Failed) → Contains entries (Lock lock (Err failed)) → ⊥
+  pub printed : (text : List ℕ) (failed : Failed) → Contains entries (Out text (Err failed)) → ⊥
+
+abbrev pub Tells : Outcome → Type 0
+Tells Done = Unit {0}
+Tells NotRunning = Unit {0}
+Tells OutOfMemory = Unit {0}
+Tells outcome = ⊥
+
+-- Valid words and an outside that does not fail give Done, NotRunning or OutOfMemory.
+abbrev pub FaultlessLooks : Type 0
+FaultlessLooks = (words : List (List ℕ)) (outcome : Outcome) (entries : List Entry) →
+    AreValid Boothd words verbs.Status → IsRun words outcome entries → IsUnfailing entries → Tells outcome

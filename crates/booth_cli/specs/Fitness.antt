@@ -1,5 +1,6 @@
 -- Whether a daemon can serve a configuration: it has this member, and asks for no part that is not built yet.
-use Rattle.std.specs.Prelude.{◌≡◌, ℕ, Bool, true, false, List, Option, Some, None, is_some, nat_lt, length, Result, Ok, Err, if◌then◌else◌}
+use Rattle.std.specs.Prelude.{◌≡◌, ℕ, Bool, true, false, List, Option, Some, None, is_some, nat_lt}
+use Rattle.std.specs.Prelude.{length, Result, Ok, Err, if◌then◌else◌}
 use Rattle.std.specs.List.{list_any}
 use Rattle.booth_base.specs.declared.address.Address.{Address}
 use Rattle.booth_conf.specs.Config.{ConfigSays}
@@ -45,10 +46,12 @@ abbrev pub IsUnserved : Address → ConfigSays → Outcome → List ℕ → Type
 IsUnserved address config NotMember said = (has_member config address ≡ false)
     × (said ≡ not_member_text address)
 IsUnserved address config (Unbuilt key) said =
-    (has_member config address ≡ true) × (unbuilt config.tickets ≡ Some key) × (said ≡ unbuilt_text key)
+    (has_member config address ≡ true) × (unbuilt config.tickets ≡ Some key)
+    × (said ≡ unbuilt_text key)
 IsUnserved address config outcome said = ⊥
 
 -- whether it serves the configuration, and how it ends where it does not
 abbrev pub IsAdmitted : Address → ConfigSays → Result (Unit {0}) Ended → Type 0
-IsAdmitted address config (Ok done) = (has_member config address ≡ true) × (unbuilt config.tickets ≡ None)
+IsAdmitted address config (Ok done) = (has_member config address ≡ true)
+    × (unbuilt config.tickets ≡ None)
 IsAdmitted address config (Err ended) = IsUnserved address config ended.outcome ended.said

@@ -1,10 +1,12 @@
--- The opening of a daemon, from the first call to the last: each stage by its calls, or by how the daemon ends there.
-use Rattle.std.specs.Prelude.{◌≡◌, ◌++◌, ◌⊎◌, ℕ, true, false, List, [], ◌∷◌, Option, Some, None, Result, Ok, Err, codes}
+-- The opening of a daemon, in the order of its stages: each by its calls, or by how the daemon ends there.
+use Rattle.std.specs.Prelude.{◌≡◌, ◌⊎◌, ◌++◌, ℕ, true, false, List, [], ◌∷◌, Option, Some, None}
+use Rattle.std.specs.Prelude.{Result, Ok, Err, codes}
 use Rattle.booth_base.specs.declared.address.Address.{Address}
 use Rattle.booth_base.specs.Address.{id_of}
 use Rattle.booth_conf.specs.Config.{ConfigSays}
 use Rattle.booth_conf.specs.Says.{Says, IsFault}
 use Rattle.booth_auth.specs.Key.{key_read}
+use Rattle.booth_rec.specs.declared.record.Record.{Record}
 use Rattle.booth_host.specs.declared.host.Failed.{Failed}
 use Rattle.booth_host.specs.declared.host.ReadFault.TheVariants as reads
 use Rattle.booth_host.specs.declared.entry.Entry.{Entry}
@@ -12,12 +14,17 @@ use Rattle.booth_host.specs.declared.entry.Entry.TheVariants.{Open, Now, ReadFil
 use Rattle.booth_node.specs.declared.node_config.NodeConfig.{NodeConfig}
 use Rattle.booth_node.specs.declared.node.Node.{Node}
 use Rattle.booth_node.specs.View.{node_config, state_of}
-use Rattle.booth_node.specs.Counting.{opened_at}
+use Rattle.booth_node.specs.Opening.{opened as start_state}
 use Rattle.booth_cli.specs.declared.outcome.Outcome.{Outcome}
-use Rattle.booth_cli.specs.declared.outcome.Outcome.TheVariants.{ConfUnread, ConfBad, KeyUnread, KeyBad, LockFault, Running, OpenFault, OutOfMemory}
+use Rattle.booth_cli.specs.declared.outcome.Outcome.TheVariants.{ConfUnread, ConfBad, KeyUnread, KeyBad}
+use Rattle.booth_cli.specs.declared.outcome.Outcome.TheVariants.{LockFault, Running, OpenFault, RecordUnread}
+use Rattle.booth_cli.specs.declared.outcome.Outcome.TheVariants.{OutOfMemory}
 use Rattle.booth_cli.specs.declared.outcome.Ended.{Ended}
-use Rattle.booth_cli.specs.Texts.{line_of, unread_text, IsFaultText, key_fault_text, out_of_memory_text}
+use Rattle.booth_cli.specs.declared.asking.DaemonWords.{DaemonWords}
+use Rattle.booth_cli.specs.Texts.{unread_text, unlocked_text, IsFaultText, key_fault_text}
+use Rattle.booth_cli.specs.Texts.{out_of_memory_text}
 use Rattle.booth_cli.specs.Fitness.{IsFit}
+use Rattle.booth_cli.specs.Records.{AreKept, AreNoneOrAll, IsRecordUnread}
 
 -- ---- the configuration
 
@@ -87,53 +94,68 @@ reads_of {address} {config} path ready = ReadFile path
 
 -- ---- the lock
 
-abbrev pub lock_path : List ℕ
-lock_path = codes "/var/run/booth.lock"
-
 -- the lock is another's, or failed
-abbrev pub IsLockless : Outcome → List ℕ → List Entry → Type 0
-IsLockless Running said entries = (said ≡ line_of (codes "already running"))
-    × (entries ≡ Lock lock_path (Ok false) ∷ [])
-IsLockless LockFault said entries = (said ≡ line_of (codes "cannot lock " ++ lock_path))
-    × (failed : Failed) × (entries ≡ Lock lock_path (Err failed) ∷ [])
-IsLockless outcome said entries = ⊥
+abbrev pub IsLockless : List ℕ → Outcome → List ℕ → List Entry → Type 0
+IsLockless lock Running said entries = (said ≡ codes "already running")
+    × (entries ≡ Lock lock (Ok false) ∷ [])
+IsLockless lock LockFault said entries = (said ≡ unlocked_text lock)
+    × (failed : Failed) × (entries ≡ Lock lock (Err failed) ∷ [])
+IsLockless lock outcome said entries = ⊥
 
 -- the one call for the lock
-abbrev pub IsLocked : Result (Unit {0}) Ended → List Entry → Type 0
-IsLocked (Ok done) entries = entries ≡ Lock lock_path (Ok true) ∷ []
-IsLocked (Err ended) entries = IsLockless ended.outcome ended.said entries
+abbrev pub IsLocked : List ℕ → Result (Unit {0}) Ended → List Entry → Type 0
+IsLocked lock (Ok done) entries = entries ≡ Lock lock (Ok true) ∷ []
+IsLocked lock (Err ended) entries = IsLockless lock ended.outcome ended.said entries
 
--- ---- the clock, the socket and the node
+-- ---- the clock, the socket, the records and the node
 
 -- the calls behind the reads; the socket's answer is the last
-abbrev pub opened : Address → List ℕ → ConfigSays → ℕ → Result (Unit {0}) Failed → List Entry
-opened address path config reading answer =
-    Lock lock_path (Ok true) ∷ Now reading ∷ Open (Some address) config.port
-    (codes "/var/lib/booth") path answer ∷ []
+abbrev pub opened : DaemonWords → ConfigSays → ℕ → Result (Unit {0}) Failed → List Entry
+opened asked config reading answer = Lock asked.lock (Ok true) ∷ Now reading
+    ∷ Open (Some asked.site) config.port asked.records asked.conf answer ∷ []
 
--- the socket failed, or there is no memory for the node
-abbrev pub IsUnopened : Address → List ℕ → ConfigSays → Outcome → List ℕ → List Entry → Type 0
-IsUnopened address path config OpenFault said entries = (said ≡ line_of (codes "cannot open"))
-    × (reading : ℕ) × (failed : Failed) × (entries ≡ opened address path config reading (Err failed))
-IsUnopened address path config OutOfMemory said entries = (said ≡ out_of_memory_text)
-    × (reading : ℕ) × (entries ≡ opened address path config reading (Ok tt))
-IsUnopened address path config outcome said entries = ⊥
+-- the socket was opened, and then these calls were made
+pub record IsBehindSocket (asked : DaemonWords) (config : ConfigSays) (after : List Entry → Type 0)
+    (entries : List Entry) : Type 0 where
+  pub reading : ℕ
+  pub rest : List Entry
+  pub whole : entries ≡ opened asked config reading (Ok tt) ++ rest
+  pub here : after rest
+
+-- the socket failed, or a record could not be read, or there is no memory for the records or for the node
+abbrev pub IsUnopened : DaemonWords → ConfigSays → Outcome → List ℕ → List Entry → Type 0
+IsUnopened asked config OpenFault said entries = (said ≡ codes "cannot open")
+    × (reading : ℕ) × (failed : Failed) × (entries ≡ opened asked config reading (Err failed))
+IsUnopened asked config RecordUnread said entries =
+    IsBehindSocket asked config (IsRecordUnread config.tickets said) entries
+IsUnopened asked config OutOfMemory said entries = (said ≡ out_of_memory_text)
+    × IsBehindSocket asked config (AreNoneOrAll config.tickets) entries
+IsUnopened asked config outcome said entries = ⊥
 
 -- the node of this member
 abbrev pub member_config : Address → ConfigSays → Option (List ℕ) → NodeConfig
 member_config address config key = record { config = config; key = key; me = record { 0 = id_of address } }
 
--- this node has just been opened, at this reading
-pub record IsFresh (address : Address) (config : ConfigSays) (key : Option (List ℕ)) (reading : ℕ)
-    (node : Node) : Type 0 where
+-- this node has just been opened, with these records, at this reading
+pub record IsFresh (address : Address) (config : ConfigSays) (key : Option (List ℕ))
+    (records : List (Option Record)) (reading : ℕ) (node : Node) : Type 0 where
   pub own : node_config node ≡ member_config address config key
-  pub state : state_of node ≡ opened_at reading
+  pub state : state_of node ≡ start_state (member_config address config key) records reading
+
+-- the calls behind the reads, up to the last record, and the node
+pub record IsStarted (asked : DaemonWords) (config : ConfigSays) (key : Option (List ℕ)) (node : Node)
+    (entries : List Entry) : Type 0 where
+  pub reading : ℕ
+  pub records : List (Option Record)
+  pub kept : List Entry
+  pub read : AreKept config.tickets records kept
+  pub fresh : IsFresh asked.site config key records reading node
+  pub whole : entries ≡ opened asked config reading (Ok tt) ++ kept
 
 -- the calls behind the lock, and the node
-abbrev pub IsNodeOpened : Address → List ℕ → ConfigSays → Option (List ℕ) → Result Node Ended →
+abbrev pub IsNodeOpened : DaemonWords → ConfigSays → Option (List ℕ) → Result Node Ended →
     List Entry → Type 0
-IsNodeOpened address path config key (Ok node) entries = (reading : ℕ)
-    × IsFresh address config key reading node
-    × (Lock lock_path (Ok true) ∷ entries ≡ opened address path config reading (Ok tt))
-IsNodeOpened address path config key (Err ended) entries =
-    IsUnopened address path config ended.outcome ended.said (Lock lock_path (Ok true) ∷ entries)
+IsNodeOpened asked config key (Ok node) entries =
+    IsStarted asked config key node (Lock asked.lock (Ok true) ∷ entries)
+IsNodeOpened asked config key (Err ended) entries =
+    IsUnopened asked config ended.outcome ended.said (Lock asked.lock (Ok true) ∷ entries)

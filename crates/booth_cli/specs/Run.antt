@@ -1,51 +1,70 @@
 -- The calls of a whole run of boothd.
-use Rattle.std.specs.Prelude.{◌≡◌, ◌++◌, ℕ, List, [], ◌∷◌, Result, None}
-use Rattle.booth_base.specs.declared.address.Address.{Address}
+use Rattle.std.specs.Prelude.{◌≡◌, ◌++◌, ◌⊎◌, ℕ, List, [], ◌∷◌, Some, None, Result}
 use Rattle.booth_host.specs.declared.host.Failed.{Failed}
 use Rattle.booth_host.specs.declared.entry.Entry.{Entry}
 use Rattle.booth_host.specs.declared.entry.Entry.TheVariants as calls
 use Rattle.booth_cli.specs.declared.outcome.Outcome.{Outcome}
-use Rattle.booth_cli.specs.declared.outcome.Outcome.TheVariants.{Usage, BadWord}
-use Rattle.booth_cli.specs.Words.{Asks, AskNothing, HasBadWord}
-use Rattle.booth_cli.specs.Texts.{usage_text, bad_word_text}
+use Rattle.booth_cli.specs.declared.outcome.Outcome.TheVariants.{Done, Usage, BadWord, LockFault, NotRunning}
+use Rattle.booth_cli.specs.declared.outcome.Outcome.TheVariants.{PrintFault, OutOfMemory, Report, Refused, NoReply}
+use Rattle.booth_cli.specs.declared.outcome.Outcome.TheVariants.{SendFault}
+use Rattle.booth_cli.specs.declared.program.Program.{Program}
+use Rattle.booth_cli.specs.declared.program.Program.TheVariants.{Boothd}
+use Rattle.booth_cli.specs.Texts.{spoken}
+use Rattle.booth_cli.specs.declared.asking.DaemonWords.{DaemonWords}
+use Rattle.booth_cli.specs.Commands.{verb_in}
+use Rattle.booth_cli.specs.Asking.{AsksDaemon, AsksStatus, IsUntaken, HasBadWord}
+use Rattle.booth_cli.specs.Unasked.{IsUnasked}
 use Rattle.booth_cli.specs.Serving.{IsServing}
+use Rattle.booth_cli.specs.Status.{IsStatus}
 
--- one err of this text, whatever the host answers, or none where the text is empty
-abbrev pub IsText : List ℕ → List Entry → Type 0
-IsText [] entries = entries ≡ []
-IsText (b ∷ text) entries = (answer : Result (Unit {0}) Failed) × (entries ≡ calls.Err (b ∷ text) answer ∷ [])
+-- one err of the program's line with this text, whatever the host answers, or none where the text is empty
+abbrev pub IsText : Program → List ℕ → List Entry → Type 0
+IsText program [] entries = entries ≡ []
+IsText program (b ∷ text) entries = (answer : Result (Unit {0}) Failed)
+    × (entries ≡ calls.Err (spoken program (b ∷ text)) answer ∷ [])
 
--- the calls of the daemon that was asked for, and then what it says
-pub record IsAskedRun (path : List ℕ) (address : Address) (outcome : Outcome)
+-- the calls up to where the outcome is decided, by what the words ask for
+pub data IsMade (words : List (List ℕ)) (outcome : Outcome) (said : List ℕ)
     (entries : List Entry) : Type 0 where
+  Unasked : IsUnasked Boothd words outcome said entries → IsMade words outcome said entries
+  Served : (asked : DaemonWords) → AsksDaemon words asked → IsServing asked outcome said entries →
+      IsMade words outcome said entries
+  Looked : (lock : List ℕ) → AsksStatus words lock → IsStatus lock outcome said entries →
+      IsMade words outcome said entries
+
+-- all calls of a run on these words, the last of which says how it ended
+pub record IsRun (words : List (List ℕ)) (outcome : Outcome) (entries : List Entry) : Type 0 where
   pub said : List ℕ
   pub body : List Entry
   pub last : List Entry
   pub whole : entries ≡ body ++ last
-  pub made : IsServing address path outcome said body
-  pub told : IsText said last
+  pub made : IsMade words outcome said body
+  pub told : IsText Boothd said last
 
--- words that ask for a daemon, and its run
-pub record IsDaemonRun (words : List (List ℕ)) (outcome : Outcome) (entries : List Entry) : Type 0 where
-  pub path : List ℕ
-  pub address : Address
-  pub asks : Asks words path address
-  pub run : IsAskedRun path address outcome entries
+-- ---- over every host
 
--- the calls of a run on these words, by how it ended
-abbrev pub IsRun : List (List ℕ) → Outcome → List Entry → Type 0
-IsRun words (Usage kind) entries = (kind ≡ None) × AskNothing words × IsText usage_text entries
-IsRun words (BadWord word) entries = HasBadWord words word × IsText (bad_word_text word) entries
-IsRun words outcome entries = IsDaemonRun words outcome entries
+-- the words ask for a daemon, whatever they say of it
+pub record AskForDaemon (words : List (List ℕ)) : Type 0 where
+  pub asked : DaemonWords
+  pub asks : AsksDaemon words asked
 
--- the words ask for a daemon, whatever their path and address
-pub record AskSome (words : List (List ℕ)) : Type 0 where
-  pub path : List ℕ
-  pub address : Address
-  pub asks : Asks words path address
+-- the words ask whether a daemon runs, by whatever lock
+pub record AskForStatus (words : List (List ℕ)) : Type 0 where
+  pub lock : List ℕ
+  pub asks : AsksStatus words lock
 
--- Usage comes exactly where the words ask for nothing, and BadWord exactly where that word is the first refused
+-- Usage comes only for words that are not taken, and BadWord exactly where that word is the first refused
 abbrev pub FitsWords : List (List ℕ) → Outcome → Type 0
-FitsWords words (Usage kind) = (kind ≡ None) × AskNothing words
-FitsWords words (BadWord word) = HasBadWord words word
-FitsWords words outcome = AskSome words
+FitsWords words (Usage None) = verb_in Boothd words ≡ None
+FitsWords words (Usage (Some kind)) = IsUntaken Boothd words kind
+FitsWords words (BadWord word) = HasBadWord Boothd words word
+FitsWords words Done = AskForDaemon words ⊎ AskForStatus words
+FitsWords words LockFault = AskForDaemon words ⊎ AskForStatus words
+FitsWords words NotRunning = AskForStatus words
+FitsWords words PrintFault = verb_in Boothd words ≡ None → ⊥
+FitsWords words OutOfMemory = Unit {0}
+FitsWords words Report = ⊥
+FitsWords words (Refused result) = ⊥
+FitsWords words NoReply = ⊥
+FitsWords words SendFault = ⊥
+FitsWords words outcome = AskForDaemon words

@@ -1,5 +1,5 @@
--- What the daemon says on standard error, and its exit status.
-use Rattle.std.specs.Prelude.{◌≡◌, ◌++◌, ℕ, List, [], Option, codes, decimal, unwrap_or}
+-- What is said on standard error, and the exit status.
+use Rattle.std.specs.Prelude.{◌≡◌, ◌++◌, ℕ, List, [], Option, Some, codes, decimal, unwrap_or}
 use Rattle.booth_base.specs.declared.address.Address.{Address}
 use Rattle.booth_base.specs.Address.{printed}
 use Rattle.booth_conf.specs.declared.keys.KeyNo.{KeyNo}
@@ -9,45 +9,67 @@ use Rattle.booth_conf.specs.declared.faults.ConfFault.{ConfFault}
 use Rattle.booth_conf.specs.declared.faults.ConfFault.TheVariants as confs
 use Rattle.booth_auth.specs.declared.key.KeyFault.{KeyFault}
 use Rattle.booth_auth.specs.declared.key.KeyFault.TheVariants as keys
+use Rattle.clap.specs.declared.error.kind.ErrorKind.TheVariants.{DisplayHelp, DisplayVersion}
+use Rattle.booth_cli.specs.declared.program.Program.{Program}
+use Rattle.booth_cli.specs.declared.program.Program.TheVariants.{Boothd, Booth}
+use Rattle.booth_cli.specs.Commands.{name_of}
 use Rattle.booth_cli.specs.declared.outcome.Word.{Word}
 use Rattle.booth_cli.specs.declared.outcome.Word.TheVariants as words
 use Rattle.booth_cli.specs.declared.outcome.Outcome.{Outcome}
-use Rattle.booth_cli.specs.declared.outcome.Outcome.TheVariants.{Done}
+use Rattle.booth_cli.specs.declared.outcome.Outcome.TheVariants.{Done, Report, NotRunning, Usage}
 
--- a line that names the program
-abbrev pub line_of : List ℕ → List ℕ
-line_of text = codes "boothd: " ++ text ++ codes "\n"
+-- a text as it is said: behind the program's name, on a line
+abbrev pub spoken : Program → List ℕ → List ℕ
+spoken program text = name_of program ++ codes ": " ++ text ++ codes "\n"
 
-abbrev pub usage_text : List ℕ
-usage_text = line_of (codes "usage: boothd daemon -c FILE -s ADDRESS")
+abbrev pub usage_text : Program → List ℕ
+usage_text Boothd =
+    codes "usage: boothd COMMAND [OPTIONS], with the command daemon or status; see --help behind it, and boothd(8)"
+usage_text Booth =
+    codes "usage: booth COMMAND [OPTIONS], with the command list, peers, grant or revoke; see --help behind it"
 
 abbrev pub bad_word_text : Word → List ℕ
-bad_word_text words.Site = line_of (codes "bad site")
-bad_word_text words.Configuration = line_of (codes "bad configuration")
+bad_word_text words.Ticket = codes "bad ticket"
+bad_word_text words.Name = codes "bad name"
+bad_word_text words.Value = codes "bad value"
+bad_word_text words.Site = codes "bad site"
+bad_word_text words.Number = codes "bad number"
+bad_word_text words.Path = codes "bad path"
+bad_word_text words.Configuration = codes "bad configuration"
 
 abbrev pub unread_text : List ℕ → List ℕ
-unread_text path = line_of (codes "cannot read " ++ path)
+unread_text path = codes "cannot read " ++ path
 
 abbrev pub not_member_text : Address → List ℕ
-not_member_text address = line_of (printed address ++ codes " is not a member")
+not_member_text address = printed address ++ codes " is not a member"
 
 -- the name of a key; those of the table have one
 abbrev pub key_name : KeyNo → List ℕ
 key_name key = unwrap_or (name_at key) []
 
 abbrev pub unbuilt_text : KeyNo → List ℕ
-unbuilt_text key = line_of (codes "not built: " ++ key_name key)
+unbuilt_text key = codes "not built: " ++ key_name key
 
 abbrev pub key_fault_text : KeyFault → List ℕ
-key_fault_text keys.TooShort = line_of (codes "key too short")
-key_fault_text keys.TooLong = line_of (codes "key too long")
+key_fault_text keys.TooShort = codes "key too short"
+key_fault_text keys.TooLong = codes "key too long"
 
 abbrev pub out_of_memory_text : List ℕ
-out_of_memory_text = line_of (codes "out of memory")
+out_of_memory_text = codes "out of memory"
+
+-- of the ticket with this name
+abbrev pub unread_record_text : List ℕ → List ℕ
+unread_record_text name = codes "cannot read the record of " ++ name
+
+abbrev pub unlocked_text : List ℕ → List ℕ
+unlocked_text path = codes "cannot lock " ++ path
+
+abbrev pub unprinted_text : List ℕ
+unprinted_text = codes "cannot print"
 
 -- what is wrong with the file at this path
 abbrev pub file_text : List ℕ → List ℕ → List ℕ
-file_text path what = line_of (path ++ codes ": " ++ what)
+file_text path what = path ++ codes ": " ++ what
 
 -- what is wrong with a line of it
 abbrev pub at_line : List ℕ → ℕ → List ℕ → List ℕ
@@ -88,4 +110,8 @@ IsFaultText path text confs.OutOfMemory said = said ≡ out_of_memory_text
 
 abbrev pub status_of : Outcome → ℕ
 status_of Done = 0
+status_of Report = 0
+status_of NotRunning = 7
+status_of (Usage (Some DisplayHelp)) = 0
+status_of (Usage (Some DisplayVersion)) = 0
 status_of outcome = 1

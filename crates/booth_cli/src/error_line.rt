@@ -1,14 +1,17 @@
-//! A line for standard error, whose memory is its own.
-ghost use Rattle.std.specs.Prelude.{◌≡◌, ◌≤◌, ◌+◌, ◌++◌, [], codes, decimal, length};
+//! The text of a line for standard error, whose memory is its own.
+ghost use Rattle.std.specs.Prelude.{◌≡◌, ◌≤◌, ◌+◌, ◌++◌, [], decimal, length};
+ghost use Rattle.booth_cli.specs.Texts.{spoken};
 
+use crate::program::Program;
 use arrayvec::ArrayVec;
 use itoa::Buffer;
 use std::marker::Model;
 
-/// The most bytes of a line.
+/// The most bytes of a text.
 const LINE_BYTES: usize = 400;
 
-/// Nothing, or one line that names the program. Contracts see its bytes.
+/// Nothing, or the text of one line. The program's name is put before it when it is said. Contracts see
+/// its bytes.
 #[derive(Drop)]
 pub(crate) struct ErrorLine {
     bytes: ArrayVec<u8, 400>,
@@ -34,15 +37,6 @@ impl ErrorLine {
         }
     }
 
-    /// The program's name, with which each line begins.
-    pub fn begun() -> ErrorLine
-        ensures { result ≡ codes "boothd: " }
-    {
-        let mut line = ErrorLine::none();
-        line.put(b"boothd: ");
-        line
-    }
-
     /// Appends a piece, for which there is room.
     pub fn put(&mut self, piece: &[u8])
         requires { length self.old + length piece.now ≤ 400 }
@@ -66,5 +60,18 @@ impl ErrorLine {
         ensures { result.now ≡ self.now }
     {
         &self.bytes
+    }
+
+    /// The whole line: the program's name, and then the text.
+    pub fn spoken(&self, program: Program) -> ArrayVec<u8, 410>
+        ensures { result.items ≡ spoken program self.now }
+    {
+        let mut line = ArrayVec::new();
+        line.try_extend_from_slice(program.name().as_bytes())
+            .unwrap();
+        line.try_extend_from_slice(b": ").unwrap();
+        line.try_extend_from_slice(&self.bytes).unwrap();
+        line.try_extend_from_slice(b"\n").unwrap();
+        line
     }
 }

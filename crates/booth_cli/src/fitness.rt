@@ -2,7 +2,8 @@
 ghost use Rattle.std.specs.Prelude.{◌≡◌, ℕ, IfErr};
 ghost use Rattle.std.specs.List.{list_any};
 ghost use Rattle.booth_conf.specs.Rules.{is_at};
-ghost use Rattle.booth_cli.specs.Fitness.{has_member, is_manual, has_handler, has_prereqs, unbuilt, IsAdmitted};
+ghost use Rattle.booth_cli.specs.Fitness.{has_member, is_manual, has_handler, has_prereqs, unbuilt};
+ghost use Rattle.booth_cli.specs.Fitness.{IsAdmitted};
 ghost use Rattle.booth_cli.specs.Serving.{HasBlame, IsServed};
 
 use crate::outcome::Ended;

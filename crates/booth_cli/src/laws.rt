@@ -1,8 +1,13 @@
 //! What follows from the contracts, for all runs.
-ghost use Rattle.booth_cli.specs.Faultless.{FaultlessRuns};
+ghost use Rattle.booth_cli.specs.Faultless.{FaultlessRuns, FaultlessLooks};
 
-/// Valid words and files, a free lock and an outside that does not fail give Done, TurnsSpent or OutOfMemory, or Unbuilt
-/// where a part is not built yet.
+/// Valid words and files, a free lock and an outside that does not fail give Done, TurnsSpent or
+/// OutOfMemory, or Unbuilt where a part is not built yet.
 pub fn faultless_runs()
     ensures { FaultlessRuns }
+{}
+
+/// Valid words and an outside that does not fail have `status` give Done, NotRunning or OutOfMemory.
+pub fn faultless_looks()
+    ensures { FaultlessLooks }
 {}

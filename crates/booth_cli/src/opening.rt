@@ -1,5 +1,7 @@
 //! The opening of the daemon: its calls up to the first turn, stage by stage.
-ghost use Rattle.std.specs.Prelude.{◌≡◌, ◌≤◌, ℕ, ◌∷◌, [], Some, IfErr, codes};
+ghost use Rattle.std.specs.Prelude.{◌≡◌, ◌≤◌, ℕ, ◌∷◌, [], None, Some, IfErr, IfOk, IsSome, position};
+ghost use Rattle.booth_base.specs.Address.{id_of};
+ghost use Rattle.booth_conf.specs.Config.{file_fault, has_id};
 ghost use Rattle.booth_host.specs.Past.{GrewBy, GrewSome};
 ghost use Rattle.booth_host.specs.Causes.{HasCause};
 ghost use Rattle.booth_host.specs.declared.entry.Entry.{Entry};
@@ -8,10 +10,11 @@ ghost use Rattle.booth_cli.specs.Opening.{IsConfigRead, IsLocked, IsNodeOpened};
 ghost use Rattle.booth_cli.specs.Serving.{HasBlame, IsOpened, IsServed};
 ghost use Rattle.booth_cli.specs.Stages.{IsParsed, refusal};
 
+use crate::asking::DaemonWords;
 use crate::fitness::admit;
 use crate::keys::read_key;
 use crate::outcome::Ended;
-use crate::words::Asked;
+use crate::records::read_records;
 use crate::{Outcome, texts};
 use booth_auth::Key;
 use booth_base::PathText;
@@ -19,12 +22,6 @@ use booth_conf::{ConfFault, Config};
 use booth_host::{Failed, Host, Place, ReadFault};
 use booth_node::Node;
 use std::alloc::Global;
-
-/// The file that is locked while a daemon runs.
-const LOCK: &str = "/var/run/booth.lock";
-
-/// The directory of the kept records.
-const RECORDS: &str = "/var/lib/booth";
 
 // How a daemon ends whose configuration has this fault.
 fn refuse(path: &PathText, text: &[u8], fault: ConfFault) -> Ended
@@ -45,6 +42,7 @@ fn refuse(path: &PathText, text: &[u8], fault: ConfFault) -> Ended
 // The configuration in this text, which stands at this path.
 fn parse(alloc: Global, path: &PathText, text: &[u8]) -> Result<Config, Ended>
     ensures parsed { IsParsed path.now text.now result }
+    ensures whole { IfOk result (λ config. file_fault config.members config.tickets ≡ None) }
     ensures served { IfErr result (λ ended. IsServed ended.outcome) }
     ensures blame { IfErr result (λ ended. (before after : ℕ) → HasBlame ended.outcome before after) }
 {
@@ -54,9 +52,14 @@ fn parse(alloc: Global, path: &PathText, text: &[u8]) -> Result<Config, Ended>
     }
 }
 
-// The configuration in the file at this path.
-fn read_config<H: Host>(alloc: Global, path: &PathText, host: &mut H) -> Result<Config, Ended>
+/// The configuration in the file at this path.
+pub(crate) fn read_config<H: Host>(
+    alloc: Global,
+    path: &PathText,
+    host: &mut H,
+) -> Result<Config, Ended>
     ensures past { GrewSome (IsConfigRead path.now result) (H.past host.old) (H.past host.new) }
+    ensures whole { IfOk result (λ config. file_fault config.members config.tickets ≡ None) }
     ensures served { IfErr result (λ ended. IsServed ended.outcome) }
     ensures blame { IfErr result (λ ended. HasBlame ended.outcome (H.faults host.old) (H.faults host.new)) }
     ensures later { H.faults host.old ≤ H.faults host.new }
@@ -74,14 +77,14 @@ fn read_config<H: Host>(alloc: Global, path: &PathText, host: &mut H) -> Result<
     }
 }
 
-// The lock of this machine's one daemon.
-fn lock<H: Host>(host: &mut H) -> Result<(), Ended>
-    ensures past { GrewSome (IsLocked result) (H.past host.old) (H.past host.new) }
+// The lock that this daemon alone is to hold.
+fn lock<H: Host>(path: &PathText, host: &mut H) -> Result<(), Ended>
+    ensures past { GrewSome (IsLocked path.now result) (H.past host.old) (H.past host.new) }
     ensures served { IfErr result (λ ended. IsServed ended.outcome) }
     ensures blame { IfErr result (λ ended. HasBlame ended.outcome (H.faults host.old) (H.faults host.new)) }
     ensures later { H.faults host.old ≤ H.faults host.new }
 {
-    match host.lock(LOCK) {
+    match host.lock(path.as_str()) {
         Ok(true) => Ok(()),
         Ok(false) => Err(Ended {
             outcome: Outcome::Running,
@@ -89,38 +92,37 @@ fn lock<H: Host>(host: &mut H) -> Result<(), Ended>
         }),
         Err(Failed) => Err(Ended {
             outcome: Outcome::LockFault,
-            said: texts::line_of(b"cannot lock /var/run/booth.lock"),
+            said: texts::unlocked_text(path),
         }),
     }
 }
 
-// Opens the socket of this member, at this port.
-fn open_socket<H: Host>(asked: &Asked, port: u16, host: &mut H) -> Result<(), Failed>
+// Opens the socket of this member, at this port, and the directory of its records.
+fn open_socket<H: Host>(asked: &DaemonWords, port: u16, host: &mut H) -> Result<(), Failed>
     ensures past { GrewBy (H.past host.old) (H.past host.new)
-        (Entry.Open (Some asked.now.address) port (codes "/var/lib/booth") asked.now.path result ∷ []) }
+        (Entry.Open (Some asked.now.site) port asked.now.records asked.now.conf result ∷ []) }
     ensures cause { HasCause (H.faults host.old) (H.faults host.new) result }
 {
-    let Ok(records) = PathText::read(RECORDS) else {
-        unreachable!()
-    };
     let place = Place {
-        local: Some(asked.address),
+        local: Some(asked.site),
         port,
-        records,
-        conf_path: asked.path.copy(),
+        records: asked.records.copy(),
+        conf_path: asked.conf.copy(),
     };
     host.open(&place)
 }
 
-// The node of this member, as of the clock's reading, behind its open socket.
+// The node of this member, behind its open socket: its tickets start from their records at the clock's
+// reading.
 fn open_node<H: Host>(
     alloc: Global,
-    asked: &Asked,
+    asked: &DaemonWords,
     config: Config,
     key: Option<Key>,
     host: &mut H,
 ) -> Result<Node, Ended>
-    ensures past { GrewSome (IsNodeOpened asked.now.address asked.now.path config key result)
+    requires { IsSome (position (has_id (record { 0 = id_of asked.now.site })) config.members) }
+    ensures past { GrewSome (IsNodeOpened asked.now config key result)
         (H.past host.old) (H.past host.new) }
     ensures served { IfErr result (λ ended. IsServed ended.outcome) }
     ensures blame { IfErr result (λ ended. HasBlame ended.outcome (H.faults host.old) (H.faults host.new)) }
@@ -136,7 +138,8 @@ fn open_node<H: Host>(
             });
         }
     }
-    match Node::open(alloc, config, key, asked.address.id(), reading) {
+    let records = read_records(alloc, config.tickets(), host)?;
+    match Node::open(alloc, config, key, asked.site.id(), &records, reading) {
         Ok(node) => Ok(node),
         Err(_) => Err(Ended {
             outcome: Outcome::OutOfMemory,
@@ -146,15 +149,15 @@ fn open_node<H: Host>(
 }
 
 /// The whole opening, up to a node that can make its first turn.
-pub(crate) fn open<H: Host>(alloc: Global, asked: &Asked, host: &mut H) -> Result<Node, Ended>
-    ensures past { GrewSome (IsOpened asked.now.address asked.now.path result) (H.past host.old) (H.past host.new) }
+pub(crate) fn open<H: Host>(alloc: Global, asked: &DaemonWords, host: &mut H) -> Result<Node, Ended>
+    ensures past { GrewSome (IsOpened asked.now result) (H.past host.old) (H.past host.new) }
     ensures served { IfErr result (λ ended. IsServed ended.outcome) }
     ensures blame { IfErr result (λ ended. HasBlame ended.outcome (H.faults host.old) (H.faults host.new)) }
     ensures later { H.faults host.old ≤ H.faults host.new }
 {
-    let config = read_config(alloc, &asked.path, host)?;
-    admit(&config, &asked.address)?;
+    let config = read_config(alloc, &asked.conf, host)?;
+    admit(&config, &asked.site)?;
     let key = read_key(alloc, &config, host)?;
-    lock(host)?;
+    lock(&asked.lock, host)?;
     open_node(alloc, asked, config, key, host)
 }

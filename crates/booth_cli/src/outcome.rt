@@ -1,4 +1,4 @@
-//! How a run of the daemon ends: the outcome and its exit status.
+//! How a run ends: the outcome and its exit status.
 ghost use Rattle.std.specs.Prelude.{◌≡◌};
 ghost use Rattle.booth_cli.specs.Texts.{status_of};
 
@@ -10,8 +10,18 @@ use clap::error::ErrorKind;
 /// A word that is refused.
 #[derive(Clone, Copy, Debug, PartialEq, Eq)]
 pub enum Word {
-    /// The address of the member.
+    /// The name of a ticket.
+    Ticket,
+    /// The name of an attribute.
+    Name,
+    /// The value of an attribute.
+    Value,
+    /// The address of a member or of a daemon.
     Site,
+    /// A number.
+    Number,
+    /// The path of the lock or of the records.
+    Path,
     /// The path of the configuration.
     Configuration,
 }
@@ -19,9 +29,19 @@ pub enum Word {
 /// How a run ended.
 #[derive(Clone, Copy, Debug, PartialEq, Eq)]
 pub enum Outcome {
-    /// The end was asked for.
+    /// The end was asked for, or the turns that were asked for were made; or a daemon runs, and that was
+    /// printed.
     Done,
-    /// The words are none that are taken. The kind is none where there is no command in them.
+    /// A daemon did or began what it was asked for, and that was printed.
+    Report,
+    /// A daemon refused, with this result.
+    Refused(u32),
+    /// No daemon answered in time.
+    NoReply,
+    /// A request could not be sent.
+    SendFault,
+    /// The words are none that are taken, or ask for help. The kind is none where there is no command in
+    /// them.
     Usage(Option<ErrorKind>),
     /// This word is not of its form.
     BadWord(Word),
@@ -41,11 +61,17 @@ pub enum Outcome {
     LockFault,
     /// Another daemon holds the lock.
     Running,
-    /// The socket could not be opened.
+    /// No daemon runs, and that was printed.
+    NotRunning,
+    /// The socket or the directory of the records could not be opened.
     OpenFault,
-    /// 2^62 turns were made.
+    /// The record of a ticket could not be read.
+    RecordUnread,
+    /// 2^62 turns were made, and no count of them was asked for.
     TurnsSpent,
-    /// There was no memory, before the first turn.
+    /// What was asked for could not be printed.
+    PrintFault,
+    /// There was no memory; at a daemon, before the first turn.
     OutOfMemory,
 }
 
@@ -55,12 +81,16 @@ impl Outcome {
         ensures { result ≡ status_of self.now }
     {
         match self {
-            Outcome::Done => 0,
+            Outcome::Done | Outcome::Report => 0,
+            Outcome::NotRunning => 7,
+            Outcome::Usage(Some(ErrorKind::DisplayHelp | ErrorKind::DisplayVersion)) => 0,
             Outcome::Usage(_) | Outcome::BadWord(_) => 1,
             Outcome::ConfUnread | Outcome::ConfBad(_) | Outcome::NotMember => 1,
             Outcome::Unbuilt(_) | Outcome::KeyUnread | Outcome::KeyBad(_) => 1,
             Outcome::LockFault | Outcome::Running | Outcome::OpenFault => 1,
-            Outcome::TurnsSpent | Outcome::OutOfMemory => 1,
+            Outcome::RecordUnread => 1,
+            Outcome::Refused(_) | Outcome::NoReply | Outcome::SendFault => 1,
+            Outcome::TurnsSpent | Outcome::PrintFault | Outcome::OutOfMemory => 1,
         }
     }
 }

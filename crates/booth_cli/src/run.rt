@@ -1,69 +1,86 @@
 //! The program `boothd` over any host.
-ghost use Rattle.std.specs.Prelude.{◌≡◌, ◌≤◌, length, map, string_bytes};
+ghost use Rattle.std.specs.Prelude.{◌≤◌, map, string_bytes};
 ghost use Rattle.booth_host.specs.Past.{GrewSome};
 ghost use Rattle.booth_host.specs.Memory.{quiet_past};
-ghost use Rattle.booth_cli.specs.Serving.{HasBlame, IsServed, IsBlameless};
-ghost use Rattle.booth_cli.specs.Run.{IsAskedRun, IsText, IsRun, FitsWords};
+ghost use Rattle.booth_cli.specs.Serving.{HasBlame, IsBlameless};
+ghost use Rattle.booth_cli.specs.Headline.{IsSafe};
+ghost use Rattle.booth_cli.specs.Run.{FitsWords, IsMade, IsRun, IsText};
 
+use crate::asking::{Asked, Refusal, ask};
 use crate::error_line::ErrorLine;
+use crate::outcome::Ended;
+use crate::program::Program;
 use crate::serving::serve;
-use crate::words::{Asked, Refusal, read_words};
+use crate::status::status;
+use crate::usage::tell_error;
 use crate::{Outcome, texts};
 use booth_host::{Host, QuietHost};
+use booth_world::laws;
 use std::alloc::Global;
 
-// Says a line on standard error, if there is one.
-fn tell<H: Host>(line: &ErrorLine, host: &mut H)
-    ensures past { GrewSome (IsText line.now) (H.past host.old) (H.past host.new) }
+/// Says a program's line on standard error, if there is one.
+pub(crate) fn tell<H: Host>(program: Program, line: &ErrorLine, host: &mut H)
+    ensures past { GrewSome (IsText program line.now) (H.past host.old) (H.past host.new) }
     ensures later { H.faults host.old ≤ H.faults host.new }
 {
     if !line.bytes().is_empty() {
-        let _ = host.err(line.bytes());
+        let _ = host.err(&line.spoken(program));
     }
 }
 
-// A run whose words ask for a daemon.
-fn run_asked<H: Host>(alloc: Global, asked: &Asked, host: &mut H) -> Outcome
-    ensures past { GrewSome (IsAskedRun asked.now.path asked.now.address result) (H.past host.old) (H.past host.new) }
-    ensures served { IsServed result }
-    ensures blame { HasBlame result (H.faults host.old) (H.faults host.new) }
+// The calls of a run up to where its outcome is decided.
+fn run_words<H: Host>(alloc: Global, words: &[String], host: &mut H) -> Ended
+    ensures past { GrewSome (IsMade (map string_bytes words.now) result.outcome result.said)
+        (H.past host.old) (H.past host.new) }
+    ensures words { FitsWords (map string_bytes words.now) result.outcome }
+    ensures blame { HasBlame result.outcome (H.faults host.old) (H.faults host.new) }
     ensures later { H.faults host.old ≤ H.faults host.new }
 {
-    let ended = serve(alloc, asked, host);
-    tell(&ended.said, host);
-    ended.outcome
+    match ask(alloc, Program::Boothd, words) {
+        Ok(Asked::Daemon(asked)) => serve(alloc, &asked, host),
+        Ok(Asked::Status(lock)) => status(&lock, host),
+        Ok(Asked::Client(_)) => unreachable!(),
+        Err(Refusal::Untaken(error)) => tell_error(alloc, &error, host),
+        Err(Refusal::NoCommand) => Ended {
+            outcome: Outcome::Usage(None),
+            said: texts::usage_text(Program::Boothd),
+        },
+        Err(Refusal::Bad(word)) => Ended {
+            outcome: Outcome::BadWord(word),
+            said: texts::bad_word_text(word),
+        },
+    }
 }
 
 /// Runs `boothd` with these words, without the program's name, over this host.
 ///
-/// `daemon -c FILE -s ADDRESS` reads the configuration in FILE, its key where `authfile` is set, locks
-/// `/var/run/booth.lock`, and answers datagrams at ADDRESS until the host says `Stop`. All other words are `Usage`, or
-/// `BadWord` where one of these two is not of its form.
+/// `daemon` reads the configuration, its key where `authfile` is set, takes the lock, opens its socket, reads
+/// the record of each ticket, and makes turns at the member's address until the host says `Stop` or the
+/// turns that were asked for are made. `status` says whether a daemon holds the lock. Help and version are
+/// printed; of all other words it is said what is wrong with them.
 pub fn boothd<H: Host>(alloc: Global, words: &[String], host: &mut H) -> Outcome
     // Where the host tells its calls: exactly these, by how the run ended.
     ensures past { GrewSome (IsRun (map string_bytes words.now) result) (H.past host.old) (H.past host.new) }
+
+    // In every world that this run is a part of: no automatic ticket is held at two sites, and no kept term falls.
+    ensures worlds { GrewSome (IsSafe (map string_bytes words.now) result) (H.past host.old) (H.past host.new) }
 
     // Over every host.
     ensures words { FitsWords (map string_bytes words.now) result }
     ensures blame { HasBlame result (H.faults host.old) (H.faults host.new) }
     ensures later { H.faults host.old ≤ H.faults host.new }
 {
-    match read_words(words) {
-        Ok(asked) => run_asked(alloc, &asked, host),
-        Err(Refusal::NoDaemon) => {
-            tell(&texts::usage_text(), host);
-            Outcome::Usage(None)
-        }
-        Err(Refusal::Bad(word)) => {
-            tell(&texts::bad_word_text(word), host);
-            Outcome::BadWord(word)
-        }
-    }
+    laws::one_holder();
+    laws::terms();
+    let ended = run_words(alloc, words, host);
+    tell(Program::Boothd, &ended.said, host);
+    ended.outcome
 }
 
 /// Runs `boothd` over a host without failures: no failure is ever answered.
 pub fn quiet_boothd(alloc: Global, words: &[String], host: &mut QuietHost) -> Outcome
-    ensures past { GrewSome (IsRun (map string_bytes words.now) result) (quiet_past host.old) (quiet_past host.new) }
+    ensures past { GrewSome (IsRun (map string_bytes words.now) result) (quiet_past host.old)
+        (quiet_past host.new) }
     ensures words { FitsWords (map string_bytes words.now) result }
     ensures blameless { IsBlameless result }
 {

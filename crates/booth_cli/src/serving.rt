@@ -2,20 +2,21 @@
 ghost use Rattle.std.specs.Prelude.{◌≡◌, ◌≤◌, ◌^◌, ℕ};
 ghost use Rattle.booth_host.specs.Past.{GrewSome};
 ghost use Rattle.booth_node.specs.View.{node_config, state_of};
-ghost use Rattle.booth_node.specs.Log.{IsNodeLog, IsStoppedLog};
+ghost use Rattle.booth_node.specs.Log.{IsNodeLog};
 ghost use Rattle.booth_cli.specs.Ending.{MatchEnding};
-ghost use Rattle.booth_cli.specs.Serving.{HasBlame, IsNodeRun, IsServed, IsServing};
+ghost use Rattle.booth_cli.specs.Serving.{AreSpent, HasBlame, IsNodeRun, IsServed, IsServing};
+ghost use Rattle.booth_cli.specs.Serving.{IsStoppedWithin};
 
+use crate::asking::DaemonWords;
 use crate::error_line::ErrorLine;
 use crate::opening::open;
 use crate::outcome::Ended;
-use crate::words::Asked;
 use crate::{Outcome, texts};
 use booth_host::Host;
 use booth_node::{Node, Turn};
 use std::alloc::Global;
 
-/// How many turns a daemon makes.
+/// How many turns a daemon makes at most, where none are asked for.
 const TURNS: u64 = 1 << 62;
 
 /// How a row of turns ended.
@@ -29,8 +30,8 @@ enum Ending {
 // So many turns, or those up to the first that stops.
 fn make_turns<H: Host>(node: &mut Node, count: u64, host: &mut H) -> Ending
     ensures past { MatchEnding result
-        (GrewSome (λ es. IsStoppedLog (node_config node.old) (state_of node.old) (state_of node.new) es)
-        (H.past host.old) (H.past host.new))
+        (GrewSome (λ es. IsStoppedWithin (node_config node.old) (state_of node.old) count
+        (state_of node.new) es) (H.past host.old) (H.past host.new))
         (GrewSome (λ es. IsNodeLog (node_config node.old) (state_of node.old) count
         (state_of node.new) es) (H.past host.old) (H.past host.new)) }
     ensures later { H.faults host.old ≤ H.faults host.new }
@@ -44,36 +45,49 @@ fn make_turns<H: Host>(node: &mut Node, count: u64, host: &mut H) -> Ending
     Ending::Spent
 }
 
-// The turns of a node, and how the daemon ends with them.
-fn run_node<H: Host>(node: &mut Node, host: &mut H) -> Ended
-    ensures past { GrewSome (IsNodeRun (node_config node.old) (state_of node.old)
-        (state_of node.new) result.outcome result.said) (H.past host.old) (H.past host.new) }
-    ensures served { IsServed result.outcome }
-    ensures blame { (before after : ℕ) → HasBlame result.outcome before after }
-    ensures later { H.faults host.old ≤ H.faults host.new }
+// How a daemon ends that made all its turns.
+fn spent(turns: Option<u64>) -> Ended
+    ensures { AreSpent turns result.outcome result.said }
 {
-    match make_turns(node, TURNS, host) {
-        Ending::Stopped => Ended {
+    match turns {
+        Some(_) => Ended {
             outcome: Outcome::Done,
             said: ErrorLine::none(),
         },
-        Ending::Spent => Ended {
+        None => Ended {
             outcome: Outcome::TurnsSpent,
             said: texts::line_of(b"turns spent"),
         },
     }
 }
 
+// The turns of a node, as many as were asked for, and how the daemon ends with them.
+fn run_node<H: Host>(node: &mut Node, turns: Option<u64>, host: &mut H) -> Ended
+    ensures past { GrewSome (IsNodeRun (node_config node.old) turns (state_of node.old)
+        (state_of node.new) result.outcome result.said) (H.past host.old) (H.past host.new) }
+    ensures served { IsServed result.outcome }
+    ensures blame { (before after : ℕ) → HasBlame result.outcome before after }
+    ensures later { H.faults host.old ≤ H.faults host.new }
+{
+    match make_turns(node, turns.unwrap_or(TURNS), host) {
+        Ending::Stopped => Ended {
+            outcome: Outcome::Done,
+            said: ErrorLine::none(),
+        },
+        Ending::Spent => spent(turns),
+    }
+}
+
 /// The calls of the daemon that was asked for, up to where its outcome is decided.
-pub(crate) fn serve<H: Host>(alloc: Global, asked: &Asked, host: &mut H) -> Ended
-    ensures past { GrewSome (IsServing asked.now.address asked.now.path result.outcome result.said)
+pub(crate) fn serve<H: Host>(alloc: Global, asked: &DaemonWords, host: &mut H) -> Ended
+    ensures past { GrewSome (IsServing asked.now result.outcome result.said)
         (H.past host.old) (H.past host.new) }
     ensures served { IsServed result.outcome }
     ensures blame { HasBlame result.outcome (H.faults host.old) (H.faults host.new) }
     ensures later { H.faults host.old ≤ H.faults host.new }
 {
     match open(alloc, asked, host) {
-        Ok(mut node) => run_node(&mut node, host),
+        Ok(mut node) => run_node(&mut node, asked.turns, host),
         Err(ended) => ended,
     }
 }

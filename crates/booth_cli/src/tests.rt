@@ -1,5 +1,11 @@
 //! Runs of the daemon from words and bytes to calls, bytes and outcome.
 mod faults;
+mod grants;
+mod keyed;
+mod options;
+mod records;
+mod scripts;
+mod transcript;
 mod words;
 
 use crate::{Outcome, boothd};
@@ -118,11 +124,11 @@ fn one_list_request_has_its_reply(rt: HostRuntime) -> Result<(), Fail> {
     let outcome = boothd(alloc, &strings(alloc, &WORDS)?, &mut host);
     assert!(rt; outcome == Outcome::Done);
     assert_eq!(rt; outcome.status(), 0);
-    assert_eq!(rt; kinds(alloc, &host)?.as_str(), "rlnoxnsxn");
+    assert_eq!(rt; kinds(alloc, &host)?.as_str(), "rlnokxnsssxn");
     let past = host.past().ok_or("untold")?;
     let (Some(Entry::Open { local, port, .. }), Some(Entry::Send { to, bytes, .. })) = (
         past.get(3),
-        past.get(6),
+        past.get(7),
     ) else {
         return Err(Fail::from("other calls"));
     };
@@ -141,7 +147,7 @@ fn the_key_file_is_read_before_the_lock(rt: HostRuntime) -> Result<(), Fail> {
     let mut host = host(alloc, script(alloc)?, files, b"  secret-key\n")?;
     let outcome = boothd(alloc, &strings(alloc, &WORDS)?, &mut host);
     assert!(rt; outcome == Outcome::Done);
-    assert_eq!(rt; kinds(alloc, &host)?.as_str(), "rrlnoxnxn");
+    assert_eq!(rt; kinds(alloc, &host)?.as_str(), "rrlnokxnssxn");
     Ok(())
 }
 
@@ -191,7 +197,7 @@ fn the_lock_and_the_socket_may_be_refused(rt: HostRuntime) -> Result<(), Fail> {
         script.fail_open = fail_open;
         let mut host = host(alloc, script, [GOOD, b""], b"")?;
         assert!(rt; boothd(alloc, &words, &mut host) == outcome, "{outcome:?}");
-        assert_eq!(rt; kinds(alloc, &host)?.as_str(), calls);
+        assert!(rt; outcome.status() == 1 && kinds(alloc, &host)?.as_str() == calls);
         assert!(rt; last_text(&host)? == said, "{outcome:?}");
     }
     Ok(())
@@ -208,7 +214,8 @@ fn a_failing_err_leaves_the_outcome(rt: HostRuntime) -> Result<(), Fail> {
         alloc,
         &["daemon", "-c", "/etc/booth.conf", "-s", "10.0.0.1"],
     )?;
-    assert!(rt; boothd(alloc, &words, &mut host) == Outcome::NotMember);
+    let outcome = boothd(alloc, &words, &mut host);
+    assert!(rt; outcome == Outcome::NotMember && outcome.status() == 1);
     assert_eq!(rt; kinds(alloc, &host)?.as_str(), "re");
     let Some([.., Entry::Err { answer, .. }]) = host.past() else {
         return Err(Fail::from("other calls"));
@@ -235,6 +242,6 @@ fn failures_of_the_host_end_no_daemon(rt: HostRuntime) -> Result<(), Fail> {
     })?;
     let mut host = host(alloc, script, [GOOD, b""], b"")?;
     assert!(rt; boothd(alloc, &strings(alloc, &WORDS)?, &mut host) == Outcome::Done);
-    assert_eq!(rt; kinds(alloc, &host)?.as_str(), "rlnoxnsxnxn");
+    assert_eq!(rt; kinds(alloc, &host)?.as_str(), "rlnokxnsssxnxn");
     Ok(())
 }

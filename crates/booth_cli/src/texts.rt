@@ -1,10 +1,15 @@
-//! What is said on standard error of each outcome.
-ghost use Rattle.std.specs.Prelude.{◌≡◌, ◌≤◌, ◌+◌, ◌++◌, [], codes, decimal, length, unwrap_or};
+//! What is said on standard error of each outcome, but for the program's name.
+ghost use Rattle.std.specs.Prelude.{◌≡◌, ◌≤◌, ◌+◌, ◌++◌, [], codes, decimal, length};
+ghost use Rattle.std.specs.Prelude.{unwrap_or};
 ghost use Rattle.booth_base.specs.Address.{printed};
-ghost use Rattle.booth_cli.specs.Texts.{line_of, usage_text, bad_word_text, unread_text, not_member_text, key_name, unbuilt_text, key_fault_text, out_of_memory_text, file_text, at_line, IsTicketText, IsFaultText};
+ghost use Rattle.booth_cli.specs.Texts.{usage_text, bad_word_text, unread_text, unread_record_text};
+ghost use Rattle.booth_cli.specs.Texts.{unlocked_text, unprinted_text, not_member_text, key_name};
+ghost use Rattle.booth_cli.specs.Texts.{unbuilt_text, key_fault_text, out_of_memory_text, file_text, at_line};
+ghost use Rattle.booth_cli.specs.Texts.{IsTicketText, IsFaultText};
 
 use crate::Word;
 use crate::error_line::ErrorLine;
+use crate::program::Program;
 use booth_auth::KeyFault;
 use booth_base::{Address, Name, PathText};
 use booth_conf::{ConfFault, KeyNo, ticket_name};
@@ -12,25 +17,38 @@ use booth_conf::{ConfFault, KeyNo, ticket_name};
 /// A line of this text.
 pub(crate) fn line_of(text: &[u8]) -> ErrorLine
     requires { length text.now ≤ 300 }
-    ensures { result ≡ line_of text.now }
+    ensures { result ≡ text.now }
 {
-    let mut line = ErrorLine::begun();
+    let mut line = ErrorLine::none();
     line.put(text);
-    line.put(b"\n");
     line
 }
 
-pub(crate) fn usage_text() -> ErrorLine
-    ensures { result ≡ usage_text }
+pub(crate) fn usage_text(program: Program) -> ErrorLine
+    ensures { result ≡ usage_text program }
 {
-    line_of(b"usage: boothd daemon -c FILE -s ADDRESS")
+    match program {
+        Program::Boothd => line_of(
+            b"usage: boothd COMMAND [OPTIONS], with the command daemon or status; \
+            see --help behind it, and boothd(8)",
+        ),
+        Program::Booth => line_of(
+            b"usage: booth COMMAND [OPTIONS], with the command list, peers, grant or revoke; \
+            see --help behind it",
+        ),
+    }
 }
 
 pub(crate) fn bad_word_text(word: Word) -> ErrorLine
     ensures { result ≡ bad_word_text word }
 {
     match word {
+        Word::Ticket => line_of(b"bad ticket"),
+        Word::Name => line_of(b"bad name"),
+        Word::Value => line_of(b"bad value"),
         Word::Site => line_of(b"bad site"),
+        Word::Number => line_of(b"bad number"),
+        Word::Path => line_of(b"bad path"),
         Word::Configuration => line_of(b"bad configuration"),
     }
 }
@@ -38,11 +56,34 @@ pub(crate) fn bad_word_text(word: Word) -> ErrorLine
 pub(crate) fn unread_text(path: &PathText) -> ErrorLine
     ensures { result ≡ unread_text path.now }
 {
-    let mut line = ErrorLine::begun();
+    let mut line = ErrorLine::none();
     line.put(b"cannot read ");
     line.put(path.as_str().as_bytes());
-    line.put(b"\n");
     line
+}
+
+pub(crate) fn unlocked_text(path: &PathText) -> ErrorLine
+    ensures { result ≡ unlocked_text path.now }
+{
+    let mut line = ErrorLine::none();
+    line.put(b"cannot lock ");
+    line.put(path.as_str().as_bytes());
+    line
+}
+
+pub(crate) fn unread_record_text(ticket: &Name) -> ErrorLine
+    ensures { result ≡ unread_record_text ticket.now }
+{
+    let mut line = ErrorLine::none();
+    line.put(b"cannot read the record of ");
+    line.put(ticket.bytes());
+    line
+}
+
+pub(crate) fn unprinted_text() -> ErrorLine
+    ensures { result ≡ unprinted_text }
+{
+    line_of(b"cannot print")
 }
 
 fn put_not_member(address: &Address, line: &mut ErrorLine)
@@ -57,9 +98,8 @@ fn put_not_member(address: &Address, line: &mut ErrorLine)
 pub(crate) fn not_member_text(address: &Address) -> ErrorLine
     ensures { result ≡ not_member_text address.now }
 {
-    let mut line = ErrorLine::begun();
+    let mut line = ErrorLine::none();
     put_not_member(address, &mut line);
-    line.put(b"\n");
     line
 }
 
@@ -74,10 +114,9 @@ fn key_name(key: KeyNo) -> &'static str
 pub(crate) fn unbuilt_text(key: KeyNo) -> ErrorLine
     ensures { result ≡ unbuilt_text key }
 {
-    let mut line = ErrorLine::begun();
+    let mut line = ErrorLine::none();
     line.put(b"not built: ");
     line.put(key_name(key).as_bytes());
-    line.put(b"\n");
     line
 }
 
@@ -98,10 +137,10 @@ pub(crate) fn out_of_memory_text() -> ErrorLine
 
 // The begin of a line on the file at this path.
 fn begun_with(path: &PathText) -> ErrorLine
-    ensures bytes { result ≡ codes "boothd: " ++ path.now ++ codes ": " }
-    ensures len { length result ≤ 265 }
+    ensures bytes { result ≡ path.now ++ codes ": " }
+    ensures len { length result ≤ 257 }
 {
-    let mut line = ErrorLine::begun();
+    let mut line = ErrorLine::none();
     line.put(path.as_str().as_bytes());
     line.put(b": ");
     line
@@ -113,14 +152,14 @@ fn file_text(path: &PathText, what: &[u8]) -> ErrorLine
 {
     let mut line = begun_with(path);
     line.put(what);
-    line.put(b"\n");
     line
 }
 
 // The begin of a line on a line of the file at this path.
 fn begun_at(path: &PathText, number: u32) -> ErrorLine
-    ensures bytes { result ≡ codes "boothd: " ++ path.now ++ codes ": line " ++ decimal number ++ codes ": " }
-    ensures len { length result ≤ 282 }
+    ensures bytes { result ≡ path.now ++ codes ": line "
+        ++ decimal number ++ codes ": " }
+    ensures len { length result ≤ 274 }
 {
     let mut line = begun_with(path);
     line.put(b"line ");
@@ -135,7 +174,6 @@ fn at_line(path: &PathText, number: u32, what: &[u8]) -> ErrorLine
 {
     let mut line = begun_at(path, number);
     line.put(what);
-    line.put(b"\n");
     line
 }
 
@@ -153,7 +191,6 @@ fn of_value(path: &PathText, number: u32, key: KeyNo) -> ErrorLine
 {
     let mut line = begun_at(path, number);
     put_value(key, &mut line);
-    line.put(b"\n");
     line
 }
 
@@ -178,7 +215,6 @@ fn at_ticket(path: &PathText, text: &[u8], ticket: usize, what: &[u8]) -> ErrorL
     put_name(&name, &mut line);
     line.put(b": ");
     line.put(what);
-    line.put(b"\n");
     line
 }
 

@@ -1,15 +1,22 @@
-use Rattle.std.proofs.Common.{arith}
+use Rattle.std.proofs.Common.{arith, subst}
+use Rattle.booth_conf.specs.Sound.{IsSound}
 use Rattle.booth_cli.proofs.ServeLemmas.{blamed, refused, unkeyed, are_read, unlocked, opened}
+use Rattle.booth_cli.proofs.FitnessLemmas.{found_by_id}
 use Rattle.booth_cli.proofs.opening.open.Goals as goal
+
+pub open_node-requires : goal.open_node-requires
+open_node-requires g c =
+    found_by_id c.in_ok-config.config c.args.asked.now.site
+    (subst IsSound c.config.view_is c.config.invariant.1) c.in_ok-admit.ensures.admitted.0
 
 pub returns-in_err-admit-clause-past : goal.returns-in_err-admit-clause-past
 returns-in_err-admit-clause-past g c =
-    refused c.args.asked.now.address c.args.asked.now.path c.in_ok-config.config c.from_residual-in_err-admit.result c.in_err-admit.field-0.0
+    refused c.args.asked.now c.in_ok-config.config c.from_residual-in_err-admit.result c.in_err-admit.field-0.0
     c.from_residual-in_err-admit.ensures c.in_ok-config.ensures.past c.in_err-admit.ensures.admitted
 
 pub returns-in_err-key-clause-past : goal.returns-in_err-key-clause-past
 returns-in_err-key-clause-past g c =
-    unkeyed c.args.asked.now.address c.args.asked.now.path c.in_ok-config.config c.from_residual-in_err-key.result c.in_err-key.field-0.0
+    unkeyed c.args.asked.now c.in_ok-config.config c.from_residual-in_err-key.result c.in_err-key.field-0.0
     c.from_residual-in_err-key.ensures c.in_ok-config.ensures.past c.in_ok-admit.ensures.admitted c.in_err-key.ensures.past
 
 pub returns-in_err-key-clause-blame : goal.returns-in_err-key-clause-blame
@@ -19,9 +26,9 @@ returns-in_err-key-clause-blame g c =
 
 pub returns-in_err-lock-clause-past : goal.returns-in_err-lock-clause-past
 returns-in_err-lock-clause-past g c =
-    unlocked c.args.asked.now.address c.args.asked.now.path c.in_ok-config.config c.in_ok-key.key c.from_residual-in_err-lock.result c.in_err-lock.field-0.0
+    unlocked c.args.asked.now c.in_ok-config.config c.in_ok-key.key c.from_residual-in_err-lock.result c.in_err-lock.field-0.0
     c.from_residual-in_err-lock.ensures
-    (are_read c.args.asked.now.address c.args.asked.now.path c.in_ok-config.config c.in_ok-key.key c.in_ok-config.ensures.past c.in_ok-admit.ensures.admitted c.in_ok-key.ensures.past)
+    (are_read c.args.asked.now c.in_ok-config.config c.in_ok-key.key c.in_ok-config.ensures.past c.in_ok-admit.ensures.admitted c.in_ok-key.ensures.past)
     c.in_err-lock.ensures.past
 
 pub returns-in_err-lock-clause-blame : goal.returns-in_err-lock-clause-blame
@@ -32,6 +39,6 @@ returns-in_err-lock-clause-blame g c =
 
 pub returns-clause-past : goal.returns-clause-past
 returns-clause-past g c =
-    opened c.args.asked.now.address c.args.asked.now.path c.in_ok-config.config c.in_ok-key.key c.open_node.result
-    (are_read c.args.asked.now.address c.args.asked.now.path c.in_ok-config.config c.in_ok-key.key c.in_ok-config.ensures.past c.in_ok-admit.ensures.admitted c.in_ok-key.ensures.past)
+    opened c.args.asked.now c.in_ok-config.config c.in_ok-key.key c.open_node.result
+    (are_read c.args.asked.now c.in_ok-config.config c.in_ok-key.key c.in_ok-config.ensures.past c.in_ok-admit.ensures.admitted c.in_ok-key.ensures.past)
     c.in_ok-lock.ensures.past c.open_node.ensures.past

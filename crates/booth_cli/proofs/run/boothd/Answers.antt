@@ -1,11 +1,19 @@
 use Rattle.std.proofs.Common.{map, string_bytes}
-use Rattle.booth_cli.proofs.RunLemmas.{run_of, fits_asked}
+use Rattle.booth_host.proofs.PastLemmas.{some_weaker}
+use Rattle.booth_cli.specs.Headline.{IsSafe}
+use Rattle.booth_cli.specs.Run.{IsRun}
+use Rattle.booth_cli.proofs.RunLemmas.{run_of}
 use Rattle.booth_cli.proofs.run.boothd.Goals as goal
 
-pub returns-in-Ok-clause-past : goal.returns-in-Ok-clause-past
-returns-in-Ok-clause-past g c =
-    run_of (map string_bytes c.args.words.now) c.in-Ok.asked.path c.in-Ok.asked.address c.run_asked.result c.in-Ok.ensures c.run_asked.ensures.served c.run_asked.ensures.past
+pub returns-clause-past : goal.returns-clause-past
+returns-clause-past g c =
+    run_of (map string_bytes c.args.words.now) c.run_words-ended.result.outcome c.run_words-ended.result.said
+    c.run_words-ended.ensures.past c.tell.ensures.past
 
-pub returns-in-Ok-clause-words : goal.returns-in-Ok-clause-words
-returns-in-Ok-clause-words g c =
-    fits_asked (map string_bytes c.args.words.now) c.in-Ok.asked.path c.in-Ok.asked.address c.run_asked.result c.in-Ok.ensures c.run_asked.ensures.served
+pub returns-clause-worlds : goal.returns-clause-worlds
+returns-clause-worlds g c =
+    some_weaker (IsRun (map string_bytes c.args.words.now) c.run_words-ended.result.outcome)
+    (IsSafe (map string_bytes c.args.words.now) c.run_words-ended.result.outcome)
+    (λ entries run w is session. (c.one_holder.ensures.worlds w is, c.terms.ensures.worlds w is))
+    (run_of (map string_bytes c.args.words.now) c.run_words-ended.result.outcome c.run_words-ended.result.said
+    c.run_words-ended.ensures.past c.tell.ensures.past)

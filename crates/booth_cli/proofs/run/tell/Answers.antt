@@ -4,9 +4,9 @@ use Rattle.booth_cli.proofs.run.tell.Goals as goal
 
 pub returns-then-not-is_empty-clause-past : goal.returns-then-not-is_empty-clause-past
 returns-then-not-is_empty-clause-past g c =
-    told c.args.line.now c.err.result
+    told c.args.program c.args.line.now _ c.err.result
     (λ none.
     let some = sym c.if-not-is_empty.true ∙ c.is_empty.ensures in
     let over = ap (λ (bytes : List ℕ). length bytes == 0) (c.bytes.ensures ∙ none) in
     cc)
-    (rw c.bytes-then-not-is_empty.ensures at c.err.ensures.past)
+    (c.deref.ensures.0 ∙ c.spoken.ensures) c.err.ensures.past

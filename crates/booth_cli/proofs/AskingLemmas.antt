@@ -1,0 +1,116 @@
+-- What the words ask for, from what was read of them.
+use Rattle.std.specs.Prelude.{Ok}
+use Rattle.std.proofs.Common.{◌≡◌, ℕ, Bool, true, false, cond, List, [], ◌∷◌, Option, Some, None, is_some, refl, subst}
+use Rattle.std.proofs.Common.{inl, inr, ◌⊎◌}
+use Rattle.clap.specs.Words.{IsAmong, fault_of, takes}
+use Rattle.clap.specs.declared.error.kind.ErrorKind.{ErrorKind}
+use Rattle.clap.specs.declared.error.kind.ErrorKind.TheVariants as kinds
+use Rattle.booth_base.specs.declared.address.Address.{Address}
+use Rattle.booth_cli.specs.declared.command.Verb.{Verb}
+use Rattle.booth_cli.specs.declared.command.Verb.TheVariants as verbs
+use Rattle.booth_cli.specs.declared.reading.Read.{Read}
+use Rattle.booth_cli.specs.declared.asking.Asked.{Asked}
+use Rattle.booth_cli.specs.declared.asking.Asked.TheVariants.{Daemon, Status, Client}
+use Rattle.booth_cli.specs.declared.asking.ClientWords.{ClientWords}
+use Rattle.booth_cli.specs.declared.program.Program.{Program}
+use Rattle.booth_cli.specs.declared.program.Program.TheVariants.{Boothd, Booth}
+use Rattle.booth_cli.specs.Commands.{app_for, verb_in}
+use Rattle.booth_cli.specs.Given.{Texts, HasNeeded, found_in}
+use Rattle.booth_cli.specs.Reading.{HasAddress, HasName, IsRead}
+use Rattle.booth_cli.specs.Asking.{Asks, AreTaken, HasOrder, HasWords, IsAskedBy, IsClientOf, IsUntakenFor}
+
+-- where there is a word there is an address
+has_address : (word : Option (List ℕ)) (read : Option Address) → HasAddress word read → is_some word ≡ true → is_some read ≡ true
+has_address (Some text) (Some address) has some = refl
+has_address (Some text) None has some = absurd has
+has_address None read has some = cc
+
+has_name : (word : Option (List ℕ)) (read : Option (List ℕ)) → HasName word read → is_some word ≡ true → is_some read ≡ true
+has_name (Some text) (Some name) has some = refl
+has_name (Some text) None has some = absurd has
+has_name None read has some = cc
+
+pub has_words : (verb : Verb) (t : Texts) (read : Read) → HasNeeded verb t → IsRead t read → HasWords verb read
+has_words verbs.Daemon t read needed is = has_address t.site read.site is.site needed
+has_words verbs.Grant t read needed is = has_name t.ticket read.ticket is.ticket needed
+has_words verbs.Revoke t read needed is = has_name t.ticket read.ticket is.ticket needed
+has_words verbs.Status t read needed is = tt
+has_words verbs.List t read needed is = tt
+has_words verbs.Peers t read needed is = tt
+
+-- ---- whose command it is
+
+no_daemon : (a b c d : Bool) (verb : Verb) →
+    cond a (Some verbs.List) (cond b (Some verbs.Peers) (cond c (Some verbs.Grant) (cond d (Some verbs.Revoke) None))) ≡ Some verb →
+    (verb ≡ verbs.Daemon → ⊥) × (verb ≡ verbs.Status → ⊥)
+no_daemon true b c d verb h = (λ e. cc, λ e. cc)
+no_daemon false true c d verb h = (λ e. cc, λ e. cc)
+no_daemon false false true d verb h = (λ e. cc, λ e. cc)
+no_daemon false false false true verb h = (λ e. cc, λ e. cc)
+no_daemon false false false false verb h = absurd cc
+
+no_client : (a b : Bool) (verb : Verb) → cond a (Some verbs.Daemon) (cond b (Some verbs.Status) None) ≡ Some verb →
+    (verb ≡ verbs.Daemon) ⊎ (verb ≡ verbs.Status)
+no_client true b verb h = inl cc
+no_client false true verb h = inr cc
+no_client false false verb h = absurd cc
+
+daemons_own : (program : Program) (words : List (List ℕ)) (verb : Verb) → verb_in program words ≡ Some verb → (verb ≡ verbs.Daemon) ⊎ (verb ≡ verbs.Status) →
+    program ≡ Boothd
+daemons_own Boothd words verb named own = refl
+daemons_own Booth [] verb named own = absurd cc
+daemons_own Booth (word ∷ words) verb named (inl own) = absurd ((no_daemon _ _ _ _ verb named).0 own)
+daemons_own Booth (word ∷ words) verb named (inr own) = absurd ((no_daemon _ _ _ _ verb named).1 own)
+
+clients_own : (program : Program) (words : List (List ℕ)) (verb : Verb) → verb_in program words ≡ Some verb → ((verb ≡ verbs.Daemon) ⊎ (verb ≡ verbs.Status) → ⊥) →
+    program ≡ Booth
+clients_own Booth words verb named own = refl
+clients_own Boothd [] verb named own = absurd cc
+clients_own Boothd (word ∷ words) verb named own = absurd (own (no_client _ _ verb named))
+
+-- a client's command is no daemon's
+is_clients : (verb : Verb) (read : Read) (asked : ClientWords) → IsClientOf verb read asked → (verb ≡ verbs.Daemon) ⊎ (verb ≡ verbs.Status) → ⊥
+is_clients verb read asked is (inl e) = (subst (λ v. HasOrder v read asked.order) e is.order)
+is_clients verb read asked is (inr e) = (subst (λ v. HasOrder v read asked.order) e is.order)
+
+client_asked : (program : Program) (words : List (List ℕ)) (verb : Verb) (read : Read) (asked : ClientWords) → AreTaken program words verb read →
+    IsClientOf verb read asked → Asks program words (Ok (Client asked))
+client_asked program words verb read asked taken is =
+    let own : program ≡ Booth = clients_own program words verb taken.named (is_clients verb read asked is) in
+    (own, record { verb = verb; all = read; asks = subst (λ p. AreTaken p words verb read) own taken; same = is })
+
+asked_by : (program : Program) (words : List (List ℕ)) (verb : Verb) (read : Read) (asked : Asked) → AreTaken program words verb read → IsAskedBy verb read asked →
+    Asks program words (Ok asked)
+asked_by program words verbs.Daemon read (Client asked) taken is = client_asked program words verbs.Daemon read asked taken is
+asked_by program words verbs.Status read (Client asked) taken is = client_asked program words verbs.Status read asked taken is
+asked_by program words verbs.List read (Client asked) taken is = client_asked program words verbs.List read asked taken is
+asked_by program words verbs.Peers read (Client asked) taken is = client_asked program words verbs.Peers read asked taken is
+asked_by program words verbs.Grant read (Client asked) taken is = client_asked program words verbs.Grant read asked taken is
+asked_by program words verbs.Revoke read (Client asked) taken is = client_asked program words verbs.Revoke read asked taken is
+asked_by program words verbs.Daemon read (Daemon asked) taken is =
+    let own : program ≡ Boothd = daemons_own program words verbs.Daemon taken.named (inl refl) in
+    (own, record { all = read; asks = subst (λ p. AreTaken p words verbs.Daemon read) own taken; same = is })
+asked_by program words verbs.Status read (Status lock) taken is =
+    let own : program ≡ Boothd = daemons_own program words verbs.Status taken.named (inr refl) in
+    (own, record { all = read; asks = subst (λ p. AreTaken p words verbs.Status read) own taken; same = is })
+asked_by program words verb read asked taken is = absurd is
+
+-- words that were taken and read
+pub asks : (program : Program) (words : List (List ℕ)) (verb : Verb) (t : Texts) (read : Read) (asked : Asked) → verb_in program words ≡ Some verb →
+    fault_of (app_for verb) words ≡ [] → t ≡ found_in verb words → IsRead t read → IsAskedBy verb read asked →
+    Asks program words (Ok asked)
+asks program words verb t read asked named taken same is by =
+    asked_by program words verb read asked (record { named = named; taken = taken; says = subst (λ t. IsRead t read) same is }) by
+
+-- words that a command does not take, or for which there was no memory
+pub untaken : (program : Program) (words : List (List ℕ)) (verb : Verb) (kind : ErrorKind) → verb_in program words ≡ Some verb →
+    (kind ≡ kinds.OutOfMemory) ⊎ IsAmong kind (fault_of (app_for verb) words) →
+    (takes (app_for verb) words ≡ true → kind ≡ kinds.OutOfMemory) → IsUntakenFor program words kind
+untaken program words verb kinds.OutOfMemory named among passes = tt
+untaken program words verb kind named (inl memory) passes = cc
+untaken program words verb kind named (inr among) passes = record {
+  verb = verb;
+  named = named;
+  among = among;
+  untaken = λ takes. let memory = passes takes in cc;
+}

@@ -1,0 +1,117 @@
+-- What the words ask for, or why they ask for nothing.
+use Rattle.std.specs.Prelude.{◌≡◌, ℕ, true, List, [], Some, None, is_some, Result, Ok, Err}
+use Rattle.clap.specs.Words.{IsAmong, fault_of, kind_of, takes}
+use Rattle.clap.specs.declared.error.kind.ErrorKind.{ErrorKind}
+use Rattle.clap.specs.declared.error.kind.ErrorKind.TheVariants as kinds
+use Rattle.booth_cli.specs.declared.command.Verb.{Verb}
+use Rattle.booth_cli.specs.declared.command.Verb.TheVariants as verbs
+use Rattle.booth_cli.specs.declared.outcome.Word.{Word}
+use Rattle.booth_cli.specs.declared.reading.Read.{Read}
+use Rattle.booth_cli.specs.declared.asking.DaemonWords.{DaemonWords}
+use Rattle.booth_cli.specs.declared.asking.Asked.{Asked}
+use Rattle.booth_cli.specs.declared.asking.Asked.TheVariants.{Daemon, Status, Client}
+use Rattle.booth_cli.specs.declared.asking.ClientWords.{ClientWords}
+use Rattle.booth_cli.specs.declared.program.Program.{Program}
+use Rattle.booth_cli.specs.declared.program.Program.TheVariants.{Boothd, Booth}
+use Rattle.booth_client.specs.declared.order.Order.{Order}
+use Rattle.booth_client.specs.declared.order.Order.TheVariants as orders
+use Rattle.booth_cli.specs.declared.asking.Refusal.{Refusal}
+use Rattle.booth_cli.specs.declared.asking.Refusal.TheVariants.{NoCommand, Untaken, Bad}
+use Rattle.booth_cli.specs.Commands.{app_for, verb_in}
+use Rattle.booth_cli.specs.Given.{found_in}
+use Rattle.booth_cli.specs.Reading.{IsFirstRefused, IsRead}
+
+-- words that a program's command takes, each of which its reader accepts, and what they say
+pub record AreTaken (program : Program) (words : List (List ℕ)) (verb : Verb) (read : Read) : Type 0 where
+  pub named : verb_in program words ≡ Some verb
+  pub taken : fault_of (app_for verb) words ≡ []
+  pub says : IsRead (found_in verb words) read
+
+-- what was read says this of a daemon
+pub record IsDaemonOf (read : Read) (asked : DaemonWords) : Type 0 where
+  pub site : read.site ≡ Some asked.site
+  pub turns : asked.turns ≡ read.turns
+  pub lock : asked.lock ≡ read.lock
+  pub records : asked.records ≡ read.records
+  pub conf : asked.conf ≡ read.conf
+
+-- the words ask for this daemon
+pub record AsksDaemon (words : List (List ℕ)) (asked : DaemonWords) : Type 0 where
+  pub all : Read
+  pub asks : AreTaken Boothd words verbs.Daemon all
+  pub same : IsDaemonOf all asked
+
+-- the words ask whether the daemon of this lock runs
+pub record AsksStatus (words : List (List ℕ)) (lock : List ℕ) : Type 0 where
+  pub all : Read
+  pub asks : AreTaken Boothd words verbs.Status all
+  pub same : lock ≡ all.lock
+
+-- the order of a client's command
+abbrev pub HasOrder : Verb → Read → Order → Type 0
+HasOrder verbs.List read orders.List = Unit {0}
+HasOrder verbs.Peers read orders.Peers = Unit {0}
+HasOrder verbs.Grant read (orders.Grant ticket options) = (read.ticket ≡ Some ticket) × (options ≡ read.options)
+HasOrder verbs.Revoke read (orders.Revoke ticket options) = (read.ticket ≡ Some ticket) × (options ≡ read.options)
+HasOrder verb read order = ⊥
+
+-- what was read says this of a client
+pub record IsClientOf (verb : Verb) (read : Read) (asked : ClientWords) : Type 0 where
+  pub order : HasOrder verb read asked.order
+  pub site : asked.site ≡ read.site
+  pub conf : asked.conf ≡ read.conf
+
+-- the words ask for this client
+pub record AsksClient (words : List (List ℕ)) (asked : ClientWords) : Type 0 where
+  pub verb : Verb
+  pub all : Read
+  pub asks : AreTaken Booth words verb all
+  pub same : IsClientOf verb all asked
+
+-- the command does not take the words, and this kind of fault is one of theirs
+pub record IsUntaken (program : Program) (words : List (List ℕ)) (kind : ErrorKind) : Type 0 where
+  pub verb : Verb
+  pub named : verb_in program words ≡ Some verb
+  pub among : IsAmong kind (fault_of (app_for verb) words)
+  pub untaken : takes (app_for verb) words ≡ true → ⊥
+
+-- the same, or want of memory, which may come at any words
+abbrev pub IsUntakenFor : Program → List (List ℕ) → ErrorKind → Type 0
+IsUntakenFor program words kinds.OutOfMemory = Unit {0}
+IsUntakenFor program words kind = IsUntaken program words kind
+
+-- a command takes the words, and this is the first that its reader refuses
+pub record HasBadWord (program : Program) (words : List (List ℕ)) (word : Word) : Type 0 where
+  pub verb : Verb
+  pub named : verb_in program words ≡ Some verb
+  pub taken : fault_of (app_for verb) words ≡ []
+  pub first : IsFirstRefused (found_in verb words) word
+
+-- ---- in the code
+
+-- the words that a command has to have were read
+abbrev pub HasWords : Verb → Read → Type 0
+HasWords verbs.Daemon read = is_some read.site ≡ true
+HasWords verbs.Grant read = is_some read.ticket ≡ true
+HasWords verbs.Revoke read = is_some read.ticket ≡ true
+HasWords verb read = Unit {0}
+
+-- what a client's words say, with its order
+abbrev pub client_of : Order → Read → ClientWords
+client_of order read = record { order = order; site = read.site; conf = read.conf }
+
+-- what a command asks for whose words were read
+abbrev pub IsAskedBy : Verb → Read → Asked → Type 0
+IsAskedBy verbs.Daemon read (Daemon asked) = IsDaemonOf read asked
+IsAskedBy verbs.Status read (Status lock) = lock ≡ read.lock
+IsAskedBy verb read (Client asked) = IsClientOf verb read asked
+IsAskedBy verb read asked = ⊥
+
+-- what the reader of words answers
+abbrev pub Asks : Program → List (List ℕ) → Result Asked Refusal → Type 0
+Asks program words (Ok (Daemon asked)) = (program ≡ Boothd) × AsksDaemon words asked
+Asks program words (Ok (Status lock)) = (program ≡ Boothd) × AsksStatus words lock
+Asks program words (Ok (Client asked)) = (program ≡ Booth) × AsksClient words asked
+Asks program words (Err NoCommand) = verb_in program words ≡ None
+Asks program words (Err (Untaken error)) = IsUntakenFor program words (kind_of error)
+Asks program words (Err (Bad word)) = HasBadWord program words word

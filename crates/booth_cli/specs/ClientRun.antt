@@ -1,0 +1,56 @@
+-- The calls of a whole run of booth.
+use Rattle.std.specs.Prelude.{◌≡◌, ◌++◌, ℕ, List, [], ◌∷◌, Some, None, codes, if◌then◌else◌}
+use Rattle.std.specs.Str.{bytes_eq}
+use Rattle.booth_host.specs.declared.entry.Entry.{Entry}
+use Rattle.booth_cli.specs.declared.program.Program.TheVariants.{Booth}
+use Rattle.booth_cli.specs.declared.outcome.Outcome.{Outcome}
+use Rattle.booth_cli.specs.declared.outcome.Outcome.TheVariants.{Usage, BadWord, PrintFault, OutOfMemory}
+use Rattle.booth_cli.specs.declared.asking.ClientWords.{ClientWords}
+use Rattle.booth_cli.specs.Commands.{verb_in}
+use Rattle.booth_cli.specs.Asking.{AsksClient, IsUntaken, HasBadWord}
+use Rattle.booth_cli.specs.Unasked.{IsUnasked}
+use Rattle.booth_cli.specs.Client.{IsClientLog}
+use Rattle.booth_cli.specs.Run.{IsText}
+
+-- one leading `client` is passed over
+abbrev pub passed : List (List ℕ) → List (List ℕ)
+passed [] = []
+passed (word ∷ words) = if bytes_eq word (codes "client") then words else word ∷ words
+
+-- the calls up to where the outcome is decided, by what the words ask for
+pub data IsClientMade (words : List (List ℕ)) (outcome : Outcome) (said : List ℕ)
+    (entries : List Entry) : Type 0 where
+  Unasked : IsUnasked Booth words outcome said entries → IsClientMade words outcome said entries
+  Talked : (asked : ClientWords) → AsksClient words asked → IsClientLog asked outcome said entries →
+      IsClientMade words outcome said entries
+
+-- all calls of a run on these words, the last of which says how it ended
+pub record IsClientRun (words : List (List ℕ)) (outcome : Outcome) (entries : List Entry) : Type 0 where
+  pub said : List ℕ
+  pub body : List Entry
+  pub last : List Entry
+  pub whole : entries ≡ body ++ last
+  pub made : IsClientMade words outcome said body
+  pub told : IsText Booth said last
+
+-- ---- over every host
+
+-- an outcome of a client that was asked for
+abbrev pub IsAnswered : Outcome → Type 0
+IsAnswered (Usage kind) = ⊥
+IsAnswered (BadWord word) = ⊥
+IsAnswered outcome = Unit {0}
+
+-- the words ask for a client, whatever they say of it
+pub record AskForClient (words : List (List ℕ)) : Type 0 where
+  pub asked : ClientWords
+  pub asks : AsksClient words asked
+
+-- Usage comes only for words that are not taken, and BadWord exactly where that word is the first refused
+abbrev pub FitsClientWords : List (List ℕ) → Outcome → Type 0
+FitsClientWords words (Usage None) = verb_in Booth words ≡ None
+FitsClientWords words (Usage (Some kind)) = IsUntaken Booth words kind
+FitsClientWords words (BadWord word) = HasBadWord Booth words word
+FitsClientWords words PrintFault = verb_in Booth words ≡ None → ⊥
+FitsClientWords words OutOfMemory = Unit {0}
+FitsClientWords words outcome = AskForClient words

@@ -1,0 +1,7 @@
+mod WaitLemmas
+mod TalkLemmas
+mod ReplyLemmas
+mod CivilLemmas
+mod FieldLemmas
+mod LineLemmas
+mod ReportLemmas

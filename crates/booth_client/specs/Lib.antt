@@ -1,0 +1,10 @@
+pub mod Asking
+pub mod Replies
+pub mod Waiting
+pub mod Talk
+pub mod Civil
+pub mod Fields
+pub mod Forms
+pub mod Report
+pub use Rattle.booth_host.specs.Past
+pub use Rattle.booth_host.specs.Causes

@@ -1,0 +1,22 @@
+//! A client over any host: what it asks, which datagrams answer it, how long it waits, and what is printed.
+#![tactic(auto)]
+
+mod date;
+mod fields;
+pub mod laws;
+mod lines;
+mod numbers;
+mod order;
+mod reply;
+mod reports;
+mod request;
+mod talking;
+#[cfg(test)]
+mod tests;
+mod wait;
+
+pub use order::{Asking, Options, Order};
+pub use reply::Reply;
+pub use reports::{report, report_of};
+pub use talking::{Room, talk};
+pub use wait::{Waited, is_begun};

@@ -1,0 +1,66 @@
+//! The request, as it is sent at a moment.
+ghost use Rattle.std.specs.Prelude.{◌≡◌, true};
+ghost use Rattle.booth_wire.specs.Command.{kind_of};
+ghost use Rattle.booth_wire.specs.PlainMessage.{content_of, has_text, is_named, kind_in, plain_of};
+ghost use Rattle.booth_client.specs.Asking.{asked_content, asked_part, number_of, request, request_bytes};
+
+use crate::{Asking, Order};
+use booth_base::{MemberId, NO_ONE, Name};
+use booth_wire::{Body, Frame, Head, Message, TicketPart};
+
+/// The number of the request that is sent at this reading.
+pub(crate) fn number_of(start: u64) -> u32
+    ensures { result ≡ number_of start }
+{
+    (start % (1 << 32)) as u32
+}
+
+fn part_of(ticket: &Name) -> TicketPart
+    ensures { result ≡ asked_part ticket.now }
+{
+    TicketPart {
+        ticket: ticket.copy(),
+        leader: NO_ONE,
+        term: 0,
+        valid_for: 0,
+    }
+}
+
+fn body_of(order: &Order) -> Body<'static>
+    ensures { content_of result ≡ asked_content order.now }
+{
+    match order {
+        Order::List | Order::Peers => Body::Bare,
+        Order::Grant(ticket, _) | Order::Revoke(ticket, _) => Body::Ticket(part_of(ticket)),
+    }
+}
+
+fn message_of(order: &Order, start: u64) -> Message<'static>
+    ensures same { plain_of result ≡ request order.now start }
+    ensures kind { kind_in (content_of result.body) ≡ kind_of result.head.cmd }
+    ensures named { is_named result.head.cmd (content_of result.body) ≡ true }
+    ensures text { has_text (content_of result.body) ≡ true }
+{
+    Message {
+        head: Head {
+            auth: false,
+            secs: 0,
+            usecs: 0,
+            from: MemberId(0),
+            cmd: order.cmd(),
+            request: number_of(start),
+            options: order.options().bits(),
+            reason: 0,
+            result: 0,
+        },
+        body: body_of(order),
+    }
+}
+
+/// Writes the request as it is sent at this reading: with its time, and with the MAC where there is a key.
+pub(crate) fn put_request(asking: &Asking, start: u64, frame: &mut Frame)
+    ensures { frame.new ≡ request_bytes asking.now start }
+{
+    let message = message_of(&asking.order, start);
+    booth_auth::seal(&message, asking.key.as_ref(), start, frame);
+}
