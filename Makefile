@@ -1,5 +1,5 @@
 # make build   proves boothd and leaves the program at out/boothd
-# make run     builds it, and shows one request and its reply on loopback
+# make run     builds it, and shows three members on loopback: a grant, a crash, a takeover
 # make check   the gate
 
 PROVED := crates/boothd/out/boothd

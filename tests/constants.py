@@ -1,4 +1,4 @@
-"""How tests/every_frame.py and tests/node_frames.py print bytes: as constants of byte strings.
+"""How tests/every_frame.py and tests/node_frames.py print constants: as byte strings, and as texts.
 
 It is imported by these two, and not run by itself.
 """
@@ -17,6 +17,18 @@ def rendered(line):
         else f"\\x{byte:02x}"
         for byte in line
     )
+
+
+def in_hex(datagram):
+    """The bytes in words of eight hexadecimal digits, as lines of eight words that go on behind a `\\`."""
+    words = [datagram[i : i + 4].hex() for i in range(0, len(datagram), 4)]
+    return " \\\n".join(" ".join(words[i : i + 8]) for i in range(0, len(words), 8))
+
+
+def print_text(declared, about, text):
+    """A constant of this text, whose lines are those of the source but for a last `\\`."""
+    print(f"\n/// {about}")
+    print(f'{declared}: &str = "\\\n{text}";')
 
 
 def print_constant(declared, about, datagram, starts):

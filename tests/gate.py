@@ -32,9 +32,11 @@ class Station(NamedTuple):
     key: Optional[bytes] = None
     skew: int = 600
     port: int = frames.PORT
+    is_site: bool = True
 
     def sites(self):
-        return [self.address, *(address for role, address in self.others if role == "site")]
+        others = [address for role, address in self.others if role == "site"]
+        return [self.address, *others] if self.is_site else others
 
     def member(self, number):
         """The address of the member with this id, or None."""

@@ -1,5 +1,5 @@
 #!/usr/bin/env python3
-"""Prints the datagrams and replies of the tests of crates/booth_node, as constants.
+"""Prints turns with datagrams and replies for the tests of crates/booth_node, as constants.
 
 tools/frames.py spells them, and the standard library's `hmac` signs them: nothing here is of the
 program's own making. From the top of the repository:
@@ -15,7 +15,7 @@ import sys
 sys.path.insert(0, os.path.join(os.path.dirname(os.path.abspath(__file__)), "../tools"))
 
 import frames
-from constants import HEAD_LINES, print_constant
+from constants import in_hex, print_text
 
 KEY = b"secret-key"
 # the sites at 192.168.201.100 and 192.168.202.100
@@ -48,9 +48,15 @@ def at(millis, make, letters, body=b"", **fields):
     return make(letters, body, secs=secs, usecs=millis % 1000 * 1000, **fields)
 
 
-def peers(drops, second_site="0 0 0 0"):
+def peers(drops, second_site="0 0 1 0", arbitrator="0 0 1 0"):
+    """The text of the drops and of both others. Hello was sent to each."""
     lines = f"dropped {drops}\nsite 192.168.202.100 {second_site}\n"
-    return (lines + "arbitrator 192.168.203.100 0 0 0 0\n").encode()
+    return (lines + f"arbitrator 192.168.203.100 {arbitrator}\n").encode()
+
+
+def nobodys(ticket=TICKET):
+    """The state of a ticket that nobody has."""
+    return frames.ticket_body(ticket, NO_ONE, 0, 0)
 
 
 def heartbeat(sender, leader=None, ticket=TICKET):
@@ -58,33 +64,21 @@ def heartbeat(sender, leader=None, ticket=TICKET):
     return at(SENT, signed, "HrtB", body, sender=sender, options=3)
 
 
-def line_starts(datagram, body_end):
-    if len(datagram) < frames.HEAD_BYTES:
-        return [*HEAD_LINES, len(datagram)]
-    body = datagram[frames.HEAD_BYTES : body_end]
-    if b" " in datagram[frames.HEAD_BYTES :] and b"\n" in body:
-        ends = [i + 1 for i in range(frames.HEAD_BYTES, body_end) if datagram[i] == 0x0A]
-        return [*HEAD_LINES, frames.HEAD_BYTES, *ends]
-    return [*HEAD_LINES, *range(frames.HEAD_BYTES, body_end, 32)]
+def print_turn(name, about, comes, sends=(), now=NOW):
+    """A turn as text: what comes from a client, if anything does, and then what is sent to whom."""
+    head = "quiet" if comes is None else f"from client: # \\\n{in_hex(comes)}"
+    lines = [f"at {now} {head}", *(f"send {who}: # \\\n{in_hex(frame)}" for who, frame in sends)]
+    print_text(f"pub(super) const {name}", about, "\n".join(lines))
 
 
-def print_datagram(name, about, datagram, auth_bytes=0):
-    body_end = len(datagram) - auth_bytes
-    starts = line_starts(datagram, body_end)
-    if starts[-1] != body_end:
-        starts.append(body_end)
-    if auth_bytes:
-        starts += [body_end + 4, len(datagram)]
-    print_constant(f"pub(super) const {name}", about, datagram, starts)
-
-
-def print_signed(name, about, datagram):
-    print_datagram(name, about, datagram, frames.AUTH_BYTES)
+def hello(make):
+    stat = at(NOW, make, "Stat", nobodys(), sender=S1)
+    return [("S2", stat), ("AR", stat)]
 
 
 def print_requests():
     """Each request of a client and its reply. What a request says besides shows in no reply."""
-    said = {"options": 4, "reason": frames.code("Admn"), "result": frames.code("Busy")}
+    said = {"options": 8, "reason": frames.code("Admn"), "result": frames.code("Busy")}
     asked = frames.ticket_body(TICKET, S2, 7, 9)
     other = frames.ticket_body(b"other", 5, 7, 9)
     color = frames.attribute_body(TICKET, b"color", b"dark blue")
@@ -93,8 +87,8 @@ def print_requests():
     table = [
         ("CLst", b"", "RLst", LIST, 0),
         ("Peer", b"", "RPer", peers(NO_DROPS), 0),
-        ("CGnt", asked, "RGnt", frames.ticket_body(TICKET, NO_ONE, 0, 0), REFUSED),
-        ("CRvk", other, "RRvk", frames.ticket_body(b"other", NO_ONE, 0, 0), REFUSED),
+        ("CGnt", asked, "RGnt", nobodys(), REFUSED),
+        ("CRvk", other, "RRvk", nobodys(b"other"), REFUSED),
         ("ASet", color, "RAtr", color, REFUSED),
         ("AGet", size, "RAtr", size, REFUSED),
         ("ADel", color, "RAtr", color, REFUSED),
@@ -102,61 +96,87 @@ def print_requests():
     ]
     for number, (command, body, answer, answer_body, result) in enumerate(table, 1):
         request = at(SENT, plain, command, body, request=number, **said)
-        print_datagram(command.upper(), f"`{command}`, and its reply.", request)
         fields = {"sender": S1, "request": number, "result": result}
         reply = at(NOW, plain, answer, answer_body, **fields)
-        print_datagram(f"{command.upper()}_REPLY", f"`{answer}`.", reply)
+        about = f"`{command}` is answered with `{answer}`."
+        print_turn(command.upper(), about, request, [("client", reply)])
+        if command == "CLst":
+            sends = [("client", reply), *hello(plain)]
+            print_turn("CLST_FIRST", "The same before the hello.", request, sends)
+            print_moments(request)
+        if command == "Peer":
+            none_sent = peers(NO_DROPS, "0 0 0 0", "0 0 0 0")
+            reply = at(NOW, plain, answer, none_sent, **fields)
+            sends = [("client", reply), *hello(plain)]
+            print_turn("PEER_FIRST", "The same before the hello.", request, sends)
+
+
+def print_moments(request):
+    """`CLst` where the clock reads this, and where the reading that is used is that."""
+    table = [
+        ("BACK", "the first reading", 5, NOW),
+        ("LATE", "a reading past the seconds of a frame", 4_294_967_296_005, 4_294_967_296_005),
+        ("LATE_STILL", "an earlier one after that", NOW, 4_294_967_296_005),
+        ("LAST", "the greatest one", 2**64 - 1, 2**62 - 1),
+    ]
+    for name, about, reading, used in table:
+        reply = at(used, plain, "RLst", LIST, sender=S1, request=1)
+        print_turn(f"CLST_{name}", f"`CLst` at {about}.", request, [("client", reply)], now=reading)
+    about = "The hello of S1, which started later than its clock reads."
+    print_turn("HELLO_BACK", about, None, hello(plain), now=5)
 
 
 def print_signed_requests():
-    grant = frames.ticket_body(TICKET, S2, 7, 9)
-    refusal = frames.ticket_body(TICKET, NO_ONE, 0, 0)
+    revoke = frames.ticket_body(TICKET, S2, 7, 9)
     table = [
         ("CLst", b"", "RLst", LIST, 11, 0),
-        ("CGnt", grant, "RGnt", refusal, 12, REFUSED),
+        ("CRvk", revoke, "RRvk", nobodys(), 12, frames.code("Tidl")),
     ]
     for command, body, answer, answer_body, number, result in table:
-        name = f"{command.upper()}_SIGNED"
         request = at(SENT, signed, command, body, request=number)
-        print_signed(name, f"`{command}` with its MAC, and its reply.", request)
         fields = {"sender": S1, "request": number, "result": result}
         reply = at(NOW, signed, answer, answer_body, **fields)
-        print_signed(f"{name}_REPLY", f"`{answer}` with its MAC.", reply)
-    print_signed("PEER_SIGNED", "`Peer` with its MAC.", at(SENT, signed, "Peer", request=13))
+        about = f"`{command}` with its MAC is answered with `{answer}` with its own."
+        print_turn(f"{command.upper()}_SIGNED", about, request, [("client", reply)])
+    request = at(SENT, signed, "Peer", request=13)
     for name, after, text in [
-        ("AFTER_BAD_MAC", "one frame with a wrong MAC", peers("0 0 1 0 0 0 0 0")),
-        ("AFTER_HRTB", "one `HrtB` of S2", peers(NO_DROPS, "1700000000 1 0 0")),
-        ("AFTER_FAULTS", "one frame with each fault", peers("1 1 1 1 1 1 1 1")),
+        ("BAD_MAC", "one frame with a wrong MAC", peers("0 0 1 0 0 0 0 0")),
+        ("HRTB", "one `HrtB` of S2", peers(NO_DROPS, "1700000000 1 2 0")),
+        ("FAULTS", "one frame with each fault", peers("1 1 1 1 1 1 1 1")),
     ]:
         reply = at(NOW, signed, "RPer", text, sender=S1, request=13)
-        print_datagram(name, f"Its reply after {after}.", reply, frames.AUTH_BYTES)
+        about = f"`Peer` with its MAC, after {after}."
+        print_turn(f"PEER_AFTER_{name}", about, request, [("client", reply)])
+
+
+def print_hello():
+    print_turn("HELLO", "The hello of S1.", None, hello(plain))
+    print_turn("HELLO_SIGNED", "The same with its MAC.", None, hello(signed))
 
 
 def print_faults():
-    print_signed("HRTB", "`HrtB` of S2, with its MAC.", heartbeat(S2))
-    print_datagram("NO_FRAME", "47 bytes.", at(SENT, plain, "CLst")[:47])
+    answer = frames.ticket_body(TICKET, S2, 1, 0)
+    ack = at(NOW, signed, "Ack.", answer, sender=S1, options=3)
+    about = "`HrtB` of S2 with its MAC, from anywhere, is answered to where S2 listens."
+    print_turn("HRTB", about, heartbeat(S2), [("S2", ack)])
+    unsigned = at(SENT, plain, "CLst", request=1)
+    print_turn("NO_FRAME", "47 bytes.", at(SENT, plain, "CLst")[:47])
+    print_turn("NO_MAC", "`CLst` without a MAC.", unsigned)
     wrong = bytearray(at(SENT, signed, "CLst", request=11))
     wrong[frames.HEAD_BYTES + 4] ^= 1
-    print_signed("BAD_MAC", "`CLst` with one bit of its MAC turned.", bytes(wrong))
+    print_turn("BAD_MAC", "`CLst` with one bit of its MAC turned.", bytes(wrong))
     old = at(NOW - 601_999, signed, "CLst", request=11)
-    print_signed("TOO_OLD", "`CLst` of 601 seconds ago.", old)
-    print_signed("STRANGER", "`HrtB` of nobody.", heartbeat(0x0102_0304))
-    print_signed("OWN", "`HrtB` of S1 itself.", heartbeat(S1))
-    print_signed("NO_TICKET", "`HrtB` of S2 on another ticket.", heartbeat(S2, ticket=b"ticket-db9"))
+    print_turn("TOO_OLD", "`CLst` of 601 seconds ago.", old)
+    print_turn("STRANGER", "`HrtB` of nobody.", heartbeat(0x0102_0304))
+    print_turn("OWN", "`HrtB` of S1 itself.", heartbeat(S1))
+    print_turn("NO_TICKET", "`HrtB` of S2 on another ticket.", heartbeat(S2, ticket=b"ticket-db9"))
     about = "`HrtB` of S2 that names S1 as its leader."
-    print_signed("NO_LEADER", about, heartbeat(S2, leader=S1))
+    print_turn("NO_LEADER", about, heartbeat(S2, leader=S1))
 
 
-def print_moments():
-    print("\n// Replies to `CLst` at other moments.")
-    for name, millis in [("LATE", 4_294_967_296_005), ("LAST", 2**62 - 1)]:
-        about = f"At {millis:_} ms."
-        print_datagram(f"CLST_{name}", about, at(millis, plain, "RLst", LIST, sender=S1, request=1))
-
-
-print("//! Datagrams and replies, as tools/frames.py spells them and Python's `hmac` signs them with")
-print("//! `secret-key`. Replies are those of S1, at 192.168.201.100.")
+print("//! Turns of S1, at 192.168.201.100, with frames in hexadecimal as tools/frames.py spells them and")
+print("//! Python's `hmac` signs them with `secret-key`.")
+print_hello()
 print_requests()
 print_signed_requests()
 print_faults()
-print_moments()

@@ -5,12 +5,14 @@ It is imported by tests/loopback.py, and not run by itself.
 
 import contextlib
 import fcntl
+import itertools
 import os
 import socket
 import stat
 import subprocess
 
 import frames
+from gate import Station
 from room import Asker, check, require
 from serving import LOCK, RECORDS, TOP
 
@@ -25,6 +27,11 @@ TICKET = b"ticket = t\n"
 LEAST = SITE + TICKET
 
 MOST_BYTES = 1_048_576
+
+USAGE = (
+    b"usage: boothd COMMAND [OPTIONS], with the command daemon or status;"
+    b" see --help behind it, and boothd(8)"
+)
 
 # the CRC-32 of these two is the same
 CLASHING = "192.168.202.100", "2001:db8::a283:e2c0"
@@ -132,39 +139,91 @@ def is_read(room, text, shown=None):
 
 
 @check
-def usage(room):
-    """words that are no daemon's have a usage error and status 1"""
+def no_command(room):
+    """words without a command have a usage line and status 1"""
     good = room.words(room.file(LEAST))
-    _, _, path, _, address = good
+    wrong = [[], [""], ["Daemon", *good[1:]], ["client", *good], ["--help"], ["--version"]]
+    # words that are no UTF-8
+    for words in (*wrong, [b"\xff"], [*good[:2], b"/\xff", *good[3:]]):
+        room.refuses(words, USAGE)
+
+
+@check
+def untaken_words(room):
+    """words that a command does not take are told on standard error alone, with status 1"""
+    good = room.words(room.file(LEAST))
     wrong = [
-        *(good[:count] for count in range(len(good))),
-        [*good, "more"],
-        ["daemon", "-s", address, "-c", path],
-        ["status", *good[1:]],
-        ["Daemon", *good[1:]],
+        *(good[:count] for count in range(1, len(good))),
+        *([*good, *more] for more in (["more"], good[1:3], good[3:], ["--", "-n"], ["-n"])),
         ["daemon", "--conf", *good[2:]],
-        [*good[:3], "--site", address],
-        ["--help"],
-        # words that are no UTF-8
-        [b"\xff"],
-        [*good[:2], b"/\xff", *good[3:]],
+        [*good[:3], "--site", good[4]],
+        ["status", *good[1:]],
+        ["status", "-l"],
     ]
     for words in wrong:
-        room.refuses(words, b"usage: boothd daemon -c FILE -s ADDRESS")
+        status, out, err = room.ended(words)
+        is_told = (status, out) == (1, b"") and err.startswith(b"error: ")
+        require(is_told, f"{words} gave status {status}, {out} and {err}")
+
+
+def told_in_readme(first):
+    """The block of README.md that begins with this line."""
+    with open(f"{TOP}/README.md", "rb") as file:
+        lines = file.read().splitlines()
+    behind = lines[lines.index(b"    " + first) :]
+    block = itertools.takewhile(lambda line: line[:4] in (b"", b"    "), behind)
+    return b"\n".join(line[4:] for line in block).rstrip() + b"\n"
+
+
+@check
+def help_and_version(room):
+    """help and version stand on standard output alone, with status 0, and README.md has that help"""
+    lock = b"[default: /var/run/booth.lock]"
+    for command, pieces in (
+        ("daemon", (b"-c", b"[default: booth]", b"-s", b"-l", lock, b"-d",
+                    b"[default: /var/lib/booth]", b"-n", b"boothd(8)")),
+        ("status", (b"-l", lock, b"boothd(8)")),
+    ):
+        status, out, err = room.ended([command, "--help"])
+        require((status, err) == (0, b""), f"help of {command} gave status {status} and {err}")
+        missing = [piece for piece in pieces if piece not in out]
+        require(not missing, f"help of {command} does not name {missing}")
+        status, out, err = room.ended([command, "--version"])
+        require((status, err) == (0, b"") and b"0.1.0" in out, f"the version is {out}")
+    told = told_in_readme(b"Runs the daemon of one member, in the foreground.")
+    require(room.ended(["daemon", "-h"])[1] == told, "README.md tells other options")
 
 
 @check
 def bad_words(room):
-    """an address or a path that is none is reported, the address first"""
+    """a word that is not of its form is reported: first the address, then number and paths"""
     path = room.file(LEAST)
     no_address = ("", "localhost", "127.0.0", "127.0.0.256", "127.0.0.01", "127.0.0.1 ", "::1%lo")
-    no_path = ("", "booth.conf", "./" + "x" * 254)
+    no_number = ("", "0", "007", "+1", "1 ", "0x1", str(2**62 + 1), str(2**64 + 1))
+    no_conf = ("./" + "x" * 254, "x" * 240)
     for address in (*no_address, "[::1]", "::1::", "1:2:3:4:5:6:7"):
-        for each in (path, *no_path):
-            room.refuses(["daemon", "-c", each, "-s", address], b"bad site")
-    for each in no_path:
-        for address in ("127.0.0.1", "::1"):
-            room.refuses(["daemon", "-c", each, "-s", address], b"bad configuration")
+        words = ["daemon", "-c", no_conf[0], "-l", "", "-n", "0", "-s", address]
+        room.refuses(words, b"bad site")
+    good = ["daemon", "-s", "::1"]
+    for number in no_number:
+        room.refuses([*good, "-c", no_conf[0], "-l", "", "-n", number], b"bad number")
+    for option in ("-l", "-d"):
+        for each in ("", "./" + "x" * 254):
+            room.refuses([*good, "-c", no_conf[0], option, each], b"bad path")
+    for each in no_conf:
+        room.refuses([*good, "-c", each], b"bad configuration")
+    room.refuses([*good, "-c", path, "-l", "./" + "x" * 253], b"::1 is not a member")
+
+
+@check
+def named_files(room):
+    """a configuration without a slash is looked up in /etc/booth"""
+    for words, named in (
+        (["-c", "no-such"], b"no-such.conf"),
+        (["-cno-such.conf"], b"no-such.conf"),
+        (["-c=no-such.x"], b"no-such.x.conf"),
+    ):
+        room.refuses(["daemon", "-s", "::1", *words], b"cannot read /etc/booth/" + named)
 
 
 @check
@@ -320,8 +379,8 @@ def bad_keys(room):
 
 @check
 def already_running(room):
-    """one daemon runs on a machine, and a second one is told so, after its own files were read"""
-    with room.serving() as daemon, Asker(daemon) as asker:
+    """one daemon has a lock, and a second one is told so, after its own files were read"""
+    with room.usual_daemon() as daemon, Asker(daemon) as asker:
         words = daemon.server.words[1:]
         room.refuses(words, b"already running")
         # at another address too
@@ -335,8 +394,48 @@ def already_running(room):
         asker.asks("CLst")
         asker.asks("Peer")
     # (the file is left behind, and no lock any more)
-    with room.serving() as daemon, Asker(daemon) as asker:
+    with room.usual_daemon() as daemon, Asker(daemon) as asker:
         asker.asks("CLst")
+
+
+@check
+def two_daemons(room):
+    """two daemons run on one machine with two locks and two directories, and not with fewer"""
+    first, second = room.own_places("first"), room.own_places("second")
+    station = Station(next(room.addresses))
+    with room.serving(options=first) as daemon, Asker(daemon) as asker:
+        with room.serving(station, options=second) as other, Asker(other) as another:
+            another.asks("CLst")
+            asker.asks("CLst")
+        words = room.words(room.file(room.configuration(station), "other.conf"), station.address)
+        room.refuses([*words, *second[:2], *first[2:]], b"cannot open")
+        room.refuses([*words, *first[:2], *second[2:]], b"already running")
+        asker.asks("CLst")
+
+
+@check
+def status(room):
+    """status says whether a daemon holds the lock, and its exit status says it too"""
+    running = (0, b"booth daemon is running\n", b"")
+    stopped = (7, b"booth daemon is not running\n", b"")
+    options = room.own_places("looked")
+    look = ["status", *options[:2]]
+    require(room.ended(look) == stopped, "a daemon is said to run before it was started")
+    with room.serving(options=options) as daemon, Asker(daemon) as asker:
+        require(room.ended(look) == running, "a daemon that runs is not said to run")
+        require(room.ended(["status"]) == stopped, "a daemon is said to hold the lock of no other")
+        asker.asks("CLst")
+    require(room.ended(look) == stopped, "a daemon is said to run after its end")
+    missing = f"{room.folder}/missing/lock"
+    room.refuses(["status", "-l", missing], b"cannot lock %s" % missing.encode())
+
+
+@check
+def counted_turns(room):
+    """a daemon whose turns are counted ends by itself with status 0, and says nothing"""
+    words = room.words(room.file(here(room, FILE)))
+    came = room.ended([*words, *room.own_places("counted"), "-n", "2"])
+    require(came == (0, b"", b""), f"a daemon of two turns gave {came}")
 
 
 @check
@@ -347,7 +446,7 @@ def port_in_use(room):
         holder.bind((room.address, frames.PORT))
         room.refuses(room.words(path), b"cannot open")
     room.refuses(room.words(path, "10.0.0.1"), b"cannot open")
-    with room.serving() as daemon, Asker(daemon) as asker:
+    with room.usual_daemon() as daemon, Asker(daemon) as asker:
         asker.asks("CLst")
 
 
@@ -366,17 +465,17 @@ def mode(path):
 @check
 def own_lock_files(room):
     """the lock files that it makes are its user's alone, since whoever opens one can hold its lock"""
-    with room.serving():
+    with room.usual_daemon():
         pass
     path = f"{RECORDS}/booth.lock"
     for path in (LOCK, path) if os.access(os.path.dirname(LOCK), os.W_OK) else (path,):
         with locked(path):
             os.remove(path)
-        with room.serving():
+        with room.usual_daemon():
             require(mode(path) == 0o600, f"{path} has the mode {mode(path):o}")
         # one that is there stays as it is
         os.chmod(path, 0o640)
-        with room.serving():
+        with room.usual_daemon():
             require(mode(path) == 0o640, f"the mode of {path} was changed to {mode(path):o}")
         os.chmod(path, 0o600)
 
@@ -385,11 +484,11 @@ def own_lock_files(room):
 def one_daemon_for_records(room):
     """where another program has the directory of the records, nothing is opened"""
     path = room.file(here(room, FILE) + SITE)
-    with room.serving():
+    with room.usual_daemon():
         pass
     with locked(f"{RECORDS}/booth.lock"):
         room.refuses(room.words(path), b"cannot open")
-    with room.serving() as daemon, Asker(daemon) as asker:
+    with room.usual_daemon() as daemon, Asker(daemon) as asker:
         asker.asks("CLst")
 
 
@@ -409,7 +508,7 @@ def unread_standard_error(room):
     unread, into = os.pipe()
     os.close(unread)
     streams = {"stdin": subprocess.DEVNULL, "stdout": subprocess.DEVNULL, "stderr": into}
-    ran = subprocess.run([room.program, "status"], timeout=5, **streams)
+    ran = subprocess.run([room.program, "stop"], timeout=5, **streams)
     os.close(into)
     require(ran.returncode == 1, f"the run had status {ran.returncode}")
 

@@ -70,9 +70,12 @@ def client_commands(room):
     """each command of a client has its reply, without a key and with one"""
     for key in (None, KEY):
         with room.serving(room.station(key=key)) as daemon, Asker(daemon) as asker:
+            asker.asks("CRvk", TICKET_BODY, "a revocation of what is not granted")
             for letters in frames.ANSWER_TO:
                 asker.asks(letters, body_of(letters))
-            # (any ticket is unknown, as long as none is granted)
+            asker.asks("CGnt", TICKET_BODY, "a second grant")
+            asker.asks("Peer")
+            # another ticket is unknown
             longest, value = b"~" * 63, bytes(range(0x20, 0x7F)).ljust(127, b"!")
             for letters in ("CGnt", "CRvk"):
                 asker.asks(letters, frames.ticket_body(longest, 1, 2**32 - 1, 2**32 - 1))
@@ -201,16 +204,16 @@ def sender_drops(room):
 
 @check
 def members_are_counted(room):
-    """a command of a member is counted as its own, and not answered"""
+    """a command of a member is counted as its own, heard, and answered to that member alone"""
     for key in (None, KEY):
         with room.serving(room.station(key=key)) as daemon, Asker(daemon) as asker:
             for letters in MEMBERS_SAY:
-                asker.is_counted(said(letters, SITE, leader=SITE, key=key), SITE, letters)
+                asker.is_heard(said(letters, SITE, leader=SITE, key=key), letters)
                 if letters in LEADERS_ALONE:
                     continue
                 for sender, leader in ((SITE, NO_ONE), (SITE, room.address), (VOTER, NO_ONE)):
                     frame = said(letters, sender, leader=leader, key=key)
-                    asker.is_counted(frame, sender, f"{letters} with leader {leader}")
+                    asker.is_heard(frame, f"{letters} with leader {leader}")
             asker.is_quiet()
 
 
@@ -254,7 +257,7 @@ def free_authentication(room):
             asker.send(frame("CLst", auth=numbers(2) + hash, request=5))
             asker.takes("CLst", 5, daemon.lists_due())
             stat = frame("Stat", TICKET_BODY, numbers(2) + hash, sender=member_id(SITE))
-            asker.is_counted(stat, SITE, "Stat with a part that nobody reads")
+            asker.is_heard(stat, "Stat with a part that nobody reads")
 
 
 @check
@@ -292,7 +295,7 @@ def old_frames(room):
                 asker.asks("CLst", secs=secs)
     # without a key it is not looked at
     with room.serving() as daemon, Asker(daemon) as asker:
-        asker.is_counted(said("Stat", SITE, secs=0), SITE, "an old frame without a key")
+        asker.is_heard(said("Stat", SITE, secs=0), "an old frame without a key")
 
 
 def batches(datagrams, size=16):
@@ -321,8 +324,10 @@ def random_datagrams(station, chance):
         letters = chance.choice([*frames.BODY_OF])
         body = body_of(letters)
         if frames.BODY_OF[letters] == frames.TICKET:
-            ticket = chance.choice([DB8, DB8, DB8, b"other"])
-            body = frames.ticket_body(ticket, chance.choice(ids), chance.getrandbits(32), 1)
+            # (a granted ticket would be asked for again and again)
+            is_client = letters in frames.ANSWER_TO
+            ticket = b"other" if is_client else chance.choice([DB8, DB8, DB8, b"other"])
+            body = frames.ticket_body(ticket, chance.choice(ids), chance.getrandbits(32), 600)
         key = chance.choice([station.key, station.key, station.key, None, b"another-key"])
         secs = int(time.time()) - chance.choice([0, 0, 0, 10**4])
         sender = 0 if letters in frames.ANSWER_TO and chance.random() < 0.8 else chance.choice(ids)
@@ -392,7 +397,7 @@ def version_6(room):
     with room.serving(station, text) as daemon, Asker(daemon) as asker:
         asker.asks("CLst")
         asker.asks("Peer")
-        asker.is_counted(said("Stat", room.address, leader="::1", key=KEY), room.address, "Stat")
+        asker.is_heard(said("Stat", room.address, leader="::1", key=KEY), "Stat")
         asker.is_dropped(said("Stat", "::1", key=KEY), SELF, "Stat of its own")
 
 
@@ -400,12 +405,12 @@ def version_6(room):
 def arbitrator(room):
     """an arbitrator answers as a site does, and nobody may name it as a leader"""
     others = (("site", SITE), ("site", "10.0.0.1"))
-    station = room.station(others=others)
+    station = room.station(others=others, is_site=False)
     text = room.configuration(station).replace(b"site", b"arbitrator", 1)
     with room.serving(station, text) as daemon, Asker(daemon) as asker:
         for letters in frames.ANSWER_TO:
             asker.asks(letters, body_of(letters))
-        asker.is_counted(said("Stat", SITE, leader="10.0.0.1"), SITE, "Stat")
+        asker.is_heard(said("Stat", SITE, leader="10.0.0.1"), "Stat")
         asker.is_dropped(said("Stat", SITE, leader=room.address), LEADER, "its leader")
 
 

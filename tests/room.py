@@ -17,11 +17,14 @@ from frames import Head, request_now
 from gate import Station
 from serving import NotServing, boothd, own_addresses
 
+# (a moment that a daemon tells is that of its clock, between a request and its reply)
 SECONDS_TO_ANSWER = 2
 MOST_UDP_BYTES = 65_507
 
 KEY = b"secret-key"
-# the result of each request for a ticket
+# what tells of an owner without asking for anything
+TELL_STATE = ("Stat", "MIdx", "RJC!", "UpdE")
+# the result of each request for what is not there
 NOT_HERE = frames.code("IArg")
 
 checks = []
@@ -47,19 +50,22 @@ def shown(datagram):
 
 
 class Counts:
-    """What a daemon is to have counted so far."""
+    """What a daemon is to have counted so far. At its start it asks all others for each ticket's state."""
 
     def __init__(self, station):
+        self.station = station
         self.others = station.others
         self.drops = [0] * 8
         # by address: how many frames were let in, and between which seconds the last was
         self.accepted = {address: 0 for _, address in self.others}
         self.seen = {address: (0, 0) for _, address in self.others}
+        # by address: how many messages were made for it
+        self.said = {address: len(station.tickets) for _, address in self.others}
 
     def copy(self):
         other = copy.copy(self)
         other.drops, other.accepted = [*self.drops], {**self.accepted}
-        other.seen = {**self.seen}
+        other.seen, other.said = {**self.seen}, {**self.said}
         return other
 
     def let_in(self, address, since):
@@ -67,16 +73,67 @@ class Counts:
         self.accepted[address] += 1
         self.seen[address] = (since, since + SECONDS_TO_ANSWER)
 
+    def says(self, *addresses):
+        """One more message to each of these members, or to all."""
+        for address in addresses or self.said:
+            self.said[address] += 1
+
+    def sent_and_failed(self, address, told):
+        """The two counts of a member. From a loopback address in IPv4 the system sends to such alone; in
+        IPv6 that depends on the machine."""
+        here, there = self.station.address, address
+        if ":" in here and ":" in there and sum(map(int, told)) == self.said[address]:
+            return " ".join(told)
+        reaches = here.startswith("127.") and there.startswith("127.")
+        return f"{self.said[address]} 0" if reaches else f"0 {self.said[address]}"
+
     def peers_due(self, text):
         """The text of the list of members, with the seconds that stand in another text."""
         lines = ["dropped " + " ".join(map(str, self.drops))]
-        told = [line.split()[2:3] for line in text.decode(errors="replace").split("\n")[1:]]
+        told = [line.split()[2:] for line in text.decode(errors="replace").split("\n")[1:]]
+        told = [words if all(map(str.isdecimal, words)) else [] for words in told]
         for (role, address), words in itertools.zip_longest(self.others, told[: len(self.others)]):
             first, last = self.seen[address]
-            is_near = words and words[0].isdecimal() and first <= int(words[0]) <= last
+            is_near = words and first <= int(words[0]) <= last
             seconds = words[0] if is_near else first
-            lines.append(f"{role} {address} {seconds} {self.accepted[address]} 0 0")
+            ends = self.sent_and_failed(address, words[2:] if words else [])
+            lines.append(f"{role} {address} {seconds} {self.accepted[address]} {ends}")
         return "".join(line + "\n" for line in lines).encode()
+
+
+class Shown:
+    """The owner of a ticket that a daemon is to list, which has granted it to nobody itself."""
+
+    def __init__(self):
+        self.owner, self.first, self.last = "none", 0, 0
+
+    def hears(self, station, parts, since):
+        """A message that was let in is heard, by "What members say", while the daemon agrees to nothing."""
+        leader, _, seconds = (int.from_bytes(parts.body[at : at + 4], "big") for at in (64, 68, 72))
+        owner, sender = station.member(leader), station.member(parts.head.sender)
+        tells = parts.letters in TELL_STATE and owner not in (None, station.address)
+        if tells and seconds:
+            self.owner = owner
+            self.first, self.last = since + seconds, since + seconds + SECONDS_TO_ANSWER
+        gives_up = parts.letters == "Revk" and parts.head.reason != frames.code("Splt")
+        if gives_up and self.owner == sender:
+            self.__init__()
+
+    def copy(self):
+        return copy.copy(self)
+
+    def line(self, ticket, came):
+        """The line of a list, with the second that stands in another line where it may."""
+        words = came.split()[2:3]
+        is_near = words and words[0].isdigit() and self.first <= int(words[0]) <= self.last
+        end = int(words[0]) if is_near else self.first
+        return b"%s %s %d\n" % (ticket, self.owner.encode(), end)
+
+
+def is_answered(parts):
+    """Whether the sender of a message that was let in is answered, while the daemon agrees to nothing."""
+    number = parts.head.options
+    return parts.letters == "Stat" or (parts.letters, number != 0) in (("RVot", False), ("HrtB", True))
 
 
 class Served:
@@ -86,9 +143,43 @@ class Served:
         self.server = server
         self.station = station
         self.counts = Counts(station)
+        self.shown = [Shown() for _ in station.tickets]
+        # the tickets that a client was let ask for, each in its first term
+        self.asked = set()
 
     def lists_due(self):
-        return b"".join(ticket + b" none 0\n" for ticket in self.station.tickets)
+        """Says of a list which one was due."""
+        tickets = [(ticket, shown.copy()) for ticket, shown in zip(self.station.tickets, self.shown)]
+
+        def due(text):
+            lines = text.split(b"\n")
+            lines += [b""] * len(tickets)
+            return b"".join(shown.line(ticket, line) for (ticket, shown), line in zip(tickets, lines))
+
+        return due
+
+    def hears(self, parts, since):
+        """A member's frame is let in."""
+        sender = self.station.member(parts.head.sender)
+        self.counts.let_in(sender, since)
+        self.shown[self.station.tickets.index(parts.body[:64].rstrip(b"\0"))].hears(self.station, parts, since)
+        if is_answered(parts):
+            self.counts.says(sender)
+
+    def ticket_answer(self, letters, body):
+        """What a grant or a revocation is answered, where no other member is known to hold."""
+        ticket = body[:64].rstrip(b"\0")
+        if ticket not in self.station.tickets:
+            return NOT_HERE, body[:64] + frames.numbers(frames.NO_ONE, 0, 0)
+        term = 1 if ticket in self.asked else 0
+        result = "Busy" if term else "Tidl"
+        if letters == "CGnt" and not self.station.is_site:
+            result = "IArg"
+        elif letters == "CGnt" and not term:
+            result, term = "Asyn", 1
+            self.asked.add(ticket)
+            self.counts.says()
+        return frames.code(result), body[:64] + frames.numbers(frames.NO_ONE, term, 0)
 
     def answer(self, letters, body):
         """The result and the body, as Asker.takes has it, that answer a request of this command."""
@@ -99,7 +190,7 @@ class Served:
         if letters == "ALst":
             return NOT_HERE, b""
         if letters in ("CGnt", "CRvk"):
-            return NOT_HERE, body[:64] + frames.numbers(frames.NO_ONE, 0, 0)
+            return self.ticket_answer(letters, body)
         return NOT_HERE, body
 
 
@@ -111,6 +202,7 @@ class Room:
         self.folder = folder
         self.addresses = own_addresses()
         self.address = next(self.addresses)
+        self.numbers = itertools.count(1)
 
     def file(self, text, name="booth.conf"):
         path = os.path.join(self.folder, name)
@@ -134,11 +226,15 @@ class Room:
         return b"\n".join(lines)
 
     @contextlib.contextmanager
-    def serving(self, station=None, text=None):
-        """A daemon with this file, which prints nothing while it serves."""
+    def serving(self, station=None, text=None, options=None):
+        """A daemon with this file and these options more, which prints nothing while it serves.
+
+        Where no options are given it has a lock and a directory of its own, without a record."""
         station = station or self.station()
+        options = self.own_places(f"places-{next(self.numbers)}") if options is None else options
         path = self.file(self.configuration(station) if text is None else text)
-        server = boothd(self.program, path, station.address, station.port, station.key)
+        where = station.address, station.port
+        server = boothd(self.program, path, *where, station.key, options)
         try:
             with server:
                 yield Served(server, station)
@@ -146,6 +242,14 @@ class Room:
             raise Wrong(why) from None
         said = server.said()
         require(not said, f"a daemon that was to serve printed {said}")
+
+    def own_places(self, name):
+        """The options of a daemon with a lock and a directory of its own."""
+        return ["-l", f"{self.folder}/{name}.lock", "-d", f"{self.folder}/{name}"]
+
+    def usual_daemon(self):
+        """A daemon with the usual lock and directory, and a ticket that no earlier daemon has granted."""
+        return self.serving(self.station(tickets=(b"loopback",)), options=())
 
     def words(self, path, address=None):
         return ["daemon", "-c", path, "-s", address or self.address]
@@ -231,12 +335,13 @@ class Asker:
         self.daemon.counts.drops[kind] += 1
         self.asks("Peer", what=f"Peer after {what}")
 
-    def is_counted(self, datagram, address, what):
-        """This datagram has no reply, and is counted as one of the member at this address."""
+    def is_heard(self, datagram, what):
+        """This datagram of a member has no reply here. It is counted, and its ticket hears it."""
         since = int(time.time())
         self.send(datagram)
-        self.daemon.counts.let_in(address, since)
+        self.daemon.hears(gate.split(datagram), since)
         self.asks("Peer", what=f"Peer after {what}")
+        self.asks("CLst", what=f"CLst after {what}")
 
     def meets(self, datagrams):
         """Each of these is dropped, counted or answered as tests/gate.py says."""
@@ -250,7 +355,7 @@ class Asker:
                 answer = self.daemon.answer(found.letters, found.body)
                 answers.append((found, answer, shown(datagram)))
             else:
-                counts.let_in(self.station.member(found.head.sender), since)
+                self.daemon.hears(found, since)
         for found, (result, due), what in answers:
             self.takes(found.letters, found.head.request, due, result, what)
         self.asks("Peer", what="Peer after " + ", ".join(map(shown, datagrams)))

@@ -1,9 +1,10 @@
 #!/usr/bin/env python3
-"""Asks one daemon for its tickets or its members, and prints them as a person reads them.
+"""Asks one daemon for its tickets or its members, or to grant or revoke a ticket, and prints the answer.
 
-Run it as `python3 tools/ask.py [--peers] [--key FILE] HOST [PORT]`, HOST being an address or a name
-that has one. With --key the request has the MAC of the key in FILE, and so must the reply. The
-status is 1 where no answer came in 5 seconds, or one that is not as docs/PROTOCOL.md says.
+Run it as `python3 tools/ask.py [--peers | --grant TICKET | --revoke TICKET] [--key FILE] HOST [PORT]`,
+HOST being an address or a name that has one. With --key the request has the MAC of the key in FILE, and
+so must the reply. The status is 1 where the daemon refused, where no answer came in 5 seconds, or one
+that is not as docs/PROTOCOL.md says.
 """
 
 import argparse
@@ -16,15 +17,32 @@ import frames
 
 SECONDS_TO_ANSWER = 5
 
-# no daemon grants a ticket yet, so each has no owner and an end of 0
-TICKET = re.compile(rb"([!-~]{1,63}) none 0")
+TICKET = re.compile(rb"([!-~]{1,63}) (none|[0-9a-f.:]+) (\d+)")
 DROPS = re.compile(rb"dropped" + rb" (\d+)" * 8)
 PEER = re.compile(rb"(site|arbitrator) ([0-9a-f.:]+)" + rb" (\d+)" * 4)
 KINDS = ["frame", "nomac", "badmac", "old", "stranger", "self", "ticket", "leader"]
 
 
+# what is said of a grant's or a revocation's result
+DONE = {"CGnt": "ticket {} granted", "CRvk": "ticket {} revoked"}
+BEGUN = {"CGnt": "grant of {} requested", "CRvk": "revoke of {} requested"}
+REFUSED = {
+    "Fail": "failed",
+    "IArg": "invalid argument",
+    "Pend": "granted, but the record is not kept yet",
+    "Tidl": "ticket is not granted",
+    "Over": "ticket is granted elsewhere",
+    "Busy": "busy",
+    "Redr": "ticket is owned by another site",
+}
+
+
 class BadReply(Exception):
     """The reply is not of its form, or does not answer this request."""
+
+
+class Refused(Exception):
+    """The daemon refused, for this reason."""
 
 
 def ask(where, request):
@@ -38,14 +56,15 @@ def ask(where, request):
         return asker.recv(frames.FRAME_BYTES + 1)
 
 
-def text_of(reply, letters, request, address, key):
-    """The text of the reply, where the rest of it is as it has to be."""
+def parts_of(reply, letters, request, address, key):
+    """The result and the body of the reply, where the rest of it is as it has to be."""
     least = frames.HEAD_BYTES + (frames.AUTH_BYTES if key else 0)
     if len(reply) < least:
-        raise BadReply(f"it has {len(reply)} bytes, fewer than {least}, those without a text")
+        raise BadReply(f"it has {len(reply)} bytes, fewer than {least}, those without a body")
     head = frames.Head.read(reply)
-    text = reply[frames.HEAD_BYTES : len(reply) - least + frames.HEAD_BYTES]
-    due = frames.reply_due(letters, request, address, text, key, clock=head)
+    body = reply[frames.HEAD_BYTES : len(reply) - least + frames.HEAD_BYTES]
+    result = head.result if letters in DONE else 0
+    due = frames.reply_due(letters, request, address, body, key, result, clock=head)
     for field, found, wanted in zip(head._fields, head, frames.Head.read(due)):
         if found != wanted:
             name = "from" if field == "sender" else field
@@ -54,7 +73,7 @@ def text_of(reply, letters, request, address, key):
         raise BadReply("it has not the MAC of this key")
     if head.usecs % 1000 or head.usecs >= 1_000_000:
         raise BadReply(f"its field usecs is {head.usecs}, no whole milliseconds of a second")
-    return text
+    return result, body
 
 
 def lines_of(text):
@@ -74,8 +93,19 @@ def fields_of(form, line):
 def tickets(text):
     """A line for each ticket."""
     for line in lines_of(text):
-        (name,) = fields_of(TICKET, line)
-        yield f"ticket: {name}, leader: none"
+        name, owner, end = fields_of(TICKET, line)
+        expires = f", expires: {date(int(end))}" if int(end) else ""
+        yield f"ticket: {name}, leader: {owner}{expires}"
+
+
+def outcome(letters, ticket, result):
+    """The line that says what became of a grant or a revocation, where it was not refused."""
+    letters_of_result = result.to_bytes(4, "big").decode("ascii", errors="replace")
+    if result == 0:
+        return DONE[letters].format(ticket)
+    if letters_of_result == "Asyn":
+        return BEGUN[letters].format(ticket)
+    raise Refused(REFUSED.get(letters_of_result, f"result {result:08x}"))
 
 
 def date(seconds):
@@ -104,15 +134,25 @@ def told(options):
         with open(options.key, "rb") as file:
             key = frames.key_in(file.read())
     request = time.time_ns() // 1_000_000 % 2**32
-    letters, shown = ("Peer", peers) if options.peers else ("CLst", tickets)
+    letters, body = "Peer" if options.peers else "CLst", b""
+    ticket = options.grant or options.revoke
+    if ticket:
+        letters = "CGnt" if options.grant else "CRvk"
+        body = frames.ticket_body(ticket.encode(), frames.NO_ONE, 0, 0)
     where = socket.getaddrinfo(options.host, options.port, type=socket.SOCK_DGRAM)[0]
-    reply = ask(where, frames.request_now(letters, request, key=key))
-    return list(shown(text_of(reply, letters, request, where[4][0], key)))
+    reply = ask(where, frames.request_now(letters, request, body, key))
+    result, body = parts_of(reply, letters, request, where[4][0], key)
+    if ticket:
+        return [outcome(letters, ticket, result)]
+    return list((peers if options.peers else tickets)(body))
 
 
 def main():
     parser = argparse.ArgumentParser(description="Asks one booth daemon for its tickets.")
-    parser.add_argument("--peers", action="store_true", help="ask for its members instead")
+    what = parser.add_mutually_exclusive_group()
+    what.add_argument("--peers", action="store_true", help="ask for its members instead")
+    what.add_argument("--grant", metavar="TICKET", help="have it acquire this ticket")
+    what.add_argument("--revoke", metavar="TICKET", help="have it give this ticket back")
     parser.add_argument("--key", metavar="FILE", help="the file of the key that the daemon has")
     parser.add_argument("host", metavar="HOST")
     parser.add_argument("port", metavar="PORT", nargs="?", type=int, default=frames.PORT)
@@ -129,6 +169,8 @@ def main():
         sys.exit(f"ask.py: cannot ask {name}: {error}")
     except BadReply as why:
         sys.exit(f"ask.py: the reply of {name} is malformed: {why}")
+    except Refused as why:
+        sys.exit(f"ask.py: {why}")
     for line in lines:
         print(line)
 

@@ -1,33 +1,85 @@
 #!/usr/bin/env python3
-"""Shows the main job on loopback: a daemon with the example file is asked once, and ended.
+"""Shows the main job on loopback: three members, a grant, a crash of the holder, and a takeover.
 
-Run it as `python3 tools/demo.py`, or as `make run`, which builds the program first. It needs the
-right to write /var/run/booth.lock, as boothd does.
+Run it as `python3 tools/demo.py`, or as `make run`, which builds the program first. It takes half a
+minute, makes its files in a folder of its own, and needs no rights but the use of port 9929.
 """
 
-import os
-import subprocess
 import sys
+import tempfile
+import time
 
-from serving import TOP, NotServing, boothd, built_program, end_by_signals, turn
+from members import TICKET, Cluster, now, wait_for
+from serving import NotServing, built_program, end_by_signals
 
-ADDRESS = "127.0.0.1"
-FILE = "examples/two-sites.conf"
+ADDRESSES = ("127.0.0.1", "127.0.0.2", "127.0.0.3")
+
+
+class Story:
+    """Prints a line for each event, with the seconds since the start."""
+
+    def __init__(self):
+        self.started = now()
+
+    def tell(self, what):
+        print(f"{now() - self.started:6.2f} s  {what}", flush=True)
+
+
+def owner_line(cluster):
+    """What every member that runs lists."""
+    listed = ", ".join(f"{m.address}: {m.shown() or 'none'}" for m in cluster.members if m.is_running())
+    return f"listed at {listed}"
+
+
+def require(holds, what):
+    if not holds:
+        raise NotServing(what)
+
+
+def show(cluster, story):
+    one, two, _ = cluster.members
+    for member in cluster.members:
+        member.start(cluster.program, cluster.conf)
+        story.tell(f"{member.role} {member.address} serves")
+    started, name = now(), TICKET.decode()
+    story.tell(f"each member answers no round for {cluster.times.abstention():.3f} s after its start")
+    time.sleep(max(0, started + cluster.times.abstention() + 0.05 - now()))
+
+    story.tell(f"a client asks {one.address} for {name}: {one.about('CGnt')}")
+    require(wait_for(lambda: cluster.shown_by_all() == one.address, 3), "the grant failed")
+    record = one.record()
+    story.tell(f"{one.address} holds {name}, until {record.until - story.started:.2f} s; {owner_line(cluster)}")
+
+    require(wait_for(lambda: one.record().until != record.until, 6), "the lease was not renewed")
+    until = one.record().until
+    story.tell(f"{one.address} renewed its lease, until {until - story.started:.2f} s")
+    one.kill()
+    story.tell(f"{one.address} is killed (kill -9)")
+    taken = wait_for(lambda: two.record() and two.record().until, until - now() + 3)
+    require(taken, "nobody took over")
+    story.tell(f"{two.address} took {name} over, {now() - until:.2f} s after the old lease's end")
+
+    one.start(cluster.program, cluster.conf)
+    require(wait_for(lambda: cluster.shown_by_all() == two.address, 3), "the members differ")
+    story.tell(f"{one.address} is back and holds nothing; {owner_line(cluster)}")
+    story.tell(f"a client asks {two.address} to give {name} back: {two.about('CRvk')}")
+    story.tell(owner_line(cluster))
+    wrong = cluster.watch.wrong
+    require(not wrong, f"two members held {name} at one moment: {wrong}")
+    story.tell(f"at none of {cluster.watch.looks} moments did two members hold {name}, by their record files")
 
 
 def main():
     end_by_signals()
     program = built_program() or sys.exit("demo.py: boothd is not built: run make build")
-    os.chdir(TOP)
-    try:
-        with turn("demo.py"):
-            print(f"$ boothd daemon -c {FILE} -s {ADDRESS} &", flush=True)
-            with boothd(program, FILE, ADDRESS):
-                print(f"$ tools/ask.py {ADDRESS}", flush=True)
-                asked = subprocess.run([sys.executable, "tools/ask.py", ADDRESS])
-    except NotServing as why:
-        sys.exit(f"demo.py: {why}")
-    sys.exit(asked.returncode)
+    with tempfile.TemporaryDirectory(prefix="booth-demo-") as folder:
+        with Cluster(program, folder, ADDRESSES) as cluster:
+            with open(cluster.conf, encoding="ascii") as file:
+                print("\n".join("    " + line for line in file.read().splitlines()), flush=True)
+            try:
+                show(cluster, Story())
+            except NotServing as why:
+                sys.exit(f"demo.py: {why}")
 
 
 if __name__ == "__main__":

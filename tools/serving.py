@@ -1,7 +1,7 @@
 """Starts boothd, waits until it answers, and ends it whatever comes, for the Python programs here.
 
-It is imported by tools/demo.py, tests/loopback.py and bench/run.py, and not run by itself. One
-boothd runs on a machine at a time, since it locks a file: so these programs take turns.
+It is imported by tools/demo.py, tests/loopback.py and bench/run.py, and not run by itself. The
+daemons that they start lock one file, where they are given no other: so these programs take turns.
 """
 
 import contextlib
@@ -156,6 +156,7 @@ class Server:
         raise NotServing(f"the program gave no answer in {SECONDS_TO_START} seconds")
 
 
-def boothd(program, path, address, port=frames.PORT, key=None):
-    """The daemon with this configuration file at this address."""
-    return Server([program, "daemon", "-c", path, "-s", address], address, port, key)
+def boothd(program, path, address, port=frames.PORT, key=None, options=()):
+    """The daemon with this configuration file at this address, with these options more."""
+    words = [program, "daemon", "-c", path, "-s", address, *options]
+    return Server(words, address, port, key)

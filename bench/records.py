@@ -1,0 +1,115 @@
+#!/usr/bin/env python3
+"""Measures keeps of the real host beside a bare loop in C, and a start with many record files.
+
+Run it as `python3 bench/records.py [KEEPS [BOOTHD]]`, the programs being what rt and `make build` leave where
+they are left out; without boothd nothing is said of starts. It prints one table, and has the status 1 where a
+mark is missed by more than a tenth. Host and loop take turns on one disk, in the folder for temporary files,
+and a speed is that of the best round: what else writes to the disk spoils most of them.
+"""
+
+import os
+import resource
+import statistics
+import subprocess
+import sys
+import tempfile
+import time
+
+HERE = os.path.dirname(os.path.abspath(__file__))
+TOP = os.path.dirname(HERE)
+sys.path[:0] = [HERE, f"{TOP}/tools"]
+
+import frames
+from run import Row, at_least, below, print_table
+from serving import boothd, built_program, end_by_signals, own_addresses
+from texts import MEMBERS
+
+KEEPS = f"{TOP}/crates/keeps/out/keeps"
+ROUNDS, KEEPS_A_ROUND = 30, 400
+STARTS, FILES = 40, 64
+
+
+def built(name, folder):
+    made = os.path.join(folder, name)
+    subprocess.run(["cc", "-O2", "-o", made, f"{HERE}/{name}.c"], check=True)
+    return made
+
+
+def cpu_of_children():
+    used = resource.getrusage(resource.RUSAGE_CHILDREN)
+    return used.ru_utime + used.ru_stime
+
+
+def host_round(program, directory):
+    """The seconds of a keep and those of the processor, those of the start with them."""
+    before, started = cpu_of_children(), time.perf_counter()
+    subprocess.run([program, directory, str(KEEPS_A_ROUND)], stdout=subprocess.DEVNULL, check=True)
+    took = time.perf_counter() - started
+    return took / KEEPS_A_ROUND, (cpu_of_children() - before) / KEEPS_A_ROUND
+
+
+def loop_round(program, path):
+    said = subprocess.run([program, path, str(KEEPS_A_ROUND)], stdout=subprocess.PIPE, check=True)
+    return [float(number) / KEEPS_A_ROUND for number in said.stdout.split()]
+
+
+def keep_rows(program, folder):
+    loop, directory = built("keeps", folder), os.path.join(folder, "records")
+    host_round(program, directory)
+    rounds = [(host_round(program, directory), loop_round(loop, f"{folder}/bare")) for _ in range(ROUNDS)]
+    (host, host_cpu), (bare, bare_cpu) = (map(min, zip(*each)) for each in zip(*rounds))
+    yield Row("keeps a second, in a stream", f"{1 / host:,.0f} (the same writes and syncs in C: {1 / bare:,.0f})")
+    yield at_least("the same as a ratio to C", bare / host, f"{bare / host:.2f}", 0.8)
+    middle = statistics.median(loop[0] / keeps[0] for keeps, loop in rounds)
+    yield Row("the ratio in the middle of the rounds", f"{middle:.2f}")
+    yield Row("CPU a keep", f"{host_cpu * 1e6:.0f} µs (C: {bare_cpu * 1e6:.0f} µs)")
+
+
+def record_file():
+    """A file with a record in each slot."""
+    slots = (b"\1" + bytes(7) + number.to_bytes(8, "big") + b"\0\0\0\1" + bytes(44) for number in (1, 2))
+    return b"".join(slots)[:112]
+
+
+def start_rows(program, folder):
+    tickets = [b"ticket-%02d" % number for number in range(FILES)]
+    address = next(own_addresses())
+    conf, directory = os.path.join(folder, "booth.conf"), os.path.join(folder, "kept")
+    with open(conf, "wb") as file:
+        file.write(MEMBERS.replace(b"@", address.encode()) + b"".join(b'ticket = "%s"\n' % name for name in tickets))
+    os.mkdir(directory)
+    for name in tickets:
+        with open(os.path.join(directory, name.hex() + ".rec"), "wb") as file:
+            file.write(record_file())
+            file.flush()
+            os.fsync(file.fileno())
+    requests = os.path.join(folder, "requests")
+    with open(requests, "wb") as file:
+        file.write(b"".join(frames.request_now("CLst", number) for number in range(1000)))
+    server = boothd(program, conf, address, options=("-l", os.path.join(folder, "lock"), "-d", directory))
+    start = [built("asker", folder), "start", address, requests, *server.words]
+    took = [int(subprocess.run(start, stdout=subprocess.PIPE, check=True).stdout.split()[0]) / 1e6 for _ in range(STARTS)]
+    middle, lowest = statistics.median(took), min(took)
+    shown = f"{middle:.1f} ms (lowest: {lowest:.1f} ms)"
+    yield below(f"start to first answer, {FILES} record files", middle, shown, 8, "ms")
+
+
+def main(words):
+    end_by_signals()
+    keeps = os.path.abspath(words[0] if words else KEEPS)
+    daemon = words[1] if len(words) > 1 else built_program()
+    if not os.access(keeps, os.X_OK):
+        sys.exit(f"records.py: {keeps} is not built: rt ci leaves it")
+    with tempfile.TemporaryDirectory(prefix="booth-bench-") as folder:
+        try:
+            rows = list(keep_rows(keeps, folder))
+            if daemon is not None:
+                rows += start_rows(os.path.abspath(daemon), folder)
+        except (OSError, subprocess.CalledProcessError) as why:
+            sys.exit(f"records.py: {why}")
+    print_table(rows)
+    return 1 if any(row.met() == "NO" for row in rows) else 0
+
+
+if __name__ == "__main__":
+    sys.exit(main(sys.argv[1:]))

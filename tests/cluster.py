@@ -1,0 +1,203 @@
+#!/usr/bin/env python3
+"""Holds a cluster of three real boothd on loopback to the lease rules: grants, renewals, failover.
+
+Run it as `python3 tests/cluster.py [PROGRAM]`, PROGRAM being what `make build` leaves where it is left
+out. It takes about a minute and a half, prints a line for each check, ends all that it started, and has
+the status 1 where a check failed. Where boothd is not built it checks nothing, with status 0.
+
+Who holds a ticket is judged from the record files and this machine's clock, hundred times a second over
+the whole run, and never from what a daemon says of itself.
+"""
+
+import os
+import shutil
+import sys
+import tempfile
+import time
+
+HERE = os.path.dirname(os.path.abspath(__file__))
+sys.path[:0] = [HERE, f"{HERE}/../tools"]
+
+from members import Cluster, Times, now, wait_for
+from serving import NotServing, built_program, end_by_signals, own_addresses
+
+KEY, OTHER_KEY = b"a-key-of-the-cluster", b"another-key-than-that"
+# how much later than it may a thing happens at most, in seconds
+SLACK = 0.5
+BADMAC = 2
+
+stories = []
+
+
+class Wrong(Exception):
+    """The cluster did not what it has to."""
+
+
+def require(holds, why):
+    if not holds:
+        raise Wrong(why)
+
+
+def story(function):
+    """Takes a function, whose docstring says what its cluster is, into the list."""
+    stories.append(function)
+    return function
+
+
+def passed(sentence):
+    print(f"ok      {sentence}", flush=True)
+
+
+def is_held_by(cluster, member):
+    """Whether this member's record is in force and every running member lists it."""
+    record = member.record()
+    return record is not None and record.holds(now()) and cluster.shown_by_all() == member.address
+
+
+def grants(cluster, place, seconds=2):
+    """A client asks this member for a grant, which is answered, and then the member holds."""
+    member = cluster.members[place]
+    result = member.about("CGnt")
+    require(result in ("ok", "Asyn"), f"a grant is answered {result}")
+    require(wait_for(lambda: is_held_by(cluster, member), seconds), "the granted ticket is not held")
+    return member.record()
+
+
+def abstains(cluster, started):
+    """The moment from which each of the members that started until this moment answers rounds."""
+    time.sleep(max(0, started + cluster.times.abstention() + 0.05 - now()))
+
+
+@story
+def two_sites_and_an_arbitrator(cluster):
+    """a cluster of two sites and an arbitrator"""
+    times = cluster.times
+    one, two, _ = cluster.members
+    cluster.start()
+    started = now()
+    require(one.about("CGnt") == "Asyn", "a grant at a site is not begun")
+    while now() < started + times.abstention() - 0.2:
+        require(not any(r and r.until for r in map(type(one).record, cluster.members)), "a lease in that time")
+        time.sleep(0.05)
+    passed("nobody is granted the ticket before each member has abstained")
+
+    abstains(cluster, started)
+    require(wait_for(lambda: one.about("CGnt") != "Busy", times.expire), "the first grant never ended")
+    record = grants(cluster, 0)
+    require(now() < record.until <= now() + times.expire, f"a lease until {record.until}")
+    passed("a grant is held, kept on disk, and listed by every member")
+    require(one.about("CGnt") == "ok", "a grant at the holder is not granted")
+    require(two.about("CGnt") == "Over", "a grant elsewhere is not refused")
+    require(two.about("CRvk") == "Redr", "a revocation elsewhere is not redirected")
+    require(cluster.members[2].about("CGnt") == "IArg", "an arbitrator takes a grant")
+    passed("a grant or a revocation at another member is refused, with the reason")
+
+    until, end, renewals = record.until, now() + 3 * times.expire, 0
+    while now() < end:
+        record = one.record()
+        require(record is not None and record.holds(now()), "the lease ended though its holder runs")
+        renewals += record.until != until
+        until = record.until
+        time.sleep(0.02)
+    require(renewals >= 3, f"{renewals} renewals in three leases")
+    require(cluster.shown_by_all() == one.address, "a member lists another owner")
+    passed("the holder renews its lease over three leases, without a gap")
+
+    one.kill()
+    until = one.record().until
+    latest = until + times.guard() + times.timeout + SLACK
+    require(wait_for(lambda: (two.record() or record).until != record.until and two.record().until, latest - now() + SLACK), "nobody took over")
+    taken = now()
+    require(until <= taken <= latest, f"taken over {taken - until:.3f} s after the lease's end")
+    require(wait_for(lambda: cluster.shown_by_all() == two.address, 1), "the new owner is not listed")
+    passed(f"another site takes over after the lease's end and within its failover time ({taken - until:.3f} s)")
+
+    one.start(cluster.program, cluster.conf)
+    require(not one.record().holds(now()), "the killed member holds")
+    require(wait_for(lambda: one.shown() == two.address, 2 * times.timeout), "it hears of no owner")
+    passed("the killed member comes back, holds nothing, and hears who does")
+
+    before = two.counts()[1]
+    require(two.about("CRvk") == "ok", "a revocation at the holder is refused")
+    require(two.record().until is None, "the revoked lease is kept")
+    passed("a revocation is answered once the lease is off the disk")
+    require(wait_for(lambda: cluster.shown_by_all() is None and one.shown() is None, 1), "an owner is listed")
+    time.sleep(2 * times.timeout + SLACK)
+    after = two.counts()[1]
+    said = {address: after[address][1] - before[address][1] for address in after}
+    require(all(3 <= count for count in said.values()), f"the revocation was said {said} times")
+    time.sleep(2 * times.timeout)
+    require(two.counts()[1] == after, "the revocation is said again and again")
+    require(all(r.until is None or not r.holds(now()) for r in (one.record(), two.record())), "a lease is kept")
+    passed("every member hears of it, and it is said twice more")
+
+
+@story
+def a_directory_that_is_gone(cluster):
+    """a cluster in which one site's records cannot be written"""
+    one, two, _ = cluster.members
+    cluster.start()
+    started = now()
+    abstains(cluster, started)
+    shutil.move(one.records, one.records + ".gone")
+    result = one.about("CGnt")
+    require(result == "Fail", f"a grant whose record cannot be kept is answered {result}")
+    require(one.record() is None and one.is_running(), "the member keeps a record, or ended")
+    passed("a grant whose record cannot be written is refused, and the daemon runs on")
+    grants(cluster, 1)
+    passed("another site is granted the ticket meanwhile")
+
+
+@story
+def a_member_with_another_key(cluster):
+    """a cluster with a key, in which one member has another"""
+    one, two, arbitrator = cluster.members
+    arbitrator.key = OTHER_KEY
+    one.start(cluster.program, cluster.conf)
+    arbitrator.start(cluster.program, cluster.file("other.conf", OTHER_KEY))
+    started = now()
+    abstains(cluster, started)
+    require(one.about("CGnt") == "Asyn", "a grant with the key is not begun")
+    require(not wait_for(lambda: one.record().until, 2), "a member with another key gave its vote")
+    passed("a member with another key never counts for a majority")
+    require(one.counts()[0][BADMAC] > 0, "its frames are not counted as such")
+    passed("its frames are dropped, and counted with their fault")
+
+
+def run(program):
+    """Runs each story in a cluster of its own. Says how many failed."""
+    failed, started, looks = 0, time.monotonic(), 0
+    addresses = own_addresses()
+    for function in stories:
+        key = KEY if "key" in function.__name__ else None
+        with tempfile.TemporaryDirectory(prefix="booth-cluster-") as folder:
+            with Cluster(program, folder, [next(addresses) for _ in range(3)], key=key) as cluster:
+                try:
+                    function(cluster)
+                    wrong = cluster.watch.wrong
+                    require(not wrong, f"two held at one moment: {wrong[:3]}")
+                    printed = [member.printed() for member in cluster.members]
+                    require(not any(printed), f"a daemon printed {printed}")
+                    passed(f"no two held at one moment of {cluster.watch.looks} ({function.__doc__})")
+                except (Wrong, NotServing, OSError) as why:
+                    print(f"FAILED  {function.__doc__}: {why}", flush=True)
+                    failed += 1
+                looks += cluster.watch.looks
+    took = time.monotonic() - started
+    print(f"cluster: {len(stories) - failed} passed, {failed} failed, in {took:.1f} s ({program})")
+    return failed
+
+
+def main(words):
+    end_by_signals()
+    program = words[0] if words else built_program()
+    if program is None:
+        print("cluster: skipped, since boothd is not built: run make build")
+        return 0
+    if not os.access(program, os.X_OK):
+        sys.exit(f"cluster.py: cannot run {program}")
+    return 1 if run(os.path.abspath(program)) else 0
+
+
+if __name__ == "__main__":
+    sys.exit(main(sys.argv[1:]))

@@ -1,0 +1,181 @@
+#!/usr/bin/env python3
+"""Ends a stream of keeps by SIGKILL at any moment, and reads what is left; fills the disk, and empties it.
+
+Run it as `python3 tests/records.py [PROGRAM]`, PROGRAM being the built `keeps`, which rt leaves at
+crates/keeps/out/keeps. It takes a minute at most, prints a line for each check, and has the status 1 where
+one failed. Where `keeps` is not built it checks nothing, with status 0. Where it may mount a small tmpfs, it fills it.
+
+`keeps DIRECTORY COUNT` is the real host alone: it says which record it reads, and each that it has kept.
+"""
+
+import contextlib
+import os
+import random
+import resource
+import signal
+import subprocess
+import sys
+import tempfile
+import time
+
+TOP = os.path.dirname(os.path.dirname(os.path.abspath(__file__)))
+PROGRAM = f"{TOP}/crates/keeps/out/keeps"
+FILE = b"ticket-db8".hex() + ".rec"
+
+KILLS, SECONDS = 2_000, 55
+# the longest time from a start to its end, in seconds; a run gets to some keeps in it
+LONGEST = 0.02
+SEED = 9929
+
+
+class Wrong(Exception):
+    """The host did not what it has to."""
+
+
+def require(holds, why):
+    if not holds:
+        raise Wrong(why)
+
+
+def slot(number, term):
+    """A slot that holds a record of this term without a lease."""
+    fields = (number.to_bytes(8, "big"), (1).to_bytes(4, "big"), term.to_bytes(4, "big"))
+    return (b"\1" + bytes(7) + b"".join(fields)).ljust(64, b"\0")
+
+
+def said(output):
+    """The term that a run read, and those that it kept, by what it has said."""
+    lines = [line.split() for line in output.decode("ascii").split("\n")[:-1]]
+    read = [int(term) for word, term in lines if word == "read"]
+    return read[0] if read else None, [int(term) for word, term in lines if word == "kept"]
+
+
+def run(program, directory, count, **more):
+    """What a run to its end said, and its status."""
+    done = subprocess.run([program, directory, str(count)], stdout=subprocess.PIPE, stderr=subprocess.PIPE, **more)
+    return *said(done.stdout), done.returncode
+
+
+def killed(program, directory, seconds):
+    """What a run said that was ended after so many seconds."""
+    words = [program, directory, "1000000"]
+    with subprocess.Popen(words, stdout=subprocess.PIPE, stderr=subprocess.DEVNULL) as process:
+        time.sleep(seconds)
+        process.send_signal(signal.SIGKILL)
+        return said(process.stdout.read())
+
+
+def kills_leave_the_last_record_or_the_next(program, folder):
+    """Each run goes on where the one before was ended."""
+    chance = random.Random(SEED)
+    directory, last, keeps, in_flight = os.path.join(folder, "killed"), 0, 0, 0
+    started, done = time.monotonic(), 0
+    while done < KILLS and time.monotonic() < started + SECONDS:
+        read, kept = killed(program, directory, chance.uniform(0, LONGEST))
+        done += 1
+        if read is None:
+            continue
+        require(read in (last, last + 1), f"term {read} was read after {last} was kept (kill {done})")
+        require(kept == list(range(read + 1, read + 1 + len(kept))), f"{kept} after {read}")
+        in_flight += read == last + 1
+        keeps += len(kept)
+        last = kept[-1] if kept else read
+    read, _, status = run(program, directory, 0)
+    require(status == 0 and read in (last, last + 1), f"term {read} was read after {last} was kept")
+    return f"{done} kills in {time.monotonic() - started:.0f} s, {keeps} keeps, {in_flight} records in flight"
+
+
+def a_record_that_cannot_be_kept_leaves_the_old_one(program, folder):
+    """The file may not grow beyond its first slot: then the second cannot be written."""
+    directory = os.path.join(folder, "short")
+    os.mkdir(directory)
+    with open(os.path.join(directory, FILE), "wb") as file:
+        file.write(slot(1, 7))
+
+    def keep_it_short():
+        signal.signal(signal.SIGXFSZ, signal.SIG_IGN)
+        resource.setrlimit(resource.RLIMIT_FSIZE, (64, 64))
+
+    require(run(program, directory, 1, preexec_fn=keep_it_short) == (7, [], 1), "a keep that fails")
+    require(run(program, directory, 0) == (7, [], 0), "the old record is read")
+    require(run(program, directory, 2) == (7, [8, 9], 0), "the next keep")
+    require(run(program, directory, 0) == (9, [], 0), "it is read")
+    return "and the next keep goes on"
+
+
+@contextlib.contextmanager
+def small_disk(folder):
+    """A file system of two pages, or None where this user may mount none."""
+    place = os.path.join(folder, "small")
+    os.mkdir(place)
+    words = ["mount", "-t", "tmpfs", "-o", "size=8k", "tmpfs", place]
+    try:
+        mounted = subprocess.run(words, stderr=subprocess.DEVNULL).returncode == 0
+    except OSError:
+        mounted = False
+    try:
+        yield place if mounted else None
+    finally:
+        if mounted:
+            subprocess.run(["umount", place], check=True)
+
+
+def a_full_disk_keeps_nothing_until_there_is_room(program, folder):
+    """Nothing is left for the record's page."""
+    with small_disk(folder) as place:
+        if place is None:
+            return "not checked: this user may not mount a small tmpfs"
+        directory, rest = os.path.join(place, "records"), os.path.join(place, "rest")
+        require(run(program, directory, 0) == (0, [], 0), "an empty directory")
+        with open(rest, "wb", buffering=0) as file:
+            with contextlib.suppress(OSError):
+                while file.write(bytes(4096)):
+                    pass
+        for _ in range(2):
+            require(run(program, directory, 1) == (0, [], 1), "a keep on a full disk fails")
+        os.remove(rest)
+        require(run(program, directory, 3) == (0, [1, 2, 3], 0), "the next keep")
+        require(run(program, directory, 0) == (3, [], 0), "it is read")
+    return "and then keeps"
+
+
+def a_torn_file_is_refused(program, folder):
+    """Nothing is written to a file that no put leaves."""
+    directory = os.path.join(folder, "torn")
+    os.mkdir(directory)
+    path, torn = os.path.join(directory, FILE), slot(2, 7) + b"\1" + bytes(47)
+    with open(path, "wb") as file:
+        file.write(torn)
+    require(run(program, directory, 1) == (None, [], 1), "a run over it")
+    with open(path, "rb") as file:
+        require(file.read() == torn, "its bytes stay")
+    return "its bytes stay"
+
+
+CHECKS = (
+    a_record_that_cannot_be_kept_leaves_the_old_one,
+    a_full_disk_keeps_nothing_until_there_is_room,
+    a_torn_file_is_refused,
+    kills_leave_the_last_record_or_the_next,
+)
+
+
+def main(words):
+    program = os.path.abspath(words[0] if words else PROGRAM)
+    if not os.access(program, os.X_OK):
+        print(f"tests/records.py: {program} is not built, so nothing was checked")
+        return 0
+    wrong = 0
+    with tempfile.TemporaryDirectory(prefix="booth-records-") as folder:
+        for check in CHECKS:
+            name = check.__name__.replace("_", " ")
+            try:
+                print(f"ok: {name}: {check(program, folder)}", flush=True)
+            except Wrong as why:
+                wrong = 1
+                print(f"WRONG: {name}: {why}", flush=True)
+    return wrong
+
+
+if __name__ == "__main__":
+    sys.exit(main(sys.argv[1:]))

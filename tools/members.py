@@ -1,0 +1,266 @@
+"""A cluster of real daemons on loopback: each with an address, a lock and a directory of its own.
+
+It is imported by tools/demo.py and tests/cluster.py, and not run by itself. What is told of a ticket
+is read from the members' record files and from the clock, and not from what a daemon says of itself.
+"""
+
+import os
+import socket
+import threading
+import time
+from typing import NamedTuple, Optional
+
+import frames
+from serving import boothd
+
+TICKET = b"ticket-db8"
+
+# the layout of a record file: where its slots are, and what stands in a slot
+SLOTS_AT, SLOT_BYTES = (0, 64), 64
+COMMIT_AT, NUMBER_AT, TERM_AT, LEASE_AT, UNTIL_AT = 0, 8, 20, 24, 32
+
+SECONDS_TO_ANSWER = 2
+SECONDS_BETWEEN_LOOKS = 0.01
+
+
+class Times(NamedTuple):
+    """The times of the cluster's ticket, in seconds."""
+
+    expire: int = 6
+    timeout: int = 1
+    retries: int = 3
+    renewal: int = 5
+
+    def guard(self):
+        """How much longer than a lease others wait, for clocks that drift apart."""
+        return (2 + 2 * self.expire * 1_000_000 // 999_000) / 1000
+
+    def abstention(self):
+        """How long a member that started answers no round."""
+        return self.expire + self.guard()
+
+    def text(self):
+        """The settings, as the file has them."""
+        names = ("expire", "timeout", "retries", "renewal-freq")
+        return "".join(f"{name} = {value}\n" for name, value in zip(names, self))
+
+
+class Record(NamedTuple):
+    """A kept record. `until` is a moment in seconds since 1970, or None without a lease."""
+
+    term: int
+    until: Optional[float]
+
+    def holds(self, moment):
+        return self.until is not None and moment < self.until
+
+
+def number_of(slot):
+    """The number of the put that wrote a slot."""
+    return int.from_bytes(slot[NUMBER_AT : NUMBER_AT + 8], "big")
+
+
+def now():
+    """This machine's clock, which every member of the cluster reads."""
+    return time.time()
+
+
+class Answer(NamedTuple):
+    """What a daemon answered a client: the result's letters, or `ok`, and the body."""
+
+    result: str
+    body: bytes
+
+
+def letters_of(number):
+    return number.to_bytes(4, "big").decode("ascii") if number else "ok"
+
+
+class Member:
+    """One daemon of the cluster, running or not."""
+
+    def __init__(self, role, address, folder, key=None):
+        self.role = role
+        self.address = address
+        self.folder = folder
+        self.key = key
+        self.server = None
+        self.records = os.path.join(folder, "records")
+        os.makedirs(folder)
+
+    def start(self, program, conf):
+        """Starts the daemon, up to its first answer."""
+        places = ("-l", os.path.join(self.folder, "lock"), "-d", self.records)
+        server = boothd(program, conf, self.address, key=self.key, options=places)
+        server.__enter__()
+        self.server = server
+
+    def is_running(self):
+        return self.server is not None and self.server.process.poll() is None
+
+    def kill(self):
+        """Ends the daemon as a crash does, with SIGKILL."""
+        if self.server is not None:
+            self.server.end()
+            self.server = None
+
+    def printed(self):
+        """What the running daemon has printed."""
+        return self.server.said() if self.server else b""
+
+    def record_path(self, ticket=TICKET):
+        return os.path.join(self.records, ticket.hex() + ".rec")
+
+    def record(self, ticket=TICKET):
+        """The record that is kept of the ticket, or None where none is."""
+        try:
+            with open(self.record_path(ticket), "rb") as file:
+                content = file.read(len(SLOTS_AT) * SLOT_BYTES).ljust(len(SLOTS_AT) * SLOT_BYTES, b"\0")
+        except OSError:
+            return None
+        slots = (content[at : at + SLOT_BYTES] for at in SLOTS_AT)
+        # (of equal numbers the first counts, as max takes it)
+        slot = max((slot for slot in slots if slot[COMMIT_AT] == 1), key=number_of, default=None)
+        if slot is None:
+            return None
+        term, has_lease = (int.from_bytes(slot[at : at + 4], "big") for at in (TERM_AT, LEASE_AT))
+        until = int.from_bytes(slot[UNTIL_AT : UNTIL_AT + 8], "big")
+        return Record(term, until / 1000 if has_lease else None)
+
+    def ask(self, letters, body=b""):
+        """What the daemon answers to this request, or None where it does not in time."""
+        number = time.time_ns() // 1000 % 2**32
+        with socket.socket(socket.AF_INET, socket.SOCK_DGRAM) as asker:
+            asker.settimeout(SECONDS_TO_ANSWER)
+            asker.connect((self.address, frames.PORT))
+            try:
+                asker.send(frames.request_now(letters, number, body, self.key))
+                came = asker.recv(frames.FRAME_BYTES)
+            except OSError:
+                return None
+        head = frames.Head.read(came)
+        end = len(came) - (frames.AUTH_BYTES if self.key else 0)
+        if (head.request, head.cmd) != (number, frames.code(frames.ANSWER_TO[letters])):
+            return None
+        return Answer(letters_of(head.result), came[frames.HEAD_BYTES : end])
+
+    def about(self, letters, ticket=TICKET):
+        """The result of a grant or a revocation that a client asks for."""
+        answer = self.ask(letters, frames.ticket_body(ticket, frames.NO_ONE, 0, 0))
+        return answer and answer.result
+
+    def shown(self, ticket=TICKET):
+        """The owner's address in this member's list, or None where it lists none."""
+        answer = self.ask("CLst")
+        lines = answer.body.split(b"\n") if answer else []
+        for line in lines:
+            name, _, rest = line.partition(b" ")
+            if name == ticket:
+                owner = rest.split(b" ")[0].decode()
+                return None if owner == "none" else owner
+        return None
+
+    def counts(self):
+        """What the daemon counts: the drops by kind, and (received, sent, errors) by address."""
+        answer = self.ask("Peer")
+        first, *others = answer.body.decode().splitlines()
+        by_address = {}
+        for line in others:
+            _, address, _, *numbers = line.split()
+            by_address[address] = tuple(map(int, numbers))
+        return list(map(int, first.split()[1:])), by_address
+
+
+class Watch(threading.Thread):
+    """Looks at the records again and again, and notes each moment at which two members held."""
+
+    def __init__(self, members):
+        super().__init__(daemon=True)
+        self.members = members
+        self.wrong = []
+        self.looks = 0
+        self.ended = threading.Event()
+
+    def holders(self):
+        """Who holds, by records that were the same at two looks, and so in force at a moment between."""
+        before = [member.record() for member in self.members]
+        moment = now()
+        after = [member.record() for member in self.members]
+        return [
+            member.address
+            for member, first, last in zip(self.members, before, after)
+            if first is not None and first == last and first.holds(moment)
+        ]
+
+    def run(self):
+        while not self.ended.wait(SECONDS_BETWEEN_LOOKS):
+            holders = self.holders()
+            self.looks += 1
+            if len(holders) > 1:
+                self.wrong.append((now(), holders))
+
+    def end(self):
+        self.ended.set()
+        self.join()
+
+
+class Cluster:
+    """Two sites and an arbitrator with one file, which are killed when the `with` block ends."""
+
+    def __init__(self, program, folder, addresses, times=Times(), key=None, tickets=(TICKET,)):
+        self.program = program
+        self.folder = folder
+        self.times = times
+        self.key = key
+        self.tickets = tickets
+        roles = ("site", "site", "arbitrator")
+        self.members = [
+            Member(role, address, os.path.join(folder, address), key)
+            for role, address in zip(roles, addresses)
+        ]
+        self.conf = self.file("booth.conf", key)
+
+    def file(self, name, key):
+        """Writes a configuration of this cluster with this key, and returns its path."""
+        text = "".join(f'{member.role} = "{member.address}"\n' for member in self.members)
+        if key is not None:
+            path = os.path.join(self.folder, name + ".key")
+            with open(path, "wb") as file:
+                file.write(key)
+            text += f'authfile = "{path}"\n'
+        text += "".join(f'ticket = "{name.decode()}"\n{self.times.text()}' for name in self.tickets)
+        path = os.path.join(self.folder, name)
+        with open(path, "w", encoding="ascii") as file:
+            file.write(text)
+        return path
+
+    def start(self, *places):
+        for place in places or range(len(self.members)):
+            self.members[place].start(self.program, self.conf)
+
+    def __enter__(self):
+        self.watch = Watch(self.members)
+        self.watch.start()
+        return self
+
+    def __exit__(self, *_):
+        for member in self.members:
+            member.kill()
+        self.watch.end()
+
+    def shown_by_all(self):
+        """The owner that every running member lists, or None where they differ or list none."""
+        shown = {member.shown() for member in self.members if member.is_running()}
+        return shown.pop() if len(shown) == 1 else None
+
+
+def wait_for(what, seconds):
+    """What the function gives once it is true, or None where it is not in that many seconds."""
+    end = time.monotonic() + seconds
+    while time.monotonic() < end:
+        found = what()
+        if found:
+            return found
+        time.sleep(SECONDS_BETWEEN_LOOKS)
+    return None
+
