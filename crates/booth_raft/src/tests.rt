@@ -3,6 +3,8 @@ mod answers;
 mod bounds;
 mod cluster;
 mod keeps;
+mod lines;
 mod notes;
 mod rows;
 mod script;
+mod views;

@@ -1,14 +1,15 @@
 //! Three members whose messages are handed on by a list: they elect, renew, lose a lease and elect another.
+//!
+//! Each line of the run is a reading with what is done then, or tells of a member's view.
 ghost use Rattle.std.specs.Prelude.{◌<◌, ◌^◌};
 
-use super::script::{S1, S2, core, hear, held, hello, kept, renew, tick};
+use super::lines::{check_deed, moment_of, number_of};
+use super::script::{ask, core_of, hear, hello, kept, renew, tick};
+use super::views::check_view;
 use crate::{Core, Deed, Role, Told, Want};
-use booth_wire::reasons::{ADMN, TLST};
 use booth_wire::{Head, Say, TicketPart};
-use std::alloc::AllocError;
 use std::collections::VecDeque;
 use std::process::Abort;
-use std::test::Fail;
 
 /// A message on its way from one place to another.
 #[derive(Drop)]
@@ -27,13 +28,14 @@ struct Room {
 }
 
 fn send(
+    rt: &impl Abort,
     letters: &mut VecDeque<Letter>,
     from: u32,
     to: u32,
     head: &Head,
     part: &TicketPart,
-) -> Result<(), AllocError> {
-    letters.push_back(Letter {
+) {
+    let letter = Letter {
         from,
         to,
         head: *head,
@@ -43,48 +45,35 @@ fn send(
             term: part.term,
             valid_for: part.valid_for,
         },
-    })?;
-    Ok(())
+    };
+    letters.push_back(letter).expect(rt, "memory");
 }
 
-fn post(
-    letters: &mut VecDeque<Letter>,
-    from: u32,
-    asker: u32,
-    say: &Say,
-) -> Result<(), AllocError> {
+fn post(rt: &impl Abort, letters: &mut VecDeque<Letter>, from: u32, asker: u32, say: &Say) {
     for to in 0..3 {
         match say {
             Say::Nothing => {}
             Say::Reply(head, part) => {
                 if to == asker {
-                    send(letters, from, to, head, part)?;
+                    send(rt, letters, from, to, head, part);
                 }
             }
             Say::All(head, part) => {
                 if to != from {
-                    send(letters, from, to, head, part)?;
+                    send(rt, letters, from, to, head, part);
                 }
             }
             Say::Unanswered(head, part, members) => {
                 if (*members >> to) & 1 == 1 {
-                    send(letters, from, to, head, part)?;
+                    send(rt, letters, from, to, head, part);
                 }
             }
         }
     }
-    Ok(())
 }
 
-/// Each keep is answered Ok, and what is then said is posted.
-fn finish(
-    rt: &impl Abort,
-    room: &mut Room,
-    from: u32,
-    asker: u32,
-    now: u64,
-    deed: Deed,
-) -> Result<Told, AllocError>
+// Each keep is answered Ok, and what is then said is posted. Gives what is then told.
+fn finish(rt: &impl Abort, room: &mut Room, from: u32, asker: u32, now: u64, deed: Deed) -> Told
     requires { now < 2 ^ 62 }
 {
     assert!(rt; from < 3);
@@ -94,17 +83,17 @@ fn finish(
             deed = kept(rt, &mut room.members[from as usize], now, true);
         }
     }
-    post(&mut room.letters, from, asker, &deed.say)?;
-    Ok(deed.told)
+    post(rt, &mut room.letters, from, asker, &deed.say);
+    deed.told
 }
 
-/// All messages arrive, and those that they lead to, but those from and to one member are lost.
-fn settle(rt: &impl Abort, room: &mut Room, now: u64, lost: Option<u32>) -> Result<(), AllocError>
+// All messages arrive, and those that they lead to, but those from and to one member are lost.
+fn settle(rt: &impl Abort, room: &mut Room, now: u64, lost: Option<u32>)
     requires { now < 2 ^ 62 }
 {
     for _ in 0..100 {
         let Some(letter) = room.letters.pop_front() else {
-            return Ok(());
+            return;
         };
         if Some(letter.from) == lost || Some(letter.to) == lost {
             continue;
@@ -112,33 +101,39 @@ fn settle(rt: &impl Abort, room: &mut Room, now: u64, lost: Option<u32>) -> Resu
         assert!(rt; letter.to < 3);
         let member = &mut room.members[letter.to as usize];
         let deed = hear(rt, member, now, letter.from, &letter.head, &letter.part);
-        let _ = finish(rt, room, letter.to, letter.from, now, deed)?;
+        let _ = finish(rt, room, letter.to, letter.from, now, deed);
     }
-    Ok(())
 }
 
-fn asked(
-    rt: &impl Abort,
-    room: &mut Room,
-    place: u32,
-    now: u64,
-    reason: u32,
-) -> Result<(), AllocError>
+fn place_of(rt: &impl Abort, who: &str) -> u32 {
+    match who {
+        "S1" => 0,
+        "S2" => 1,
+        "AR" => 2,
+        _ => panic!(rt; "nobody is {who}"),
+    }
+}
+
+fn asked(rt: &impl Abort, room: &mut Room, now: u64, line: &str)
     requires { now < 2 ^ 62 }
 {
+    let (who, reason) = line.split_once(" for ").expect(rt, line);
+    let place = place_of(rt, who);
     assert!(rt; place < 3);
-    let member = &mut room.members[place as usize];
-    assert!(rt; member.setup().site);
-    assert!(rt; member.view().waiting.is_none());
-    let deed = member.ask(now, reason).expect(rt, "a term is left");
-    let _ = finish(rt, room, place, place, now, deed)?;
-    Ok(())
+    let deed = ask(
+        rt,
+        &mut room.members[place as usize],
+        now,
+        number_of(rt, reason),
+    );
+    let _ = finish(rt, room, place, place, now, deed);
 }
 
-/// What the rule of a member's deadline wants, and tells.
-fn due(rt: &impl Abort, room: &mut Room, place: u32, now: u64) -> Result<(Want, Told), AllocError>
+// What the rule of a member's deadline wants, which is a renewal where it may be, and then tells.
+fn due(rt: &impl Abort, room: &mut Room, now: u64, who: &str) -> Deed
     requires { now < 2 ^ 62 }
 {
+    let place = place_of(rt, who);
     assert!(rt; place < 3);
     let member = &mut room.members[place as usize];
     let mut deed = tick(rt, member, now);
@@ -146,85 +141,138 @@ fn due(rt: &impl Abort, room: &mut Room, place: u32, now: u64) -> Result<(Want, 
     if want == Want::Renew {
         deed = renew(rt, member, now);
     }
-    let told = finish(rt, room, place, place, now, deed)?;
-    Ok((want, told))
+    Deed {
+        keep: None,
+        say: Say::Nothing,
+        want,
+        told: finish(rt, room, place, place, now, deed),
+    }
 }
 
-/// Who leads, by what is kept and in force.
-fn leads(room: &Room, now: u64) -> [bool; 3] {
-    let [a, b, c] = &room.members;
-    [a, b, c].map(|member| {
-        let view = member.view();
-        view.role == Role::Leader && view.kept.lease.is_some_and(|lease| now < lease.until)
-    })
+fn check_due(rt: &impl Abort, room: &mut Room, now: u64, line: &str)
+    requires { now < 2 ^ 62 }
+{
+    let (who, did) = line.split_once(": ").expect(rt, line);
+    check_deed(rt, &due(rt, room, now, who), did);
+}
+
+// Whether a member leads, by what is kept and in force.
+fn leads(member: &Core, now: u64) -> bool {
+    let view = member.view();
+    match view.kept.lease {
+        Some(lease) => view.role == Role::Leader && now < lease.until,
+        None => false,
+    }
+}
+
+// This member leads, and no other.
+fn check_leader(rt: &impl Abort, room: &Room, now: u64, leader: &str) {
+    let [s1, s2, ar] = &room.members;
+    assert!(rt; leads(s1, now) == (leader == "S1"), "at {now}");
+    assert!(rt; leads(s2, now) == (leader == "S2"), "at {now}");
+    assert!(rt; leads(ar, now) == (leader == "AR"), "at {now}");
+}
+
+fn check_member(rt: &impl Abort, room: &Room, line: &str) {
+    let (who, fields) = line.split_once(" view ").expect(rt, line);
+    let place = place_of(rt, who);
+    assert!(rt; place < 3);
+    check_view(rt, room.members[place as usize].view(), fields);
+}
+
+fn act(rt: &impl Abort, room: &mut Room, now: u64, line: &str)
+    requires { now < 2 ^ 62 }
+{
+    let (name, given) = line.split_once(' ').expect(rt, line);
+    match name {
+        "ask" => asked(rt, room, now, given),
+        "due" => check_due(rt, room, now, given),
+        "leader" => check_leader(rt, room, now, given),
+        "hear" => match given {
+            "all" => settle(rt, room, now, None),
+            "without S1" => settle(rt, room, now, Some(0)),
+            _ => panic!(rt; "who hears: {line}"),
+        },
+        _ => panic!(rt; "nothing is done: {line}"),
+    }
+}
+
+fn check_line(rt: &impl Abort, room: &mut Room, line: &str) {
+    let Some(line) = line.strip_prefix("at ") else {
+        check_member(rt, room, line);
+        return;
+    };
+    let (now, line) = line.split_once(' ').expect(rt, line);
+    let now = moment_of(rt, now);
+    assert!(rt; now < 1_000_000_000_000);
+    act(rt, room, now, line);
+}
+
+// A member has started at 0, and its hello says this.
+fn started(rt: &impl Abort, who: &str, said: &str) -> Core {
+    let mut member = core_of(rt, who, None, 0);
+    let deed = hello(rt, &mut member, 0);
+    check_deed(rt, &deed, said);
+    member
 }
 
 #[test]
-fn members_elect_renew_lose_and_elect_another(rt: HostRuntime) -> Result<(), Fail> {
+fn members_elect_renew_lose_and_elect_another(rt: HostRuntime) {
     let mut room = Room {
         members: [
-            core(&rt, 0, None, 0),
-            core(&rt, 1, None, 0),
-            core(&rt, 2, None, 0),
+            started(&rt, "S1", "say all S1 Stat 0 0 0 0 none 0 0"),
+            started(&rt, "S2", "say all S2 Stat 0 0 0 0 none 0 0"),
+            started(&rt, "AR", "say all AR Stat 0 0 0 0 none 0 0"),
         ],
         letters: VecDeque::new(rt.alloc()),
     };
-    for member in &mut room.members {
-        assert!(rt; hello(&rt, member, 0).is_some());
-    }
-
-    // The first site asks after its abstention, and the two others answer.
-    asked(&rt, &mut room, 0, 1_000_000, ADMN)?;
-    settle(&rt, &mut room, 1_000_000, None)?;
-    assert_eq!(rt; leads(&room, 1_000_000), [true, false, false]);
-    assert_eq!(rt; room.members[0].view().kept, held(1, 1_600_000));
-    // The lease is shown until 1,600,000; then guard, promise and one rank: 1,601,203 + 5,000.
-    assert_eq!(rt; room.members[1].view().due, Some(1_606_203));
-
+    // The first site asks after its abstention, and the two others answer. The lease is shown until
+    // 1,600,000; then guard, promise and one rank: 1,601,203 + 5,000.
+    let elects = "\
+at 1000000 ask S1 for Admn
+at 1000000 hear all
+at 1000000 leader S1
+S1 view kept 1 1 1600000
+S2 view due 1606203";
     // It renews half a lease later.
-    assert_eq!(rt; due(&rt, &mut room, 0, 1_300_000)?.0, Want::Renew);
-    settle(&rt, &mut room, 1_300_000, None)?;
-    assert_eq!(rt; room.members[0].view().kept, held(1, 1_900_000));
-    assert_eq!(rt; room.members[1].view().due, Some(1_906_203));
-
+    let renews = "\
+at 1300000 due S1: want renewal
+at 1300000 hear all
+S1 view kept 1 1 1900000
+S2 view due 1906203";
     // From now on nothing comes from it or to it, so its lease runs out.
-    for now in [1_600_000, 1_605_000] {
-        let _ = due(&rt, &mut room, 0, now)?;
-        settle(&rt, &mut room, now, Some(0))?;
-    }
-    assert_eq!(rt; leads(&room, 1_899_999), [true, false, false]);
-    assert_eq!(rt;
-        due(&rt, &mut room, 0, 1_900_000)?,
-        (Want::Nothing, Told::Lost)
-    );
-    assert_eq!(rt; room.members[0].view().due, Some(1_901_203));
-
+    let loses = "\
+at 1600000 due S1: want renewal
+at 1600000 hear without S1
+at 1605000 due S1: nothing
+at 1605000 hear without S1
+at 1899999 leader S1
+at 1900000 due S1: told lost
+S1 view due 1901203";
     // The second site asks too early: it and the arbitrator are promised to the first until 1,901,203.
-    asked(&rt, &mut room, 1, 1_901_202, TLST)?;
-    settle(&rt, &mut room, 1_901_202, Some(0))?;
-    assert_eq!(rt; room.members[2].view().bound, Some(S1));
-    assert_eq!(rt; room.members[2].view().seen, 2);
-
+    let asks_early = "\
+at 1901202 ask S2 for TLst
+at 1901202 hear without S1
+AR view bound S1, seen 2";
     // Its round goes again to those that have not answered. The arbitrator does, but that is no majority.
-    for now in [1_906_202, 1_911_202] {
-        assert_eq!(rt;
-            due(&rt, &mut room, 1, now)?,
-            (Want::Nothing, Told::Nothing)
-        );
-        settle(&rt, &mut room, now, Some(0))?;
-    }
-    assert_eq!(rt; room.members[2].view().bound, Some(S2));
-    assert_eq!(rt; leads(&room, 1_911_202), [false, false, false]);
-    assert_eq!(rt;
-        due(&rt, &mut room, 1, 1_956_202)?,
-        (Want::Nothing, Told::RoundFailed)
-    );
-
+    let asks_again = "\
+at 1906202 due S2: nothing
+at 1906202 hear without S1
+at 1911202 due S2: nothing
+at 1911202 hear without S1
+AR view bound S2
+at 1911202 leader nobody
+at 1956202 due S2: told round failed";
     // Two timeouts later it acquires, and its lease runs from the opening of its new round.
-    assert_eq!(rt; due(&rt, &mut room, 1, 1_966_202)?.0, Want::Acquire);
-    asked(&rt, &mut room, 1, 1_966_202, TLST)?;
-    settle(&rt, &mut room, 1_966_302, Some(0))?;
-    assert_eq!(rt; leads(&room, 1_966_302), [false, true, false]);
-    assert_eq!(rt; room.members[1].view().kept, held(3, 2_566_202));
-    Ok(())
+    let acquires = "\
+at 1966202 due S2: want acquisition
+at 1966202 ask S2 for TLst
+at 1966302 hear without S1
+at 1966302 leader S2
+S2 view kept 3 3 2566202";
+    for text in [elects, renews, loses, asks_early, asks_again, acquires] {
+        for line in text.lines() {
+            check_line(&rt, &mut room, line);
+        }
+    }
 }

@@ -1,19 +1,19 @@
-//! How a script drives a core: each step is one call, and what it did is compared as plain values.
+//! How a text drives a core: each line is one call with what it did, or tells of the view.
+//!
+//! A call is `at`, the reading, and its name with what it is given: `hello`, `ask` and a reason, `hear` and
+//! a message, `kept` or `failed` for the keep that waits, `tick`, `renew`, `release` and a reason; its deed
+//! follows. After `note` and what is noted, fields of the view follow, as they do after `view`.
 ghost use Rattle.std.specs.Prelude.{◌<◌, ◌^◌};
 ghost use Rattle.booth_raft.specs.Sound.{IsSound};
 
-use crate::{Core, Deed, Note, Role, Told, View, Want};
-use booth_base::{MemberId, NO_ONE, Name, Times};
-use booth_rec::{Lease, Record};
+use super::lines::{check_deed, moment_of, number_of, numbers_of, record_of, ticket};
+use super::views::check_view;
+use crate::{Core, Deed, Note, Role, Told, Want};
+use booth_base::{MemberId, Times};
+use booth_rec::Record;
 use booth_wire::reasons::{ADMN, LOCF};
 use booth_wire::{Cmd, Head, Say, Setup, TicketPart};
 use std::process::Abort;
-
-pub const S1: MemberId = MemberId(1);
-
-pub const S2: MemberId = MemberId(2);
-
-pub const AR: MemberId = MemberId(3);
 
 /// The default times: a lease of 600 s, a promise of 601,203 ms.
 pub const TIMES: Times = Times {
@@ -23,11 +23,6 @@ pub const TIMES: Times = Times {
     retries: 10,
     renewal: 300_000,
 };
-
-/// The ticket of all scripts.
-pub fn ticket(rt: &impl Abort) -> Name {
-    Name::read(b"ticket-db8").expect(rt, "a name")
-}
 
 /// Two sites and an arbitrator.
 pub fn setup(rt: &impl Abort, place: u32) -> Setup
@@ -45,210 +40,47 @@ pub fn setup(rt: &impl Abort, place: u32) -> Setup
     }
 }
 
-/// A core that starts at this reading.
-pub fn core(rt: &impl Abort, place: u32, kept: Option<Record>, now: u64) -> Core {
+/// A site that is the only member.
+pub fn alone(rt: &impl Abort) -> Setup
+    ensures { IsSound result }
+{
+    Setup {
+        place: 0,
+        members: 1,
+        ..setup(rt, 0)
+    }
+}
+
+/// A core of this setup that starts at this reading.
+fn start(rt: &impl Abort, setup: &Setup, kept: Option<&Record>, now: u64) -> Core
+    requires { IsSound setup.now }
+{
     assert!(rt; now < 1_000_000_000);
-    Core::start(&setup(rt, place), kept.as_ref(), now)
+    Core::start(setup, kept, now)
 }
 
-/// A record without a lease.
-pub fn free(term: u32) -> Record {
-    Record::plain(term, None)
-}
-
-/// A record of a lease of its term.
-pub fn held(term: u32, until: u64) -> Record {
-    Record::plain(term, Some(Lease { term, until }))
-}
-
-/// To whom something is said.
-#[derive(Clone, Copy, Debug, PartialEq, Eq)]
-pub enum To {
-    Asker,
-    All,
-    Unanswered(u16),
-}
-
-/// A message of the ticket that is said.
-#[derive(Clone, Copy, Debug, PartialEq, Eq)]
-pub struct Said {
-    pub to: To,
-    pub cmd: Cmd,
-    pub from: MemberId,
-    pub request: u32,
-    pub number: u32,
-    pub reason: u32,
-    pub result: u32,
-    pub leader: MemberId,
-    pub term: u32,
-    pub left_seconds: u32,
-}
-
-impl Said {
-    /// A message of a member, in which all but its command is zero, and nobody is its leader.
-    pub fn of(from: MemberId, to: To, cmd: Cmd) -> Said {
-        Said {
-            to,
-            cmd,
-            from,
-            request: 0,
-            number: 0,
-            reason: 0,
-            result: 0,
-            leader: NO_ONE,
-            term: 0,
-            left_seconds: 0,
-        }
+/// Its core at a site, at the arbitrator, or at a site alone.
+pub fn core_of(rt: &impl Abort, who: &str, kept: Option<&Record>, now: u64) -> Core {
+    match who {
+        "S1" => start(rt, &setup(rt, 0), kept, now),
+        "S2" => start(rt, &setup(rt, 1), kept, now),
+        "AR" => start(rt, &setup(rt, 2), kept, now),
+        "alone" => start(rt, &alone(rt), kept, now),
+        _ => panic!(rt; "nobody is {who}"),
     }
 }
 
-/// What a call did.
-#[derive(Clone, Copy, Debug, PartialEq, Eq)]
-pub struct Did {
-    pub keep: Option<Record>,
-    pub said: Option<Said>,
-    pub want: Want,
-    pub told: Told,
-}
-
-pub const NOTHING: Did = Did {
-    keep: None,
-    said: None,
-    want: Want::Nothing,
-    told: Told::Nothing,
-};
-
-pub const WANTS_RENEWAL: Did = Did {
-    keep: None,
-    said: None,
-    want: Want::Renew,
-    told: Told::Nothing,
-};
-
-/// Nothing but a keep.
-pub fn keeps(kept: Record) -> Did {
-    Did {
-        keep: Some(kept),
-        ..NOTHING
-    }
-}
-
-/// Nothing but what is said and told.
-pub fn says(said: Said, told: Told) -> Did {
-    Did {
-        said: Some(said),
-        told,
-        ..NOTHING
-    }
-}
-
-/// Nothing but what is told.
-pub fn tells(told: Told) -> Did {
-    Did { told, ..NOTHING }
-}
-
-fn said_as(rt: &impl Abort, to: To, head: &Head, part: &TicketPart) -> Said {
-    assert!(rt; part.ticket.bytes() == ticket(rt).bytes());
-    assert!(rt; !head.auth && head.secs == 0 && head.usecs == 0);
-    Said {
-        to,
-        cmd: head.cmd,
-        from: head.from,
-        request: head.request,
-        number: head.options,
-        reason: head.reason,
-        result: head.result,
-        leader: part.leader,
-        term: part.term,
-        left_seconds: part.valid_for,
-    }
-}
-
-/// What a message says.
-pub fn read_say(rt: &impl Abort, say: &Say) -> Option<Said> {
-    match say {
-        Say::Nothing => None,
-        Say::Reply(head, part) => Some(said_as(rt, To::Asker, head, part)),
-        Say::All(head, part) => Some(said_as(rt, To::All, head, part)),
-        Say::Unanswered(head, part, members) => {
-            Some(said_as(rt, To::Unanswered(*members), head, part))
-        }
-    }
-}
-
-/// What a deed does.
-pub fn read_deed(rt: &impl Abort, deed: &Deed) -> Did {
-    Did {
-        keep: deed.keep,
-        said: read_say(rt, &deed.say),
-        want: deed.want,
-        told: deed.told,
-    }
-}
-
-/// A message of the member at a place that is heard.
-#[derive(Clone, Copy, Debug)]
-pub struct Heard {
-    pub place: u32,
-    pub cmd: Cmd,
-    pub request: u32,
-    pub number: u32,
-    pub reason: u32,
-    pub leader: MemberId,
-    pub term: u32,
-    pub left_seconds: u32,
-}
-
-impl Heard {
-    /// A message in which all but its command is zero, and nobody is its leader.
-    pub fn of(place: u32, cmd: Cmd) -> Heard {
-        Heard {
-            place,
-            cmd,
-            request: 0,
-            number: 0,
-            reason: 0,
-            leader: NO_ONE,
-            term: 0,
-            left_seconds: 0,
-        }
-    }
-}
-
-/// One call.
-#[derive(Clone, Copy, Debug)]
-pub enum Step {
-    Ask(u32),
-    Hear(Heard),
-    Kept(bool),
-    Tick,
-    Renew,
-    Release(u32),
-}
-
-/// Makes the call, after the tests that its conditions ask for.
-pub fn play(rt: &impl Abort, core: &mut Core, now: u64, step: Step) -> Did {
-    assert!(rt; now < 1_000_000_000_000);
-    let deed = match step {
-        Step::Ask(reason) => ask(rt, core, now, reason),
-        Step::Hear(heard) => hear_as(rt, core, now, heard),
-        Step::Kept(ok) => kept(rt, core, now, ok),
-        Step::Tick => tick(rt, core, now),
-        Step::Renew => renew(rt, core, now),
-        Step::Release(reason) => release(rt, core, now, reason),
+/// A core that starts as `S1 at 5`, or from a record as `S1 at 5 with 1`.
+pub fn core(rt: &impl Abort, line: &str) -> Core {
+    let (who, rest) = line.split_once(" at ").expect(rt, line);
+    let Some((now, record)) = rest.split_once(" with ") else {
+        return core_of(rt, who, None, moment_of(rt, rest));
     };
-    read_deed(rt, &deed)
+    core_of(rt, who, Some(&record_of(rt, record)), moment_of(rt, now))
 }
 
-/// Plays calls one after the other, each at its reading, and compares what they did.
-pub fn check(rt: &impl Abort, core: &mut Core, script: &[(u64, Step, Did)]) {
-    for (now, step, want) in script {
-        let did = play(rt, core, *now, *step);
-        assert_eq!(rt; did, *want, "at {now}: {step:?}");
-    }
-}
-
-fn ask(rt: &impl Abort, core: &mut Core, now: u64, reason: u32) -> Deed
+/// A new term is asked for.
+pub fn ask(rt: &impl Abort, core: &mut Core, now: u64, reason: u32) -> Deed
     requires { now < 2 ^ 62 }
 {
     assert!(rt; core.setup().site);
@@ -256,27 +88,40 @@ fn ask(rt: &impl Abort, core: &mut Core, now: u64, reason: u32) -> Deed
     core.ask(now, reason).expect(rt, "a term is left")
 }
 
-fn hear_as(rt: &impl Abort, core: &mut Core, now: u64, heard: Heard) -> Deed
+// A message is heard, from the member that it says.
+fn hear_line(rt: &impl Abort, core: &mut Core, now: u64, line: &str) -> Deed
     requires { now < 2 ^ 62 }
 {
+    let [
+        from,
+        code,
+        request,
+        options,
+        reason,
+        result,
+        leader,
+        term,
+        valid_for,
+    ] = numbers_of::<9>(rt, line);
+    assert!(rt; from > 0);
     let head = Head {
         auth: false,
         secs: 0,
         usecs: 0,
-        from: MemberId(heard.place % 3 + 1),
-        cmd: heard.cmd,
-        request: heard.request,
-        options: heard.number,
-        reason: heard.reason,
-        result: 0,
+        from: MemberId(from),
+        cmd: Cmd::from_code(code).expect(rt, line),
+        request,
+        options,
+        reason,
+        result,
     };
     let part = TicketPart {
         ticket: ticket(rt),
-        leader: heard.leader,
-        term: heard.term,
-        valid_for: heard.left_seconds,
+        leader: MemberId(leader),
+        term,
+        valid_for,
     };
-    hear(rt, core, now, heard.place, &head, &part)
+    hear(rt, core, now, from - 1, &head, &part)
 }
 
 /// A message is heard.
@@ -338,17 +183,28 @@ fn release(rt: &impl Abort, core: &mut Core, now: u64, reason: u32) -> Deed
     core.release(now, reason)
 }
 
-/// The hello of a start.
-pub fn hello(rt: &impl Abort, core: &mut Core, now: u64) -> Option<Said> {
-    assert!(rt; now < 1_000_000_000_000);
-    assert!(rt; core.view().waiting.is_none());
-    assert!(rt; core.view().due.is_some_and(|due| due <= now));
-    read_say(rt, &core.hello(now))
+fn saying(say: Say) -> Deed {
+    Deed {
+        keep: None,
+        say,
+        want: Want::Nothing,
+        told: Told::Nothing,
+    }
 }
 
-/// Something is noted of handlers or clients, where it may be. Gives the view after it.
-pub fn note(rt: &impl Abort, core: &mut Core, now: u64, made: Note) -> View {
-    assert!(rt; now < 1_000_000_000_000);
+/// The hello of a start, as a deed that does nothing else.
+pub fn hello(rt: &impl Abort, core: &mut Core, now: u64) -> Deed
+    requires { now < 2 ^ 62 }
+{
+    assert!(rt; core.view().waiting.is_none());
+    assert!(rt; core.view().due.is_some_and(|due| due <= now));
+    saying(core.hello(now))
+}
+
+/// Something is noted of handlers or clients, where it may be.
+pub fn note(rt: &impl Abort, core: &mut Core, now: u64, made: Note)
+    requires { now < 2 ^ 62 }
+{
     assert!(rt; core.view().waiting.is_none());
     let role = core.view().role;
     match made {
@@ -363,5 +219,92 @@ pub fn note(rt: &impl Abort, core: &mut Core, now: u64, made: Note) -> View {
         }
     }
     core.note(now, made);
-    *core.view()
+}
+
+// A started job is its number and its reason.
+fn note_of(rt: &impl Abort, line: &str) -> Note {
+    match line {
+        "asked" => Note::Asked,
+        "job over" => Note::JobOver,
+        "ask failed" => Note::AskFailed,
+        "handler failed" => Note::HandlerFailed,
+        "unready" => Note::Unready,
+        _ => {
+            let job = line.strip_prefix("job started ").expect(rt, line);
+            let [job, reason] = numbers_of::<2>(rt, job);
+            Note::JobStarted {
+                job: u64::from(job),
+                reason,
+            }
+        }
+    }
+}
+
+/// Makes the call, after the tests that its conditions ask for.
+pub fn play(rt: &impl Abort, core: &mut Core, now: u64, call: &str) -> Deed
+    requires { now < 2 ^ 62 }
+{
+    let (name, given) = call.split_once(' ').unwrap_or((call, ""));
+    match name {
+        "hello" => hello(rt, core, now),
+        "ask" => ask(rt, core, now, number_of(rt, given)),
+        "hear" => hear_line(rt, core, now, given),
+        "kept" => kept(rt, core, now, true),
+        "failed" => kept(rt, core, now, false),
+        "tick" => tick(rt, core, now),
+        "renew" => renew(rt, core, now),
+        "release" => release(rt, core, now, number_of(rt, given)),
+        _ => panic!(rt; "no call: {call}"),
+    }
+}
+
+// Makes the call, and compares what it did.
+fn check_call(rt: &impl Abort, core: &mut Core, now: u64, call: &str, did: &str) {
+    assert!(rt; now < 1_000_000_000_000);
+    if let Some(made) = call.strip_prefix("note ") {
+        note(rt, core, now, note_of(rt, made));
+        check_view(rt, core.view(), did);
+        return;
+    }
+    let deed = play(rt, core, now, call);
+    check_deed(rt, &deed, did);
+}
+
+fn check_line(rt: &impl Abort, core: &mut Core, line: &str) {
+    if let Some(fields) = line.strip_prefix("view ") {
+        check_view(rt, core.view(), fields);
+        return;
+    }
+    let (call, did) = line.split_once(": ").expect(rt, line);
+    let (now, call) = call
+        .strip_prefix("at ")
+        .expect(rt, line)
+        .split_once(' ')
+        .expect(rt, line);
+    check_call(rt, core, moment_of(rt, now), call, did);
+}
+
+fn check_text(rt: &impl Abort, core: &mut Core, text: &str) {
+    for line in text.lines() {
+        check_line(rt, core, line);
+    }
+}
+
+/// Starts a core, plays the calls of these texts, and compares what they did.
+pub fn check(rt: &impl Abort, started: &str, texts: &[&str]) {
+    let mut core = core(rt, started);
+    for text in texts {
+        check_text(rt, &mut core, text);
+    }
+}
+
+/// The same once for each of the endings, with blank lines between them, behind the texts.
+pub fn check_each(rt: &impl Abort, started: &str, texts: &[&str], endings: &str) {
+    for ending in endings.split("\n\n") {
+        let mut core = core(rt, started);
+        for text in texts {
+            check_text(rt, &mut core, text);
+        }
+        check_text(rt, &mut core, ending);
+    }
 }
