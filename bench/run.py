@@ -220,6 +220,30 @@ def start_rows(bench):
         yield below(f"start to first answer, {name}", millis, shown, 5, "ms")
 
 
+def one_run(words):
+    """The seconds from exec to exit of a program that prints nothing to the terminal, and its peak in kB."""
+    null = [(os.POSIX_SPAWN_OPEN, 1, os.devnull, os.O_WRONLY, 0)]
+    started = time.perf_counter()
+    child = os.posix_spawn(words[0], words, os.environ, file_actions=null)
+    _, status, usage = os.wait4(child, 0)
+    took = time.perf_counter() - started
+    if status:
+        raise NotServing(f"{' '.join(words)} ended with {os.waitstatus_to_exitcode(status)}")
+    return took, usage.ru_maxrss
+
+
+def client_rows(bench):
+    client = built_program("booth")
+    if client is None:
+        return
+    with bench.daemon(one_ticket()):
+        words = [client, "list", "-c", f"{bench.folder}/booth.conf", "-s", bench.address]
+        took, peaks = zip(*(one_run(words) for _ in range(10 * bench.effort.starts)))
+    millis, lowest = statistics.median(took) * 1e3, min(took) * 1e3
+    yield below("booth list, exec to exit", millis, f"{millis:.2f} ms (lowest: {lowest:.2f} ms)", 1.5, "ms")
+    yield Row("its peak memory", f"{max(peaks):,} kB")
+
+
 def said(letters, sender, key, ticket=b"ticket-db8", leader=NO_ONE, **fields):
     """A frame of the member with this address."""
     leader = member_id(sender) if letters in ("RVot", "HrtB", "UpdE") else leader
@@ -369,7 +393,7 @@ def main(words):
     program = words[0] if words else built_program()
     if program is None:
         sys.exit("run.py: boothd is not built: run make build")
-    parts = (speed_rows, full_rows, start_rows, idle_rows, member_rows, hostile_rows, parse_rows)
+    parts = (speed_rows, full_rows, start_rows, client_rows, idle_rows, member_rows, hostile_rows, parse_rows)
     with turn("run.py"), tempfile.TemporaryDirectory(prefix="booth-bench-") as folder:
         trouble = lock_trouble()
         if trouble:

@@ -1,9 +1,12 @@
 #!/usr/bin/env python3
 """Holds a cluster of three real boothd on loopback to the lease rules: grants, renewals, failover.
 
-Run it as `python3 tests/cluster.py [PROGRAM]`, PROGRAM being what `make build` leaves where it is left
-out. It takes about a minute and a half, prints a line for each check, ends all that it started, and has
-the status 1 where a check failed. Where boothd is not built it checks nothing, with status 0.
+Run it as `python3 tests/cluster.py [BOOTHD BOOTH]`, which are what `make build` leaves where they are left
+out. It takes about two minutes, prints a line for each check, ends all that it started, and has the status 1
+where a check failed. Where a program is not built it checks nothing, with status 0.
+
+What an operator does is done by booth, at each member: its status and each text that it prints or says are held
+to what they have to be.
 
 Who holds a ticket is judged from the record files and this machine's clock, hundred times a second over
 the whole run, and never from what a daemon says of itself.
@@ -18,13 +21,14 @@ import time
 HERE = os.path.dirname(os.path.abspath(__file__))
 sys.path[:0] = [HERE, f"{HERE}/../tools"]
 
-from members import Cluster, Times, now, wait_for
+from members import TICKET, Cluster, Ran, Times, now, wait_for
 from serving import NotServing, built_program, end_by_signals, own_addresses
 
 KEY, OTHER_KEY = b"a-key-of-the-cluster", b"another-key-than-that"
 # how much later than it may a thing happens at most, in seconds
 SLACK = 0.5
 BADMAC = 2
+NAME = TICKET.decode()
 
 stories = []
 
@@ -63,6 +67,47 @@ def grants(cluster, place, seconds=2):
     return member.record()
 
 
+def says(member, words, status, text):
+    """Runs booth at this member, and holds it to this status and this text, of which only one stream has some."""
+    wanted = Ran(status, "", text) if status else Ran(status, text, "")
+    ran = member.booth(*words)
+    require(ran == wanted, f"booth {' '.join(words)} at {member.address} left {ran}, and not {wanted}")
+
+
+def date(moment):
+    return time.strftime("%Y-%m-%d %H:%M:%S", time.gmtime(moment))
+
+
+def lists(cluster, owner):
+    """Every member that runs lists this owner, with the end of the lease in its record, by booth."""
+    for member in cluster.members:
+        if not member.is_running():
+            continue
+        before = owner and owner.record().until
+        ran = member.booth("list")
+        wanted = {f"ticket: {NAME}, leader: none\n"}
+        if owner is not None:
+            # (it may be renewed meanwhile, and a member that only heard of it counts whole seconds)
+            moments = [end + more for end in (before, owner.record().until) for more in (-1, 0, 1)]
+            wanted = {f"ticket: {NAME}, leader: {owner.address}, expires: {date(end)}\n" for end in moments}
+        require(ran.status == 0 and ran.printed in wanted and not ran.said, f"{member.address} lists {ran}")
+
+
+def counts_as(member):
+    """What booth prints of the members is what the daemon counts."""
+    drops, others = member.counts()
+    ran = member.booth("peers")
+    first, *lines = ran.printed.splitlines()
+    kinds = ("frame", "nomac", "badmac", "old", "stranger", "self", "ticket", "leader")
+    require(first == "dropped: " + ", ".join(f"{kind} {n}" for kind, n in zip(kinds, drops)), first)
+    for line, (address, (accepted, sent, errors)) in zip(lines, others.items()):
+        role, other, *_ = line.split(" ")
+        require(other.rstrip(",") == address and role in ("site", "arbitrator"), line)
+        require(line.split(", last: ")[1].split(", received: ")[0] == "never" or accepted > 0, line)
+        require(line.endswith(f", errors: {errors}"), line)
+    require(len(lines) == len(others) and ran.status == 0 and not ran.said, f"booth peers left {ran}")
+
+
 def abstains(cluster, started):
     """The moment from which each of the members that started until this moment answers rounds."""
     time.sleep(max(0, started + cluster.times.abstention() + 0.05 - now()))
@@ -75,7 +120,7 @@ def two_sites_and_an_arbitrator(cluster):
     one, two, _ = cluster.members
     cluster.start()
     started = now()
-    require(one.about("CGnt") == "Asyn", "a grant at a site is not begun")
+    says(one, ("grant", NAME), 0, f"grant of {NAME} requested\n")
     while now() < started + times.abstention() - 0.2:
         require(not any(r and r.until for r in map(type(one).record, cluster.members)), "a lease in that time")
         time.sleep(0.05)
@@ -86,6 +131,16 @@ def two_sites_and_an_arbitrator(cluster):
     record = grants(cluster, 0)
     require(now() < record.until <= now() + times.expire, f"a lease until {record.until}")
     passed("a grant is held, kept on disk, and listed by every member")
+    lists(cluster, one)
+    for member in cluster.members:
+        counts_as(member)
+    passed("booth lists the ticket, its owner and the lease's end, and the members, at each member")
+    says(one, ("grant", NAME), 0, f"ticket {NAME} granted\n")
+    says(two, ("grant", NAME), 1, "booth: ticket is granted elsewhere\n")
+    says(cluster.members[2], ("grant", NAME), 1, "booth: invalid argument\n")
+    says(one, ("grant", "no-such-ticket"), 1, "booth: invalid argument\n")
+    says(one, ("grant", "no ticket"), 1, "booth: bad ticket\n")
+    passed("booth tells why a grant is refused")
     require(one.about("CGnt") == "ok", "a grant at the holder is not granted")
     require(two.about("CGnt") == "Over", "a grant elsewhere is not refused")
     require(two.about("CRvk") == "Redr", "a revocation elsewhere is not redirected")
@@ -118,10 +173,13 @@ def two_sites_and_an_arbitrator(cluster):
     passed("the killed member comes back, holds nothing, and hears who does")
 
     before = two.counts()[1]
-    require(two.about("CRvk") == "ok", "a revocation at the holder is refused")
+    lists(cluster, two)
+    says(one, ("revoke", NAME), 0, f"ticket {NAME} revoked\n")
     require(two.record().until is None, "the revoked lease is kept")
-    passed("a revocation is answered once the lease is off the disk")
+    passed("a revocation that is asked of another member is sent on to the holder, and answered once the lease is off the disk")
     require(wait_for(lambda: cluster.shown_by_all() is None and one.shown() is None, 1), "an owner is listed")
+    lists(cluster, None)
+    says(two, ("revoke", NAME), 1, "booth: ticket is not granted\n")
     time.sleep(2 * times.timeout + SLACK)
     after = two.counts()[1]
     said = {address: after[address][1] - before[address][1] for address in after}
@@ -133,6 +191,27 @@ def two_sites_and_an_arbitrator(cluster):
 
 
 @story
+def clients_that_wait(cluster):
+    """a cluster of which one site runs alone at first"""
+    one = cluster.members[0]
+    cluster.start(0)
+    abstains(cluster, now())
+    asked = now()
+    says(one, ("grant", "-w", NAME), 1, "booth: failed\n")
+    took = now() - asked
+    due = cluster.times.timeout * (cluster.times.retries + 1)
+    require(due - SLACK < took < due + 2 * SLACK, f"a grant without a majority failed after {took:.2f} s")
+    passed("who waits for a grant is told where no majority answers")
+    cluster.start(1, 2)
+    abstains(cluster, now())
+    says(one, ("grant", "-C", NAME), 0, f"ticket {NAME} granted\n")
+    require(one.record().holds(now()), "who waits for the record is told before it is kept")
+    lists(cluster, one)
+    says(one, ("grant", "-w", NAME), 0, f"ticket {NAME} granted\n")
+    passed("who waits for a grant is told once the ticket is held, with its record on the disk")
+
+
+@story
 def a_directory_that_is_gone(cluster):
     """a cluster in which one site's records cannot be written"""
     one, two, _ = cluster.members
@@ -140,8 +219,7 @@ def a_directory_that_is_gone(cluster):
     started = now()
     abstains(cluster, started)
     shutil.move(one.records, one.records + ".gone")
-    result = one.about("CGnt")
-    require(result == "Fail", f"a grant whose record cannot be kept is answered {result}")
+    says(one, ("grant", NAME), 1, "booth: failed\n")
     require(one.record() is None and one.is_running(), "the member keeps a record, or ended")
     passed("a grant whose record cannot be written is refused, and the daemon runs on")
     grants(cluster, 1)
@@ -157,21 +235,42 @@ def a_member_with_another_key(cluster):
     arbitrator.start(cluster.program, cluster.file("other.conf", OTHER_KEY))
     started = now()
     abstains(cluster, started)
-    require(one.about("CGnt") == "Asyn", "a grant with the key is not begun")
+    says(one, ("grant", NAME), 0, f"grant of {NAME} requested\n")
+    right, one.conf = one.conf, arbitrator.conf
+    says(one, ("list",), 1, "booth: no reply\n")
+    one.conf = right
+    says(one, ("list",), 0, f"ticket: {NAME}, leader: none\n")
+    passed("booth asks with the key of its configuration, and with another it gets no answer")
     require(not wait_for(lambda: one.record().until, 2), "a member with another key gave its vote")
     passed("a member with another key never counts for a majority")
     require(one.counts()[0][BADMAC] > 0, "its frames are not counted as such")
     passed("its frames are dropped, and counted with their fault")
 
 
-def run(program):
+@story
+def a_site_by_ipv6(cluster):
+    """a site that listens at an IPv6 address, and no other that runs"""
+    one = cluster.members[0]
+    one.start(cluster.program, cluster.conf)
+    says(one, ("list",), 0, f"ticket: {NAME}, leader: none\n")
+    ran = one.booth("peers")
+    require(ran.status == 0 and ran.printed.count("last: never, received: 0") == 2, f"booth peers left {ran}")
+    one.kill()
+    says(one, ("list",), 1, "booth: no reply\n")
+    passed("booth asks by IPv6, and says where no daemon answers")
+
+
+def run(program, client):
     """Runs each story in a cluster of its own. Says how many failed."""
     failed, started, looks = 0, time.monotonic(), 0
     addresses = own_addresses()
     for function in stories:
         key = KEY if "key" in function.__name__ else None
         with tempfile.TemporaryDirectory(prefix="booth-cluster-") as folder:
-            with Cluster(program, folder, [next(addresses) for _ in range(3)], key=key) as cluster:
+            places = [next(addresses) for _ in range(3)]
+            if "ipv6" in function.__name__:
+                places[0] = "::1"
+            with Cluster(program, folder, places, key=key, client=client) as cluster:
                 try:
                     function(cluster)
                     wrong = cluster.watch.wrong
@@ -190,13 +289,14 @@ def run(program):
 
 def main(words):
     end_by_signals()
-    program = words[0] if words else built_program()
-    if program is None:
-        print("cluster: skipped, since boothd is not built: run make build")
+    programs = words if len(words) == 2 else [built_program("boothd"), built_program("booth")]
+    if None in programs:
+        print("cluster: skipped, since boothd or booth is not built: run make build")
         return 0
-    if not os.access(program, os.X_OK):
-        sys.exit(f"cluster.py: cannot run {program}")
-    return 1 if run(os.path.abspath(program)) else 0
+    for program in programs:
+        if not os.access(program, os.X_OK):
+            sys.exit(f"cluster.py: cannot run {program}")
+    return 1 if run(*map(os.path.abspath, programs)) else 0
 
 
 if __name__ == "__main__":

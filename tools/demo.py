@@ -9,7 +9,7 @@ import sys
 import tempfile
 import time
 
-from members import TICKET, Cluster, now, wait_for
+from members import TICKET, Cluster, now, run_booth, wait_for
 from serving import NotServing, built_program, end_by_signals
 
 ADDRESSES = ("127.0.0.1", "127.0.0.2", "127.0.0.3")
@@ -25,10 +25,19 @@ class Story:
         print(f"{now() - self.started:6.2f} s  {what}", flush=True)
 
 
-def owner_line(cluster):
+    def booth(self, cluster, *words):
+        """Runs booth with these words, as an operator would, and tells what it printed."""
+        ran = run_booth(cluster.client, cluster.conf, words)
+        self.tell(f"booth {' '.join(words)}")
+        for line in (ran.printed + ran.said).splitlines():
+            print(f"            {line}", flush=True)
+
+
+def list_all(cluster, story):
     """What every member that runs lists."""
-    listed = ", ".join(f"{m.address}: {m.shown() or 'none'}" for m in cluster.members if m.is_running())
-    return f"listed at {listed}"
+    for member in cluster.members:
+        if member.is_running():
+            story.booth(cluster, "list", "-s", member.address)
 
 
 def require(holds, what):
@@ -45,10 +54,11 @@ def show(cluster, story):
     story.tell(f"each member answers no round for {cluster.times.abstention():.3f} s after its start")
     time.sleep(max(0, started + cluster.times.abstention() + 0.05 - now()))
 
-    story.tell(f"a client asks {one.address} for {name}: {one.about('CGnt')}")
+    story.booth(cluster, "grant", name)
     require(wait_for(lambda: cluster.shown_by_all() == one.address, 3), "the grant failed")
     record = one.record()
-    story.tell(f"{one.address} holds {name}, until {record.until - story.started:.2f} s; {owner_line(cluster)}")
+    story.tell(f"{one.address} holds {name}, until {record.until - story.started:.2f} s")
+    list_all(cluster, story)
 
     require(wait_for(lambda: one.record().until != record.until, 6), "the lease was not renewed")
     until = one.record().until
@@ -61,9 +71,11 @@ def show(cluster, story):
 
     one.start(cluster.program, cluster.conf)
     require(wait_for(lambda: cluster.shown_by_all() == two.address, 3), "the members differ")
-    story.tell(f"{one.address} is back and holds nothing; {owner_line(cluster)}")
-    story.tell(f"a client asks {two.address} to give {name} back: {two.about('CRvk')}")
-    story.tell(owner_line(cluster))
+    story.tell(f"{one.address} is back and holds nothing")
+    list_all(cluster, story)
+    story.booth(cluster, "revoke", name)
+    require(wait_for(lambda: not any(m.shown() for m in cluster.members), 3), "an owner is listed")
+    list_all(cluster, story)
     wrong = cluster.watch.wrong
     require(not wrong, f"two members held {name} at one moment: {wrong}")
     story.tell(f"at none of {cluster.watch.looks} moments did two members hold {name}, by their record files")
@@ -72,8 +84,9 @@ def show(cluster, story):
 def main():
     end_by_signals()
     program = built_program() or sys.exit("demo.py: boothd is not built: run make build")
+    client = built_program("booth") or sys.exit("demo.py: booth is not built: run make build")
     with tempfile.TemporaryDirectory(prefix="booth-demo-") as folder:
-        with Cluster(program, folder, ADDRESSES) as cluster:
+        with Cluster(program, folder, ADDRESSES, client=client) as cluster:
             with open(cluster.conf, encoding="ascii") as file:
                 print("\n".join("    " + line for line in file.read().splitlines()), flush=True)
             try:

@@ -6,6 +6,7 @@ is read from the members' record files and from the clock, and not from what a d
 
 import os
 import socket
+import subprocess
 import threading
 import time
 from typing import NamedTuple, Optional
@@ -20,6 +21,8 @@ SLOTS_AT, SLOT_BYTES = (0, 64), 64
 COMMIT_AT, NUMBER_AT, TERM_AT, LEASE_AT, UNTIL_AT = 0, 8, 20, 24, 32
 
 SECONDS_TO_ANSWER = 2
+# how long booth may take, which waits 5 seconds for an answer, and for another where it is sent on
+SECONDS_OF_BOOTH = 15
 SECONDS_BETWEEN_LOOKS = 0.01
 
 
@@ -72,6 +75,21 @@ class Answer(NamedTuple):
     body: bytes
 
 
+class Ran(NamedTuple):
+    """What a run of booth left: its status, and what it printed and said."""
+
+    status: int
+    printed: str
+    said: str
+
+
+def run_booth(client, conf, words):
+    """A run of the client with this configuration."""
+    streams = {"stdin": subprocess.DEVNULL, "capture_output": True, "text": True}
+    done = subprocess.run([client, *words, "-c", conf], timeout=SECONDS_OF_BOOTH, **streams)
+    return Ran(done.returncode, done.stdout, done.stderr)
+
+
 def letters_of(number):
     return number.to_bytes(4, "big").decode("ascii") if number else "ok"
 
@@ -79,11 +97,13 @@ def letters_of(number):
 class Member:
     """One daemon of the cluster, running or not."""
 
-    def __init__(self, role, address, folder, key=None):
+    def __init__(self, role, address, folder, key=None, client=None):
         self.role = role
         self.address = address
         self.folder = folder
         self.key = key
+        self.client = client
+        self.conf = None
         self.server = None
         self.records = os.path.join(folder, "records")
         os.makedirs(folder)
@@ -94,6 +114,7 @@ class Member:
         server = boothd(program, conf, self.address, key=self.key, options=places)
         server.__enter__()
         self.server = server
+        self.conf = conf
 
     def is_running(self):
         return self.server is not None and self.server.process.poll() is None
@@ -126,6 +147,10 @@ class Member:
         term, has_lease = (int.from_bytes(slot[at : at + 4], "big") for at in (TERM_AT, LEASE_AT))
         until = int.from_bytes(slot[UNTIL_AT : UNTIL_AT + 8], "big")
         return Record(term, until / 1000 if has_lease else None)
+
+    def booth(self, *words):
+        """A run of booth that asks this daemon, with the configuration that it has."""
+        return run_booth(self.client, self.conf, [*words, "-s", self.address])
 
     def ask(self, letters, body=b""):
         """What the daemon answers to this request, or None where it does not in time."""
@@ -207,15 +232,16 @@ class Watch(threading.Thread):
 class Cluster:
     """Two sites and an arbitrator with one file, which are killed when the `with` block ends."""
 
-    def __init__(self, program, folder, addresses, times=Times(), key=None, tickets=(TICKET,)):
+    def __init__(self, program, folder, addresses, times=Times(), key=None, tickets=(TICKET,), client=None):
         self.program = program
+        self.client = client
         self.folder = folder
         self.times = times
         self.key = key
         self.tickets = tickets
         roles = ("site", "site", "arbitrator")
         self.members = [
-            Member(role, address, os.path.join(folder, address), key)
+            Member(role, address, os.path.join(folder, address), key, client)
             for role, address in zip(roles, addresses)
         ]
         self.conf = self.file("booth.conf", key)

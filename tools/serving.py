@@ -19,8 +19,6 @@ import frames
 SECONDS_TO_START = 5
 
 TOP = os.path.dirname(os.path.dirname(os.path.abspath(__file__)))
-# where make build leaves the proved program, and where rt does
-PROGRAMS = [f"{TOP}/out/boothd", f"{TOP}/crates/boothd/out/boothd"]
 
 # what boothd locks while it runs, and the directory that it keeps its records in, which it locks too
 LOCK = "/var/run/booth.lock"
@@ -35,9 +33,11 @@ HINTS = {
 }
 
 
-def built_program():
-    """The path of the proved program that was built last, or None where none is."""
-    built = [path for path in PROGRAMS if os.access(path, os.X_OK)]
+def built_program(name="boothd"):
+    """The path of this proved program as it was built last, or None where it is not."""
+    # where make build leaves a program, and where rt does
+    paths = [f"{TOP}/out/{name}", f"{TOP}/crates/{name}/out/{name}"]
+    built = [path for path in paths if os.access(path, os.X_OK)]
     return max(built, key=os.path.getmtime, default=None)
 
 

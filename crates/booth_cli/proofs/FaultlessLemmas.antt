@@ -40,20 +40,20 @@ use Rattle.booth_cli.specs.Faultless.{AreValid, IsValid, IsFaultless, EndsWell, 
 use Rattle.booth_cli.specs.Faultless.{Tells, FaultlessLooks}
 
 -- a call among the calls of a part is one of the whole
-among : (x : Entry) (xs ys entries : List Entry) → Contains xs x → entries ≡ xs ++ ys → Contains entries x
+pub among : (x : Entry) (xs ys entries : List Entry) → Contains xs x → entries ≡ xs ++ ys → Contains entries x
 among x xs ys entries here whole =
     let P : List Entry → Type 0 = λ es. Contains es x in
     subst P (sym whole) (Contains-append_left xs ys x here)
 
-same_calls : (x : Entry) (xs entries : List Entry) → Contains xs x → entries ≡ xs → Contains entries x
+pub same_calls : (x : Entry) (xs entries : List Entry) → Contains xs x → entries ≡ xs → Contains entries x
 same_calls x xs entries here same =
     let P : List Entry → Type 0 = λ es. Contains es x in
     subst P (sym same) here
 
-first_of : (x : Entry) (xs : List Entry) → Contains (x ∷ xs) x
+pub first_of : (x : Entry) (xs : List Entry) → Contains (x ∷ xs) x
 first_of x xs = (0, omega arith, refl)
 
-second_of : (u x : Entry) (xs : List Entry) → Contains (u ∷ x ∷ xs) x
+pub second_of : (u x : Entry) (xs : List Entry) → Contains (u ∷ x ∷ xs) x
 second_of u x xs = (1, omega arith, refl)
 
 third_of : (u v x : Entry) (xs : List Entry) → Contains (u ∷ v ∷ x ∷ xs) x

@@ -12,3 +12,4 @@ pub mod StatusLemmas
 pub mod RunLemmas
 pub mod FaultlessLemmas
 pub mod ClientLemmas
+pub mod ClientFaultless

@@ -1,16 +1,26 @@
 -- The calls of a whole run of booth.
-use Rattle.std.specs.Prelude.{◌≡◌, ◌++◌, ℕ, List, [], ◌∷◌, Some, None, codes, if◌then◌else◌}
+use Rattle.std.specs.Prelude.{◌≡◌, ◌++◌, ℕ, List, [], ◌∷◌, Option, Some, None, Ok, Err, Contains, codes, if◌then◌else◌}
 use Rattle.std.specs.Str.{bytes_eq}
 use Rattle.booth_host.specs.declared.entry.Entry.{Entry}
 use Rattle.booth_cli.specs.declared.program.Program.TheVariants.{Booth}
 use Rattle.booth_cli.specs.declared.outcome.Outcome.{Outcome}
-use Rattle.booth_cli.specs.declared.outcome.Outcome.TheVariants.{Usage, BadWord, PrintFault, OutOfMemory}
+use Rattle.booth_cli.specs.declared.outcome.Outcome.TheVariants.{Usage, BadWord, PrintFault, OutOfMemory, Report, Refused}
+use Rattle.booth_cli.specs.declared.outcome.Outcome.TheVariants.{NoReply}
 use Rattle.booth_cli.specs.declared.asking.ClientWords.{ClientWords}
 use Rattle.booth_cli.specs.Commands.{verb_in}
 use Rattle.booth_cli.specs.Asking.{AsksClient, IsUntaken, HasBadWord}
 use Rattle.booth_cli.specs.Unasked.{IsUnasked}
 use Rattle.booth_cli.specs.Client.{IsClientLog}
 use Rattle.booth_cli.specs.Run.{IsText}
+use Rattle.booth_base.specs.declared.address.Address.{Address}
+use Rattle.booth_base.specs.declared.address.Peer.{Peer}
+use Rattle.booth_conf.specs.Config.{ConfigSays}
+use Rattle.booth_conf.specs.Says.{Says}
+use Rattle.booth_host.specs.declared.host.Failed.{Failed}
+use Rattle.booth_host.specs.declared.host.ReadFault.TheVariants as reads
+use Rattle.booth_host.specs.declared.entry.Entry.TheVariants.{Open, ReadFile, Send, Out}
+use Rattle.booth_cli.specs.declared.command.Verb.{Verb}
+use Rattle.booth_cli.specs.Faultless.{AreValid, IsKeyFile}
 
 -- one leading `client` is passed over
 abbrev pub passed : List (List ℕ) → List (List ℕ)
@@ -54,3 +64,33 @@ FitsClientWords words (BadWord word) = HasBadWord Booth words word
 FitsClientWords words PrintFault = verb_in Booth words ≡ None → ⊥
 FitsClientWords words OutOfMemory = Unit {0}
 FitsClientWords words outcome = AskForClient words
+
+-- ---- where nothing fails
+
+-- No file, no socket, no send and no print failed; what was read at the path says a configuration, and what was
+-- read at its `authfile` holds a key.
+pub record IsUnhindered (asked : ClientWords) (entries : List Entry) : Type 0 where
+  pub read : (file : List ℕ) → Contains entries (ReadFile file (Err reads.Failed)) → ⊥
+  pub valid : (text : List ℕ) → Contains entries (ReadFile asked.conf (Ok text)) →
+      (config : ConfigSays) × Says text config
+  pub keyed : (text file key_text : List ℕ) (config : ConfigSays) → Contains entries
+      (ReadFile asked.conf (Ok text)) → Says text config →
+      config.authfile ≡ Some file → Contains entries (ReadFile file (Ok key_text)) → IsKeyFile key_text
+  pub opened : (local : Option Address) (port : ℕ) (records conf : List ℕ) (failed : Failed) →
+      Contains entries (Open local port records conf (Err failed)) → ⊥
+  pub sent : (to : Peer) (bytes : List ℕ) (failed : Failed) → Contains entries (Send to bytes (Err failed)) → ⊥
+  pub printed : (text : List ℕ) (failed : Failed) → Contains entries (Out text (Err failed)) → ⊥
+
+-- the outcomes that are no one's fault here
+abbrev pub IsTalked : Outcome → Type 0
+IsTalked Report = Unit {0}
+IsTalked (Refused result) = Unit {0}
+IsTalked NoReply = Unit {0}
+IsTalked OutOfMemory = Unit {0}
+IsTalked outcome = ⊥
+
+-- Valid words, a valid file and key and an outside that does not fail give Report, Refused, NoReply or OutOfMemory.
+abbrev pub FaultlessTalks : Type 0
+FaultlessTalks = (words : List (List ℕ)) (verb : Verb) (outcome : Outcome) (entries : List Entry) →
+    AreValid Booth words verb → IsClientRun words outcome entries →
+    ((asked : ClientWords) → AsksClient words asked → IsUnhindered asked entries) → IsTalked outcome

@@ -1,5 +1,6 @@
 //! What follows from the contracts, for all runs.
 ghost use Rattle.booth_cli.specs.Faultless.{FaultlessRuns, FaultlessLooks};
+ghost use Rattle.booth_cli.specs.ClientRun.{FaultlessTalks};
 
 /// Valid words and files, a free lock and an outside that does not fail give Done, TurnsSpent or
 /// OutOfMemory, or Unbuilt where a part is not built yet.
@@ -10,4 +11,10 @@ pub fn faultless_runs()
 /// Valid words and an outside that does not fail have `status` give Done, NotRunning or OutOfMemory.
 pub fn faultless_looks()
     ensures { FaultlessLooks }
+{}
+
+/// Valid words, a valid file and key and an outside that does not fail have `booth` give Report, Refused,
+/// NoReply or OutOfMemory.
+pub fn faultless_talks()
+    ensures { FaultlessTalks }
 {}
