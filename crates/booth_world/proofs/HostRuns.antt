@@ -9,6 +9,7 @@ use Rattle.booth_world.specs.Turns.{TicketAsk, Keeps, Sends, AsksElse, TurnTree}
 use Rattle.booth_world.specs.Hosts.{HostEntry, DoesAsk, HostPlace, Hosts, IsNextAsk, MayHost, went_on, hosted, AreHosted, hosts_after}
 use Rattle.booth_world.specs.HostLaws.{IsHostReleaseIn}
 use Rattle.booth_world.proofs.CallSteps.{put_same}
+use Rattle.booth_world.proofs.CoreReads.{ReadsIn}
 use Rattle.booth_world.proofs.TurnPlaces.{put_other}
 use Rattle.booth_world.proofs.Mirrors.{skip, sent_by, SentMore}
 
@@ -64,15 +65,16 @@ module _ (c : Cluster) (cast : Cast) where
       pub same_may : ((hosts_after c cast hosts (says tree)).place m).may ≡ (hosts.place m).may
       pub all_sent : (hosts_after c cast hosts (says tree)).sent ≡ sent_by tree hosts.sent
       pub unreleased : (z : Release) → IsHostReleaseIn c cast hosts (says tree) z → ⊥
+      pub unread : (k time : ℕ) → ReadsIn (says tree) k time → ⊥
 
     at_ask : (hosts : Hosts) (ask : TicketAsk) (go : Bool → TurnTree) → (hosts.place m).tree ≡ Some (Does ask go) → MayHost c cast hosts (DoesAsk m ask true)
     at_ask hosts ask go is = (below, subst (λ (o : Option TurnTree). IsSomeAnd o (IsNextAsk ask)) (sym is) refl)
 
     pub all_said : (hosts : Hosts) (tree : TurnTree) → (hosts.place m).tree ≡ Some tree → AreSaid hosts tree
     all_said hosts (Ends view) is =
-        record { hosted_all = tt; own = of_none m hosts; tree_now = is; same_reading = refl; same_may = refl; all_sent = refl; unreleased = λ z r. r }
+        record { hosted_all = tt; own = of_none m hosts; tree_now = is; same_reading = refl; same_may = refl; all_sent = refl; unreleased = λ z r. r; unread = λ k t r. r }
     all_said hosts (Does (Keeps kept) go) is =
-        record { hosted_all = tt; own = of_none m hosts; tree_now = is; same_reading = refl; same_may = refl; all_sent = refl; unreleased = λ z r. r }
+        record { hosted_all = tt; own = of_none m hosts; tree_now = is; same_reading = refl; same_may = refl; all_sent = refl; unreleased = λ z r. r; unread = λ k t r. r }
     all_said hosts (Does (Sends letter) go) is =
         let next_hosts : Hosts = hosted c cast hosts (DoesAsk m (Sends letter) true) in
         let there : (next_hosts.place m).tree ≡ Some (go true) =
@@ -87,6 +89,7 @@ module _ (c : Cluster) (cast : Cast) where
           same_may = rest.same_may ∙ ap (λ (p : HostPlace). p.may) (put_same hosts.place m _);
           all_sent = rest.all_sent;
           unreleased = λ z r. ⊎_elim (λ (x : ⊥). x) (rest.unreleased z) r;
+          unread = λ k t r. ⊎_elim (λ (x : ⊥). x) (rest.unread k t) r;
         }
     all_said hosts (Does AsksElse go) is =
         let next_hosts : Hosts = hosted c cast hosts (DoesAsk m AsksElse true) in
@@ -102,4 +105,5 @@ module _ (c : Cluster) (cast : Cast) where
           same_may = rest.same_may ∙ ap (λ (p : HostPlace). p.may) (put_same hosts.place m _);
           all_sent = rest.all_sent;
           unreleased = λ z r. ⊎_elim (λ (x : ⊥). x) (rest.unreleased z) r;
+          unread = λ k t r. ⊎_elim (λ (x : ⊥). x) (rest.unread k t) r;
         }

@@ -26,6 +26,7 @@ use Rattle.booth_world.proofs.Lists.{none_is, some_same, put_all}
 use Rattle.booth_world.proofs.KeptSteps.{the_value}
 use Rattle.booth_world.proofs.CallSteps.{put_same}
 use Rattle.booth_world.proofs.CoreRuns.{cores_hold_one, cores_are_apart, core_terms, tried_is_highest}
+use Rattle.booth_world.proofs.CoreReads.{ReadsAt, ReadsIn, HasRead, AreReadBy, calls_read, read_more, read_join}
 use Rattle.booth_world.proofs.TurnPlaces.{IsOwn, own_given, put_other, MayMore, more_after, IsUp, up_given, IsLater, IsIdle, IsLed, At, Soon, at_later, at_no_more, release_split, entries_join, plan_at, heard_at}
 
 -- ---- the relation
@@ -43,11 +44,11 @@ pub record HostsHold (c : Cluster) (cast : Cast) (hosts : Hosts) (cores : Cores)
   pub each : (m : ℕ) → m < c.members → PlaceHolds c cast m cores (hosts.place m)
   pub said : (l : MemberLetter) → Has hosts.sent l → Has cores.said l
 
--- entries of the cores lead to a cores that is related, and release only this
-abbrev Follows : Cluster → Cast → Hosts → Cores → (Release → Type 0) → Type 0
-Follows c cast hosts cores IsRelease =
+-- entries of the cores lead to a cores that is related, release only this, and read at these true times alone
+abbrev Follows : Cluster → Cast → Hosts → Cores → (Release → Type 0) → (ℕ → ℕ → Type 0) → Type 0
+Follows c cast hosts cores IsRelease IsReading =
     (more : List CoreEntry) × AreEntered c cast cores more × HostsHold c cast hosts (cores_after c cast cores more)
-    × ((z : Release) → IsReleaseIn c cast cores more z → IsRelease z)
+    × ((z : Release) → IsReleaseIn c cast cores more z → IsRelease z) × AreReadBy c cast IsReading cores more
 
 module _ (c : Cluster) (cast : Cast) (clocks : HasClocks c) (is_cast : IsCast c cast) where
   place_later : (k : ℕ) (cores cores' : Cores) (p : HostPlace) → IsLater k cores cores' → PlaceHolds c cast k cores p → PlaceHolds c cast k cores' p
@@ -128,12 +129,12 @@ module _ (c : Cluster) (cast : Cast) (clocks : HasClocks c) (is_cast : IsCast c 
       heard_at c cast m (reads c m time) below (small m time below within) (own_place m below) letter plan base view cores idle only (l.0, l.1, timely) may
 
   begins : (hosts : Hosts) (cores : Cores) (m time : ℕ) (came : Option MemberLetter) (plan : View → Plan) → HostsHold c cast hosts cores → MayHost c cast hosts (BeginsTurn m time came plan)
-      → Follows c cast (hosted c cast hosts (BeginsTurn m time came plan)) cores (IsHostReleaseAt hosts (BeginsTurn m time came plan))
+      → Follows c cast (hosted c cast hosts (BeginsTurn m time came plan)) cores (IsHostReleaseAt hosts (BeginsTurn m time came plan)) (ReadsAt (BeginsTurn m time came plan))
   begins hosts cores m time came plan i may =
       let p = the_value _ (hosts.place m).tree may.3 in
       by_tree p.0 p.1 p.2
     where
-      by_tree : (t : TurnTree) → (hosts.place m).tree ≡ Some t → MayBegin (cast.setup m) (reads c m time) came plan t → Follows c cast (hosted c cast hosts (BeginsTurn m time came plan)) cores (IsHostReleaseAt hosts (BeginsTurn m time came plan))
+      by_tree : (t : TurnTree) → (hosts.place m).tree ≡ Some t → MayBegin (cast.setup m) (reads c m time) came plan t → Follows c cast (hosted c cast hosts (BeginsTurn m time came plan)) cores (IsHostReleaseAt hosts (BeginsTurn m time came plan)) (ReadsAt (BeginsTurn m time came plan))
       by_tree (Does ask g) e none = absurd none
       by_tree (Ends view) e turns =
           let now = reads c m time in
@@ -159,6 +160,7 @@ module _ (c : Cluster) (cast : Cast) (clocks : HasClocks c) (is_cast : IsCast c 
                 (λ k h. led.more k (subst (λ (s : CorePlace). Has s.may k) (sym read) (still m (hosts.place m) cores here k h))))
                 (λ l h. led.own.said_on l (i.said l h)),
             λ z h. ⊎_elim (λ (n : ⊥). n) (λ (n : IsReleaseIn c cast one soon.0 z). led.unreleased z n) h,
+            ((refl, refl), calls_read c cast (ReadsAt (BeginsTurn m time came plan)) one soon.0 led.are_calls),
           )
 
   -- ---- an ask
@@ -186,7 +188,7 @@ module _ (c : Cluster) (cast : Cast) (clocks : HasClocks c) (is_cast : IsCast c 
       (own_given cores m (answer_given cast cores m ok v.0), up_given cores m (answer_given cast cores m ok v.0))
 
   asks : (hosts : Hosts) (cores : Cores) (m : ℕ) (ask : TicketAsk) (ok : Bool) → HostsHold c cast hosts cores → MayHost c cast hosts (DoesAsk m ask ok)
-      → Follows c cast (hosted c cast hosts (DoesAsk m ask ok)) cores (IsHostReleaseAt hosts (DoesAsk m ask ok))
+      → Follows c cast (hosted c cast hosts (DoesAsk m ask ok)) cores (IsHostReleaseAt hosts (DoesAsk m ask ok)) (ReadsAt (DoesAsk m ask ok))
   asks hosts cores m ask ok i may =
       let p = the_value _ (hosts.place m).tree may.1 in
       by_tree p.0 p.1 p.2
@@ -198,7 +200,7 @@ module _ (c : Cluster) (cast : Cast) (clocks : HasClocks c) (is_cast : IsCast c 
       answer_frees kept true z h = (h.0 ∙ ap (λ (t : ℕ). let r : Release = record { site = m; term = kept.term; at = t } in r) i.same_now, h.1)
       answer_frees kept false z h = h
 
-      by_tree : (t : TurnTree) → (hosts.place m).tree ≡ Some t → IsNextAsk ask t → Follows c cast (hosted c cast hosts (DoesAsk m ask ok)) cores (IsHostReleaseAt hosts (DoesAsk m ask ok))
+      by_tree : (t : TurnTree) → (hosts.place m).tree ≡ Some t → IsNextAsk ask t → Follows c cast (hosted c cast hosts (DoesAsk m ask ok)) cores (IsHostReleaseAt hosts (DoesAsk m ask ok)) (ReadsAt (DoesAsk m ask ok))
       by_tree (Ends view) e none = absurd none
       by_tree (Does (Keeps kept) g) e same =
           let h = here.stands_at (Does (Keeps kept) g) e in
@@ -207,7 +209,7 @@ module _ (c : Cluster) (cast : Cast) (clocks : HasClocks c) (is_cast : IsCast c 
           let end = cores_after c cast one q.1.0 in
           let led : IsLed c cast m (hosts.place m).reading one q.1.0 = q.1.2 in
           let own = answer_own cores m kept ok q.0 in
-          subst (λ (a : TicketAsk). Follows c cast (hosted c cast hosts (DoesAsk m a ok)) cores (IsHostReleaseAt hosts (DoesAsk m a ok))) same (
+          subst (λ (a : TicketAsk). Follows c cast (hosted c cast hosts (DoesAsk m a ok)) cores (IsHostReleaseAt hosts (DoesAsk m a ok)) (ReadsAt (DoesAsk m a ok))) same (
             HasAnswer m kept ok ∷ q.1.0,
             (q.0, q.1.1),
             moved hosts cores end m hosts.now _ hosts.sent i (led.own.same_time ∙ own.0.same_time ∙ i.same_now)
@@ -220,13 +222,14 @@ module _ (c : Cluster) (cast : Cast) (clocks : HasClocks c) (is_cast : IsCast c 
             λ z h. ⊎_elim
                 (λ (n : IsReleaseAt cores (HasAnswer m kept ok) z). answer_frees kept ok z n)
                 (λ (n : IsReleaseIn c cast one q.1.0 z). absurd (led.unreleased z n)) h,
+            (tt, calls_read c cast (ReadsAt (DoesAsk m (Keeps kept) ok)) one q.1.0 led.are_calls),
           )
       by_tree (Does (Sends letter) g) e same =
           let h = here.stands_at (Does (Sends letter) g) e in
           let q = h.2 ok cores (record { same = refl; said_still = λ l h. h }) in
           let end = cores_after c cast cores q.0 in
           let led : IsLed c cast m (hosts.place m).reading cores q.0 = q.2 in
-          subst (λ (a : TicketAsk). Follows c cast (hosted c cast hosts (DoesAsk m a ok)) cores (IsHostReleaseAt hosts (DoesAsk m a ok))) same (
+          subst (λ (a : TicketAsk). Follows c cast (hosted c cast hosts (DoesAsk m a ok)) cores (IsHostReleaseAt hosts (DoesAsk m a ok)) (ReadsAt (DoesAsk m a ok))) same (
             q.0,
             q.1,
             moved hosts cores end m hosts.now _ (letter ∷ hosts.sent) i (led.own.same_time ∙ i.same_now)
@@ -237,13 +240,14 @@ module _ (c : Cluster) (cast : Cast) (clocks : HasClocks c) (is_cast : IsCast c 
                 (λ k h. led.more k (still m (hosts.place m) cores here k h)))
                 (λ l d. led.own.said_on l (⊎_elim (λ (e : letter ≡ l). subst (λ (l : MemberLetter). Has cores.said l) e h.0) (λ (old : Has hosts.sent l). i.said l old) d)),
             λ z h. led.unreleased z h,
+            calls_read c cast (ReadsAt (DoesAsk m (Sends letter) ok)) cores q.0 led.are_calls,
           )
       by_tree (Does AsksElse g) e same =
           let h = here.stands_at (Does AsksElse g) e in
           let q = h.1 ok cores (record { same = refl; said_still = λ l h. h }) in
           let end = cores_after c cast cores q.0 in
           let led : IsLed c cast m (hosts.place m).reading cores q.0 = q.2 in
-          subst (λ (a : TicketAsk). Follows c cast (hosted c cast hosts (DoesAsk m a ok)) cores (IsHostReleaseAt hosts (DoesAsk m a ok))) same (
+          subst (λ (a : TicketAsk). Follows c cast (hosted c cast hosts (DoesAsk m a ok)) cores (IsHostReleaseAt hosts (DoesAsk m a ok)) (ReadsAt (DoesAsk m a ok))) same (
             q.0,
             q.1,
             moved hosts cores end m hosts.now _ hosts.sent i (led.own.same_time ∙ i.same_now)
@@ -254,11 +258,12 @@ module _ (c : Cluster) (cast : Cast) (clocks : HasClocks c) (is_cast : IsCast c 
                 (λ k h. led.more k (still m (hosts.place m) cores here k h)))
                 (λ l d. led.own.said_on l (i.said l d)),
             λ z h. led.unreleased z h,
+            calls_read c cast (ReadsAt (DoesAsk m AsksElse ok)) cores q.0 led.are_calls,
           )
 
   -- ---- lives
 
-  halts : (hosts : Hosts) (cores : Cores) (m : ℕ) → HostsHold c cast hosts cores → MayHost c cast hosts (Halts m) → Follows c cast (hosted c cast hosts (Halts m)) cores (IsHostReleaseAt hosts (Halts m))
+  halts : (hosts : Hosts) (cores : Cores) (m : ℕ) → HostsHold c cast hosts cores → MayHost c cast hosts (Halts m) → Follows c cast (hosted c cast hosts (Halts m)) cores (IsHostReleaseAt hosts (Halts m)) (ReadsAt (Halts m))
   halts hosts cores m i may =
       let p = the_value _ (hosts.place m).tree may.1 in
       let here = i.each m may.0 in
@@ -277,10 +282,11 @@ module _ (c : Cluster) (cast : Cast) (clocks : HasClocks c) (is_cast : IsCast c 
             })
             i.said,
         λ z h. ⊎_elim (λ (n : ⊥). n) (λ (n : ⊥). n) h,
+        (tt, tt),
       )
 
   boots : (hosts : Hosts) (cores : Cores) (m time : ℕ) (kept : Record) → HostsHold c cast hosts cores → MayHost c cast hosts (Boots m time kept)
-      → Follows c cast (hosted c cast hosts (Boots m time kept)) cores (IsHostReleaseAt hosts (Boots m time kept))
+      → Follows c cast (hosted c cast hosts (Boots m time kept)) cores (IsHostReleaseAt hosts (Boots m time kept)) (ReadsAt (Boots m time kept))
   boots hosts cores m time kept i may =
       let here = i.each m may.0 in
       let now = reads c m time in
@@ -319,9 +325,13 @@ module _ (c : Cluster) (cast : Cast) (clocks : HasClocks c) (is_cast : IsCast c 
             (λ k h. subst (λ (s : CorePlace). Has s.may k) (sym up) h))
             i.said,
         λ z h. ⊎_elim (λ (n : ⊥). n) (λ (h : ⊥ ⊎ ⊥). ⊎_elim (λ (n : ⊥). n) (λ (n : ⊥). n) h) h,
+        (
+          (refl, refl),
+          (subst (λ (s : CorePlace). HasRead c cast (ReadsAt (Boots m time kept)) m s) (sym read) ((refl, refl), refl), tt),
+        ),
       )
 
-  passes : (hosts : Hosts) (cores : Cores) (time : ℕ) → HostsHold c cast hosts cores → MayHost c cast hosts (LetsPass time) → Follows c cast (hosted c cast hosts (LetsPass time)) cores (IsHostReleaseAt hosts (LetsPass time))
+  passes : (hosts : Hosts) (cores : Cores) (time : ℕ) → HostsHold c cast hosts cores → MayHost c cast hosts (LetsPass time) → Follows c cast (hosted c cast hosts (LetsPass time)) cores (IsHostReleaseAt hosts (LetsPass time)) (ReadsAt (LetsPass time))
   passes hosts cores time i may = (
     TimePasses time ∷ [],
     (((let t = i.same_now in let l = may.0 in omega (arith, t, l)), may.1), tt),
@@ -331,19 +341,20 @@ module _ (c : Cluster) (cast : Cast) (clocks : HasClocks c) (is_cast : IsCast c 
       said = i.said;
     },
     λ z h. ⊎_elim (λ (n : ⊥). n) (λ (n : ⊥). n) h,
+    (tt, tt),
   )
 
   -- ---- all entries
 
-  follows : (hosts : Hosts) (cores : Cores) (entry : HostEntry) → HostsHold c cast hosts cores → MayHost c cast hosts entry → Follows c cast (hosted c cast hosts entry) cores (IsHostReleaseAt hosts entry)
+  follows : (hosts : Hosts) (cores : Cores) (entry : HostEntry) → HostsHold c cast hosts cores → MayHost c cast hosts entry → Follows c cast (hosted c cast hosts entry) cores (IsHostReleaseAt hosts entry) (ReadsAt entry)
   follows hosts cores (LetsPass time) i may = passes hosts cores time i may
   follows hosts cores (BeginsTurn m time came plan) i may = begins hosts cores m time came plan i may
   follows hosts cores (DoesAsk m ask ok) i may = asks hosts cores m ask ok i may
   follows hosts cores (Halts m) i may = halts hosts cores m i may
   follows hosts cores (Boots m time kept) i may = boots hosts cores m time kept i may
 
-  pub follow_all : (hosts : Hosts) (cores : Cores) (entries : List HostEntry) → HostsHold c cast hosts cores → AreHosted c cast hosts entries → Follows c cast (hosts_after c cast hosts entries) cores (IsHostReleaseIn c cast hosts entries)
-  follow_all hosts cores [] i all = ([], tt, i, λ z n. n)
+  pub follow_all : (hosts : Hosts) (cores : Cores) (entries : List HostEntry) → HostsHold c cast hosts cores → AreHosted c cast hosts entries → Follows c cast (hosts_after c cast hosts entries) cores (IsHostReleaseIn c cast hosts entries) (ReadsIn entries)
+  follow_all hosts cores [] i all = ([], tt, i, λ z n. n, tt)
   follow_all hosts cores (entry ∷ entries) i all =
       let one = follows hosts cores entry i all.0 in
       let rest = follow_all (hosted c cast hosts entry) (cores_after c cast cores one.0) entries one.2 all.1 in
@@ -355,6 +366,9 @@ module _ (c : Cluster) (cast : Cast) (clocks : HasClocks c) (is_cast : IsCast c 
             (λ (first : IsReleaseIn c cast cores one.0 z). inl (one.3 z first))
             (λ (second : IsReleaseIn c cast (cores_after c cast cores one.0) rest.0 z). inr (rest.3 z second))
             (release_split c cast 0 0 cores one.0 rest.0 z h),
+        read_join c cast (ReadsIn (entry ∷ entries)) cores one.0 rest.0
+            (read_more c cast (ReadsAt entry) (ReadsIn (entry ∷ entries)) (λ m time r. inl r) cores one.0 one.4)
+            (read_more c cast (ReadsIn entries) (ReadsIn (entry ∷ entries)) (λ m time r. inr r) (cores_after c cast cores one.0) rest.0 rest.4),
       )
 
   pub opens_hosts : HostsHold c cast (opening_hosts c) (opening_cores c)

@@ -28,6 +28,7 @@ pub mod CoreSteps
 pub mod CoreRuns
 pub mod TurnKeeps
 pub mod TurnPlaces
+pub mod CoreReads
 pub mod HostSteps
 pub mod Mirrors
 pub mod Echoes

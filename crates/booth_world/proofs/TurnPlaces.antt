@@ -108,6 +108,19 @@ pub record IsIdle (s : Setup) (now : ℕ) (view : View) (place : CorePlace) : Ty
   pub at_reading : place.reading ≡ now
   pub view_facts : ViewFacts s view
 
+-- calls of the core, and answers of its keeps
+abbrev pub AreCalls : List CoreEntry → Type 0
+AreCalls [] = Unit {0}
+AreCalls (CallsCore k call ∷ entries) = AreCalls entries
+AreCalls (HasAnswer k kept ok ∷ entries) = AreCalls entries
+AreCalls (entry ∷ entries) = ⊥
+
+both_calls : (a b : List CoreEntry) → AreCalls a → AreCalls b → AreCalls (a ++ b)
+both_calls [] b x y = y
+both_calls (CallsCore k call ∷ a) b x y = both_calls a b x y
+both_calls (HasAnswer k kept ok ∷ a) b x y = both_calls a b x y
+both_calls (entry ∷ a) b x y = absurd x
+
 module _ (c : Cluster) (cast : Cast) (m now : ℕ) where
   -- entries of the core lead on to a cores of which this is true, with all records that may be kept
   pub record IsLed (cores : Cores) (entries : List CoreEntry) : Type 0 where
@@ -115,6 +128,7 @@ module _ (c : Cluster) (cast : Cast) (m now : ℕ) where
     pub more : MayMore (cores.place m).may ((cores_after c cast cores entries).place m).may
     pub up_still : IsUp (cores.place m) → IsUp ((cores_after c cast cores entries).place m)
     pub unreleased : (z : Release) → IsReleaseIn c cast cores entries z → ⊥
+    pub are_calls : AreCalls entries
 
   abbrev pub Soon : (Cores → Type 0) → Cores → Type 0
   Soon P cores =
@@ -145,7 +159,7 @@ module _ (c : Cluster) (cast : Cast) (m now : ℕ) where
       × At base (g ok) (cores_after c cast cores' entries))
 
   led_none : (cores : Cores) → IsLed cores []
-  led_none cores = record { own = own_none m cores; more = λ k h. h; up_still = λ h. h; unreleased = λ z n. n }
+  led_none cores = record { own = own_none m cores; more = λ k h. h; up_still = λ h. h; unreleased = λ z n. n; are_calls = tt }
 
   pub release_split : (cores : Cores) (a b : List CoreEntry) (z : Release) → IsReleaseIn c cast cores (a ++ b) z → IsReleaseIn c cast cores a z ⊎ IsReleaseIn c cast (cores_after c cast cores a) b z
   release_split cores [] b z h = inr h
@@ -166,6 +180,7 @@ module _ (c : Cluster) (cast : Cast) (m now : ℕ) where
         (λ (first : IsReleaseIn c cast cores a z). x.unreleased z first)
         (λ (second : IsReleaseIn c cast (cores_after c cast cores a) b z). y.unreleased z second)
         (release_split cores a b z h);
+    are_calls = both_calls a b x.are_calls y.are_calls;
   }
 
   -- while others go on
@@ -398,6 +413,7 @@ module _ (c : Cluster) (cast : Cast) (m now : ℕ) where
           (subst (λ (s : CorePlace). Has s.may k) (sym (put_same cores.place m _)) (more_after _ (cores.place m).may k h));
       up_still = λ h. subst (λ (v : Option View). IsUp ((after_call cast cores m call v).place m)) (sym idle.shows) (up_given cores m (call_given cast cores m call view));
       unreleased = λ z h. ⊎_elim (λ (n : ⊥). n) (λ (n : ⊥). n) h;
+      are_calls = tt;
     },
     subst (λ (v : Option View). At base (deeds_of (cast.setup m) now (lease_call (cast.setup m) view now call)) (after_call cast cores m call v)) (sym idle.shows)
         (deeds_at below small place base (lease_call (cast.setup m) view now call) _

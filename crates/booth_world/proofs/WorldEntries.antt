@@ -18,7 +18,7 @@ use Rattle.booth_node.specs.Clock.{HasClocks, reads}
 use Rattle.booth_node.specs.Opening.{setup_of, started_from, start_reading, opened}
 use Rattle.booth_node.specs.Reaction.{Ask, Send, Keep, used, react}
 use Rattle.booth_node.specs.Records.{may_after_keep, may_after, record_at}
-use Rattle.booth_node.specs.Session.{CutCall, CutNext, CutNow, CutSend, CutKeep, Makes, IsCut, Stand, Down, Doing, Hearing, MayMake, after_call, MayBeCut}
+use Rattle.booth_node.specs.Session.{CutCall, CutNext, CutNow, CutSend, CutKeep, Starts, Makes, IsCut, Stand, Down, Doing, Hearing, MayMake, after_call, MayBeCut}
 use Rattle.booth_node.specs.State.{State}
 use Rattle.booth_node.specs.World.{World, members_of, node_at, clock_at, HasTrueClocks}
 use Rattle.booth_world.specs.Facts.{Has, Release}
@@ -27,11 +27,10 @@ use Rattle.booth_world.specs.Hosts.{BeginsTurn, DoesAsk, Halts, Boots, HostPlace
 use Rattle.booth_world.specs.HostLaws.{IsHostReleaseAt}
 use Rattle.booth_world.proofs.Lists.{none_is, some_same}
 use Rattle.booth_world.proofs.CallSteps.{put_same}
-use Rattle.booth_world.specs.Shadows.{GivesTermBack}
 use Rattle.booth_world.proofs.NodeTurns.{IsPlacedAt}
 use Rattle.booth_world.proofs.NodeArrivals.{IsTurnOf, HearsGood, reacts}
 use Rattle.booth_world.proofs.HostRuns.{of_both}
-use Rattle.booth_world.proofs.WorldSteps.{Setting, same_bytes, other_bytes, cluster, setup_at, cast, own_ticket, own_below, Doings, StandsAt, Shows, Steps, rests_so, then_says, moved_one, keeps_own}
+use Rattle.booth_world.proofs.WorldSteps.{Trace, Frees, IsTrace, Setting, same_bytes, other_bytes, cluster, setup_at, cast, own_ticket, own_below, Doings, StandsAt, Shows, Steps, rests_so, then_says, moved_one, keeps_own}
 
 when_true : {A : Type 0} (b : Bool) (x y : A) → b ≡ true → (if b then x else y) ≡ x
 when_true true x y e = refl
@@ -87,14 +86,14 @@ module _ (w : World) (clocks : HasTrueClocks w) (place : ℕ) (ticket : TicketCo
   rises_at m early late below later within =
       (clocks.clocks m below).rises early late later (subst (λ (n : ℕ). late < n) (sym (clocks.long m below)) within)
 
-  abbrev pub Stepping : Hosts → ℕ → Stand → List Record → (Release → Type 0) → Type 0
+  abbrev pub Stepping : Hosts → ℕ → Stand → List Record → (Trace → Type 0) → Type 0
   Stepping hosts m stand may R = Steps w place ticket setting hosts m stand may R
 
   module _ (m : ℕ) (below : m < members_of w) (hosts : Hosts) (within : hosts.now < w.span) where
     abbrev pub Stood : Stand → List Record → Type 0
     Stood stand may = Shows w place ticket setting m stand may hosts.now (hosts.place m) hosts.sent
 
-    rests_here : (stand stand' : Stand) (may may' : List Record) (R : Release → Type 0) → Stood stand may → may' ≡ may
+    rests_here : (stand stand' : Stand) (may may' : List Record) (R : Trace → Type 0) → Stood stand may → may' ≡ may
         → StandsAt w place ticket setting m stand' (hosts.place m) hosts.sent → Stepping hosts m stand' may' R
     rests_here stand stand' may may' R x same now_at =
         rests_so w place ticket setting hosts m stand' may' R
@@ -106,14 +105,14 @@ module _ (w : World) (clocks : HasTrueClocks w) (place : ℕ) (ticket : TicketCo
         (rec : Record) (answer : Result (Unit {0}) Failed) → Stood (Doing node (Does (Keep name tried) go)) may
         → ticket_name ≡ name → rec ≡ tried
         → Stepping hosts m (Doing node (go (is_ok answer))) (may_after (own_ticket w place ticket setting) may (Makes (calls.Keep ticket_name rec answer)))
-        (GivesTermBack ticket.name m (Makes (calls.Keep ticket_name rec answer)))
+        (IsTrace w ticket.name m hosts.now (Makes (calls.Keep ticket_name rec answer)))
     keeps node name tried go may ticket_name rec answer x named same = by_ticket x.stands.5
       where
-        R : Release → Type 0
-        R = GivesTermBack ticket.name m (Makes (calls.Keep ticket_name rec answer))
+        R : Trace → Type 0
+        R = IsTrace w ticket.name m hosts.now (Makes (calls.Keep ticket_name rec answer))
 
         releases : (r : Record) (a : Result (Unit {0}) Failed) → r ≡ tried → ticket_name ≡ ticket.name → (z : Release)
-            → IsHostReleaseAt hosts (DoesAsk m (Keeps tried) (is_ok a)) z → GivesTermBack ticket.name m (Makes (calls.Keep ticket_name r a)) z
+            → IsHostReleaseAt hosts (DoesAsk m (Keeps tried) (is_ok a)) z → IsTrace w ticket.name m hosts.now (Makes (calls.Keep ticket_name r a)) (Frees z)
         releases r (Ok done) e here z rel = (
           here,
           ap (λ (q : Record). q.lease) e ∙ rel.1,
@@ -124,17 +123,17 @@ module _ (w : World) (clocks : HasTrueClocks w) (place : ℕ) (ticket : TicketCo
 
         by_ticket : Doings w place ticket setting m (hosts.place m).reading x.stands.2 (Does (Keep name tried) go) x.stands.1
             → Stepping hosts m (Doing node (go (is_ok answer))) (may_after (own_ticket w place ticket setting) may (Makes (calls.Keep ticket_name rec answer)))
-            (GivesTermBack ticket.name m (Makes (calls.Keep ticket_name rec answer)))
+            (IsTrace w ticket.name m hosts.now (Makes (calls.Keep ticket_name rec answer)))
         by_ticket (inl other) =
             rests_here (Doing node (Does (Keep name tried) go)) (Doing node (go (is_ok answer))) may _ _ x
             (when_false (bytes_eq ticket_name ticket.name) _ _ (other_bytes ticket_name ticket.name (λ e. other.0 (sym named ∙ e))))
             (x.stands.0, x.stands.1, x.stands.2, x.stands.3, x.stands.4, other.1 (is_ok answer))
         by_ticket (inr own) =
-            subst (λ (rs : List Record). Stepping hosts m (Doing node (go (is_ok answer))) rs (GivesTermBack ticket.name m (Makes (calls.Keep ticket_name rec answer))))
+            subst (λ (rs : List Record). Stepping hosts m (Doing node (go (is_ok answer))) rs (IsTrace w ticket.name m hosts.now (Makes (calls.Keep ticket_name rec answer))))
             (ap (λ (r : Record). may_after_keep (is_ok answer) r may) (sym same)
             ∙ sym (when_true (bytes_eq ticket_name ticket.name) _ _ (same_bytes ticket_name ticket.name (named ∙ own.0))))
             (keeps_own w place ticket setting m below hosts node (Doing node (Does (Keep name tried) go)) (Doing node (go (is_ok answer))) may
-            (GivesTermBack ticket.name m (Makes (calls.Keep ticket_name rec answer))) tried (is_ok answer) go x.stands.1 x.stands.2 own.1
+            (IsTrace w ticket.name m hosts.now (Makes (calls.Keep ticket_name rec answer))) tried (is_ok answer) go x.stands.1 x.stands.2 own.1
             x.stands.0 refl x x.stands.3 x.stands.4 own.2 (own.3 (is_ok answer))
             (releases rec answer same (named ∙ own.0)))
 
@@ -147,12 +146,13 @@ module _ (w : World) (clocks : HasTrueClocks w) (place : ℕ) (ticket : TicketCo
         (small_at m hosts.now below within)
 
     -- the clock is read, and the turn begins
-    begins : (node : NodeConfig) (old : State) (answer : Result Arrival Failed) (bytes : List ℕ) (may : List Record) (reading : ℕ) (R : Release → Type 0)
+    begins : (node : NodeConfig) (old : State) (answer : Result Arrival Failed) (bytes : List ℕ) (may : List Record) (reading : ℕ)
         → Stood (Hearing node old answer bytes) may → reading ≡ clock_at w m hosts.now
         → HearsGood (setup_at w place ticket setting m) place (node_at w m) (read_by m hosts.now) refl (own_below w place ticket setting m below)
         (MayCome (cast w place ticket setting) hosts) answer bytes
-        → Stepping hosts m (Doing node (react node old (used old.last_reading reading) answer bytes)) may R
-    begins node old answer bytes may reading R x read_is good =
+        → Stepping hosts m (Doing node (react node old (used old.last_reading reading) answer bytes)) may (IsTrace w ticket.name m hosts.now (Makes (calls.Now reading)))
+    begins node old answer bytes may reading x read_is good =
+        let R : Trace → Type 0 = IsTrace w ticket.name m hosts.now (Makes (calls.Now reading)) in
         let view : View = x.stands.1 in
         let moment : ℕ = read_by m hosts.now in
         let used_so : used old.last_reading reading ≡ moment = used_is old.last_reading x.time reading (x.stands.4 ∙ x.read) x.past read_is in
@@ -188,7 +188,7 @@ module _ (w : World) (clocks : HasTrueClocks w) (place : ℕ) (ticket : TicketCo
                 (sym (reading_is ∙ ap (λ (q : HostPlace). q.reading) (put_same hosts.place m _))) (turn.over hosts.sent),
           );
         })
-        (λ z r. absurd r) (λ p. tt)))
+        (λ z r. absurd r) (λ k t r. (sym r.0, sym r.1, read_is)) (λ p. tt)))
 
     -- what is heard at this stand may come
     abbrev pub HearsGoodAt : Stand → Type 0
@@ -202,7 +202,7 @@ module _ (w : World) (clocks : HasTrueClocks w) (place : ℕ) (ticket : TicketCo
     ReadsHere call = Unit {0}
 
     pub makes : (stand : Stand) (call : Entry) (may : List Record) → Stood stand may → MayMake stand call → ReadsHere call → HearsGoodAt stand
-        → Stepping hosts m (after_call stand call) (may_after (own_ticket w place ticket setting) may (Makes call)) (GivesTermBack ticket.name m (Makes call))
+        → Stepping hosts m (after_call stand call) (may_after (own_ticket w place ticket setting) may (Makes call)) (IsTrace w ticket.name m hosts.now (Makes call))
     makes Down call may x d r g = absurd d
     makes (Doing node (Ends old)) (calls.Next wait answer bytes) may x d r g =
         rests_here (Doing node (Ends old)) (Hearing node old answer bytes) may may _ x refl
@@ -215,18 +215,18 @@ module _ (w : World) (clocks : HasTrueClocks w) (place : ℕ) (ticket : TicketCo
     makes (Doing node (Does (Keep name tried) go)) (calls.Keep ticket_name rec answer) may x d r g =
         keeps node name tried go may ticket_name rec answer x d.0 d.1
     makes (Doing node (Does (Keep name tried) go)) call may x d r g = absurd d
-    makes (Hearing node old answer bytes) (calls.Now reading) may x d r g = begins node old answer bytes may reading _ x r g
+    makes (Hearing node old answer bytes) (calls.Now reading) may x d r g = begins node old answer bytes may reading x r g
     makes (Hearing node old answer bytes) call may x d r g = absurd d
 
     -- ---- cuts
 
     cuts_keep : (node : NodeConfig) (name : List ℕ) (tried : Record) (go : Bool → Deeds Ask State) (may : List Record) (ticket_name : List ℕ)
         (rec : Record) → Stood (Doing node (Does (Keep name tried) go)) may → ticket_name ≡ name → rec ≡ tried
-        → Stepping hosts m Down (may_after (own_ticket w place ticket setting) may (IsCut (CutKeep ticket_name rec))) (λ z. ⊥)
+        → Stepping hosts m Down (may_after (own_ticket w place ticket setting) may (IsCut (CutKeep ticket_name rec))) (IsTrace w ticket.name m hosts.now (IsCut (CutKeep ticket_name rec)))
     cuts_keep node name tried go may ticket_name rec x named same = by_ticket x.stands.5
       where
         by_ticket : Doings w place ticket setting m (hosts.place m).reading x.stands.2 (Does (Keep name tried) go) x.stands.1
-            → Stepping hosts m Down (may_after (own_ticket w place ticket setting) may (IsCut (CutKeep ticket_name rec))) (λ z. ⊥)
+            → Stepping hosts m Down (may_after (own_ticket w place ticket setting) may (IsCut (CutKeep ticket_name rec))) (IsTrace w ticket.name m hosts.now (IsCut (CutKeep ticket_name rec)))
         by_ticket (inl other) =
             rests_here (Doing node (Does (Keep name tried) go)) Down may _ _ x
             (when_false (bytes_eq ticket_name ticket.name) _ _ (other_bytes ticket_name ticket.name (λ e. other.0 (sym named ∙ e)))) tt
@@ -249,10 +249,11 @@ module _ (w : World) (clocks : HasTrueClocks w) (place : ℕ) (ticket : TicketCo
                   });
               at_cut = inl (ap (λ (p : HostPlace). p.tree) (put_same hosts.place m _));
               released = λ z r. ⊎_elim (λ (a : ⊥). a) (λ (b : ⊥). b) r;
+              read = λ k t r. absurd (⊎_elim (λ (a : ⊥). a) (λ (b : ⊥). b) r);
             }
 
     pub cuts : (stand : Stand) (call : CutCall) (may : List Record) → Stood stand may → MayBeCut stand call
-        → Stepping hosts m Down (may_after (own_ticket w place ticket setting) may (IsCut call)) (λ z. ⊥)
+        → Stepping hosts m Down (may_after (own_ticket w place ticket setting) may (IsCut call)) (IsTrace w ticket.name m hosts.now (IsCut call))
     cuts stand CutNext may x d = rests_here stand Down may may _ x refl tt
     cuts stand CutNow may x d = rests_here stand Down may may _ x refl tt
     cuts stand (CutSend to bytes) may x d = rests_here stand Down may may _ x refl tt
@@ -282,11 +283,13 @@ module _ (w : World) (clocks : HasTrueClocks w) (place : ℕ) (ticket : TicketCo
   module _ (m : ℕ) (below : m < members_of w) where
     boots : (hosts : Hosts) (reading : ℕ) (records : List (Option Record)) → hosts.now < w.span → (hosts.place m).tree ≡ None
         → length records ≡ length w.config.tickets → reading ≡ clock_at w m hosts.now → Has (hosts.place m).may (record_at records place)
-        → Stepping hosts m (Doing (node_at w m) (Ends (opened (node_at w m) records reading))) (record_at records place ∷ []) (λ z. ⊥)
+        → Stepping hosts m (Doing (node_at w m) (Ends (opened (node_at w m) records reading))) (record_at records place ∷ [])
+        (IsTrace w ticket.name m hosts.now (Starts (node_at w m) reading records))
     boots hosts reading records within down all is may_read =
         let now : ℕ = read_by m hosts.now in
         let kept : Record = record_at records place in
-        then_says w place ticket setting m below hosts (Boots m hosts.now kept) (Doing (node_at w m) (Ends (opened (node_at w m) records reading))) (kept ∷ []) (λ z. ⊥)
+        then_says w place ticket setting m below hosts (Boots m hosts.now kept) (Doing (node_at w m) (Ends (opened (node_at w m) records reading))) (kept ∷ [])
+        (IsTrace w ticket.name m hosts.now (Starts (node_at w m) reading records))
         (Ends (started (setup_at w place ticket setting m) kept now))
         (below, omega arith, within, down, may_read)
         (moved_one w place ticket setting m below hosts _ hosts.sent (λ l h. h))
@@ -311,7 +314,7 @@ module _ (w : World) (clocks : HasTrueClocks w) (place : ℕ) (ticket : TicketCo
             },
           );
         })
-        (λ z r. absurd r) (λ p. tt)
+        (λ z r. absurd r) (λ k t r. (sym r.0, sym r.1, is)) (λ p. tt)
 
     -- what may be kept may still, where a host stops
     still_may : (o : Option TurnTree) (may : List Record) (k : Record) → Has may k → Has (pending o may) k
@@ -326,20 +329,23 @@ module _ (w : World) (clocks : HasTrueClocks w) (place : ℕ) (ticket : TicketCo
     pub starts : (hosts : Hosts) (node : NodeConfig) (reading : ℕ) (records : List (Option Record)) → hosts.now < w.span
         → length records ≡ length node.config.tickets → node ≡ node_at w m → reading ≡ clock_at w m hosts.now
         → Has (hosts.place m).may (record_at records place)
-        → Stepping hosts m (Doing node (Ends (opened node records reading))) (record_at records place ∷ []) (λ z. ⊥)
+        → Stepping hosts m (Doing node (Ends (opened node records reading))) (record_at records place ∷ [])
+        (IsTrace w ticket.name m hosts.now (Starts node reading records))
     starts hosts node reading records within all node_is is may_read =
-        subst (λ (n : NodeConfig). Stepping hosts m (Doing n (Ends (opened n records reading))) (record_at records place ∷ []) (λ z. ⊥)) (sym node_is)
+        subst (λ (n : NodeConfig). Stepping hosts m (Doing n (Ends (opened n records reading))) (record_at records place ∷ []) (IsTrace w ticket.name m hosts.now (Starts n reading records))) (sym node_is)
         (by_tree (hosts.place m).tree refl)
       where
         all_read : length records ≡ length w.config.tickets
         all_read = subst (λ (n : NodeConfig). length records ≡ length n.config.tickets) node_is all
 
         by_tree : (o : Option TurnTree) → (hosts.place m).tree ≡ o
-            → Stepping hosts m (Doing (node_at w m) (Ends (opened (node_at w m) records reading))) (record_at records place ∷ []) (λ z. ⊥)
+            → Stepping hosts m (Doing (node_at w m) (Ends (opened (node_at w m) records reading))) (record_at records place ∷ [])
+            (IsTrace w ticket.name m hosts.now (Starts (node_at w m) reading records))
         by_tree None down = boots hosts reading records within down all_read is may_read
         by_tree (Some t) up =
             let halted : Hosts = hosted (cluster w place ticket setting) (cast w place ticket setting) hosts (Halts m) in
-            let rest : Stepping halted m (Doing (node_at w m) (Ends (opened (node_at w m) records reading))) (record_at records place ∷ []) (λ z. ⊥) =
+            let rest : Stepping halted m (Doing (node_at w m) (Ends (opened (node_at w m) records reading))) (record_at records place ∷ [])
+            (IsTrace w ticket.name m hosts.now (Starts (node_at w m) reading records)) =
             boots halted reading records within (ap (λ (p : HostPlace). p.tree) (put_same hosts.place m _)) all_read is
             (subst (λ (p : HostPlace). Has p.may (record_at records place)) (sym (put_same hosts.place m _))
             (still_may (hosts.place m).tree (hosts.place m).may (record_at records place) may_read)) in
@@ -351,5 +357,6 @@ module _ (w : World) (clocks : HasTrueClocks w) (place : ℕ) (ticket : TicketCo
                   (moved_one w place ticket setting m below hosts _ hosts.sent (λ l h. h)) rest.own;
               here = rest.here;
               at_cut = tt;
-              released = λ z r. ⊎_elim (λ (a : ⊥). a) (λ b. rest.released z b) r;
+              released = λ z r. ⊎_elim (λ (a : ⊥). absurd a) (λ b. rest.released z b) r;
+              read = λ k t r. ⊎_elim (λ (a : ⊥). absurd a) (λ b. rest.read k t b) r;
             }

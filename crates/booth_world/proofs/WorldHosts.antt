@@ -39,11 +39,12 @@ use Rattle.booth_world.specs.Rules.{MemberLetter}
 use Rattle.booth_world.specs.Turns.{Keeps, TurnTree}
 use Rattle.booth_world.specs.Hosts.{HostEntry, LetsPass, HostPlace, Hosts, AreHosted, hosts_after}
 use Rattle.booth_world.specs.HostLaws.{IsHostReleaseIn}
-use Rattle.booth_world.specs.Shadows.{stands_last, IsNextAt, IsComing, GivesTermBack}
+use Rattle.booth_world.specs.Shadows.{stands_last, IsNextAt, IsComing}
 use Rattle.booth_world.proofs.Lists.{none_is, some_same}
 use Rattle.booth_world.proofs.Mirrors.{sent_by, SentMore, IsSpoken}
 use Rattle.booth_world.proofs.NodeArrivals.{IsLetIn}
-use Rattle.booth_world.proofs.WorldSteps.{Setting, equal_bytes, cluster, setup_at, cast, own_ticket, own_place_is, StandsAt, next_at, AtCut, Shows, shows_more, Steps}
+use Rattle.booth_world.proofs.CoreReads.{ReadsIn}
+use Rattle.booth_world.proofs.WorldSteps.{Trace, Frees, Reads, IsTrace, Setting, equal_bytes, cluster, setup_at, cast, own_ticket, own_place_is, StandsAt, next_at, AtCut, Shows, shows_more, Steps}
 use Rattle.booth_world.proofs.WorldEntries.{read_by, used_is, HearsGoodAt, ReadsHere, makes, cuts, starts}
 
 -- ---- lists of entries
@@ -245,7 +246,7 @@ module _ (w : World) (is_world : IsWorld w) (place : ℕ) (ticket : TicketConf) 
         → Shows w place ticket setting e.member stand (may_of e.member before) e.time (hosts.place e.member) hosts.sent
         → MayDo stand what → HasConfiguration w e what → ReadsClock w e what → ReadsKept w before e what → HearsSent w before stand what
         → Steps w place ticket setting passed e.member (after_entry stand what) (may_after (own_ticket w place ticket setting) (may_of e.member before) what)
-        (GivesTermBack ticket.name e.member what)
+        (IsTrace w ticket.name e.member e.time what)
     steps_for stand (Starts node reading records) x d configured clock kept heard =
         starts w is_world.true_clocks place ticket setting e.member below passed node reading records within d configured clock
         (subst (λ (rs : List Record). Has rs (record_at records place)) (sym x.same_may)
@@ -258,13 +259,14 @@ module _ (w : World) (is_world : IsWorld w) (place : ℕ) (ticket : TicketConf) 
 
   -- ---- entry by entry
 
-  -- entries of the hosts that lead to where these entries of the world do, and release only this
-  pub record Extends (hosts : Hosts) (before : List WorldEntry) (now : ℕ) (R : Release → Type 0) : Type 0 where
+  -- entries of the hosts that lead to where these entries of the world do, and leave only these traces
+  pub record Extends (hosts : Hosts) (before : List WorldEntry) (now : ℕ) (R : Trace → Type 0) : Type 0 where
     pub entries : List HostEntry
     pub now_is : (after_hosts hosts entries).now ≡ now
     pub hosted_all : AreHosted (cluster w place ticket setting) (cast w place ticket setting) hosts entries
     pub shadow : Shadows before (after_hosts hosts entries)
-    pub released : (z : Release) → IsHostReleaseIn (cluster w place ticket setting) (cast w place ticket setting) hosts entries z → R z
+    pub released : (z : Release) → IsHostReleaseIn (cluster w place ticket setting) (cast w place ticket setting) hosts entries z → R (Frees z)
+    pub read : (k time : ℕ) → ReadsIn entries k time → R (Reads k time)
 
   -- ---- a keep that comes next
 
@@ -329,7 +331,7 @@ module _ (w : World) (is_world : IsWorld w) (place : ℕ) (ticket : TicketConf) 
       (x ∷ q.0, q.1, ap (λ (ys : List WorldEntry). x ∷ ys) q.2)
 
   pub one_step : (before after : List WorldEntry) (e : WorldEntry) (hosts : Hosts) → w.entries ≡ before ++ e ∷ after → hosts.now ≤ e.time → Shadows before hosts
-      → Extends hosts (before ++ e ∷ []) e.time (GivesTermBack ticket.name e.member e.what)
+      → Extends hosts (before ++ e ∷ []) e.time (IsTrace w ticket.name e.member e.time e.what)
   one_step before after e hosts whole later shadow =
       let below : e.member < members_of w = is_world.form.members before after e whole in
       let within : e.time < w.span = is_world.form.within before after e whole in
@@ -379,6 +381,7 @@ module _ (w : World) (is_world : IsWorld w) (place : ℕ) (ticket : TicketConf) 
               (same_or_not e.member m);
         };
         released = λ z r. ⊎_elim (λ (a : ⊥). absurd a) (λ b. steps.released z b) r;
+        read = λ k t r. ⊎_elim (λ (a : ⊥). absurd a) (λ b. steps.read k t b) r;
       }
     where
       by_member : (m : ℕ) → m < members_of w → (e.member ≡ m) ⊎ (e.member ≢ m) → hosts.now ≤ e.time → (last : Hosts) → last.now ≡ e.time

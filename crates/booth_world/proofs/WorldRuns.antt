@@ -27,10 +27,11 @@ use Rattle.booth_world.specs.Hosts.{HostEntry, LetsPass, HostPlace, Hosts, openi
 use Rattle.booth_world.specs.HostLaws.{IsHostReleaseIn, host_may, HostHoldsBy}
 use Rattle.booth_world.specs.Worlds.{IsLater, GivesBack, ReleasedIn}
 use Rattle.booth_world.specs.Shadows.{GivesTermBack}
+use Rattle.booth_world.proofs.CoreReads.{ReadsIn, reads_split}
 use Rattle.booth_world.proofs.Lists.{none_is, some_same}
 use Rattle.booth_world.proofs.HostSteps.{hosts_hold_one, hosts_are_apart, host_terms, next_is_highest}
 use Rattle.booth_world.proofs.HostRuns.{hosted_join, after_join, released_join}
-use Rattle.booth_world.proofs.WorldSteps.{Setting, equal_bytes, cluster, setup_at, cast, own_ticket, own_place_is, Shows, shows_more}
+use Rattle.booth_world.proofs.WorldSteps.{Trace, Frees, Reads, IsTrace, Setting, equal_bytes, cluster, setup_at, cast, own_ticket, own_place_is, Shows, shows_more}
 use Rattle.booth_world.proofs.WorldEntries.{has_clocks}
 use Rattle.booth_world.proofs.WorldHosts.{has_here, entries_join, sessions_at, last_of, append_none, may_of, after_hosts, Shadows, Extends, one_step}
 
@@ -46,26 +47,27 @@ module _ (w : World) (is_world : IsWorld w) (place : ℕ) (ticket : TicketConf) 
   abbrev pub Opening : Hosts
   Opening = opening_hosts (cluster w place ticket setting)
 
-  -- one of these entries gave this term back
-  abbrev pub IsReleasedIn : List WorldEntry → Release → Type 0
-  IsReleasedIn between z = (entry : WorldEntry) × Holds between entry × GivesTermBack ticket.name entry.member entry.what z
+  -- one of these entries left this trace
+  abbrev pub IsLeftIn : List WorldEntry → Trace → Type 0
+  IsLeftIn between trace = (entry : WorldEntry) × Holds between entry × IsTrace w ticket.name entry.member entry.time entry.what trace
 
   extends : (between before after : List WorldEntry) (hosts : Hosts) → w.entries ≡ before ++ (between ++ after) → IsBefore hosts.now between
       → Shadows w is_world place ticket setting before hosts
-      → Extends w is_world place ticket setting hosts (before ++ between) (last_time hosts.now between) (IsReleasedIn between)
+      → Extends w is_world place ticket setting hosts (before ++ between) (last_time hosts.now between) (IsLeftIn between)
   extends [] before after hosts whole later shadow = record {
     entries = [];
     now_is = refl;
     hosted_all = tt;
     shadow = subst (λ (es : List WorldEntry). Shadows w is_world place ticket setting es hosts) (sym (append_none before)) shadow;
     released = λ z r. absurd r;
+    read = λ k t r. absurd r;
   }
   extends (e ∷ between) before after hosts whole later shadow =
-      let first : Extends w is_world place ticket setting hosts (before ++ e ∷ []) e.time (GivesTermBack ticket.name e.member e.what) =
+      let first : Extends w is_world place ticket setting hosts (before ++ e ∷ []) e.time (IsTrace w ticket.name e.member e.time e.what) =
       one_step w is_world place ticket setting before (between ++ after) e hosts whole later shadow in
       let mid : Hosts = after_hosts w is_world place ticket setting hosts first.entries in
       let whole_rest : w.entries ≡ (before ++ e ∷ []) ++ (between ++ after) = whole ∙ sym (append_both before (e ∷ []) (between ++ after)) in
-      let rest : Extends w is_world place ticket setting mid ((before ++ e ∷ []) ++ between) (last_time mid.now between) (IsReleasedIn between) =
+      let rest : Extends w is_world place ticket setting mid ((before ++ e ∷ []) ++ between) (last_time mid.now between) (IsLeftIn between) =
       extends between (before ++ e ∷ []) after mid whole_rest (next_later between mid.now first.now_is whole_rest) first.shadow in
       record {
         entries = first.entries ++ rest.entries;
@@ -79,8 +81,13 @@ module _ (w : World) (is_world : IsWorld w) (place : ℕ) (ticket : TicketConf) 
         released = λ z r. ⊎_elim
             (λ (a : IsHostReleaseIn (cluster w place ticket setting) (cast w place ticket setting) hosts first.entries z). (e, inl refl, first.released z a))
             (λ (b : IsHostReleaseIn (cluster w place ticket setting) (cast w place ticket setting) mid rest.entries z).
-            let q : IsReleasedIn between z = rest.released z b in (q.0, inr q.1, q.2))
+            let q : IsLeftIn between (Frees z) = rest.released z b in (q.0, inr q.1, q.2))
             (released_join (cluster w place ticket setting) (cast w place ticket setting) hosts first.entries rest.entries z r);
+        read = λ k t r. ⊎_elim
+            (λ (a : ReadsIn first.entries k t). (e, inl refl, first.read k t a))
+            (λ (b : ReadsIn rest.entries k t).
+            let q : IsLeftIn between (Reads k t) = rest.read k t b in (q.0, inr q.1, q.2))
+            (reads_split first.entries rest.entries k t r);
       }
     where
       next_later : (es : List WorldEntry) (now : ℕ) → now ≡ e.time → w.entries ≡ (before ++ e ∷ []) ++ (es ++ after) → IsBefore now es
@@ -98,14 +105,15 @@ module _ (w : World) (is_world : IsWorld w) (place : ℕ) (ticket : TicketConf) 
   -- ---- moments
 
   -- the hosts at a moment, with time passed up to it
-  pub record Reaches (hosts : Hosts) (before : List WorldEntry) (time : ℕ) (R : Release → Type 0) : Type 0 where
+  pub record Reaches (hosts : Hosts) (before : List WorldEntry) (time : ℕ) (R : Trace → Type 0) : Type 0 where
     pub entries : List HostEntry
     pub hosted_all : AreHosted (cluster w place ticket setting) (cast w place ticket setting) hosts entries
     pub now_is : (after_hosts w is_world place ticket setting hosts entries).now ≡ time
     pub shadow : Shadows w is_world place ticket setting before (after_hosts w is_world place ticket setting hosts entries)
-    pub released : (z : Release) → IsHostReleaseIn (cluster w place ticket setting) (cast w place ticket setting) hosts entries z → R z
+    pub released : (z : Release) → IsHostReleaseIn (cluster w place ticket setting) (cast w place ticket setting) hosts entries z → R (Frees z)
+    pub read : (k time : ℕ) → ReadsIn entries k time → R (Reads k time)
 
-  waits : (hosts : Hosts) (before : List WorldEntry) (now time : ℕ) (R : Release → Type 0) → now ≤ time → time < w.span
+  waits : (hosts : Hosts) (before : List WorldEntry) (now time : ℕ) (R : Trace → Type 0) → now ≤ time → time < w.span
       → Extends w is_world place ticket setting hosts before now R → Reaches hosts before time R
   waits hosts before now time R later within x =
       let last : Hosts = after_hosts w is_world place ticket setting hosts x.entries in
@@ -127,14 +135,15 @@ module _ (w : World) (is_world : IsWorld w) (place : ℕ) (ticket : TicketConf) 
             (λ (a : IsHostReleaseIn (cluster w place ticket setting) (cast w place ticket setting) hosts x.entries z). x.released z a)
             (λ (b : IsHostReleaseIn (cluster w place ticket setting) (cast w place ticket setting) last (LetsPass time ∷ []) z). ⊎_elim (λ (c : ⊥). absurd c) (λ (c : ⊥). absurd c) b)
             (released_join (cluster w place ticket setting) (cast w place ticket setting) hosts x.entries (LetsPass time ∷ []) z r);
+        read = λ k t r. ⊎_elim
+            (λ (a : ReadsIn x.entries k t). x.read k t a)
+            (λ (b : ReadsIn (LetsPass time ∷ []) k t). ⊎_elim (λ (c : ⊥). absurd c) (λ (c : ⊥). absurd c) b)
+            (reads_split x.entries (LetsPass time ∷ []) k t r);
       }
 
-  Any : Release → Type 0
-  Any z = Unit {0}
-
-  pub reached : (moment : Moment w) → Reaches Opening moment.before moment.time (IsReleasedIn moment.before)
+  pub reached : (moment : Moment w) → Reaches Opening moment.before moment.time (IsLeftIn moment.before)
   reached moment =
-      waits Opening moment.before (last_time 0 moment.before) moment.time (IsReleasedIn moment.before) moment.since moment.within
+      waits Opening moment.before (last_time 0 moment.before) moment.time (IsLeftIn moment.before) moment.since moment.within
       (extends moment.before [] moment.after Opening moment.whole (first moment.before) opening_shadow)
     where
       first : (es : List WorldEntry) → IsBefore 0 es
@@ -143,10 +152,10 @@ module _ (w : World) (is_world : IsWorld w) (place : ℕ) (ticket : TicketConf) 
 
   pub reached_later : (early late : Moment w) (between : List WorldEntry) (hosts : Hosts) → IsLater w early late between → hosts.now ≡ early.time
       → Shadows w is_world place ticket setting early.before hosts
-      → Reaches hosts late.before late.time (IsReleasedIn between)
+      → Reaches hosts late.before late.time (IsLeftIn between)
   reached_later early late between hosts later now_is shadow =
-      subst (λ (es : List WorldEntry). Reaches hosts es late.time (IsReleasedIn between)) (sym later.entries)
-      (waits hosts (early.before ++ between) (last_time hosts.now between) late.time (IsReleasedIn between)
+      subst (λ (es : List WorldEntry). Reaches hosts es late.time (IsLeftIn between)) (sym later.entries)
+      (waits hosts (early.before ++ between) (last_time hosts.now between) late.time (IsLeftIn between)
       (by_last between later.entries) late.within
       (extends between early.before late.after hosts whole (by_first between (early_until between later.entries)) shadow))
     where

@@ -1,6 +1,6 @@
 -- The shadow of a world: its entries as those of the hosts of a ticket, those as entries of the cores,
 -- and those as steps.
-use Rattle.std.proofs.Common.{◌≡◌, ◌⊎◌, inl, inr, ⊎_elim, ℕ, ◌<◌, Bool, List, [], refl, sym, ◌∙◌, subst}
+use Rattle.std.proofs.Common.{◌≡◌, ◌⊎◌, inl, inr, ⊎_elim, ℕ, ◌<◌, Bool, List, [], refl, sym, ap, ◌∙◌, subst}
 use Rattle.std.specs.Prelude.{Option, Some, None}
 use Rattle.booth_base.specs.Tree.{Ends, Does}
 use Rattle.booth_base.specs.declared.address.MemberId.{MemberId}
@@ -14,7 +14,7 @@ use Rattle.booth_wire.specs.PlainMessage.{PlainMessage}
 use Rattle.booth_auth.specs.Sealed.{stamped_head}
 use Rattle.booth_node.specs.Held.{Moment, may_at}
 use Rattle.booth_node.specs.Records.{Has as Holds}
-use Rattle.booth_node.specs.World.{World, members_of, id_at, entries_of, IsWorld}
+use Rattle.booth_node.specs.World.{WorldEntry, World, members_of, id_at, entries_of, clock_at, IsWorld}
 use Rattle.booth_world.specs.Facts.{Has, Release, Facts}
 use Rattle.booth_world.specs.Messages.{IsFact}
 use Rattle.booth_world.specs.States.{WorldState}
@@ -22,15 +22,16 @@ use Rattle.booth_world.specs.Steps.{world_of}
 use Rattle.booth_world.specs.Cores.{Cores, opening_cores, cores_after}
 use Rattle.booth_world.specs.Turns.{Keeps, TurnTree}
 use Rattle.booth_world.specs.Hosts.{Hosts, opening_hosts, pending}
-use Rattle.booth_world.specs.Shadows.{IsComing, IsSentIn, records_of, WorldsHaveShadows}
+use Rattle.booth_world.specs.Shadows.{IsComing, TakesReading, IsReadIn, IsSentIn, records_of, WorldsHaveShadows}
 use Rattle.booth_world.proofs.CoreSteps.{CoresHold, opens}
+use Rattle.booth_world.proofs.CoreReads.{opening_read, all_read, ReadsIn}
 use Rattle.booth_world.proofs.CoreRuns.{runs_of, held, all_released}
 use Rattle.booth_world.proofs.HostSteps.{HostsHold, follow_all, opens_hosts, host_held}
-use Rattle.booth_world.proofs.WorldSteps.{Setting, cluster, cast}
+use Rattle.booth_world.proofs.WorldSteps.{Reads, Setting, cluster, cast}
 use Rattle.booth_world.proofs.Configured.{setting_of}
 use Rattle.booth_world.proofs.WorldEntries.{has_clocks}
 use Rattle.booth_world.proofs.WorldHosts.{has_here, after_hosts, may_of, Shadows}
-use Rattle.booth_world.proofs.WorldRuns.{reached, is_cast, covers, holds_so, holds_back, still_next}
+use Rattle.booth_world.proofs.WorldRuns.{IsLeftIn, reached, is_cast, covers, holds_so, holds_back, still_next}
 
 -- a stamp changes nothing of what a message says
 same_fact : (id_of : ℕ → MemberId) (f : Facts) (m : ℕ) (auth : Bool) (time : ℕ) (head : Head) (part : TicketPart) (cmd : Cmd)
@@ -77,6 +78,19 @@ module _ (w : World) (is_world : IsWorld w) (place : ℕ) (ticket : TicketConf) 
       (subst (λ (h : Head). IsFact (id_at w) state.facts is.entry.member h part h.cmd) (sym q.3)
       (same_fact (id_at w) state.facts is.entry.member q.1 q.2 q.0 part q.0.cmd fact.1))
 
+-- a reading of the hosts is one of these entries
+read_in : (w : World) (is_world : IsWorld w) (place : ℕ) (ticket : TicketConf) (setting : Setting w place ticket) (before : List WorldEntry)
+    (m reading time k t : ℕ) → m ≡ k → time ≡ t → reading ≡ clock_at w k t → IsLeftIn w is_world place ticket setting before (Reads k t)
+    → IsReadIn before m reading time
+read_in w is_world place ticket setting before m reading time k t same_m same_t is left = record {
+  entry = left.0;
+  one = left.1;
+  own = sym left.2.0 ∙ sym same_m;
+  at = sym left.2.1 ∙ sym same_t;
+  taken = subst (λ (n : ℕ). TakesReading left.0.what n)
+      (ap (λ (j : ℕ). clock_at w j left.0.time) (sym left.2.0) ∙ ap (λ (n : ℕ). clock_at w k n) (sym left.2.1) ∙ sym is) left.2.2;
+}
+
 pub worlds_have_shadows : WorldsHaveShadows
 worlds_have_shadows w is_world place ticket automatic moment =
     let setting = setting_of w is_world.form.sound place ticket automatic.0 in
@@ -89,6 +103,7 @@ worlds_have_shadows w is_world place ticket automatic moment =
     let f = follow_all c k clocks seated (opening_hosts c) (opening_cores c) r.entries (opens_hosts c k clocks seated) r.hosted_all in
     let cores = cores_after c k (opening_cores c) f.0 in
     let runs = runs_of c k f.0 [] (record { clocks = clocks; is_cast = seated; enters_early = f.1; enters_late = tt }) in
+    let are = all_read c k (ReadsIn r.entries) (opening_cores c) f.0 (opening_read c k (ReadsIn r.entries)) f.4 in
     record {
       steps = runs.first;
       run = runs.run_first;
@@ -106,6 +121,16 @@ worlds_have_shadows w is_world place ticket automatic moment =
           ⊎_elim (λ (none : ⊥). absurd none) (λ in_entries. r.released release (f.3 release in_entries))
           (all_released c k clocks seated (opening_cores c) f.0 [] release tt (opens c k clocks seated) f.1
           (subst (λ (rs : List Release). Has rs release) runs.early_holds.same_releases h));
+      rounds = λ round h.
+          let q = runs.early_holds.marked.rounds round h in
+          let by = are.marks q.0 q.1 in
+          read_in w is_world place ticket setting moment.before round.site round.opened round.at q.0.member q.0.at q.2.0 q.2.2 (q.2.1 ∙ by.1)
+          (r.read q.0.member q.0.at by.0);
+      answers = λ answer h.
+          let q = runs.early_holds.marked.answers answer h in
+          let by = are.marks q.0 q.1 in
+          read_in w is_world place ticket setting moment.before answer.member answer.reading answer.at q.0.member q.0.at q.2.0 q.2.2 (q.2.1 ∙ by.1)
+          (r.read q.0.member q.0.at by.0);
       said = said_at w is_world place ticket setting moment hosts r.shadow cores (world_of c runs.first) f.2 runs.early_holds;
       held = λ m h.
           held c k cores (world_of c runs.first) m runs.early_holds

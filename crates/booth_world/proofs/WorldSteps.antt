@@ -13,9 +13,9 @@ use Rattle.booth_node.specs.Clock.{Cluster, reads}
 use Rattle.booth_node.specs.Opening.{setup_of}
 use Rattle.booth_node.specs.Reaction.{Ask, Send, Keep}
 use Rattle.booth_node.specs.Records.{TicketPlace, may_after_keep}
-use Rattle.booth_node.specs.Session.{Stand, Down, Doing, Hearing}
+use Rattle.booth_node.specs.Session.{SessionEntry, Stand, Down, Doing, Hearing}
 use Rattle.booth_node.specs.State.{State}
-use Rattle.booth_node.specs.World.{World, members_of, id_at, node_at, cluster_of, ticket_at}
+use Rattle.booth_node.specs.World.{World, members_of, id_at, node_at, clock_at, cluster_of, ticket_at}
 use Rattle.booth_world.specs.Facts.{Release}
 use Rattle.booth_world.specs.States.{put}
 use Rattle.booth_world.specs.Rules.{MemberLetter}
@@ -23,14 +23,27 @@ use Rattle.booth_world.specs.Cores.{Cast}
 use Rattle.booth_world.specs.Turns.{Keeps, TurnTree}
 use Rattle.booth_world.specs.Hosts.{HostEntry, DoesAsk, HostPlace, Hosts, MayHost, IsNextAsk, went_on, may_left, hosted, AreHosted, hosts_after}
 use Rattle.booth_world.specs.HostLaws.{IsHostReleaseAt, IsHostReleaseIn}
-use Rattle.booth_world.specs.Shadows.{KeepsNext, IsNextAt}
+use Rattle.booth_world.specs.Shadows.{KeepsNext, IsNextAt, GivesTermBack, TakesReading}
 use Rattle.booth_world.proofs.Lists.{some_same}
 use Rattle.booth_world.proofs.CallSteps.{put_same}
+use Rattle.booth_world.proofs.CoreReads.{ReadsAt, ReadsIn}
 use Rattle.booth_world.proofs.TurnPlaces.{put_other}
 use Rattle.booth_world.proofs.Mirrors.{skip, sent_by, SentMore, sent_more}
 use Rattle.booth_world.proofs.NodeTurns.{IsPlacedAt, Over}
 use Rattle.booth_world.proofs.HostRuns.{IsOf, of_none, of_both, says, AreSaid, all_said}
 use Rattle.std.proofs.lemmas.Slice.Eq.{bytes_eq-Decides}
+
+-- ---- what entries leave behind
+
+-- a release, or that a member read its clock at a true time
+pub data Trace : Type 0 where
+  Frees : (release : Release) → Trace
+  Reads : (m time : ℕ) → Trace
+
+-- an entry of the world, of this member and at this true time, left it
+abbrev pub IsTrace : World → List ℕ → ℕ → ℕ → SessionEntry → Trace → Type 0
+IsTrace w name m now what (Frees release) = GivesTermBack name m what release
+IsTrace w name m now what (Reads k time) = (k ≡ m) × (time ≡ now) × TakesReading what (clock_at w m now)
 
 -- ---- the ticket in its configuration
 
@@ -152,31 +165,32 @@ module _ (w : World) (place : ℕ) (ticket : TicketConf) (setting : Setting w pl
   at_same (Hearing node old answer bytes) p = tt
 
   -- entries of this member's host, at one true time, after which it stands so
-  pub record Steps (hosts : Hosts) (m : ℕ) (stand : Stand) (may : List Record) (R : Release → Type 0) : Type 0 where
+  pub record Steps (hosts : Hosts) (m : ℕ) (stand : Stand) (may : List Record) (R : Trace → Type 0) : Type 0 where
     pub entries : List HostEntry
     pub hosted_all : AreHosted cluster cast hosts entries
     pub own : IsOf cluster cast m hosts (hosts_after cluster cast hosts entries)
     pub here : Shows m stand may hosts.now ((hosts_after cluster cast hosts entries).place m) (hosts_after cluster cast hosts entries).sent
     pub at_cut : AtCut stand (hosts.place m) ((hosts_after cluster cast hosts entries).place m)
-    pub released : (z : Release) → IsHostReleaseIn cluster cast hosts entries z → R z
+    pub released : (z : Release) → IsHostReleaseIn cluster cast hosts entries z → R (Frees z)
+    pub read : (k time : ℕ) → ReadsIn entries k time → R (Reads k time)
 
   -- nothing happens at the host
-  pub rests_so : (hosts : Hosts) (m : ℕ) (stand : Stand) (may : List Record) (R : Release → Type 0)
+  pub rests_so : (hosts : Hosts) (m : ℕ) (stand : Stand) (may : List Record) (R : Trace → Type 0)
       → Shows m stand may hosts.now (hosts.place m) hosts.sent → Steps hosts m stand may R
   rests_so hosts m stand may R x =
-      record { entries = []; hosted_all = tt; own = of_none cluster cast m hosts; here = x; at_cut = at_same stand (hosts.place m); released = λ z r. absurd r }
+      record { entries = []; hosted_all = tt; own = of_none cluster cast m hosts; here = x; at_cut = at_same stand (hosts.place m); released = λ z r. absurd r; read = λ k t r. absurd r }
 
   module _ (m : ℕ) (below : m < members_of w) where
     -- one entry at the host, and then what is said
-    pub then_says : (hosts : Hosts) (entry : HostEntry) (stand : Stand) (may : List Record) (R : Release → Type 0) (tree : TurnTree)
+    pub then_says : (hosts : Hosts) (entry : HostEntry) (stand : Stand) (may : List Record) (R : Trace → Type 0) (tree : TurnTree)
         → MayHost cluster cast hosts entry → IsOf cluster cast m hosts (hosted cluster cast hosts entry)
         → ((hosted cluster cast hosts entry).place m).tree ≡ Some tree
         → ((p : HostPlace) → p.tree ≡ Some (skip tree) → p.reading ≡ ((hosted cluster cast hosts entry).place m).reading
         → p.may ≡ ((hosted cluster cast hosts entry).place m).may
         → Shows m stand may hosts.now p (sent_by tree (hosted cluster cast hosts entry).sent))
-        → ((z : Release) → IsHostReleaseAt hosts entry z → R z) → ((p : HostPlace) → AtCut stand (hosts.place m) p)
+        → ((z : Release) → IsHostReleaseAt hosts entry z → R (Frees z)) → ((k time : ℕ) → ReadsAt entry k time → R (Reads k time)) → ((p : HostPlace) → AtCut stand (hosts.place m) p)
         → Steps hosts m stand may R
-    then_says hosts entry stand may R tree may_do own is shows rel cut =
+    then_says hosts entry stand may R tree may_do own is shows rel reading cut =
         let after : Hosts = hosted cluster cast hosts entry in
         let said : AreSaid cluster cast m below after tree = all_said cluster cast m below after tree is in
         let last : Hosts = hosts_after cluster cast after (says cluster cast m below tree) in
@@ -189,6 +203,8 @@ module _ (w : World) (place : ℕ) (ticket : TicketConf) (setting : Setting w pl
           at_cut = cut (last.place m);
           released = λ z r. ⊎_elim (λ (x : IsHostReleaseAt hosts entry z). rel z x)
               (λ (x : IsHostReleaseIn cluster cast after (says cluster cast m below tree) z). absurd (said.unreleased z x)) r;
+          read = λ k t r. ⊎_elim (λ (x : ReadsAt entry k t). reading k t x)
+              (λ (x : ReadsIn (says cluster cast m below tree) k t). absurd (said.unread k t x)) r;
         }
 
     pub moved_one : (hosts : Hosts) (p : HostPlace) (sent : List MemberLetter) → SentMore hosts.sent sent
@@ -196,14 +212,14 @@ module _ (w : World) (place : ℕ) (ticket : TicketConf) (setting : Setting w pl
     moved_one hosts p sent more = record { same_now = refl; others = λ k ne. put_other hosts.place m k p ne; still_sent = more }
 
     -- a keep of this ticket is answered
-    pub keeps_own : (hosts : Hosts) (node : NodeConfig) (before stand : Stand) (may : List Record) (R : Release → Type 0) (tried : Record) (ok : Bool)
+    pub keeps_own : (hosts : Hosts) (node : NodeConfig) (before stand : Stand) (may : List Record) (R : Trace → Type 0) (tried : Record) (ok : Bool)
         (go : Bool → Deeds Ask State) (tree : TurnTree) (known : List MemberLetter) (rest : Bool → TurnTree)
         → node ≡ node_at w m → stand ≡ Doing node (go ok)
         → Shows m before may hosts.now (hosts.place m) hosts.sent
         → (hosts.place m).tree ≡ Some (skip tree) → SentMore (sent_by tree known) hosts.sent
         → skip tree ≡ Does (Keeps tried) rest
         → Doings m (hosts.place m).reading (sent_by tree known) (go ok) (rest ok)
-        → ((z : Release) → IsHostReleaseAt hosts (DoesAsk m (Keeps tried) ok) z → R z)
+        → ((z : Release) → IsHostReleaseAt hosts (DoesAsk m (Keeps tried) ok) z → R (Frees z))
         → Steps hosts m stand (may_after_keep ok tried may) R
     keeps_own hosts node before stand may R tried ok go tree known rest node_is stand_is x there more next_keep on rel =
         let at_keep : (hosts.place m).tree ≡ Some (Does (Keeps tried) rest) = there ∙ ap (λ (t : TurnTree). Some t) next_keep in
@@ -226,7 +242,7 @@ module _ (w : World) (place : ℕ) (ticket : TicketConf) (setting : Setting w pl
                 (sym (reading_is ∙ ap (λ (q : HostPlace). q.reading) (put_same hosts.place m _))) on,
           );
         })
-        rel
+        rel (λ k t r. absurd r)
         (λ p. subst (λ (d : Stand). AtCut d (hosts.place m) p) (sym stand_is) tt)
       where
         left_may : (b : Bool) → may_left (Keeps tried) b (hosts.place m).may ≡ may_after_keep b tried may

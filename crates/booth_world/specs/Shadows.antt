@@ -11,12 +11,12 @@ use Rattle.booth_wire.specs.Reading.{decoded}
 use Rattle.booth_host.specs.declared.entry.Entry.TheVariants as calls
 use Rattle.booth_node.specs.Reaction.{Ask, Send, Keep}
 use Rattle.booth_node.specs.Records.{Has}
-use Rattle.booth_node.specs.Session.{SessionEntry, Makes, IsCut, Stand, Down, Doing, after_entry}
+use Rattle.booth_node.specs.Session.{SessionEntry, Starts, Makes, IsCut, Stand, Down, Doing, after_entry}
 use Rattle.booth_node.specs.State.{State}
 use Rattle.booth_node.specs.World.{WorldEntry, World, members_of, id_at, entries_of, IsSend, IsWorld, cluster_of}
 use Rattle.booth_node.specs.Held.{Moment, IsAutomatic, may_at, Holds}
 use Rattle.booth_world.specs.Agreement.{records_in}
-use Rattle.booth_world.specs.Facts.{Release, Has as HasFact}
+use Rattle.booth_world.specs.Facts.{Round, Answer, Release, Has as HasFact}
 use Rattle.booth_world.specs.Held.{Held}
 use Rattle.booth_world.specs.Messages.{IsFact}
 use Rattle.booth_world.specs.States.{WorldState, opening}
@@ -51,6 +51,20 @@ GivesTermBack name m (Makes (calls.Keep ticket rec (Ok done))) release =
     (ticket ≡ name) × (rec.lease ≡ None) × (release.site ≡ m) × (release.term ≡ rec.term)
 GivesTermBack name m what release = ⊥
 
+-- the clock was read so, in a turn or at a start
+abbrev pub TakesReading : SessionEntry → ℕ → Type 0
+TakesReading (Starts node reading records) taken = reading ≡ taken
+TakesReading (Makes (calls.Now reading)) taken = reading ≡ taken
+TakesReading what taken = ⊥
+
+-- an entry is this member's reading at this true time
+pub record IsReadIn (before : List WorldEntry) (m reading time : ℕ) : Type 0 where
+  pub entry : WorldEntry
+  pub one : Has before entry
+  pub own : entry.member ≡ m
+  pub at : entry.time ≡ time
+  pub taken : TakesReading entry.what reading
+
 -- an entry sent this message of a member about the ticket; the send may have failed, or been cut
 pub record IsSentIn (name : List ℕ) (before : List WorldEntry) (m : ℕ) (letter : PlainMessage) (part : TicketPart) : Type 0 where
   pub entry : WorldEntry
@@ -70,9 +84,9 @@ abbrev pub records_of : World → WorldState → ℕ → List Record
 records_of w state m = records_in (id_at w) (state.member m).may
 
 -- Steps from the opening state up to this moment. After them the records that a member may have kept are the entries',
--- and that which the member's turn is to keep next; each release is an entry's; each message that an entry sent
--- says a fact: that a round was opened, or answered, or a term released; and the ticket is held at each member that
--- holds it.
+-- and that which the member's turn is to keep next; each release is an entry's; each round was opened, and each answer
+-- given, at a reading that is an entry's, by the member that took it; each message that an entry sent says a fact: that
+-- a round was opened, or answered, or a term released; and the ticket is held at each member that holds it.
 pub record HasShadow (w : World) (place : ℕ) (ticket : TicketConf) (moment : Moment w) : Type 0 where
   pub steps : List WorldStep
   pub run : IsRun (cluster_of w ticket.times) (opening (cluster_of w ticket.times)) steps
@@ -84,6 +98,10 @@ pub record HasShadow (w : World) (place : ℕ) (ticket : TicketConf) (moment : M
       → Has (may_at w place ticket m moment) kept ⊎ IsComing ticket.name (entries_of m moment.before) kept
   pub releases : (release : Release) → HasFact (world_of (cluster_of w ticket.times) steps).facts.releases release
       → (entry : WorldEntry) × Has moment.before entry × GivesTermBack ticket.name entry.member entry.what release
+  pub rounds : (round : Round) → HasFact (world_of (cluster_of w ticket.times) steps).facts.rounds round
+      → IsReadIn moment.before round.site round.opened round.at
+  pub answers : (answer : Answer) → HasFact (world_of (cluster_of w ticket.times) steps).facts.answers answer
+      → IsReadIn moment.before answer.member answer.reading answer.at
   pub said : (m : ℕ) (letter : PlainMessage) (part : TicketPart) → IsSentIn ticket.name moment.before m letter part
       → IsFact (id_at w) (world_of (cluster_of w ticket.times) steps).facts m letter.head part letter.head.cmd
   pub held : (m : ℕ) → Holds w place ticket m moment

@@ -131,7 +131,8 @@ pub fn all_over_hosts()
 /// Each world has a shadow: up to each of its moments, and of each automatic ticket, a list of
 /// the world's steps from the opening state. After them each member may have kept the records that
 /// it may have kept by the entries, and that which its turn keeps next; each release is an entry's;
-/// each message that an entry sent says a fact; and the ticket is held at each member that holds it.
+/// each round was opened and each answer given at a reading that an entry took; each message that an
+/// entry sent says a fact; and the ticket is held at each member that holds it.
 pub fn worlds_have_shadows()
     ensures { WorldsHaveShadows }
 {}
