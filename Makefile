@@ -1,13 +1,24 @@
 # make build   proves boothd and booth, and leaves the programs at out/boothd and out/booth
 # make run     builds it, and shows three members on loopback: a grant, a crash, a takeover
 # make check   the gate
+# make install PREFIX=/usr/local DESTDIR=    programs, manual pages, completion, units, examples; and make uninstall
+# make deb     a Debian package of the same, at out/booth-proved_VERSION_amd64.deb
 
 PROGRAMS := boothd booth
+VERSION := 0.1.0
+PREFIX ?= /usr/local
+SBIN := $(PREFIX)/sbin
+MAN := $(PREFIX)/share/man
+UNITS := $(PREFIX)/lib/systemd/system
+USERS := $(PREFIX)/lib/sysusers.d
+COMPLETIONS := $(PREFIX)/share/bash-completion/completions
+DOCS := $(PREFIX)/share/doc/booth-proved
+PACKAGE := out/booth-proved_$(VERSION)_amd64.deb
 SOURCES := crates.txt HANDLES $(shell find crates/*/src crates/*/specs crates/*/proofs 2>/dev/null)
 NO_RT := the command rt is missing: install the Rattle kit, as README.md says under "Run it"
 NEEDS_RT := command -v rt >/dev/null || { echo 'make: $(NO_RT)' >&2; exit 1; }
 
-.PHONY: build run check
+.PHONY: build run check install uninstall deb
 
 build: $(PROGRAMS:%=out/%)
 
@@ -17,6 +28,41 @@ run: build
 check:
 	@$(NEEDS_RT)
 	rt ci
+
+# what is installed, as TARGET:SOURCE:MODE
+INSTALLED := $(foreach program,$(PROGRAMS),$(SBIN)/$(program):out/$(program):755) \
+  $(SBIN)/booth-keygen:packaging/booth-keygen:755 \
+  $(foreach page,$(wildcard man/*.5 man/*.8),$(MAN)/man$(subst .,,$(suffix $(page)))/$(notdir $(page)):$(page):644) \
+  $(foreach program,$(PROGRAMS),$(COMPLETIONS)/$(program):packaging/booth.bash:644) \
+  $(USERS)/booth.conf:packaging/booth.sysusers:644 \
+  $(DOCS)/README.md:README.md:644 \
+  $(foreach doc,$(wildcard docs/*.md),$(DOCS)/$(notdir $(doc)):$(doc):644) \
+  $(foreach file,$(wildcard examples/*.conf),$(DOCS)/examples/$(notdir $(file)):$(file):644)
+
+install: build
+	@for each in $(INSTALLED); do \
+	  target=$${each%%:*}; rest=$${each#*:}; \
+	  install -D -m $${rest##*:} $${rest%%:*} "$(DESTDIR)$$target" || exit 1; \
+	done
+	@install -d "$(DESTDIR)$(UNITS)"
+	@sed 's|@SBIN@|$(SBIN)|' packaging/booth@.service > "$(DESTDIR)$(UNITS)/booth@.service"
+	@chmod 644 "$(DESTDIR)$(UNITS)/booth@.service"
+
+uninstall:
+	@for each in $(INSTALLED); do rm -f "$(DESTDIR)$${each%%:*}"; done
+	@rm -f "$(DESTDIR)$(UNITS)/booth@.service"
+	@rmdir "$(DESTDIR)$(DOCS)/examples" "$(DESTDIR)$(DOCS)" 2>/dev/null || true
+
+deb: $(PACKAGE)
+
+$(PACKAGE): build packaging/control
+	@rm -rf out/deb
+	@$(MAKE) --no-print-directory install PREFIX=/usr DESTDIR=out/deb
+	@mkdir -p out/deb/DEBIAN
+	@sed 's|@VERSION@|$(VERSION)|' packaging/control > out/deb/DEBIAN/control
+	@install -m 755 packaging/postinst out/deb/DEBIAN/postinst
+	@find out/deb/usr/share/man -type f -exec gzip -9n {} +
+	@dpkg-deb --root-owner-group --build out/deb $@
 
 out/boothd: crates/boothd/out/boothd
 out/booth: crates/booth/out/booth

@@ -1,84 +1,62 @@
 //! Keys, and MACs of the standards.
+use super::frames::bytes_of;
 use crate::DropFault;
 use crate::key::{Key, KeyFault};
 use crate::mac::{are_equal, hmac};
 use booth_wire::FrameFault;
 use sha1::Sha1;
-use std::test::Fail;
+use std::alloc::Global;
+use std::process::Abort;
 
-/// The bytes 1 to 25.
-const COUNTING: [u8; 25] = [
-    1, 2, 3, 4, 5, 6, 7, 8, 9, 10, 11, 12, 13, 14, 15, 16, 17, 18, 19, 20, 21, 22, 23, 24, 25,
-];
+fn check_mac(rt: &impl Abort, alloc: Global, key: &str, message: &str, mac: &str) {
+    let key = bytes_of(rt, alloc, key);
+    assert!(rt; key.len() >= 8 && key.len() <= 64);
+    let signed = hmac(&Key::of(&key), &bytes_of(rt, alloc, message));
+    let mac = bytes_of(rt, alloc, mac);
+    assert!(rt; signed.as_slice() == mac.as_slice(), "{message}");
+}
 
 // RFC 2202, section 3: the vectors whose keys have 8 to 64 bytes. The last two are of Python's hmac,
 // with the longest key and the shortest.
 #[test]
 fn macs_are_those_of_the_standard(rt: HostRuntime) {
-    let rows: [(&[u8], &[u8], &[u8; 20]); 6] = [
-        (
-            &[0x0B; 20],
-            b"Hi There",
-            b"\xb6\x17\x31\x86\x55\x05\x72\x64\xe2\x8b\xc0\xb6\xfb\x37\x8c\x8e\xf1\x46\xbe\x00",
-        ),
-        (
-            &[0xAA; 20],
-            &[0xDD; 50],
-            b"\x12\x5d\x73\x42\xb9\xac\x11\xcd\x91\xa3\x9a\xf4\x8a\xa1\x7b\x4f\x63\xf1\x75\xd3",
-        ),
-        (
-            &COUNTING,
-            &[0xCD; 50],
-            b"\x4c\x90\x07\xf4\x02\x62\x50\xc6\xbc\x84\x14\xf9\xbf\x50\xc8\x6c\x2d\x72\x35\xda",
-        ),
-        (
-            &[0x0C; 20],
-            b"Test With Truncation",
-            b"\x4c\x1a\x03\x42\x4b\x55\xe0\x7f\xe7\xf2\x7b\xe1\xd5\x8b\xb9\x32\x4a\x9a\x5a\x04",
-        ),
-        (
-            &[b'K'; 64],
-            &[b'x'; 64],
-            b"\xc4\x85\x5c\x2b\x41\x02\xe8\xcc\x93\x6b\x94\xa2\xd4\xe0\xc1\xec\xe8\x5d\x66\xdd",
-        ),
-        (
-            &[b'K'; 8],
-            b"",
-            b"\x8b\xd3\x94\x10\x55\xae\x21\x7b\x13\xb5\xa7\x97\xdf\x4e\x0a\x1e\xb1\x26\xc7\x7c",
-        ),
-    ];
-    for (key, message, mac) in rows {
-        assert!(rt; key.len() >= 8 && key.len() <= 64);
-        assert!(rt; hmac(&Key::of(key), message) == *mac, "{key:?}");
-    }
+    let alloc = rt.alloc();
+    let mac = "# b6173186 55057264 e28bc0b6 fb378c8e f146be00";
+    check_mac(&rt, alloc, "# 0b*20", "Hi There", mac);
+    let mac = "# 125d7342 b9ac11cd 91a39af4 8aa17b4f 63f175d3";
+    check_mac(&rt, alloc, "# aa*20", "# dd*50", mac);
+    let counting = "# 01020304 05060708 090a0b0c 0d0e0f10 11121314 15161718 19";
+    let mac = "# 4c9007f4 026250c6 bc8414f9 bf50c86c 2d7235da";
+    check_mac(&rt, alloc, counting, "# cd*50", mac);
+    let mac = "# 4c1a0342 4b55e07f e7f27be1 d58bb932 4a9a5a04";
+    check_mac(&rt, alloc, "# 0c*20", "Test With Truncation", mac);
+    let mac = "# c4855c2b 4102e8cc 936b94a2 d4e0c1ec e85d66dd";
+    check_mac(&rt, alloc, "# 4b*64", "# 78*64", mac);
+    let mac = "# 8bd39410 55ae217b 13b5a797 df4e0a1e b126c77c";
+    check_mac(&rt, alloc, "KKKKKKKK", "", mac);
 }
 
-// FIPS 180, examples of SHA-1 for one block and for two.
+fn check_digest(rt: &impl Abort, alloc: Global, message: &str, digest: &str) {
+    let digest = bytes_of(rt, alloc, digest);
+    let message = bytes_of(rt, alloc, message);
+    assert!(rt; Sha1::digest(&message).as_slice() == digest.as_slice());
+}
+
+// FIPS 180, examples of SHA-1 for one block, for two, and for a million times the letter a.
 #[test]
 fn digests_are_those_of_the_standard(rt: HostRuntime) {
-    let rows: [(&[u8], &[u8; 20]); 2] = [
-        (
-            b"abc",
-            b"\xa9\x99\x3e\x36\x47\x06\x81\x6a\xba\x3e\x25\x71\x78\x50\xc2\x6c\x9c\xd0\xd8\x9d",
-        ),
-        (
-            b"abcdbcdecdefdefgefghfghighijhijkijkljklmklmnlmnomnopnopq",
-            b"\x84\x98\x3e\x44\x1c\x3b\xd2\x6e\xba\xae\x4a\xa1\xf9\x51\x29\xe5\xe5\x46\x70\xf1",
-        ),
-    ];
-    for (message, digest) in rows {
-        assert!(rt; Sha1::digest(message) == *digest, "{message:?}");
-    }
+    let alloc = rt.alloc();
+    let digest = "# a9993e36 4706816a ba3e2571 7850c26c 9cd0d89d";
+    check_digest(&rt, alloc, "abc", digest);
+    let message = "abcdbcdecdefdefgefghfghighijhijkijkljklmklmnlmnomnopnopq";
+    let digest = "# 84983e44 1c3bd26e baae4aa1 f95129e5 e54670f1";
+    check_digest(&rt, alloc, message, digest);
 }
 
-// FIPS 180, the example of SHA-1 for a long message: a million times the letter a.
 #[test]
-fn the_digest_of_a_long_message(rt: HostRuntime) -> Result<(), Fail> {
-    let message = vec![in rt.alloc(); b'a'; 1_000_000]?;
-    let digest =
-        b"\x34\xaa\x97\x3c\xd4\xc4\xda\xa4\xf6\x1e\xeb\x2b\xdb\xad\x27\x31\x65\x34\x01\x6f";
-    assert!(rt; Sha1::digest(&message) == *digest);
-    Ok(())
+fn the_digest_of_a_long_message(rt: HostRuntime) {
+    let digest = "# 34aa973c d4c4daa4 f61eeb2b dbad2731 6534016f";
+    check_digest(&rt, rt.alloc(), "# 61*1000000", digest);
 }
 
 /// The MAC of nothing under the key of a file, or why there is none.
@@ -86,71 +64,94 @@ fn signs(file: &[u8]) -> Result<[u8; 20], KeyFault> {
     Ok(hmac(&Key::read(file)?, b""))
 }
 
-#[test]
-fn blanks_round_a_text_are_no_key(rt: HostRuntime) {
-    use KeyFault::{TooLong, TooShort};
-    let secret: &[u8] = b"secret-key";
-    let rows: [(&[u8], Result<&[u8], KeyFault>); 13] = [
-        (b"  secret-key\n", Ok(secret)),
-        (b"\t\n\x0b\x0c\r secret-key\r\n", Ok(secret)),
-        (b"secret key", Ok(b"secret key")),
-        // one byte that is no text, and all bytes are of the key
-        (b"  secret-key\n\x00", Ok(b"  secret-key\n\x00")),
-        (b"\xe9 secret\n", Ok(b"\xe9 secret\n")),
-        (b"\x7fsecret\n", Ok(b"\x7fsecret\n")),
-        (b"\x08secret\n", Ok(b"\x08secret\n")),
-        (b"", Err(TooShort)),
-        (b"seven by", Ok(b"seven by")),
-        (b"seven b", Err(TooShort)),
-        (b"seven b \n", Err(TooShort)),
-        (&[0x0B; 20], Err(TooShort)),
-        (&[b'k'; 65], Err(TooLong)),
-    ];
-    for (file, key) in rows {
-        match key {
-            Ok(key) => {
-                assert!(rt; key.len() >= 8 && key.len() <= 64);
-                assert!(rt; signs(file) == Ok(hmac(&Key::of(key), b"")), "{file:?}");
-            }
-            Err(fault) => assert!(rt; signs(file) == Err(fault), "{file:?}"),
-        }
-    }
-    assert!(rt;
-        signs(
-            b"          kkkkkkkkkkkkkkkkkkkkkkkkkkkkkkkkkkkkkkkkkkkkkkkkkkkkkkkkkkkkkkkk\n"
-        ).is_ok()
-    );
+fn check_key(rt: &impl Abort, alloc: Global, file: &str, key: &str) {
+    let key = bytes_of(rt, alloc, key);
+    assert!(rt; key.len() >= 8 && key.len() <= 64);
+    let mac = hmac(&Key::of(&key), b"");
+    assert!(rt; signs(&bytes_of(rt, alloc, file)) == Ok(mac), "{file}");
+}
+
+fn check_no_key(rt: &impl Abort, alloc: Global, file: &str, fault: KeyFault) {
+    assert!(rt; signs(&bytes_of(rt, alloc, file)) == Err(fault), "{file}");
 }
 
 #[test]
-fn faults_are_told_in_plain_words(rt: HostRuntime) -> Result<(), Fail> {
-    let (short, long) = (KeyFault::TooShort, KeyFault::TooLong);
-    let shown = format!(in rt.alloc(); "{short}; {long}")?;
-    assert_eq!(rt;
-        shown.as_str(),
-        "the key has fewer than 8 bytes; the key has more than 64 bytes"
+fn blanks_round_a_text_are_no_key(rt: HostRuntime) {
+    let alloc = rt.alloc();
+    check_key(&rt, alloc, "  secret-key\n", "secret-key");
+    check_key(&rt, alloc, "\t\n\x0b\x0c\r secret-key\r\n", "secret-key");
+    check_key(&rt, alloc, "secret key", "secret key");
+    check_key(&rt, alloc, "seven by", "seven by");
+    // ten blanks, and the longest key
+    check_key(&rt, alloc, "# 20*10 6b*64 0a", "# 6b*64");
+}
+
+// One byte is no text, and then all bytes are of the key.
+#[test]
+fn blanks_round_other_bytes_are_of_the_key(rt: HostRuntime) {
+    let alloc = rt.alloc();
+    check_key(&rt, alloc, "  secret-key\n\0", "  secret-key\n\0");
+    // 0xE9, and in the letters of Python's bytes.hex: b" secret\n"
+    check_key(
+        &rt,
+        alloc,
+        "# e9 20736563 7265740a",
+        "# e9 20736563 7265740a",
     );
-    let rows = [
-        (
-            DropFault::Frame(FrameFault::Short),
-            "it is no frame: fewer than 48 bytes",
-        ),
-        (DropFault::NoMac, "there is a key, and no MAC"),
-        (DropFault::BadMac, "the MAC is wrong"),
-        (DropFault::TooOld, "the sender's clock is too far behind"),
-        (
-            DropFault::Stranger,
-            "nobody may send this command from there",
-        ),
-        (DropFault::Own, "it is this member's own"),
-        (DropFault::Ticket, "the ticket is not in the configuration"),
-        (DropFault::Leader, "the leader may not be the leader"),
-    ];
-    for (fault, text) in rows {
-        let shown = format!(in rt.alloc(); "{fault}")?;
-        assert_eq!(rt; shown.as_str(), text);
-    }
-    Ok(())
+    check_key(&rt, alloc, "\x7fsecret\n", "\x7fsecret\n");
+    check_key(&rt, alloc, "\x08secret\n", "\x08secret\n");
+}
+
+#[test]
+fn a_key_has_a_least_and_a_greatest_length(rt: HostRuntime) {
+    let alloc = rt.alloc();
+    check_no_key(&rt, alloc, "", KeyFault::TooShort);
+    check_no_key(&rt, alloc, "seven b", KeyFault::TooShort);
+    check_no_key(&rt, alloc, "seven b \n", KeyFault::TooShort);
+    check_no_key(&rt, alloc, "# 0b*20", KeyFault::TooShort);
+    check_no_key(&rt, alloc, "# 6b*65", KeyFault::TooLong);
+}
+
+fn check_told(rt: &impl Abort, alloc: Global, fault: DropFault, text: &str) {
+    let shown = format!(in alloc; "{fault}").expect(rt, "memory");
+    assert!(rt; shown.as_str() == text, "{shown}");
+}
+
+fn check_key_told(rt: &impl Abort, alloc: Global, fault: KeyFault, text: &str) {
+    let shown = format!(in alloc; "{fault}").expect(rt, "memory");
+    assert!(rt; shown.as_str() == text, "{shown}");
+}
+
+#[test]
+fn faults_are_told_in_plain_words(rt: HostRuntime) {
+    use DropFault::{BadMac, Frame, Leader, NoMac, Own, Stranger, Ticket, TooOld};
+    let alloc = rt.alloc();
+    check_key_told(
+        &rt,
+        alloc,
+        KeyFault::TooShort,
+        "the key has fewer than 8 bytes",
+    );
+    check_key_told(
+        &rt,
+        alloc,
+        KeyFault::TooLong,
+        "the key has more than 64 bytes",
+    );
+    let text = "it is no frame: fewer than 48 bytes";
+    check_told(&rt, alloc, Frame(FrameFault::Short), text);
+    check_told(&rt, alloc, NoMac, "there is a key, and no MAC");
+    check_told(&rt, alloc, BadMac, "the MAC is wrong");
+    check_told(&rt, alloc, TooOld, "the sender's clock is too far behind");
+    check_told(
+        &rt,
+        alloc,
+        Stranger,
+        "nobody may send this command from there",
+    );
+    check_told(&rt, alloc, Own, "it is this member's own");
+    check_told(&rt, alloc, Ticket, "the ticket is not in the configuration");
+    check_told(&rt, alloc, Leader, "the leader may not be the leader");
 }
 
 #[test]
