@@ -5,5 +5,7 @@ pub mod StepLemmas
 pub mod NewLemmas
 pub mod PoolLemmas
 pub mod CountLemmas
-pub mod DueLemmas
 pub mod DueListLemmas
+pub mod SearchLemmas
+pub mod MoveLemmas
+pub mod ReachLemmas

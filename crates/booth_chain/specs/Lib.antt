@@ -1,7 +1,9 @@
 pub mod Pool
 pub mod Wheel
 pub mod DueList
+pub mod Buckets
 pub mod Nodes
 pub mod Links
 pub mod Items
+pub mod Slots
 pub mod Search

@@ -1,23 +1,54 @@
--- The search for the first slot that is due. No public clause cites this module.
-use Rattle.std.specs.Prelude.{ℕ, ◌<◌, List, Option, Some, None, if◌then◌else◌, nat_lt}
+-- The search for the first slot that is due, list by list. No public clause cites this module.
+use Rattle.std.specs.Prelude.{ℕ, zero, suc, ◌+◌, ◌%◌, ◌<◌, nat_lt, if◌then◌else◌, List, length, Option, Some, None}
+use Rattle.booth_chain.specs.Pool.{Pool, items_at}
 use Rattle.booth_chain.specs.Wheel.{IsDue, IsNotAfter}
-use Rattle.booth_chain.specs.declared.wheel.Found.{Found}
+use Rattle.booth_chain.specs.Slots.{IsIn}
+use Rattle.booth_chain.specs.declared.slot.Found.{Found}
+use Rattle.booth_chain.specs.declared.buckets.TheConstants.{BUCKETS}
 
--- among the slots below `end`, this is the first that is due, by deadline and then slot
-pub record IsFirstDue (deadlines : List (Option ℕ)) (now end slot deadline : ℕ) : Type 0 where
-  pub below : slot < end
-  pub due : IsDue deadlines now slot deadline
-  pub first : (other other_deadline : ℕ) → other < end → IsDue deadlines now other other_deadline
-      → IsNotAfter deadline slot other_deadline other
+-- Among the slots that were seen this is the first that is due, by deadline and then slot.
+pub record IsFirstSeen (seen : ℕ → Type 0) (deadlines : List (Option ℕ)) (now : ℕ) (found : Found)
+    : Type 0 where
+  pub due : IsDue deadlines now found.slot found.deadline
+  pub first : (other deadline : ℕ) → seen other → IsDue deadlines now other deadline
+      → IsNotAfter found.deadline found.slot deadline other
 
--- what was found among the slots below `end` is the first that is due
-abbrev pub IsFirst : List (Option ℕ) → ℕ → ℕ → Option Found → Type 0
-IsFirst deadlines now end None =
-    (other other_deadline : ℕ) → other < end → IsDue deadlines now other other_deadline → ⊥
-IsFirst deadlines now end (Some found) = IsFirstDue deadlines now end found.slot found.deadline
+-- what was found is that slot, or none of those that were seen is due
+abbrev pub IsFirstOf : (ℕ → Type 0) → List (Option ℕ) → ℕ → Option Found → Type 0
+IsFirstOf seen deadlines now None =
+    (other deadline : ℕ) → seen other → IsDue deadlines now other deadline → ⊥
+IsFirstOf seen deadlines now (Some found) = IsFirstSeen seen deadlines now found
 
--- the one with the smaller deadline, or else the first of the two
-abbrev pub earlier_of : Option Found → Found → Option Found
-earlier_of None other = Some other
-earlier_of (Some found) other =
-    if nat_lt other.deadline found.deadline then Some other else Some found
+-- the slot is one of this list
+abbrev pub SlotIn : List (ℕ × ℕ) → ℕ → Type 0
+SlotIn entries slot = (node : ℕ) × IsIn node slot entries
+
+-- the bucket so many after another
+abbrev pub bucket_after : ℕ → ℕ → ℕ
+bucket_after from step = (from + step) % BUCKETS
+
+-- the slot is in one of so many buckets, from this one on
+abbrev pub SlotNear : Pool ℕ → ℕ → ℕ → ℕ → Type 0
+SlotNear pool from many slot =
+    (step : ℕ) × (step < many) × SlotIn (items_at pool (bucket_after from step)) slot
+
+-- a look at each of so many buckets, and at each slot in them
+abbrev pub looks : Pool ℕ → ℕ → ℕ → ℕ
+looks pool from zero = 0
+looks pool from (suc many) =
+    looks pool from many + 1 + length (items_at pool (bucket_after from many))
+
+-- the first of two, by deadline and then slot
+abbrev pub earlier_of : Option Found → Option Found → Option Found
+earlier_of None other = other
+earlier_of (Some found) None = Some found
+earlier_of (Some found) (Some other) =
+    (if nat_lt found.deadline other.deadline then Some found
+    else (if nat_lt other.deadline found.deadline then Some other
+    else (if nat_lt other.slot found.slot then Some other else Some found)))
+
+-- the slot, where its deadline has come
+abbrev pub found_at : ℕ → ℕ → Option ℕ → Option Found
+found_at now slot None = None
+found_at now slot (Some deadline) =
+    (if nat_lt now deadline then None else Some (record { slot = slot; deadline = deadline }))

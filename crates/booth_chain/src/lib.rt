@@ -2,10 +2,13 @@
 #![tactic(auto)]
 
 mod aim;
+mod buckets;
 mod chains;
 mod link;
 mod links;
 mod node_id;
+mod search;
+mod slot;
 mod steps;
 #[cfg(test)]
 mod tests;

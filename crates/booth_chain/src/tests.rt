@@ -1,7 +1,8 @@
 //! The order in which items and slots come, in rows that were written by hand.
-ghost use Rattle.std.specs.Prelude.{◌≡◌, ◌<◌, ◌≤◌};
+ghost use Rattle.booth_chain.specs.Buckets.{most_steps};
+ghost use Rattle.std.specs.Prelude.{◌≡◌, ◌<◌, ◌≤◌, [], ◌∷◌, Some, None, length};
 
-use crate::{Chains, Steps, Wheel};
+use crate::{Chains, Full, Steps, Wheel};
 use std::marker::Brand;
 use std::sync::ledger::{Blank, Ledger};
 
@@ -36,7 +37,8 @@ fn an_item_leaves_the_middle(rt: HostRuntime) {
 /// The next slot that is due, by a count of its own.
 fn due_now(wheel: &mut Wheel, now: u64) -> Option<u32>
     requires { wheel.old.last ≤ now }
-    ensures { wheel.new.last ≡ now }
+    ensures last { wheel.new.last ≡ now }
+    ensures slots { length wheel.new.deadlines ≡ length wheel.old.deadlines }
 {
     due_counted::<Brand>(wheel, now, Blank::new(1))
 }
@@ -46,7 +48,8 @@ fn due_counted<L: Ledger>(wheel: &mut Wheel, now: u64, blank: Blank) -> Option<u
     requires parts { blank.parts ≡ L.parts }
     requires some { 0 < L.parts }
     requires later { wheel.old.last ≤ now }
-    ensures { wheel.new.last ≡ now }
+    ensures last { wheel.new.last ≡ now }
+    ensures slots { length wheel.new.deadlines ≡ length wheel.old.deadlines }
 {
     let mut steps: Steps<L> = Steps::new(blank);
     wheel.due(now, &mut steps)
@@ -68,4 +71,61 @@ fn slots_come_by_deadline_and_then_by_number(rt: HostRuntime) {
     assert_eq!(rt; due_now(&mut wheel, 50), Some(3));
     assert_eq!(rt; due_now(&mut wheel, 69), None);
     assert_eq!(rt; due_now(&mut wheel, 70), Some(0));
+}
+
+#[test]
+fn a_full_pool_hands_back_and_has_room_after_a_removal(rt: HostRuntime) {
+    let mut chains = Chains::<u32>::with_capacity(rt.alloc(), 2, 1).expect(&rt, "memory");
+    let Ok(first) = chains.push_back(0, 1) else {
+        panic!(rt; "room for 1")
+    };
+    assert!(rt; chains.push_back(0, 2).is_ok(), "room for 2");
+    let Err(Full(back)) = chains.push_back(0, 3) else {
+        panic!(rt; "no room for 3")
+    };
+    assert!(rt; back == 3);
+    assert!(rt; chains.holds(first));
+    assert!(rt; chains.remove(first) == 1);
+    assert!(rt; chains.push_back(0, 3).is_ok(), "room for 3");
+    assert!(rt; chains.pop_front(0) == Some(2));
+    assert!(rt; chains.pop_front(0) == Some(3));
+    assert!(rt; chains.pop_front(0).is_none());
+}
+
+#[test]
+fn two_slots_of_one_bucket_come_at_their_own_deadlines(rt: HostRuntime) {
+    steps_of_two_slots_in_one_bucket();
+    let mut wheel = Wheel::new(rt.alloc(), 3).expect(&rt, "memory");
+    wheel.set(0, 70_000);
+    wheel.set(1, 4_400);
+    assert!(rt; due_now(&mut wheel, 4_399).is_none());
+    assert!(rt; due_now(&mut wheel, 4_400) == Some(1));
+    assert!(rt; due_now(&mut wheel, 69_999).is_none());
+    assert!(rt; due_now(&mut wheel, 70_000) == Some(0));
+    assert!(rt; due_now(&mut wheel, 70_000).is_none());
+    wheel.set(2, 10);
+    assert!(rt;
+        due_now(&mut wheel, 70_000) == Some(2),
+        "a deadline that is long past"
+    );
+}
+
+/// How many steps the looks of that row may take, counted by hand: at 4,400 one bucket and both slots, at 69,999 all buckets
+/// and the slot that is left.
+fn steps_of_two_slots_in_one_bucket()
+    ensures first { most_steps (record { deadlines = Some 70000 ∷ Some 4400 ∷ None ∷ []; last = 4399; swept = 4399 }) 4400 ≡ 3 }
+    ensures later { most_steps (record { deadlines = Some 70000 ∷ None ∷ None ∷ []; last = 4400; swept = 4399 }) 69999 ≡ 513 }
+{}
+
+#[test]
+fn equal_deadlines_come_in_the_order_of_their_slots(rt: HostRuntime) {
+    let mut wheel = Wheel::new(rt.alloc(), 3).expect(&rt, "memory");
+    wheel.set(1, 500);
+    wheel.set(0, 500);
+    wheel.set(2, 400);
+    assert!(rt; due_now(&mut wheel, 499) == Some(2));
+    assert!(rt; due_now(&mut wheel, 499).is_none());
+    assert!(rt; due_now(&mut wheel, 500) == Some(0));
+    assert!(rt; due_now(&mut wheel, 500) == Some(1));
+    assert!(rt; due_now(&mut wheel, 500).is_none());
 }

@@ -1,0 +1,89 @@
+#!/usr/bin/env python3
+"""Measures the timer alone beside a binary heap in C, at 64, 4,096 and 1,000,000 slots.
+
+Run it as `python3 bench/timer.py [PROGRAM]`, PROGRAM being the built `many_nodes`, which rt leaves at
+crates/many_nodes/out/many_nodes. It prints one table and takes half a minute. Both programs run the same words in turns; a
+value is the processor's time of the best round, less that of the best round that only sets the slots.
+"""
+
+import os
+import resource
+import subprocess
+import sys
+import tempfile
+
+HERE = os.path.dirname(os.path.abspath(__file__))
+TOP = os.path.dirname(HERE)
+sys.path[:0] = [HERE, f"{TOP}/tools"]
+
+from run import Row, print_table
+from serving import end_by_signals
+
+PROGRAM = f"{TOP}/crates/many_nodes/out/many_nodes"
+SIZES = (64, 4_096, 1_000_000)
+ROUNDS = 7
+
+# the last moment before the far deadline's bucket, and how often each moment asks
+UNTIL, ASKS = 65_407, 16
+
+# a lease of ten minutes is renewed after five
+SPREAD = 300_000
+MOMENTS = {64: 300_000, 4_096: 300_000, 1_000_000: 3_000}
+
+
+def cpu_of(words):
+    """The processor's time of a run, in seconds, and the number that it prints first."""
+    before = resource.getrusage(resource.RUSAGE_CHILDREN)
+    said = subprocess.run(list(map(str, words)), stdout=subprocess.PIPE, check=True).stdout
+    after = resource.getrusage(resource.RUSAGE_CHILDREN)
+    used = after.ru_utime + after.ru_stime - before.ru_utime - before.ru_stime
+    return used, int(said.split()[0])
+
+
+def nanos(programs, whole, idle):
+    """The nanoseconds that each program takes for `whole` beyond `idle`, and the number that all of them print."""
+    best, numbers = {}, set()
+    for _ in range(ROUNDS):
+        for program in programs:
+            for words in (whole, idle):
+                used, number = cpu_of([program, *words])
+                best[program, words] = min(used, best.get((program, words), used))
+                if words is whole:
+                    numbers.add(number)
+    if len(numbers) != 1:
+        sys.exit(f"timer.py: {whole} gives {sorted(numbers)}")
+    return [max(best[program, whole] - best[program, idle], 0) * 1e9 for program in programs], numbers.pop()
+
+
+def shown(buckets, heap, calls):
+    return f"{buckets / calls:,.0f} ns (heap: {heap / calls:,.0f} ns)"
+
+
+def rows(programs):
+    for slots in SIZES:
+        (buckets, heap), none = nanos(programs, ("ask", slots, UNTIL), ("ask", slots, 0))
+        calls = none - ASKS
+        yield Row(f"an answer none, {slots:,} slots, all far away", shown(buckets, heap, calls))
+        moments = MOMENTS[slots]
+        (buckets, heap), due = nanos(programs, ("renew", slots, SPREAD, moments), ("renew", slots, SPREAD, 0))
+        calls = moments + due
+        yield Row(f"a call, {slots:,} slots, each renewed in {SPREAD // 1000} s", shown(buckets, heap, calls))
+
+
+def main(words):
+    end_by_signals()
+    program = os.path.abspath(words[0] if words else PROGRAM)
+    if not os.access(program, os.X_OK):
+        sys.exit(f"timer.py: {program} is not built: rt ci leaves it")
+    with tempfile.TemporaryDirectory(prefix="booth-bench-") as folder:
+        heap = os.path.join(folder, "heap")
+        try:
+            subprocess.run(["cc", "-O2", "-o", heap, f"{HERE}/heap.c"], check=True)
+            print_table(rows([program, heap]))
+        except (OSError, subprocess.CalledProcessError) as why:
+            sys.exit(f"timer.py: {why}")
+    return 0
+
+
+if __name__ == "__main__":
+    sys.exit(main(sys.argv[1:]))

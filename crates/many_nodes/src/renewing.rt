@@ -1,0 +1,80 @@
+//! A timer whose slots are set anew as they come.
+ghost use Rattle.std.specs.Prelude.{◌≡◌, ◌≤◌, ◌<◌, length};
+
+use booth_chain::{Steps, Wheel};
+use std::alloc::Global;
+use std::marker::Brand;
+use std::sync::ledger::{Blank, Ledger};
+
+// Sets the deadlines evenly, from 1 to `spread`.
+fn set_each(wheel: &mut Wheel, slots: u32, spread: u32)
+    requires { length wheel.old.deadlines ≡ slots }
+    ensures slots { length wheel.new.deadlines ≡ slots }
+    ensures last { wheel.new.last ≡ wheel.old.last }
+{
+    for slot in 0..slots {
+        let place = u64::from(slot) * u64::from(spread) / u64::from(slots);
+        wheel.set(slot, place + 1);
+    }
+}
+
+// Sets anew what is due at a moment, `spread` later. How many slots that were, each at most once.
+fn renew_at<L: Ledger>(
+    wheel: &mut Wheel,
+    slots: u32,
+    now: u64,
+    spread: u32,
+    steps: &mut Steps<L>,
+) -> u32
+    requires slots { length wheel.old.deadlines ≡ slots }
+    requires later { wheel.old.last ≤ now }
+    ensures slots { length wheel.new.deadlines ≡ slots }
+    ensures last { wheel.new.last ≤ now }
+{
+    let mut renewed = 0u32;
+    for _again in 0..slots {
+        match wheel.due(now, steps) {
+            Some(slot) => wheel.set(slot, now.saturating_add(u64::from(spread))),
+            None => return renewed,
+        }
+        renewed = renewed.saturating_add(1);
+    }
+    renewed
+}
+
+fn renew_counted<L: Ledger>(
+    wheel: &mut Wheel,
+    slots: u32,
+    spread: u32,
+    until: u32,
+    blank: Blank,
+) -> u64
+    requires name { blank.name ≡ L.name }
+    requires parts { blank.parts ≡ L.parts }
+    requires some { 0 < L.parts }
+    requires slots { length wheel.old.deadlines ≡ slots }
+    requires first { wheel.old.last ≡ 0 }
+{
+    let mut steps: Steps<L> = Steps::new(blank);
+    let mut renewed = 0u64;
+    for now in 0..until {
+        let more = renew_at(wheel, slots, u64::from(now), spread, &mut steps);
+        renewed = renewed.saturating_add(u64::from(more));
+    }
+    renewed
+}
+
+fn renew(wheel: &mut Wheel, slots: u32, spread: u32, until: u32) -> u64
+    requires slots { length wheel.old.deadlines ≡ slots }
+    requires first { wheel.old.last ≡ 0 }
+{
+    renew_counted::<Brand>(wheel, slots, spread, until, Blank::new(1))
+}
+
+/// Sets so many slots evenly from 1 to `spread`, and at each moment before `until` sets anew, `spread` later, each slot that
+/// is due. How many times one was; None where memory was wanting.
+pub fn renew_each(alloc: Global, slots: u32, spread: u32, until: u32) -> Option<u64> {
+    let mut wheel = Wheel::new(alloc, slots).ok()?;
+    set_each(&mut wheel, slots, spread);
+    Some(renew(&mut wheel, slots, spread, until))
+}
