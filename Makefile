@@ -1,10 +1,10 @@
-# make build   proves boothd and booth, and leaves the programs at out/boothd and out/booth
+# make build   proves boothd, booth and geostore, and leaves the programs below out/
 # make run     builds it, and shows three members on loopback: a grant, a crash, a takeover
 # make check   the gate
 # make install PREFIX=/usr/local DESTDIR=    programs, manual pages, completion, units, examples; and make uninstall
 # make deb     a Debian package of the same, at out/booth-proved_VERSION_amd64.deb
 
-PROGRAMS := boothd booth
+PROGRAMS := boothd booth geostore
 VERSION := 0.1.0
 PREFIX ?= /usr/local
 SBIN := $(PREFIX)/sbin
@@ -66,13 +66,14 @@ $(PACKAGE): build packaging/control
 
 out/boothd: crates/boothd/out/boothd
 out/booth: crates/booth/out/booth
-out/boothd out/booth:
+out/geostore: crates/geostore/out/geostore
+$(PROGRAMS:%=out/%):
 	@mkdir -p out
 	cp $< $@
 
 # rt run proves, builds and then runs a program, boothd without words, which is a usage error: so the
 # program that it leaves tells whether it was proved, and not its status. rt ci leaves the programs too.
-crates/boothd/out/boothd crates/booth/out/booth: $(SOURCES)
+crates/boothd/out/boothd crates/booth/out/booth crates/geostore/out/geostore: $(SOURCES)
 	@$(NEEDS_RT)
 	@mkdir -p out
 	@echo "proving and building $(notdir $@), some minutes at first (out/build.log)"
@@ -82,3 +83,4 @@ crates/boothd/out/boothd crates/booth/out/booth: $(SOURCES)
 
 # one after the other
 crates/booth/out/booth: | crates/boothd/out/boothd
+crates/geostore/out/geostore: | crates/booth/out/booth

@@ -1,12 +1,12 @@
 #!/usr/bin/env python3
 """Holds a cluster of three real boothd on loopback to the lease rules: grants, renewals, failover.
 
-Run it as `python3 tests/cluster.py [BOOTHD BOOTH]`, which are what `make build` leaves where they are left
-out. It takes about two minutes, prints a line for each check, ends all that it started, and has the status 1
+Run it as `python3 tests/cluster.py [BOOTHD BOOTH GEOSTORE]`, which are what `make build` leaves where they are
+left out. It takes about three minutes, prints a line for each check, ends all that it started, and has the status 1
 where a check failed. Where a program is not built it checks nothing, with status 0.
 
-What an operator does is done by booth, at each member: its status and each text that it prints or says are held
-to what they have to be.
+What an operator does is done by booth and geostore, at each member: their status and each text that they print or
+say are held to what they have to be.
 
 Who holds a ticket is judged from the record files and this machine's clock, hundred times a second over
 the whole run, and never from what a daemon says of itself.
@@ -21,7 +21,7 @@ import time
 HERE = os.path.dirname(os.path.abspath(__file__))
 sys.path[:0] = [HERE, f"{HERE}/../tools"]
 
-from members import TICKET, Cluster, Ran, Times, now, wait_for
+from members import MANUAL, TICKET, Cluster, Ran, Times, now, wait_for
 from serving import NotServing, built_program, end_by_signals, own_addresses
 
 KEY, OTHER_KEY = b"a-key-of-the-cluster", b"another-key-than-that"
@@ -29,6 +29,7 @@ KEY, OTHER_KEY = b"a-key-of-the-cluster", b"another-key-than-that"
 SLACK = 0.5
 BADMAC = 2
 NAME = TICKET.decode()
+BY_HAND = MANUAL.decode()
 
 stories = []
 
@@ -72,6 +73,13 @@ def says(member, words, status, text):
     wanted = Ran(status, "", text) if status else Ran(status, text, "")
     ran = member.booth(*words)
     require(ran == wanted, f"booth {' '.join(words)} at {member.address} left {ran}, and not {wanted}")
+
+
+def keeps(member, words, status, text, ticket=TICKET):
+    """Runs geostore at this member, and holds it to this status and this text."""
+    wanted = Ran(status, "", text) if status else Ran(status, text, "")
+    ran = member.geostore(*words, ticket=ticket)
+    require(ran == wanted, f"geostore {' '.join(words)} at {member.address} left {ran}, and not {wanted}")
 
 
 def date(moment):
@@ -247,6 +255,118 @@ def a_member_with_another_key(cluster):
     passed("its frames are dropped, and counted with their fault")
 
 
+def lists_by_hand(cluster, owner):
+    """Every member that runs lists this owner of the manual ticket, whose lease has no end, by booth."""
+    address = owner.address if owner else "none"
+    text = f"ticket: {NAME}, leader: none\nticket: {BY_HAND}, leader: {address}\n"
+    for member in cluster.members:
+        heard = lambda: member.booth("list") == Ran(0, text, "")
+        require(wait_for(heard, 2), f"{member.address} lists {member.booth('list')}, and not {address}")
+
+
+@story
+def a_manual_ticket(cluster):
+    """a cluster with a ticket that is granted by hand"""
+    one, two, arbitrator = cluster.members
+    cluster.start()
+    says(one, ("revoke", BY_HAND), 1, "booth: ticket is not granted\n")
+    says(one, ("grant", BY_HAND), 0, f"ticket {BY_HAND} granted\n")
+    record = one.record(MANUAL)
+    require(record.term == 1 and record.holds(now()), f"the record is {record}")
+    lists_by_hand(cluster, one)
+    passed("a manual ticket is granted at once, with its record on the disk, and listed by every member")
+    says(one, ("grant", "-C", BY_HAND), 0, f"ticket {BY_HAND} granted\n")
+    says(two, ("grant", BY_HAND), 1, "booth: ticket is granted elsewhere\n")
+    says(arbitrator, ("grant", "-F", BY_HAND), 1, "booth: invalid argument\n")
+    says(one, ("grant", "-F", NAME), 1, "booth: invalid argument\n")
+    passed("it is not granted elsewhere without force, which is for manual tickets at sites alone")
+
+    for member in (one, arbitrator):
+        member.kill()
+        member.start(cluster.program, cluster.conf)
+    lists_by_hand(cluster, one)
+    says(one, ("grant", BY_HAND), 0, f"ticket {BY_HAND} granted\n")
+    require(one.record(MANUAL) == record, "the record changed")
+    passed("its owner is one after a restart, and a member that starts hears who owns it")
+
+    says(two, ("grant", "-F", BY_HAND), 0, f"ticket {BY_HAND} granted\n")
+    require(all(member.record(MANUAL).holds(now()) for member in (one, two)), "one of the two does not hold")
+    require(wait_for(lambda: arbitrator.shown(MANUAL) == two.address, 2), "the arbitrator lists another")
+    require(one.shown(MANUAL) == one.address and two.shown(MANUAL) == two.address, "an owner lists another")
+    passed("by force another site takes it too, both hold it, and each lists itself")
+
+    says(one, ("revoke", BY_HAND), 0, f"ticket {BY_HAND} revoked\n")
+    require(one.record(MANUAL).until is None, "the revoked lease is kept")
+    require(arbitrator.shown(MANUAL) == two.address, "another's revocation is taken for the owner's")
+    says(arbitrator, ("revoke", BY_HAND), 0, f"ticket {BY_HAND} revoked\n")
+    require(two.record(MANUAL).until is None, "the revoked lease is kept")
+    lists_by_hand(cluster, None)
+    passed("each gives it back by itself, or is asked to by way of a member that lists it")
+
+
+@story
+def attributes_that_are_waited_for(cluster):
+    """a cluster whose sites acquire where an attribute says so, and are granted where another does not forbid it"""
+    times = cluster.times
+    one, two, arbitrator = cluster.members
+    cluster.start()
+    started = now()
+    keeps(one, ("list",), 0, "")
+    keeps(one, ("get", "ready"), 1, "geostore: no such attribute\n")
+    keeps(one, ("delete", "ready"), 1, "geostore: no such attribute\n")
+    keeps(one, ("list",), 1, "geostore: invalid argument\n", ticket=b"no-such-ticket")
+    keeps(arbitrator, ("list",), 1, "geostore: invalid argument\n")
+    passed("no ticket has attributes at first, and an arbitrator has none ever")
+    keeps(one, ("set", "maintenance", "yes"), 0, "")
+    keeps(one, ("set", "place", "the first hall"), 0, "")
+    keeps(one, ("get", "place"), 0, "the first hall\n")
+    keeps(one, ("set", "maintenance", ""), 0, "")
+    keeps(one, ("get", "maintenance"), 0, "\n")
+    keeps(one, ("set", "maintenance", "yes"), 0, "")
+    keeps(one, ("list",), 0, "maintenance yes\nplace the first hall\n")
+    keeps(two, ("list",), 0, "")
+    passed("geostore sets, replaces, tells and lists attributes, at the one site that it asks")
+    keeps(two, ("set", "long", "v" * 128), 1, "geostore: bad value\n")
+    keeps(two, ("set", "two words", "v"), 1, "geostore: bad name\n")
+    for count in range(64):
+        keeps(two, ("set", f"name-{count}", "v" * 127), 0, "")
+    keeps(two, ("set", "one-more", ""), 1, "geostore: busy\n")
+    keeps(two, ("list",), 0, "".join(f"name-{count} {'v' * 127}\n" for count in range(64)))
+    for count in range(64):
+        keeps(two, ("delete", f"name-{count}"), 0, "")
+    keeps(two, ("list",), 0, "")
+    passed("a ticket has up to 64 attributes of up to 127 bytes, which geostore takes away again")
+
+    abstains(cluster, started)
+    says(one, ("grant", "-w", NAME), 1, "booth: prerequisite not met\n")
+    require(one.record() is None or one.record().until is None, "it holds though a prerequisite fails")
+    keeps(one, ("delete", "maintenance"), 0, "")
+    says(one, ("grant", "-w", NAME), 0, f"ticket {NAME} granted\n")
+    passed("a grant is refused while a prerequisite of kind manual fails, and granted when it holds")
+
+    until, end = one.record().until, now() + 2 * times.renewal
+    require(wait_for(lambda: one.record().until != until, end - now()), "it is not renewed")
+    passed("the holder renews, whether or not a prerequisite of kind auto holds there")
+    one.kill()
+    until = one.record().until
+    # (long enough for the takeover and for two further looks)
+    held_back = until + times.guard() + times.timeout + 2 * times.renewal
+    while now() < held_back:
+        record = two.record()
+        require(record is None or not record.holds(now()), "it acquires though a prerequisite of kind auto fails")
+        time.sleep(0.05)
+    passed("the other site does not take over while a prerequisite of kind auto fails there")
+    keeps(two, ("set", "ready", "yes"), 0, "")
+    said = now()
+    # (its election takes less than a timeout on one machine)
+    require(wait_for(lambda: is_held_by(cluster, two), times.renewal + times.timeout + SLACK), "nobody took over")
+    passed(f"and takes over at its next look when it holds ({now() - said:.3f} s)")
+    two.kill()
+    two.start(cluster.program, cluster.conf)
+    keeps(two, ("list",), 0, "")
+    passed("a restart forgets the attributes")
+
+
 @story
 def a_site_by_ipv6(cluster):
     """a site that listens at an IPv6 address, and no other that runs"""
@@ -260,7 +380,13 @@ def a_site_by_ipv6(cluster):
     passed("booth asks by IPv6, and says where no daemon answers")
 
 
-def run(program, client):
+PREREQUISITES = """\
+attr-prereq = "auto ready eq yes"
+attr-prereq = "manual maintenance ne yes"
+"""
+
+
+def run(program, client, geostore):
     """Runs each story in a cluster of its own. Says how many failed."""
     failed, started, looks = 0, time.monotonic(), 0
     addresses = own_addresses()
@@ -268,9 +394,12 @@ def run(program, client):
         key = KEY if "key" in function.__name__ else None
         with tempfile.TemporaryDirectory(prefix="booth-cluster-") as folder:
             places = [next(addresses) for _ in range(3)]
+            manual = (MANUAL,) if "manual" in function.__name__ else ()
             if "ipv6" in function.__name__:
                 places[0] = "::1"
-            with Cluster(program, folder, places, key=key, client=client) as cluster:
+            settings = PREREQUISITES if "attributes" in function.__name__ else ""
+            more = {"key": key, "client": client, "geostore": geostore, "settings": settings, "manual": manual}
+            with Cluster(program, folder, places, **more) as cluster:
                 try:
                     function(cluster)
                     wrong = cluster.watch.wrong
@@ -289,9 +418,9 @@ def run(program, client):
 
 def main(words):
     end_by_signals()
-    programs = words if len(words) == 2 else [built_program("boothd"), built_program("booth")]
+    programs = words if len(words) == 3 else [built_program(name) for name in ("boothd", "booth", "geostore")]
     if None in programs:
-        print("cluster: skipped, since boothd or booth is not built: run make build")
+        print("cluster: skipped, since boothd, booth or geostore is not built: run make build")
         return 0
     for program in programs:
         if not os.access(program, os.X_OK):

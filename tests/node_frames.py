@@ -77,29 +77,36 @@ def hello(make):
 
 
 def print_requests():
-    """Each request of a client and its reply. What a request says besides shows in no reply."""
+    """Requests of a client and their replies. What a request says besides shows in no reply."""
     said = {"options": 8, "reason": frames.code("Admn"), "result": frames.code("Busy")}
     asked = frames.ticket_body(TICKET, S2, 7, 9)
     other = frames.ticket_body(b"other", 5, 7, 9)
     color = frames.attribute_body(TICKET, b"color", b"dark blue")
+    colorless = frames.attribute_body(TICKET, b"color", b"")
     size = frames.attribute_body(b"other", b"size", b"")
     unnamed = frames.attribute_body(TICKET, b"", b"dark blue")
+    gone = frames.code("NAtr")
     table = [
-        ("CLst", b"", "RLst", LIST, 0),
-        ("Peer", b"", "RPer", peers(NO_DROPS), 0),
-        ("CGnt", asked, "RGnt", nobodys(), REFUSED),
-        ("CRvk", other, "RRvk", nobodys(b"other"), REFUSED),
-        ("ASet", color, "RAtr", color, REFUSED),
-        ("AGet", size, "RAtr", size, REFUSED),
-        ("ADel", color, "RAtr", color, REFUSED),
-        ("ALst", unnamed, "RALs", b"", REFUSED),
+        ("CLst", "", b"", "RLst", LIST, 0),
+        ("Peer", "", b"", "RPer", peers(NO_DROPS), 0),
+        ("CGnt", "", asked, "RGnt", nobodys(), REFUSED),
+        ("CRvk", "", other, "RRvk", nobodys(b"other"), REFUSED),
+        ("ASet", "", color, "RAtr", color, 0),
+        ("AGet", "elsewhere", size, "RAtr", size, REFUSED),
+        ("AGet", "", colorless, "RAtr", color, 0),
+        ("ALst", "", unnamed, "RALs", b"color dark blue\n", 0),
+        ("ADel", "", colorless, "RAtr", colorless, 0),
+        ("ADel", "again", color, "RAtr", color, gone),
+        ("AGet", "gone", color, "RAtr", color, gone),
+        ("ALst", "empty", unnamed, "RALs", b"", 0),
     ]
-    for number, (command, body, answer, answer_body, result) in enumerate(table, 1):
+    for number, (command, case, body, answer, answer_body, result) in enumerate(table, 1):
         request = at(SENT, plain, command, body, request=number, **said)
         fields = {"sender": S1, "request": number, "result": result}
         reply = at(NOW, plain, answer, answer_body, **fields)
-        about = f"`{command}` is answered with `{answer}`."
-        print_turn(command.upper(), about, request, [("client", reply)])
+        about = f"`{command}` is answered with `{answer}`{', ' + case if case else ''}."
+        name = "_".join(word.upper() for word in (command, case) if word)
+        print_turn(name, about, request, [("client", reply)])
         if command == "CLst":
             sends = [("client", reply), *hello(plain)]
             print_turn("CLST_FIRST", "The same before the hello.", request, sends)

@@ -331,26 +331,24 @@ def not_a_member(room):
 
 @check
 def not_built(room):
-    """a ticket that needs what is not built is reported by its first key, before the key file"""
-    mode, handler, prereq = b"mode", b"before-acquire-handler", b"attr-prereq"
-    values = {mode: b"manual", handler: b"/bin/true", prereq: b"auto a eq b"}
-    lines = {key: b"%s = %s\n" % (key, value) for key, value in values.items()}
-    default = b"ticket = __default__\n"
-    for key, text in (
-        *((key, FILE + lines[key]) for key in lines),
-        (mode, FILE + lines[prereq] + lines[handler] + b"ticket = t\n" + lines[mode]),
-        (handler, FILE + lines[prereq] + b"ticket = t\n" + lines[handler]),
-        *((key, default + lines[key] + FILE) for key in lines),
+    """a ticket that needs what is not built is reported by its key, before the key file, and what is built is served"""
+    handler, mode, prereq = b"before-acquire-handler", b"mode = manual\n", b"attr-prereq = auto a eq b\n"
+    line, default = handler + b" = /bin/true\n", b"ticket = __default__\n"
+    for text in (
+        FILE + line,
+        FILE + mode + prereq + line,
+        FILE + mode + b"ticket = t\n" + line,
+        default + line + FILE,
     ):
         path = room.file(here(room, text) + b"authfile = /missing\n")
-        room.refuses(room.words(path), b"not built: " + key, what=f"the file {text}")
+        room.refuses(room.words(path), b"not built: " + handler, what=f"the file {text}")
     # one's own value comes before the default's
     station = room.station()
-    text = default + lines[mode] + FILE + b"mode = auto\n"
-    with room.serving(station, here(room, text)) as daemon, Asker(daemon) as asker:
-        asker.asks("CLst")
+    for text in (FILE + mode, FILE + prereq, default + mode + FILE + b"mode = auto\n"):
+        with room.serving(station, here(room, text)) as daemon, Asker(daemon) as asker:
+            asker.asks("CLst")
     example = f"{TOP}/examples/booth.conf"
-    room.refuses(room.words(example, "147.4.215.19"), b"not built: mode")
+    room.refuses(room.words(example, "147.4.215.19"), b"not built: " + handler)
 
 
 def with_key(room, path):

@@ -15,6 +15,8 @@ import frames
 from serving import boothd
 
 TICKET = b"ticket-db8"
+# a ticket that is granted by hand, in a cluster that has one
+MANUAL = b"by-hand"
 
 # the layout of a record file: where its slots are, and what stands in a slot
 SLOTS_AT, SLOT_BYTES = (0, 64), 64
@@ -76,7 +78,7 @@ class Answer(NamedTuple):
 
 
 class Ran(NamedTuple):
-    """What a run of booth left: its status, and what it printed and said."""
+    """What a run of a client left: its status, and what it printed and said."""
 
     status: int
     printed: str
@@ -84,7 +86,7 @@ class Ran(NamedTuple):
 
 
 def run_booth(client, conf, words):
-    """A run of the client with this configuration."""
+    """A run of the client, booth or geostore, with this configuration."""
     streams = {"stdin": subprocess.DEVNULL, "capture_output": True, "text": True}
     done = subprocess.run([client, *words, "-c", conf], timeout=SECONDS_OF_BOOTH, **streams)
     return Ran(done.returncode, done.stdout, done.stderr)
@@ -97,12 +99,13 @@ def letters_of(number):
 class Member:
     """One daemon of the cluster, running or not."""
 
-    def __init__(self, role, address, folder, key=None, client=None):
+    def __init__(self, role, address, folder, key=None, client=None, geostore=None):
         self.role = role
         self.address = address
         self.folder = folder
         self.key = key
         self.client = client
+        self.store = geostore
         self.conf = None
         self.server = None
         self.records = os.path.join(folder, "records")
@@ -151,6 +154,11 @@ class Member:
     def booth(self, *words):
         """A run of booth that asks this daemon, with the configuration that it has."""
         return run_booth(self.client, self.conf, [*words, "-s", self.address])
+
+    def geostore(self, command, *words, ticket=TICKET):
+        """A run of geostore that asks this daemon of the attributes of a ticket."""
+        words = [command, "-t", ticket.decode(), *words]
+        return run_booth(self.store, self.conf, [*words, "-s", self.address])
 
     def ask(self, letters, body=b""):
         """What the daemon answers to this request, or None where it does not in time."""
@@ -230,18 +238,35 @@ class Watch(threading.Thread):
 
 
 class Cluster:
-    """Two sites and an arbitrator with one file, which are killed when the `with` block ends."""
+    """Two sites and an arbitrator with one file, which are killed when the `with` block ends.
 
-    def __init__(self, program, folder, addresses, times=Times(), key=None, tickets=(TICKET,), client=None):
+    `settings` are lines that the file has for each ticket, behind its times. Those in `manual` are granted by hand.
+    """
+
+    def __init__(
+        self,
+        program,
+        folder,
+        addresses,
+        times=Times(),
+        key=None,
+        tickets=(TICKET,),
+        client=None,
+        geostore=None,
+        settings="",
+        manual=(),
+    ):
         self.program = program
         self.client = client
         self.folder = folder
+        self.settings = settings
         self.times = times
         self.key = key
         self.tickets = tickets
+        self.manual = manual
         roles = ("site", "site", "arbitrator")
         self.members = [
-            Member(role, address, os.path.join(folder, address), key, client)
+            Member(role, address, os.path.join(folder, address), key, client, geostore)
             for role, address in zip(roles, addresses)
         ]
         self.conf = self.file("booth.conf", key)
@@ -254,7 +279,8 @@ class Cluster:
             with open(path, "wb") as file:
                 file.write(key)
             text += f'authfile = "{path}"\n'
-        text += "".join(f'ticket = "{name.decode()}"\n{self.times.text()}' for name in self.tickets)
+        text += "".join(f'ticket = "{name.decode()}"\n{self.times.text()}{self.settings}' for name in self.tickets)
+        text += "".join(f'ticket = "{name.decode()}"\nmode = manual\n' for name in self.manual)
         path = os.path.join(self.folder, name)
         with open(path, "w", encoding="ascii") as file:
             file.write(text)

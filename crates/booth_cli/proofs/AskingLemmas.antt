@@ -13,11 +13,11 @@ use Rattle.booth_cli.specs.declared.asking.Asked.{Asked}
 use Rattle.booth_cli.specs.declared.asking.Asked.TheVariants.{Daemon, Status, Client}
 use Rattle.booth_cli.specs.declared.asking.ClientWords.{ClientWords}
 use Rattle.booth_cli.specs.declared.program.Program.{Program}
-use Rattle.booth_cli.specs.declared.program.Program.TheVariants.{Boothd, Booth}
+use Rattle.booth_cli.specs.declared.program.Program.TheVariants.{Boothd, Booth, Geostore}
 use Rattle.booth_cli.specs.Commands.{app_for, verb_in}
-use Rattle.booth_cli.specs.Given.{Texts, HasNeeded, found_in}
+use Rattle.booth_cli.specs.Given.{Texts, HasAttribute, HasNeeded, found_in}
 use Rattle.booth_cli.specs.Reading.{HasAddress, HasName, IsRead}
-use Rattle.booth_cli.specs.Asking.{Asks, AreTaken, HasOrder, HasWords, IsAskedBy, IsClientOf, IsUntakenFor}
+use Rattle.booth_cli.specs.Asking.{Asks, AreTaken, AttributeRead, HasOrder, HasWords, IsAskedBy, IsClient, IsClientOf, IsUntakenFor}
 
 -- where there is a word there is an address
 has_address : (word : Option (List ℕ)) (read : Option Address) → HasAddress word read → is_some word ≡ true → is_some read ≡ true
@@ -30,10 +30,18 @@ has_name (Some text) (Some name) has some = refl
 has_name (Some text) None has some = absurd has
 has_name None read has some = cc
 
+has_attribute : (t : Texts) (read : Read) → HasAttribute t → IsRead t read → AttributeRead read
+has_attribute t read needed is =
+    record { ticket = has_name t.ticket read.ticket is.ticket needed.ticket; name = has_name t.name read.name is.name needed.name }
+
 pub has_words : (verb : Verb) (t : Texts) (read : Read) → HasNeeded verb t → IsRead t read → HasWords verb read
 has_words verbs.Daemon t read needed is = has_address t.site read.site is.site needed
 has_words verbs.Grant t read needed is = has_name t.ticket read.ticket is.ticket needed
 has_words verbs.Revoke t read needed is = has_name t.ticket read.ticket is.ticket needed
+has_words verbs.SetAttribute t read needed is = (has_attribute t read needed.0 is, has_name t.value read.value is.value needed.1)
+has_words verbs.GetAttribute t read needed is = has_attribute t read needed is
+has_words verbs.DeleteAttribute t read needed is = has_attribute t read needed is
+has_words verbs.ListAttributes t read needed is = has_name t.ticket read.ticket is.ticket needed
 has_words verbs.Status t read needed is = tt
 has_words verbs.List t read needed is = tt
 has_words verbs.Peers t read needed is = tt
@@ -49,6 +57,15 @@ no_daemon false false true d verb h = (λ e. cc, λ e. cc)
 no_daemon false false false true verb h = (λ e. cc, λ e. cc)
 no_daemon false false false false verb h = absurd cc
 
+no_attributes_daemon : (a b c d : Bool) (verb : Verb) →
+    cond a (Some verbs.SetAttribute) (cond b (Some verbs.GetAttribute) (cond c (Some verbs.DeleteAttribute) (cond d (Some verbs.ListAttributes) None)))
+    ≡ Some verb → (verb ≡ verbs.Daemon → ⊥) × (verb ≡ verbs.Status → ⊥)
+no_attributes_daemon true b c d verb h = (λ e. cc, λ e. cc)
+no_attributes_daemon false true c d verb h = (λ e. cc, λ e. cc)
+no_attributes_daemon false false true d verb h = (λ e. cc, λ e. cc)
+no_attributes_daemon false false false true verb h = (λ e. cc, λ e. cc)
+no_attributes_daemon false false false false verb h = absurd cc
+
 no_client : (a b : Bool) (verb : Verb) → cond a (Some verbs.Daemon) (cond b (Some verbs.Status) None) ≡ Some verb →
     (verb ≡ verbs.Daemon) ⊎ (verb ≡ verbs.Status)
 no_client true b verb h = inl cc
@@ -61,10 +78,14 @@ daemons_own Boothd words verb named own = refl
 daemons_own Booth [] verb named own = absurd cc
 daemons_own Booth (word ∷ words) verb named (inl own) = absurd ((no_daemon _ _ _ _ verb named).0 own)
 daemons_own Booth (word ∷ words) verb named (inr own) = absurd ((no_daemon _ _ _ _ verb named).1 own)
+daemons_own Geostore [] verb named own = absurd cc
+daemons_own Geostore (word ∷ words) verb named (inl own) = absurd ((no_attributes_daemon _ _ _ _ verb named).0 own)
+daemons_own Geostore (word ∷ words) verb named (inr own) = absurd ((no_attributes_daemon _ _ _ _ verb named).1 own)
 
 clients_own : (program : Program) (words : List (List ℕ)) (verb : Verb) → verb_in program words ≡ Some verb → ((verb ≡ verbs.Daemon) ⊎ (verb ≡ verbs.Status) → ⊥) →
-    program ≡ Booth
-clients_own Booth words verb named own = refl
+    IsClient program
+clients_own Booth words verb named own = tt
+clients_own Geostore words verb named own = tt
 clients_own Boothd [] verb named own = absurd cc
 clients_own Boothd (word ∷ words) verb named own = absurd (own (no_client _ _ verb named))
 
@@ -76,8 +97,7 @@ is_clients verb read asked is (inr e) = (subst (λ v. HasOrder v read asked.orde
 client_asked : (program : Program) (words : List (List ℕ)) (verb : Verb) (read : Read) (asked : ClientWords) → AreTaken program words verb read →
     IsClientOf verb read asked → Asks program words (Ok (Client asked))
 client_asked program words verb read asked taken is =
-    let own : program ≡ Booth = clients_own program words verb taken.named (is_clients verb read asked is) in
-    (own, record { verb = verb; all = read; asks = subst (λ p. AreTaken p words verb read) own taken; same = is })
+    (clients_own program words verb taken.named (is_clients verb read asked is), record { verb = verb; all = read; asks = taken; same = is })
 
 asked_by : (program : Program) (words : List (List ℕ)) (verb : Verb) (read : Read) (asked : Asked) → AreTaken program words verb read → IsAskedBy verb read asked →
     Asks program words (Ok asked)
@@ -87,6 +107,10 @@ asked_by program words verbs.List read (Client asked) taken is = client_asked pr
 asked_by program words verbs.Peers read (Client asked) taken is = client_asked program words verbs.Peers read asked taken is
 asked_by program words verbs.Grant read (Client asked) taken is = client_asked program words verbs.Grant read asked taken is
 asked_by program words verbs.Revoke read (Client asked) taken is = client_asked program words verbs.Revoke read asked taken is
+asked_by program words verbs.SetAttribute read (Client asked) taken is = client_asked program words verbs.SetAttribute read asked taken is
+asked_by program words verbs.GetAttribute read (Client asked) taken is = client_asked program words verbs.GetAttribute read asked taken is
+asked_by program words verbs.DeleteAttribute read (Client asked) taken is = client_asked program words verbs.DeleteAttribute read asked taken is
+asked_by program words verbs.ListAttributes read (Client asked) taken is = client_asked program words verbs.ListAttributes read asked taken is
 asked_by program words verbs.Daemon read (Daemon asked) taken is =
     let own : program ≡ Boothd = daemons_own program words verbs.Daemon taken.named (inl refl) in
     (own, record { all = read; asks = subst (λ p. AreTaken p words verbs.Daemon read) own taken; same = is })

@@ -16,14 +16,14 @@ use Rattle.booth_client.specs.declared.reply.Reply.{Reply}
 use Rattle.booth_client.specs.declared.wait.Waited.{Waited}
 use Rattle.booth_client.specs.declared.wait.Waited.TheVariants.{Came, Over}
 use Rattle.booth_client.specs.Asking.{request_bytes}
+use Rattle.booth_client.specs.Report.{is_silent}
 use Rattle.booth_client.specs.Talk.{AsksOn, IsAsking, IsTalk, Rests, redirected}
 use Rattle.booth_cli.specs.declared.command.Verb.{Verb}
 use Rattle.booth_cli.specs.declared.asking.ClientWords.{ClientWords}
 use Rattle.booth_cli.specs.declared.outcome.Outcome.{Outcome}
 use Rattle.booth_cli.specs.declared.outcome.Outcome.TheVariants as outs
-use Rattle.booth_cli.specs.declared.program.Program.TheVariants.{Booth}
 use Rattle.booth_cli.specs.Opening.{IsUnread}
-use Rattle.booth_cli.specs.Client.{EndsWith, Follows, IsAsked, IsClientLog, IsConversing, IsPlainEnd, IsReported, IsSocketless, IsTold, IsUnkeyedClient, cluster_calls}
+use Rattle.booth_cli.specs.Client.{EndsWith, Follows, IsAsked, IsClientLog, IsConversing, IsPlainEnd, IsPrinted, IsReported, IsSocketless, IsTold, IsUnkeyedClient, cluster_calls}
 use Rattle.booth_cli.specs.Client.{Unread, Unkeyed, Asked, Socketless, Conversing}
 use Rattle.booth_cli.specs.Client.{is_good, refused_text}
 use Rattle.booth_cli.specs.ClientRun.{FaultlessTalks, IsClientMade, IsTalked, IsUnhindered, Talked, Unasked}
@@ -98,16 +98,21 @@ module _ (asked : ClientWords) (entries : List Entry) (free : IsUnhindered asked
 
   -- ---- how it ends
 
-  reported : (order : Order) (bytes : List ℕ) (outcome : Outcome) (said : List ℕ) (part : List Entry) → AreAmong part entries →
-      IsReported order bytes outcome said part → IsTalked outcome
-  reported order bytes outs.Report said part all r = tt
-  reported order bytes outs.OutOfMemory said part all r = tt
-  reported order bytes outs.PrintFault said part all r = absurd (free.printed r.1 r.3 (only (Out r.1 (Err r.3)) part r.4 all))
-  reported order bytes outcome said part all r = absurd r
+  printed : (order : Order) (bytes : List ℕ) (outcome : Outcome) (said : List ℕ) (part : List Entry) → AreAmong part entries →
+      IsPrinted order bytes outcome said part → IsTalked outcome
+  printed order bytes outs.Report said part all r = tt
+  printed order bytes outs.OutOfMemory said part all r = tt
+  printed order bytes outs.PrintFault said part all r = absurd (free.printed r.1 r.3 (only (Out r.1 (Err r.3)) part r.4 all))
+  printed order bytes outcome said part all r = absurd r
+
+  reported : (order : Order) (bytes : List ℕ) (outcome : Outcome) (said : List ℕ) (part : List Entry) (silent : Bool) → AreAmong part entries →
+      MatchBool silent (IsPlainEnd outcome outs.Report said [] part) (IsPrinted order bytes outcome said part) → IsTalked outcome
+  reported order bytes outcome said part true all r = subst IsTalked (sym r.is) tt
+  reported order bytes outcome said part false all r = printed order bytes outcome said part all r
 
   ended : (order : Order) (reply : Reply) (bytes : List ℕ) (outcome : Outcome) (said : List ℕ) (part : List Entry) (good : Bool) → AreAmong part entries →
       MatchBool good (IsReported order bytes outcome said part) (IsPlainEnd outcome (outs.Refused reply.result) said (refused_text reply.result) part) → IsTalked outcome
-  ended order reply bytes outcome said part true all e = reported order bytes outcome said part all e
+  ended order reply bytes outcome said part true all e = reported order bytes outcome said part (is_silent order) all e
   ended order reply bytes outcome said part false all e = subst IsTalked (sym e.is) tt
 
   told : (asking : Asking) (to : Peer) (start : ℕ) (outcome : Outcome) (said : List ℕ) (part : List Entry) → AreAmong part entries →
@@ -139,9 +144,9 @@ module _ (asked : ClientWords) (entries : List Entry) (free : IsUnhindered asked
       follows a.config a.key outcome said a.rest (right_among (cluster_calls asked.conf a.cluster) a.rest entries part a.whole all) a.here
 
 pub faultless_talks : FaultlessTalks
-faultless_talks words verb outcome entries valid run free = go run.made
+faultless_talks program words verb outcome entries valid run free = go run.made
   where
-    go : IsClientMade words outcome run.said run.body → IsTalked outcome
-    go (Unasked is) = subst IsTalked (sym (for_memory Booth words verb outcome run.said run.body valid is)) tt
+    go : IsClientMade program words outcome run.said run.body → IsTalked outcome
+    go (Unasked is) = subst IsTalked (sym (for_memory program words verb outcome run.said run.body valid is)) tt
     go (Talked asked asks is) =
         logged asked entries (free asked asks) outcome run.said run.body (λ x here. among x run.body run.last entries here run.whole) is

@@ -24,11 +24,12 @@ use Rattle.booth_cli.specs.Opening.{IsConfigRead, IsKeyRead, HasKey, key_calls}
 use Rattle.booth_cli.specs.Client.{IsClusterRead, IsKeyed, IsTold, IsClientLog, EndsWith, Follows, Conversing, Socketless, destination}
 use Rattle.booth_cli.specs.Client.{Unread, Unkeyed, Asked}
 use Rattle.booth_cli.specs.ClientRun.{FitsClientWords, IsAnswered, IsClientMade, IsClientRun, Talked, Unasked}
-use Rattle.booth_cli.specs.Asking.{Asks, AsksClient, IsUntaken, IsUntakenFor}
+use Rattle.booth_cli.specs.Asking.{Asks, AsksClient, AsksDaemon, AsksStatus, IsClient, IsUntaken, IsUntakenFor}
 use Rattle.booth_cli.specs.Unasked.{IsTold as IsTold_, IsToldOutcome, IsUnasked}
 use Rattle.booth_cli.specs.Run.{IsText}
 use Rattle.booth_cli.specs.declared.asking.Asked.TheVariants.{Client}
-use Rattle.booth_cli.specs.declared.program.Program.TheVariants.{Booth}
+use Rattle.booth_cli.specs.declared.program.Program.{Program}
+use Rattle.booth_cli.specs.declared.program.Program.TheVariants.{Boothd}
 use Rattle.clap.specs.declared.error.kind.ErrorKind.{ErrorKind}
 use Rattle.booth_cli.proofs.RunLemmas.{no_memory, unasked_of, untaken_of}
 
@@ -169,52 +170,49 @@ not_asked asked ended read = some_weaker (IsClusterRead asked.conf (Err ended)) 
 
 -- ---- the words
 
-pub talked_made : {a b : Option (List Entry)} (words : List (List ℕ)) (asked : ClientWords) (outcome : Outcome) (said : List ℕ) → AsksClient words asked →
-    GrewSome (IsClientLog asked outcome said) a b → GrewSome (IsClientMade words outcome said) a b
-talked_made words asked outcome said asks log =
-    some_weaker (IsClientLog asked outcome said) (IsClientMade words outcome said) (λ es is. Talked asked asks is) log
+pub talked_made : {a b : Option (List Entry)} (program : Program) (words : List (List ℕ)) (asked : ClientWords) (outcome : Outcome) (said : List ℕ) → AsksClient program words asked →
+    GrewSome (IsClientLog asked outcome said) a b → GrewSome (IsClientMade program words outcome said) a b
+talked_made program words asked outcome said asks log =
+    some_weaker (IsClientLog asked outcome said) (IsClientMade program words outcome said) (λ es is. Talked asked asks is) log
 
-pub told_client : {a b : Option (List Entry)} (words : List (List ℕ)) (kind : ErrorKind) (outcome : Outcome) (said : List ℕ) →
-    IsUntakenFor Booth words kind → IsToldOutcome kind outcome → GrewSome (IsTold_ kind outcome said) a b → GrewSome (IsClientMade words outcome said) a b
-told_client words kind outcome said un out told =
-    some_weaker (IsTold_ kind outcome said) (IsClientMade words outcome said) (λ es is. Unasked (unasked_of Booth words kind outcome said es un out is)) told
+pub told_client : {a b : Option (List Entry)} (program : Program) (words : List (List ℕ)) (kind : ErrorKind) (outcome : Outcome) (said : List ℕ) →
+    IsUntakenFor program words kind → IsToldOutcome kind outcome → GrewSome (IsTold_ kind outcome said) a b → GrewSome (IsClientMade program words outcome said) a b
+told_client program words kind outcome said un out told =
+    some_weaker (IsTold_ kind outcome said) (IsClientMade program words outcome said) (λ es is. Unasked (unasked_of program words kind outcome said es un out is)) told
 
-pub unasked_client : {a : Option (List Entry)} (words : List (List ℕ)) (outcome : Outcome) (said : List ℕ) → IsUnasked Booth words outcome said [] →
-    GrewSome (IsClientMade words outcome said) a a
-unasked_client words outcome said is = some_of (IsClientMade words outcome said) no_entry (Unasked is)
+pub unasked_client : {a : Option (List Entry)} (program : Program) (words : List (List ℕ)) (outcome : Outcome) (said : List ℕ) → IsUnasked program words outcome said [] →
+    GrewSome (IsClientMade program words outcome said) a a
+unasked_client program words outcome said is = some_of (IsClientMade program words outcome said) no_entry (Unasked is)
 
-pub fits_untaken : (words : List (List ℕ)) (kind : ErrorKind) (outcome : Outcome) → IsUntakenFor Booth words kind → IsToldOutcome kind outcome →
-    FitsClientWords words outcome
-fits_untaken words kind (outs.Usage (Some told)) un out = subst (λ k. IsUntaken Booth words k) (sym out.0) (untaken_of Booth words kind out.1 un)
-fits_untaken words kind outs.PrintFault un out = λ none.
-    let is = untaken_of Booth words kind (no_memory kind out) un in
+pub fits_untaken : (program : Program) (words : List (List ℕ)) (kind : ErrorKind) (outcome : Outcome) → IsUntakenFor program words kind → IsToldOutcome kind outcome →
+    FitsClientWords program words outcome
+fits_untaken program words kind (outs.Usage (Some told)) un out = subst (λ k. IsUntaken program words k) (sym out.0) (untaken_of program words kind out.1 un)
+fits_untaken program words kind outs.PrintFault un out = λ none.
+    let is = untaken_of program words kind (no_memory kind out) un in
     let named = is.named in
     cc
-fits_untaken words kind outs.OutOfMemory un out = tt
-fits_untaken words kind outcome un out = absurd out
+fits_untaken program words kind outs.OutOfMemory un out = tt
+fits_untaken program words kind outcome un out = absurd out
 
-pub asks_client : (words : List (List ℕ)) (asked : ClientWords) (all : Rattle.booth_cli.specs.declared.asking.Asked.Asked) → Asks Booth words (Ok all) →
-    all ≡ Client asked → AsksClient words asked
-asks_client words asked all asks same =
-    let is : Asks Booth words (Ok (Client asked)) = subst (λ x. Asks Booth words (Ok x)) same asks in is.1
+pub asks_client : (program : Program) (words : List (List ℕ)) (asked : ClientWords) (all : Rattle.booth_cli.specs.declared.asking.Asked.Asked) → Asks program words (Ok all) →
+    all ≡ Client asked → AsksClient program words asked
+asks_client program words asked all asks same =
+    let is : Asks program words (Ok (Client asked)) = subst (λ x. Asks program words (Ok x)) same asks in is.1
 
-pub fits_answered : (words : List (List ℕ)) (asked : ClientWords) (outcome : Outcome) → AsksClient words asked → IsAnswered outcome → FitsClientWords words outcome
-fits_answered words asked (outs.Usage kind) asks is = absurd is
-fits_answered words asked (outs.BadWord word) asks is = absurd is
-fits_answered words asked outs.PrintFault asks is = λ none. let named = asks.asks.named in cc
-fits_answered words asked outs.OutOfMemory asks is = tt
-fits_answered words asked outcome asks is = record { asked = asked; asks = asks }
+pub fits_answered : (program : Program) (words : List (List ℕ)) (asked : ClientWords) (outcome : Outcome) → AsksClient program words asked → IsAnswered outcome → FitsClientWords program words outcome
+fits_answered program words asked (outs.Usage kind) asks is = absurd is
+fits_answered program words asked (outs.BadWord word) asks is = absurd is
+fits_answered program words asked outs.PrintFault asks is = λ none. let named = asks.asks.named in cc
+fits_answered program words asked outs.OutOfMemory asks is = tt
+fits_answered program words asked outcome asks is = record { asked = asked; asks = asks }
 
 -- the calls up to the outcome, and then what is said
-pub client_run_of : {a b c : Option (List Entry)} (words left : List (List ℕ)) (outcome : Outcome) (said : List ℕ) → left ≡ words →
-    GrewSome (IsClientMade left outcome said) a b → GrewSome (IsText Booth said) b c → GrewSome (IsClientRun words outcome) a c
-client_run_of words left outcome said same body last =
-    some_joined (IsClientMade left outcome said) (IsText Booth said) (IsClientRun words outcome)
-    (λ xs ys made told. record {
-      said = said;
-      body = xs;
-      last = ys;
-      whole = refl;
-      made = subst (λ ws. IsClientMade ws outcome said xs) same made;
-      told = told;
-    }) body last
+pub client_run_of : {a b c : Option (List Entry)} (program : Program) (words : List (List ℕ)) (outcome : Outcome) (said : List ℕ) →
+    GrewSome (IsClientMade program words outcome said) a b → GrewSome (IsText program said) b c → GrewSome (IsClientRun program words outcome) a c
+client_run_of program words outcome said body last =
+    some_joined (IsClientMade program words outcome said) (IsText program said) (IsClientRun program words outcome)
+    (λ xs ys made told. record { said = said; body = xs; last = ys; whole = refl; made = made; told = told }) body last
+
+-- a client's words ask for no daemon, and for no look at a lock
+pub no_daemon_asked : (program : Program) → IsClient program → program ≡ Boothd → ⊥
+no_daemon_asked program client is = subst IsClient is client

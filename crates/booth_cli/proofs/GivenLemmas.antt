@@ -27,6 +27,10 @@ simple verbs.List = refl
 simple verbs.Peers = refl
 simple verbs.Grant = refl
 simple verbs.Revoke = refl
+simple verbs.SetAttribute = refl
+simple verbs.GetAttribute = refl
+simple verbs.DeleteAttribute = refl
+simple verbs.ListAttributes = refl
 
 pub simple_and_free : (verb : Verb) → is_simple_and_free (app_for verb) ≡ true
 simple_and_free verbs.Daemon = refl
@@ -35,6 +39,10 @@ simple_and_free verbs.List = refl
 simple_and_free verbs.Peers = refl
 simple_and_free verbs.Grant = refl
 simple_and_free verbs.Revoke = refl
+simple_and_free verbs.SetAttribute = refl
+simple_and_free verbs.GetAttribute = refl
+simple_and_free verbs.DeleteAttribute = refl
+simple_and_free verbs.ListAttributes = refl
 
 -- a getter's value, by the rows
 value_is : (m : ArgMatches) (rows : List Row) (id : List ℕ) → rows_of (found_of m) ≡ rows → first_value (found_of m) id ≡ first_of id rows
@@ -43,6 +51,8 @@ value_is m rows id same = first_value-rows (found_of m) id ∙ ap (first_of id) 
 -- all getters' values, by the rows
 pub texts_are : (m : ArgMatches) (rows : List Row) (g : Given) → rows_of (found_of m) ≡ rows →
     option_map (λ (t : Bor (List ℕ)). t.now) g.ticket ≡ first_value (found_of m) (codes "ticket") →
+    option_map (λ (t : Bor (List ℕ)). t.now) g.name ≡ first_value (found_of m) (codes "name") →
+    option_map (λ (t : Bor (List ℕ)). t.now) g.value ≡ first_value (found_of m) (codes "value") →
     option_map (λ (t : Bor (List ℕ)). t.now) g.site ≡ first_value (found_of m) (codes "site") →
     option_map (λ (t : Bor (List ℕ)). t.now) g.turns ≡ first_value (found_of m) (codes "turns") →
     option_map (λ (t : Bor (List ℕ)). t.now) g.lock ≡ first_value (found_of m) (codes "lock") →
@@ -50,9 +60,11 @@ pub texts_are : (m : ArgMatches) (rows : List Row) (g : Given) → rows_of (foun
     option_map (λ (t : Bor (List ℕ)). t.now) g.conf ≡ first_value (found_of m) (codes "conf") →
     g.wait ≡ is_set (first_value (found_of m) (codes "wait")) → g.commit ≡ is_set (first_value (found_of m) (codes "commit")) →
     g.immediate ≡ is_set (first_value (found_of m) (codes "immediate")) → texts_of g ≡ texts_in rows
-texts_are m rows g same ticket site turns lock records conf wait commit immediate =
+texts_are m rows g same ticket name value site turns lock records conf wait commit immediate =
     rw (
       ticket,
+      name,
+      value,
       site,
       turns,
       lock,
@@ -62,6 +74,8 @@ texts_are m rows g same ticket site turns lock records conf wait commit immediat
       commit,
       immediate,
       value_is m rows (codes "ticket") same,
+      value_is m rows (codes "name") same,
+      value_is m rows (codes "value") same,
       value_is m rows (codes "site") same,
       value_is m rows (codes "turns") same,
       value_is m rows (codes "lock") same,
@@ -119,13 +133,118 @@ module _ (cmd : Command) (m : ArgMatches) (parsed : IsParsedFrom cmd m) where
     own = refl;
   })
 
+  set_ticket : app_of cmd ≡ app_for verbs.SetAttribute → is_some (first_value (found_of m) (codes "ticket")) ≡ true
+  unfolding is_only_at
+  set_ticket is = value_of (app_for verbs.SetAttribute) 2 (codes "ticket") is refl refl refl (record {
+    there = omega arith;
+    named = λ e. refl;
+    required = λ e. refl;
+    set = λ e. refl;
+    least = λ e. omega arith;
+    only = refl;
+    own = refl;
+  })
+
+  set_name : app_of cmd ≡ app_for verbs.SetAttribute → is_some (first_value (found_of m) (codes "name")) ≡ true
+  unfolding is_only_at
+  set_name is = value_of (app_for verbs.SetAttribute) 3 (codes "name") is refl refl refl (record {
+    there = omega arith;
+    named = λ e. refl;
+    required = λ e. refl;
+    set = λ e. refl;
+    least = λ e. omega arith;
+    only = refl;
+    own = refl;
+  })
+
+  set_value : app_of cmd ≡ app_for verbs.SetAttribute → is_some (first_value (found_of m) (codes "value")) ≡ true
+  unfolding is_only_at
+  set_value is = value_of (app_for verbs.SetAttribute) 4 (codes "value") is refl refl refl (record {
+    there = omega arith;
+    named = λ e. refl;
+    required = λ e. refl;
+    set = λ e. refl;
+    least = λ e. omega arith;
+    only = refl;
+    own = refl;
+  })
+
+  get_ticket : app_of cmd ≡ app_for verbs.GetAttribute → is_some (first_value (found_of m) (codes "ticket")) ≡ true
+  unfolding is_only_at
+  get_ticket is = value_of (app_for verbs.GetAttribute) 2 (codes "ticket") is refl refl refl (record {
+    there = omega arith;
+    named = λ e. refl;
+    required = λ e. refl;
+    set = λ e. refl;
+    least = λ e. omega arith;
+    only = refl;
+    own = refl;
+  })
+
+  get_name : app_of cmd ≡ app_for verbs.GetAttribute → is_some (first_value (found_of m) (codes "name")) ≡ true
+  unfolding is_only_at
+  get_name is = value_of (app_for verbs.GetAttribute) 3 (codes "name") is refl refl refl (record {
+    there = omega arith;
+    named = λ e. refl;
+    required = λ e. refl;
+    set = λ e. refl;
+    least = λ e. omega arith;
+    only = refl;
+    own = refl;
+  })
+
+  delete_ticket : app_of cmd ≡ app_for verbs.DeleteAttribute → is_some (first_value (found_of m) (codes "ticket")) ≡ true
+  unfolding is_only_at
+  delete_ticket is = value_of (app_for verbs.DeleteAttribute) 2 (codes "ticket") is refl refl refl (record {
+    there = omega arith;
+    named = λ e. refl;
+    required = λ e. refl;
+    set = λ e. refl;
+    least = λ e. omega arith;
+    only = refl;
+    own = refl;
+  })
+
+  delete_name : app_of cmd ≡ app_for verbs.DeleteAttribute → is_some (first_value (found_of m) (codes "name")) ≡ true
+  unfolding is_only_at
+  delete_name is = value_of (app_for verbs.DeleteAttribute) 3 (codes "name") is refl refl refl (record {
+    there = omega arith;
+    named = λ e. refl;
+    required = λ e. refl;
+    set = λ e. refl;
+    least = λ e. omega arith;
+    only = refl;
+    own = refl;
+  })
+
+  list_ticket : app_of cmd ≡ app_for verbs.ListAttributes → is_some (first_value (found_of m) (codes "ticket")) ≡ true
+  unfolding is_only_at
+  list_ticket is = value_of (app_for verbs.ListAttributes) 2 (codes "ticket") is refl refl refl (record {
+    there = omega arith;
+    named = λ e. refl;
+    required = λ e. refl;
+    set = λ e. refl;
+    least = λ e. omega arith;
+    only = refl;
+    own = refl;
+  })
+
   -- the words that a command has to have are there
   pub has_needed : (verb : Verb) (g : Given) → app_of cmd ≡ app_for verb →
       option_map (λ (t : Bor (List ℕ)). t.now) g.ticket ≡ first_value (found_of m) (codes "ticket") →
+      option_map (λ (t : Bor (List ℕ)). t.now) g.name ≡ first_value (found_of m) (codes "name") →
+      option_map (λ (t : Bor (List ℕ)). t.now) g.value ≡ first_value (found_of m) (codes "value") →
       option_map (λ (t : Bor (List ℕ)). t.now) g.site ≡ first_value (found_of m) (codes "site") → HasNeeded verb (texts_of g)
-  has_needed verbs.Daemon g is ticket site = ap is_some site ∙ daemon_site is
-  has_needed verbs.Grant g is ticket site = ap is_some ticket ∙ grant_ticket is
-  has_needed verbs.Revoke g is ticket site = ap is_some ticket ∙ revoke_ticket is
-  has_needed verbs.Status g is ticket site = tt
-  has_needed verbs.List g is ticket site = tt
-  has_needed verbs.Peers g is ticket site = tt
+  has_needed verbs.Daemon g is ticket name value site = ap is_some site ∙ daemon_site is
+  has_needed verbs.Grant g is ticket name value site = ap is_some ticket ∙ grant_ticket is
+  has_needed verbs.Revoke g is ticket name value site = ap is_some ticket ∙ revoke_ticket is
+  has_needed verbs.SetAttribute g is ticket name value site =
+      (record { ticket = ap is_some ticket ∙ set_ticket is; name = ap is_some name ∙ set_name is }, ap is_some value ∙ set_value is)
+  has_needed verbs.GetAttribute g is ticket name value site =
+      record { ticket = ap is_some ticket ∙ get_ticket is; name = ap is_some name ∙ get_name is }
+  has_needed verbs.DeleteAttribute g is ticket name value site =
+      record { ticket = ap is_some ticket ∙ delete_ticket is; name = ap is_some name ∙ delete_name is }
+  has_needed verbs.ListAttributes g is ticket name value site = ap is_some ticket ∙ list_ticket is
+  has_needed verbs.Status g is ticket name value site = tt
+  has_needed verbs.List g is ticket name value site = tt
+  has_needed verbs.Peers g is ticket name value site = tt

@@ -6,24 +6,26 @@ use Rattle.booth_cli.specs.Given.{Texts}
 use Rattle.booth_cli.specs.Reading.{IsFirstRefused, Refuses, place_of}
 
 -- a configuration that is refused, where no other word is
-pub only_conf : (t : Texts) → (Refuses t words.Ticket → ⊥) → (Refuses t words.Site → ⊥) → (Refuses t words.Number → ⊥) → (Refuses t words.Path → ⊥) →
+pub only_conf : (t : Texts) → (Refuses t words.Ticket → ⊥) → (Refuses t words.Name → ⊥) → (Refuses t words.Value → ⊥) → (Refuses t words.Site → ⊥) → (Refuses t words.Number → ⊥) → (Refuses t words.Path → ⊥) →
     Refuses t words.Configuration → IsFirstRefused t words.Configuration
-only_conf t ticket site number path conf = record { refused = conf; first = go }
+only_conf t ticket name value site number path conf = record { refused = conf; first = go }
   where
     go : (other : Word) → place_of other < place_of words.Configuration → Refuses t other → ⊥
     go words.Ticket lt = ticket
+    go words.Name lt = name
+    go words.Value lt = value
     go words.Site lt = site
     go words.Number lt = number
     go words.Path lt = path
     go words.Configuration lt = absurd (omega arith)
-    go other lt = λ none. none
 
 -- no word is refused
-pub all_accepted : (t : Texts) → (Refuses t words.Ticket → ⊥) → (Refuses t words.Site → ⊥) → (Refuses t words.Number → ⊥) → (Refuses t words.Path → ⊥) →
+pub all_accepted : (t : Texts) → (Refuses t words.Ticket → ⊥) → (Refuses t words.Name → ⊥) → (Refuses t words.Value → ⊥) → (Refuses t words.Site → ⊥) → (Refuses t words.Number → ⊥) → (Refuses t words.Path → ⊥) →
     (Refuses t words.Configuration → ⊥) → (word : Word) → Refuses t word → ⊥
-all_accepted t ticket site number path conf words.Ticket = ticket
-all_accepted t ticket site number path conf words.Site = site
-all_accepted t ticket site number path conf words.Number = number
-all_accepted t ticket site number path conf words.Path = path
-all_accepted t ticket site number path conf words.Configuration = conf
-all_accepted t ticket site number path conf word = λ none. none
+all_accepted t ticket name value site number path conf words.Ticket = ticket
+all_accepted t ticket name value site number path conf words.Name = name
+all_accepted t ticket name value site number path conf words.Value = value
+all_accepted t ticket name value site number path conf words.Site = site
+all_accepted t ticket name value site number path conf words.Number = number
+all_accepted t ticket name value site number path conf words.Path = path
+all_accepted t ticket name value site number path conf words.Configuration = conf

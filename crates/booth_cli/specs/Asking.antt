@@ -12,7 +12,7 @@ use Rattle.booth_cli.specs.declared.asking.Asked.{Asked}
 use Rattle.booth_cli.specs.declared.asking.Asked.TheVariants.{Daemon, Status, Client}
 use Rattle.booth_cli.specs.declared.asking.ClientWords.{ClientWords}
 use Rattle.booth_cli.specs.declared.program.Program.{Program}
-use Rattle.booth_cli.specs.declared.program.Program.TheVariants.{Boothd, Booth}
+use Rattle.booth_cli.specs.declared.program.Program.TheVariants.{Boothd}
 use Rattle.booth_client.specs.declared.order.Order.{Order}
 use Rattle.booth_client.specs.declared.order.Order.TheVariants as orders
 use Rattle.booth_cli.specs.declared.asking.Refusal.{Refusal}
@@ -47,12 +47,22 @@ pub record AsksStatus (words : List (List ℕ)) (lock : List ℕ) : Type 0 where
   pub asks : AreTaken Boothd words verbs.Status all
   pub same : lock ≡ all.lock
 
+-- the ticket and the attribute that were read
+pub record Names (read : Read) (ticket name : List ℕ) : Type 0 where
+  pub of_ticket : read.ticket ≡ Some ticket
+  pub named : read.name ≡ Some name
+
 -- the order of a client's command
 abbrev pub HasOrder : Verb → Read → Order → Type 0
 HasOrder verbs.List read orders.List = Unit {0}
 HasOrder verbs.Peers read orders.Peers = Unit {0}
 HasOrder verbs.Grant read (orders.Grant ticket options) = (read.ticket ≡ Some ticket) × (options ≡ read.options)
 HasOrder verbs.Revoke read (orders.Revoke ticket options) = (read.ticket ≡ Some ticket) × (options ≡ read.options)
+HasOrder verbs.SetAttribute read (orders.SetAttribute ticket name value) =
+    Names read ticket name × (read.value ≡ Some value)
+HasOrder verbs.GetAttribute read (orders.GetAttribute ticket name) = Names read ticket name
+HasOrder verbs.DeleteAttribute read (orders.DeleteAttribute ticket name) = Names read ticket name
+HasOrder verbs.ListAttributes read (orders.ListAttributes ticket) = read.ticket ≡ Some ticket
 HasOrder verb read order = ⊥
 
 -- what was read says this of a client
@@ -61,11 +71,16 @@ pub record IsClientOf (verb : Verb) (read : Read) (asked : ClientWords) : Type 0
   pub site : asked.site ≡ read.site
   pub conf : asked.conf ≡ read.conf
 
+-- the program asks a daemon
+abbrev pub IsClient : Program → Type 0
+IsClient Boothd = ⊥
+IsClient program = Unit {0}
+
 -- the words ask for this client
-pub record AsksClient (words : List (List ℕ)) (asked : ClientWords) : Type 0 where
+pub record AsksClient (program : Program) (words : List (List ℕ)) (asked : ClientWords) : Type 0 where
   pub verb : Verb
   pub all : Read
-  pub asks : AreTaken Booth words verb all
+  pub asks : AreTaken program words verb all
   pub same : IsClientOf verb all asked
 
 -- the command does not take the words, and this kind of fault is one of theirs
@@ -89,11 +104,20 @@ pub record HasBadWord (program : Program) (words : List (List ℕ)) (word : Word
 
 -- ---- in the code
 
+-- the ticket and the name of an attribute were read
+pub record AttributeRead (read : Read) : Type 0 where
+  pub ticket : is_some read.ticket ≡ true
+  pub name : is_some read.name ≡ true
+
 -- the words that a command has to have were read
 abbrev pub HasWords : Verb → Read → Type 0
 HasWords verbs.Daemon read = is_some read.site ≡ true
 HasWords verbs.Grant read = is_some read.ticket ≡ true
 HasWords verbs.Revoke read = is_some read.ticket ≡ true
+HasWords verbs.SetAttribute read = AttributeRead read × (is_some read.value ≡ true)
+HasWords verbs.GetAttribute read = AttributeRead read
+HasWords verbs.DeleteAttribute read = AttributeRead read
+HasWords verbs.ListAttributes read = is_some read.ticket ≡ true
 HasWords verb read = Unit {0}
 
 -- what a client's words say, with its order
@@ -111,7 +135,7 @@ IsAskedBy verb read asked = ⊥
 abbrev pub Asks : Program → List (List ℕ) → Result Asked Refusal → Type 0
 Asks program words (Ok (Daemon asked)) = (program ≡ Boothd) × AsksDaemon words asked
 Asks program words (Ok (Status lock)) = (program ≡ Boothd) × AsksStatus words lock
-Asks program words (Ok (Client asked)) = (program ≡ Booth) × AsksClient words asked
+Asks program words (Ok (Client asked)) = IsClient program × AsksClient program words asked
 Asks program words (Err NoCommand) = verb_in program words ≡ None
 Asks program words (Err (Untaken error)) = IsUntakenFor program words (kind_of error)
 Asks program words (Err (Bad word)) = HasBadWord program words word

@@ -20,7 +20,7 @@ use Rattle.booth_client.specs.declared.wait.Waited.TheVariants.{Came, Over}
 use Rattle.booth_client.specs.Asking.{peer_at}
 use Rattle.booth_client.specs.Waiting.{is_begun}
 use Rattle.booth_client.specs.Talk.{IsTalk}
-use Rattle.booth_client.specs.Report.{IsReportOf}
+use Rattle.booth_client.specs.Report.{IsReportOf, is_silent}
 use Rattle.booth_cli.specs.declared.outcome.Outcome.{Outcome}
 use Rattle.booth_cli.specs.declared.outcome.Outcome.TheVariants as outs
 use Rattle.booth_cli.specs.declared.outcome.Ended.{Ended}
@@ -81,20 +81,26 @@ refused_text result =
     codes "result " ++ encode_lower (to_be_bytes w32 result)
 
 -- the one print of a report, where there is memory for it
-abbrev pub IsReported : Order → List ℕ → Outcome → List ℕ → List Entry → Type 0
-IsReported order bytes outs.Report said entries = (said ≡ [])
+abbrev pub IsPrinted : Order → List ℕ → Outcome → List ℕ → List Entry → Type 0
+IsPrinted order bytes outs.Report said entries = (said ≡ [])
     × (report : List ℕ) × IsReportOf order bytes report × (entries ≡ Out report (Ok tt) ∷ [])
-IsReported order bytes outs.PrintFault said entries = (said ≡ unprinted_text)
+IsPrinted order bytes outs.PrintFault said entries = (said ≡ unprinted_text)
     × (report : List ℕ) × IsReportOf order bytes report
     × (failed : Failed) × (entries ≡ Out report (Err failed) ∷ [])
-IsReported order bytes outs.OutOfMemory said entries = (said ≡ out_of_memory_text) × (entries ≡ [])
-IsReported order bytes outcome said entries = ⊥
+IsPrinted order bytes outs.OutOfMemory said entries = (said ≡ out_of_memory_text) × (entries ≡ [])
+IsPrinted order bytes outcome said entries = ⊥
 
 -- an end without a call, of which this is said
 pub record IsPlainEnd (outcome wanted : Outcome) (said text : List ℕ) (entries : List Entry) : Type 0 where
   pub is : outcome ≡ wanted
   pub told : said ≡ text
   pub none : entries ≡ []
+
+-- The report of a good reply: its print, or none where the order is one of which nothing is printed.
+abbrev pub IsReported : Order → List ℕ → Outcome → List ℕ → List Entry → Type 0
+IsReported order bytes outcome said entries =
+    MatchBool (is_silent order) (IsPlainEnd outcome outs.Report said [] entries)
+    (IsPrinted order bytes outcome said entries)
 
 -- How a talk ends: with the report of a good reply, with the result of another, or without a reply.
 abbrev pub EndsWith : Order → Result Waited Failed → List ℕ → Outcome → List ℕ → List Entry → Type 0

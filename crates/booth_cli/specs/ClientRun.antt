@@ -1,8 +1,8 @@
--- The calls of a whole run of booth.
+-- The calls of a whole run of booth or geostore.
 use Rattle.std.specs.Prelude.{◌≡◌, ◌++◌, ℕ, List, [], ◌∷◌, Option, Some, None, Ok, Err, Contains, codes, if◌then◌else◌}
 use Rattle.std.specs.Str.{bytes_eq}
 use Rattle.booth_host.specs.declared.entry.Entry.{Entry}
-use Rattle.booth_cli.specs.declared.program.Program.TheVariants.{Booth}
+use Rattle.booth_cli.specs.declared.program.Program.{Program}
 use Rattle.booth_cli.specs.declared.outcome.Outcome.{Outcome}
 use Rattle.booth_cli.specs.declared.outcome.Outcome.TheVariants.{Usage, BadWord, PrintFault, OutOfMemory, Report, Refused}
 use Rattle.booth_cli.specs.declared.outcome.Outcome.TheVariants.{NoReply}
@@ -28,20 +28,21 @@ passed [] = []
 passed (word ∷ words) = if bytes_eq word (codes "client") then words else word ∷ words
 
 -- the calls up to where the outcome is decided, by what the words ask for
-pub data IsClientMade (words : List (List ℕ)) (outcome : Outcome) (said : List ℕ)
+pub data IsClientMade (program : Program) (words : List (List ℕ)) (outcome : Outcome) (said : List ℕ)
     (entries : List Entry) : Type 0 where
-  Unasked : IsUnasked Booth words outcome said entries → IsClientMade words outcome said entries
-  Talked : (asked : ClientWords) → AsksClient words asked → IsClientLog asked outcome said entries →
-      IsClientMade words outcome said entries
+  Unasked : IsUnasked program words outcome said entries → IsClientMade program words outcome said entries
+  Talked : (asked : ClientWords) → AsksClient program words asked → IsClientLog asked outcome said entries →
+      IsClientMade program words outcome said entries
 
 -- all calls of a run on these words, the last of which says how it ended
-pub record IsClientRun (words : List (List ℕ)) (outcome : Outcome) (entries : List Entry) : Type 0 where
+pub record IsClientRun (program : Program) (words : List (List ℕ)) (outcome : Outcome) (entries : List Entry)
+    : Type 0 where
   pub said : List ℕ
   pub body : List Entry
   pub last : List Entry
   pub whole : entries ≡ body ++ last
-  pub made : IsClientMade words outcome said body
-  pub told : IsText Booth said last
+  pub made : IsClientMade program words outcome said body
+  pub told : IsText program said last
 
 -- ---- over every host
 
@@ -52,18 +53,18 @@ IsAnswered (BadWord word) = ⊥
 IsAnswered outcome = Unit {0}
 
 -- the words ask for a client, whatever they say of it
-pub record AskForClient (words : List (List ℕ)) : Type 0 where
+pub record AskForClient (program : Program) (words : List (List ℕ)) : Type 0 where
   pub asked : ClientWords
-  pub asks : AsksClient words asked
+  pub asks : AsksClient program words asked
 
 -- Usage comes only for words that are not taken, and BadWord exactly where that word is the first refused
-abbrev pub FitsClientWords : List (List ℕ) → Outcome → Type 0
-FitsClientWords words (Usage None) = verb_in Booth words ≡ None
-FitsClientWords words (Usage (Some kind)) = IsUntaken Booth words kind
-FitsClientWords words (BadWord word) = HasBadWord Booth words word
-FitsClientWords words PrintFault = verb_in Booth words ≡ None → ⊥
-FitsClientWords words OutOfMemory = Unit {0}
-FitsClientWords words outcome = AskForClient words
+abbrev pub FitsClientWords : Program → List (List ℕ) → Outcome → Type 0
+FitsClientWords program words (Usage None) = verb_in program words ≡ None
+FitsClientWords program words (Usage (Some kind)) = IsUntaken program words kind
+FitsClientWords program words (BadWord word) = HasBadWord program words word
+FitsClientWords program words PrintFault = verb_in program words ≡ None → ⊥
+FitsClientWords program words OutOfMemory = Unit {0}
+FitsClientWords program words outcome = AskForClient program words
 
 -- ---- where nothing fails
 
@@ -91,6 +92,6 @@ IsTalked outcome = ⊥
 
 -- Valid words, a valid file and key and an outside that does not fail give Report, Refused, NoReply or OutOfMemory.
 abbrev pub FaultlessTalks : Type 0
-FaultlessTalks = (words : List (List ℕ)) (verb : Verb) (outcome : Outcome) (entries : List Entry) →
-    AreValid Booth words verb → IsClientRun words outcome entries →
-    ((asked : ClientWords) → AsksClient words asked → IsUnhindered asked entries) → IsTalked outcome
+FaultlessTalks = (program : Program) (words : List (List ℕ)) (verb : Verb) (outcome : Outcome) (entries : List Entry) →
+    AreValid program words verb → IsClientRun program words outcome entries →
+    ((asked : ClientWords) → AsksClient program words asked → IsUnhindered asked entries) → IsTalked outcome

@@ -6,7 +6,7 @@ use Rattle.clap.specs.declared.builder.action.ArgAction.TheVariants.{Set, SetTru
 use Rattle.booth_cli.specs.declared.command.Verb.{Verb}
 use Rattle.booth_cli.specs.declared.command.Verb.TheVariants as verbs
 use Rattle.booth_cli.specs.declared.program.Program.{Program}
-use Rattle.booth_cli.specs.declared.program.Program.TheVariants.{Boothd, Booth}
+use Rattle.booth_cli.specs.declared.program.Program.TheVariants.{Boothd, Booth, Geostore}
 
 -- an option of this letter, with one value
 abbrev pub option : List ℕ → ℕ → Rule
@@ -23,6 +23,10 @@ flag id letter = record (new_rule id) { short = Some letter; action = Some SetTr
 -- a word by its place, which has to be there
 abbrev pub word : List ℕ → Rule
 word id = needed (record (new_rule id) { action = Some Set; value_names = 1 })
+
+-- the ticket as an option, which has to be there
+abbrev pub ticket_option : Rule
+ticket_option = needed (option (codes "ticket") 116)
 
 -- a command that also takes `--version`
 abbrev pub command_app : List ℕ → App
@@ -46,11 +50,17 @@ app_for verbs.Grant =
     with_rule (with_rule (with_rule (with_rule (client_app (codes "grant")) (word (codes "ticket")))
     (flag (codes "wait") 119)) (flag (codes "commit") 67)) (flag (codes "immediate") 70)
 app_for verbs.Revoke = with_rule (with_rule (client_app (codes "revoke")) (word (codes "ticket"))) (flag (codes "wait") 119)
+app_for verbs.SetAttribute =
+    with_rule (with_rule (with_rule (client_app (codes "set")) ticket_option) (word (codes "name"))) (word (codes "value"))
+app_for verbs.GetAttribute = with_rule (with_rule (client_app (codes "get")) ticket_option) (word (codes "name"))
+app_for verbs.DeleteAttribute = with_rule (with_rule (client_app (codes "delete")) ticket_option) (word (codes "name"))
+app_for verbs.ListAttributes = with_rule (client_app (codes "list")) ticket_option
 
 -- the name of a program, with which each of its lines begins
 abbrev pub name_of : Program → List ℕ
 name_of Boothd = codes "boothd"
 name_of Booth = codes "booth"
+name_of Geostore = codes "geostore"
 
 abbrev pub daemon_verb : List ℕ → Option Verb
 daemon_verb word =
@@ -64,9 +74,17 @@ client_verb word =
     if bytes_eq word (codes "grant") then Some verbs.Grant else
     if bytes_eq word (codes "revoke") then Some verbs.Revoke else None
 
+abbrev pub attribute_verb : List ℕ → Option Verb
+attribute_verb word =
+    if bytes_eq word (codes "set") then Some verbs.SetAttribute else
+    if bytes_eq word (codes "get") then Some verbs.GetAttribute else
+    if bytes_eq word (codes "delete") then Some verbs.DeleteAttribute else
+    if bytes_eq word (codes "list") then Some verbs.ListAttributes else None
+
 abbrev pub verb_named : Program → List ℕ → Option Verb
 verb_named Boothd word = daemon_verb word
 verb_named Booth word = client_verb word
+verb_named Geostore word = attribute_verb word
 
 -- the program's command that the first word names
 abbrev pub verb_in : Program → List (List ℕ) → Option Verb

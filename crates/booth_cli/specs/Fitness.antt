@@ -1,13 +1,13 @@
 -- Whether a daemon can serve a configuration: it has this member, and asks for no part that is not built yet.
-use Rattle.std.specs.Prelude.{◌≡◌, ℕ, Bool, true, false, List, Option, Some, None, is_some, nat_lt}
-use Rattle.std.specs.Prelude.{length, Result, Ok, Err, if◌then◌else◌}
+use Rattle.std.specs.Prelude.{◌≡◌, ℕ, Bool, true, false, List, Option, Some, None, is_some}
+use Rattle.std.specs.Prelude.{Result, Ok, Err, if◌then◌else◌}
 use Rattle.std.specs.List.{list_any}
 use Rattle.booth_base.specs.declared.address.Address.{Address}
 use Rattle.booth_conf.specs.Config.{ConfigSays}
 use Rattle.booth_conf.specs.Says.{Says}
 use Rattle.booth_conf.specs.Rules.{is_at}
 use Rattle.booth_conf.specs.Keys.{number_of}
-use Rattle.booth_conf.specs.declared.keys.ConfKey.TheVariants.{Mode, BeforeAcquireHandler, AttrPrereq}
+use Rattle.booth_conf.specs.declared.keys.ConfKey.TheVariants.{BeforeAcquireHandler}
 use Rattle.booth_conf.specs.declared.keys.KeyNo.{KeyNo}
 use Rattle.booth_conf.specs.declared.tickets.TicketConf.{TicketConf}
 use Rattle.booth_cli.specs.declared.outcome.Outcome.{Outcome}
@@ -19,21 +19,13 @@ use Rattle.booth_cli.specs.Texts.{not_member_text, unbuilt_text}
 abbrev pub has_member : ConfigSays → Address → Bool
 has_member config address = list_any (is_at address) config.members
 
-abbrev pub is_manual : TicketConf → Bool
-is_manual ticket = ticket.manual
-
 abbrev pub has_handler : TicketConf → Bool
 has_handler ticket = is_some ticket.handler
-
-abbrev pub has_prereqs : TicketConf → Bool
-has_prereqs ticket = nat_lt 0 (length ticket.prereqs.items)
 
 -- the first key that asks for a part which is not built yet
 abbrev pub unbuilt : List TicketConf → Option KeyNo
 unbuilt tickets =
-    if list_any is_manual tickets then Some (number_of Mode) else
-    if list_any has_handler tickets then Some (number_of BeforeAcquireHandler) else
-    if list_any has_prereqs tickets then Some (number_of AttrPrereq) else None
+    if list_any has_handler tickets then Some (number_of BeforeAcquireHandler) else None
 
 -- the text says a configuration that this daemon can serve, and of which it is a member
 pub record IsFit (address : Address) (text : List ℕ) (config : ConfigSays) : Type 0 where

@@ -11,6 +11,8 @@ use Rattle.booth_cli.specs.Commands.{app_for}
 -- the texts of all options and words, and the flags; none where the command does not take one, or it was left out
 pub record Texts : Type 0 where
   pub ticket : Option (List ℕ)
+  pub name : Option (List ℕ)
+  pub value : Option (List ℕ)
   pub site : Option (List ℕ)
   pub turns : Option (List ℕ)
   pub lock : Option (List ℕ)
@@ -28,6 +30,8 @@ is_set text = option_map_or (λ t. bytes_eq t (codes "true")) text false
 abbrev pub texts_in : List Row → Texts
 texts_in rows = record {
   ticket = first_of (codes "ticket") rows;
+  name = first_of (codes "name") rows;
+  value = first_of (codes "value") rows;
   site = first_of (codes "site") rows;
   turns = first_of (codes "turns") rows;
   lock = first_of (codes "lock") rows;
@@ -45,6 +49,8 @@ found_in verb words = texts_in (matches_of (app_for verb) words)
 abbrev pub texts_of : Given → Texts
 texts_of g = record {
   ticket = option_map (λ t. t.now) g.ticket;
+  name = option_map (λ t. t.now) g.name;
+  value = option_map (λ t. t.now) g.value;
   site = option_map (λ t. t.now) g.site;
   turns = option_map (λ t. t.now) g.turns;
   lock = option_map (λ t. t.now) g.lock;
@@ -55,9 +61,18 @@ texts_of g = record {
   immediate = g.immediate;
 }
 
+-- the ticket of an attribute, and its name
+pub record HasAttribute (t : Texts) : Type 0 where
+  pub ticket : is_some t.ticket ≡ true
+  pub name : is_some t.name ≡ true
+
 -- the options that a command has to have are there
 abbrev pub HasNeeded : Verb → Texts → Type 0
 HasNeeded verbs.Daemon t = is_some t.site ≡ true
 HasNeeded verbs.Grant t = is_some t.ticket ≡ true
 HasNeeded verbs.Revoke t = is_some t.ticket ≡ true
+HasNeeded verbs.SetAttribute t = HasAttribute t × (is_some t.value ≡ true)
+HasNeeded verbs.GetAttribute t = HasAttribute t
+HasNeeded verbs.DeleteAttribute t = HasAttribute t
+HasNeeded verbs.ListAttributes t = is_some t.ticket ≡ true
 HasNeeded verb t = Unit {0}

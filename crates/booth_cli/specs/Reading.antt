@@ -6,10 +6,11 @@ use Rattle.std.specs.Prelude.{eqb}
 use Rattle.std.specs.List.{list_any, ends_with}
 use Rattle.booth_base.specs.declared.address.Address.{Address}
 use Rattle.booth_base.specs.Address.{Spells}
-use Rattle.booth_base.specs.Name.{is_name}
+use Rattle.booth_base.specs.Name.{is_name, is_value}
 use Rattle.booth_client.specs.declared.order.Options.{Options}
 use Rattle.booth_cli.specs.declared.outcome.Word.{Word}
 use Rattle.booth_cli.specs.declared.outcome.Word.TheVariants as words
+use Rattle.booth_cli.specs.declared.reading.Named.{Named}
 use Rattle.booth_cli.specs.declared.reading.Read.{Read}
 use Rattle.booth_cli.specs.Given.{Texts}
 
@@ -38,6 +39,10 @@ abbrev pub IsNoName : Option (List ℕ) → Type 0
 IsNoName None = ⊥
 IsNoName (Some text) = is_name text ≡ false
 
+abbrev pub IsNoValue : Option (List ℕ) → Type 0
+IsNoValue None = ⊥
+IsNoValue (Some text) = is_value text ≡ false
+
 abbrev pub IsNoAddress : Option (List ℕ) → Type 0
 IsNoAddress None = ⊥
 IsNoAddress (Some text) = (address : Address) → Spells text address → ⊥
@@ -62,14 +67,15 @@ IsNoNumber low high (Some text) = (n : ℕ) → IsNumber low high text n → ⊥
 
 -- ---- refusals
 
--- The reader of this kind of word refuses. No command takes a name or a value of an attribute yet.
+-- The reader of this kind of word refuses.
 abbrev pub Refuses : Texts → Word → Type 0
 Refuses t words.Ticket = IsNoName t.ticket
+Refuses t words.Name = IsNoName t.name
+Refuses t words.Value = IsNoValue t.value
 Refuses t words.Site = IsNoAddress t.site
 Refuses t words.Number = IsNoNumber 1 (2 ^ 62) t.turns
 Refuses t words.Path = IsNoPath t.lock ⊎ IsNoPath t.records
 Refuses t words.Configuration = 255 < length (conf_path t.conf)
-Refuses t word = ⊥
 
 -- the order in which a refusal is told
 abbrev pub place_of : Word → ℕ
@@ -88,6 +94,7 @@ pub record IsFirstRefused (t : Texts) (word : Word) : Type 0 where
 
 -- ---- what is read
 
+-- the name or the value in a word is its bytes
 abbrev pub HasName : Option (List ℕ) → Option (List ℕ) → Type 0
 HasName None None = Unit {0}
 HasName (Some text) (Some name) = name ≡ text
@@ -111,12 +118,27 @@ HasNumber low high word read = ⊥
 pub record IsRead (t : Texts) (r : Read) : Type 0 where
   pub accepted : (word : Word) → Refuses t word → ⊥
   pub ticket : HasName t.ticket r.ticket
+  pub name : HasName t.name r.name
+  pub value : HasName t.value r.value
   pub options : r.options ≡ options_in t
   pub site : HasAddress t.site r.site
   pub turns : HasNumber 1 (2 ^ 62) t.turns r.turns
   pub lock : r.lock ≡ unwrap_or t.lock default_lock
   pub records : r.records ≡ unwrap_or t.records default_records
   pub conf : r.conf ≡ conf_path t.conf
+
+-- the names and the value were read, or this word is the first that is refused
+pub record AreNamed (t : Texts) (n : Named) : Type 0 where
+  pub ticket : HasName t.ticket n.ticket
+  pub name : HasName t.name n.name
+  pub value : HasName t.value n.value
+  pub no_ticket : Refuses t words.Ticket → ⊥
+  pub no_name : Refuses t words.Name → ⊥
+  pub no_value : Refuses t words.Value → ⊥
+
+abbrev pub Names : Texts → Result Named Word → Type 0
+Names t (Ok n) = AreNamed t n
+Names t (Err word) = IsFirstRefused t word
 
 abbrev pub Reads : Texts → Result Read Word → Type 0
 Reads t (Ok r) = IsRead t r

@@ -11,7 +11,7 @@ use Rattle.booth_auth.specs.declared.key.KeyFault.{KeyFault}
 use Rattle.booth_auth.specs.declared.key.KeyFault.TheVariants as keys
 use Rattle.clap.specs.declared.error.kind.ErrorKind.TheVariants.{DisplayHelp, DisplayVersion}
 use Rattle.booth_cli.specs.declared.program.Program.{Program}
-use Rattle.booth_cli.specs.declared.program.Program.TheVariants.{Boothd, Booth}
+use Rattle.booth_cli.specs.declared.program.Program.TheVariants.{Boothd, Booth, Geostore}
 use Rattle.booth_cli.specs.Commands.{name_of}
 use Rattle.booth_cli.specs.declared.outcome.Word.{Word}
 use Rattle.booth_cli.specs.declared.outcome.Word.TheVariants as words
@@ -27,6 +27,8 @@ usage_text Boothd =
     codes "usage: boothd COMMAND [OPTIONS], with the command daemon or status; see --help behind it, and boothd(8)"
 usage_text Booth =
     codes "usage: booth COMMAND [OPTIONS], with the command list, peers, grant or revoke; see --help behind it"
+usage_text Geostore =
+    codes "usage: geostore COMMAND [OPTIONS], with the command set, get, delete or list; see --help behind it"
 
 abbrev pub bad_word_text : Word → List ℕ
 bad_word_text words.Ticket = codes "bad ticket"

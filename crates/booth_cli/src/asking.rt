@@ -1,13 +1,13 @@
 //! What the words ask for, or why they ask for nothing.
 ghost use Rattle.std.specs.Prelude.{◌≡◌, true, Some, is_some, map, string_bytes};
-ghost use Rattle.booth_cli.specs.Asking.{Asks, HasWords, IsAskedBy, IsDaemonOf, client_of};
+ghost use Rattle.booth_cli.specs.Asking.{Asks, HasOrder, HasWords, IsAskedBy, IsDaemonOf, client_of};
 
 use crate::Word;
 use crate::command::{Verb, verb_in};
 use crate::given::given_words;
 use crate::program::Program;
 use crate::reading::{Read, read_words};
-use booth_base::{Address, Name, PathText};
+use booth_base::{Address, AttrValue, Name, PathText};
 use booth_client::Order;
 use clap::Error;
 use std::alloc::Global;
@@ -98,6 +98,60 @@ fn named_ticket(read: &Read) -> Name
     }
 }
 
+// The attribute that a command names which has to name one.
+fn named_attribute(read: &Read) -> Name
+    requires { is_some read.now.name ≡ true }
+    ensures { Some result ≡ read.now.name }
+{
+    match &read.name {
+        Some(name) => name.copy(),
+        None => unreachable!(),
+    }
+}
+
+// The value that a command says which has to say one.
+fn said_value(read: &Read) -> AttrValue
+    requires { is_some read.now.value ≡ true }
+    ensures { Some result ≡ read.now.value }
+{
+    match &read.value {
+        Some(value) => value.copy(),
+        None => unreachable!(),
+    }
+}
+
+// What a command about attributes asks for whose options say this.
+fn set_attribute(read: &Read) -> Order
+    requires { HasWords Verb.SetAttribute read.now }
+    ensures { HasOrder Verb.SetAttribute read.now result }
+{
+    Order::SetAttribute {
+        ticket: named_ticket(read),
+        name: named_attribute(read),
+        value: said_value(read),
+    }
+}
+
+fn get_attribute(read: &Read) -> Order
+    requires { HasWords Verb.GetAttribute read.now }
+    ensures { HasOrder Verb.GetAttribute read.now result }
+{
+    Order::GetAttribute {
+        ticket: named_ticket(read),
+        name: named_attribute(read),
+    }
+}
+
+fn delete_attribute(read: &Read) -> Order
+    requires { HasWords Verb.DeleteAttribute read.now }
+    ensures { HasOrder Verb.DeleteAttribute read.now result }
+{
+    Order::DeleteAttribute {
+        ticket: named_ticket(read),
+        name: named_attribute(read),
+    }
+}
+
 // What a command asks for whose options say this.
 fn asked_of(verb: Verb, read: Read) -> Asked
     requires { HasWords verb read }
@@ -115,6 +169,13 @@ fn asked_of(verb: Verb, read: Read) -> Asked
         Verb::Revoke => {
             let ticket = named_ticket(&read);
             Asked::Client(client_of(Order::Revoke(ticket, read.options), read))
+        }
+        Verb::SetAttribute => Asked::Client(client_of(set_attribute(&read), read)),
+        Verb::GetAttribute => Asked::Client(client_of(get_attribute(&read), read)),
+        Verb::DeleteAttribute => Asked::Client(client_of(delete_attribute(&read), read)),
+        Verb::ListAttributes => {
+            let ticket = named_ticket(&read);
+            Asked::Client(client_of(Order::ListAttributes(ticket), read))
         }
     }
 }

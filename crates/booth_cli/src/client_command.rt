@@ -19,8 +19,8 @@ fn flag<'a>(alloc: Global, id: &'a str, letter: char, help: &'a str) -> Arg<'a>
         .action(ArgAction::SetTrue)
 }
 
-// A word by its place, which has to be there.
-fn word<'a>(alloc: Global, id: &'a str, value: &'a str, help: &'a str) -> Arg<'a>
+/// A word by its place, which has to be there.
+pub(crate) fn word<'a>(alloc: Global, id: &'a str, value: &'a str, help: &'a str) -> Arg<'a>
     ensures rule { rule_of result ≡ word id.entry.now }
     ensures local { result.global ≡ false }
 {
@@ -69,8 +69,8 @@ fn immediate<'a>(alloc: Global) -> Arg<'a>
     flag(alloc, "immediate", 'F', help)
 }
 
-// A command of a client, with its configuration and the daemon that it asks.
-fn client<'a>(
+/// A command of a client, with its configuration and the daemon that it asks.
+pub(crate) fn client<'a>(
     alloc: Global,
     name: &'a str,
     usage: &str,

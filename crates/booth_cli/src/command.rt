@@ -1,11 +1,12 @@
 //! The commands as `clap` knows them: which options each takes, and what help says of them. Those of the
-//! client stand in a file of their own.
+//! clients stand in files of their own.
 ghost use Rattle.std.specs.Prelude.{◌≡◌, false, IfOk, codes, map, string_bytes};
 ghost use Rattle.clap.specs.Words.{app_of, rule_of};
 ghost use Rattle.booth_cli.specs.declared.command.Verb.{Verb};
 ghost use Rattle.booth_cli.specs.Commands.{option, needed, command_app, member_app, app_for, client_verb};
-ghost use Rattle.booth_cli.specs.Commands.{daemon_verb, verb_in};
+ghost use Rattle.booth_cli.specs.Commands.{attribute_verb, daemon_verb, verb_in};
 
+use crate::attribute_command::{delete, get, list_attributes, set};
 use crate::client_command::{grant, list, peers, revoke};
 use crate::program::Program;
 use clap::{Arg, ArgAction, Command};
@@ -32,6 +33,14 @@ pub(crate) enum Verb {
     Grant,
     /// Has a ticket given back.
     Revoke,
+    /// Gives an attribute a value.
+    SetAttribute,
+    /// Shows the value of an attribute.
+    GetAttribute,
+    /// Takes an attribute away.
+    DeleteAttribute,
+    /// Lists attributes.
+    ListAttributes,
 }
 
 fn daemon_verb(word: &str) -> Option<Verb>
@@ -64,6 +73,24 @@ fn client_verb(word: &str) -> Option<Verb>
     None
 }
 
+fn attribute_verb(word: &str) -> Option<Verb>
+    ensures { result ≡ attribute_verb word.now }
+{
+    if word == "set" {
+        return Some(Verb::SetAttribute);
+    }
+    if word == "get" {
+        return Some(Verb::GetAttribute);
+    }
+    if word == "delete" {
+        return Some(Verb::DeleteAttribute);
+    }
+    if word == "list" {
+        return Some(Verb::ListAttributes);
+    }
+    None
+}
+
 /// The program's command that the first word names.
 pub(crate) fn verb_in(program: Program, words: &[String]) -> Option<Verb>
     ensures { result ≡ verb_in program (map string_bytes words.now) }
@@ -74,6 +101,7 @@ pub(crate) fn verb_in(program: Program, words: &[String]) -> Option<Verb>
     match program {
         Program::Boothd => daemon_verb(first.as_str()),
         Program::Booth => client_verb(first.as_str()),
+        Program::Geostore => attribute_verb(first.as_str()),
     }
 }
 
@@ -195,5 +223,9 @@ pub(crate) fn command<'a>(alloc: Global, verb: Verb) -> Result<Command<'a>, Allo
         Verb::Peers => peers(alloc),
         Verb::Grant => grant(alloc),
         Verb::Revoke => revoke(alloc),
+        Verb::SetAttribute => set(alloc),
+        Verb::GetAttribute => get(alloc),
+        Verb::DeleteAttribute => delete(alloc),
+        Verb::ListAttributes => list_attributes(alloc),
     }
 }

@@ -63,7 +63,7 @@ impl ErrorLine {
     }
 
     /// The whole line: the program's name, and then the text.
-    pub fn spoken(&self, program: Program) -> ArrayVec<u8, 410>
+    pub fn spoken(&self, program: Program) -> ArrayVec<u8, 412>
         ensures { result.items ≡ spoken program self.now }
     {
         let mut line = ArrayVec::new();

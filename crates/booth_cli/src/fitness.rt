@@ -2,7 +2,7 @@
 ghost use Rattle.std.specs.Prelude.{◌≡◌, ℕ, IfErr};
 ghost use Rattle.std.specs.List.{list_any};
 ghost use Rattle.booth_conf.specs.Rules.{is_at};
-ghost use Rattle.booth_cli.specs.Fitness.{has_member, is_manual, has_handler, has_prereqs, unbuilt};
+ghost use Rattle.booth_cli.specs.Fitness.{has_member, has_handler, unbuilt};
 ghost use Rattle.booth_cli.specs.Fitness.{IsAdmitted};
 ghost use Rattle.booth_cli.specs.Serving.{HasBlame, IsServed};
 
@@ -23,36 +23,18 @@ fn has_member(config: &Config, address: &Address) -> bool
     config.members().iter().any(|member| is_at(address, member))
 }
 
-fn any_manual(tickets: &[TicketConf]) -> bool
-    ensures { result ≡ list_any is_manual tickets.now }
-{
-    tickets.iter().any(|ticket| ticket.manual)
-}
-
 fn any_handler(tickets: &[TicketConf]) -> bool
     ensures { result ≡ list_any has_handler tickets.now }
 {
     tickets.iter().any(|ticket| ticket.handler.is_some())
 }
 
-fn any_prereqs(tickets: &[TicketConf]) -> bool
-    ensures { result ≡ list_any has_prereqs tickets.now }
-{
-    tickets.iter().any(|ticket| !ticket.prereqs.is_empty())
-}
-
 // The first key that asks for a part which is not built yet.
 fn unbuilt(tickets: &[TicketConf]) -> Option<KeyNo>
     ensures { result ≡ unbuilt tickets.now }
 {
-    if any_manual(tickets) {
-        return Some(ConfKey::Mode.number());
-    }
     if any_handler(tickets) {
         return Some(ConfKey::BeforeAcquireHandler.number());
-    }
-    if any_prereqs(tickets) {
-        return Some(ConfKey::AttrPrereq.number());
     }
     None
 }

@@ -13,6 +13,8 @@ use std::alloc::Global;
 #[derive(Drop)]
 pub(crate) struct Given<'a> {
     pub ticket: Option<&'a str>,
+    pub name: Option<&'a str>,
+    pub value: Option<&'a str>,
     pub site: Option<&'a str>,
     pub turns: Option<&'a str>,
     pub lock: Option<&'a str>,
@@ -55,6 +57,8 @@ pub(crate) fn given_words<'a>(
     };
     Ok(Given {
         ticket: matches.get_str("ticket"),
+        name: matches.get_str("name"),
+        value: matches.get_str("value"),
         site: matches.get_str("site"),
         turns: matches.get_str("turns"),
         lock: matches.get_str("lock"),

@@ -13,8 +13,8 @@ pub fn faultless_looks()
     ensures { FaultlessLooks }
 {}
 
-/// Valid words, a valid file and key and an outside that does not fail have `booth` give Report, Refused,
-/// NoReply or OutOfMemory.
+/// Valid words, a valid file and key and an outside that does not fail have `booth` and `geostore` give Report,
+/// Refused, NoReply or OutOfMemory.
 pub fn faultless_talks()
     ensures { FaultlessTalks }
 {}

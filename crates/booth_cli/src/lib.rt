@@ -2,6 +2,7 @@
 #![tactic(auto)]
 
 mod asking;
+mod attribute_command;
 mod client;
 mod client_command;
 mod client_run;
@@ -27,6 +28,6 @@ mod texts;
 mod usage;
 
 pub use booth_client::report;
-pub use client_run::{booth, quiet_booth};
+pub use client_run::{booth, geostore, quiet_booth, quiet_geostore};
 pub use outcome::{Outcome, Word};
 pub use run::{boothd, quiet_boothd};

@@ -9,17 +9,20 @@ pub(crate) enum Program {
     Boothd,
     /// The client.
     Booth,
+    /// The client for attributes.
+    Geostore,
 }
 
 impl Program {
     /// The name with which each of its lines begins.
     pub fn name(self) -> &'static str
         ensures name { result.now ≡ name_of self }
-        ensures short { length result.now ≤ 6 }
+        ensures short { length result.now ≤ 8 }
     {
         match self {
             Program::Boothd => "boothd",
             Program::Booth => "booth",
+            Program::Geostore => "geostore",
         }
     }
 }

@@ -5,12 +5,12 @@ ghost use Rattle.std.specs.Prelude.{eqb};
 ghost use Rattle.std.specs.List.{list_any, ends_with};
 ghost use Rattle.booth_cli.specs.Given.{texts_of};
 ghost use Rattle.booth_cli.specs.Reading.{completed, conf_path, default_lock, default_records, HasAddress, HasName, options_in};
-ghost use Rattle.booth_cli.specs.Reading.{HasNumber, IsNoAddress, IsNoName, IsNoNumber, IsNoPath, Reads, Refuses};
+ghost use Rattle.booth_cli.specs.Reading.{HasNumber, IsNoAddress, IsNoName, IsNoNumber, IsNoPath, IsNoValue, Names, Reads, Refuses};
 
 use crate::Word;
 use crate::given::Given;
 use arrayvec::ArrayString;
-use booth_base::{Address, Name, PathText};
+use booth_base::{Address, AttrValue, Name, PathText};
 use booth_client::Options;
 use itoa::Buffer;
 
@@ -27,6 +27,8 @@ const MOST_TURNS: u64 = 1 << 62;
 #[derive(Drop)]
 pub(crate) struct Read {
     pub ticket: Option<Name>,
+    pub name: Option<Name>,
+    pub value: Option<AttrValue>,
     pub options: Options,
     pub site: Option<Address>,
     pub turns: Option<u64>,
@@ -52,6 +54,48 @@ fn name_in(word: Option<&str>) -> Result<Option<Name>, Refused>
         Ok(name) => Ok(Some(name)),
         Err(_) => Err(Refused),
     }
+}
+
+// The value in a word.
+fn value_in(word: Option<&str>) -> Result<Option<AttrValue>, Refused>
+    ensures { MatchResult result (λ value. HasName (option_map (λ t. t.now) word.entry) value
+        × (IsNoValue (option_map (λ t. t.now) word.entry) → ⊥))
+        (λ _. IsNoValue (option_map (λ t. t.now) word.entry)) }
+{
+    let Some(word) = word else {
+        return Ok(None);
+    };
+    match AttrValue::read(word.as_bytes()) {
+        Ok(value) => Ok(Some(value)),
+        Err(_) => Err(Refused),
+    }
+}
+
+/// The ticket and the attribute that words name.
+#[derive(Drop)]
+struct Named {
+    ticket: Option<Name>,
+    name: Option<Name>,
+    value: Option<AttrValue>,
+}
+
+fn names_in(given: &Given) -> Result<Named, Word>
+    ensures { Names (texts_of given.now) result }
+{
+    let Ok(ticket) = name_in(given.ticket) else {
+        return Err(Word::Ticket);
+    };
+    let Ok(name) = name_in(given.name) else {
+        return Err(Word::Name);
+    };
+    let Ok(value) = value_in(given.value) else {
+        return Err(Word::Value);
+    };
+    Ok(Named {
+        ticket,
+        name,
+        value,
+    })
 }
 
 fn address_in(word: Option<&str>) -> Result<Option<Address>, Refused>
@@ -203,8 +247,9 @@ fn options_in(given: &Given) -> Options
 pub(crate) fn read_words(given: &Given) -> Result<Read, Word>
     ensures { Reads (texts_of given.now) result }
 {
-    let Ok(ticket) = name_in(given.ticket) else {
-        return Err(Word::Ticket);
+    let named = match names_in(given) {
+        Ok(named) => named,
+        Err(word) => return Err(word),
     };
     let Ok(site) = address_in(given.site) else {
         return Err(Word::Site);
@@ -219,7 +264,9 @@ pub(crate) fn read_words(given: &Given) -> Result<Read, Word>
         return Err(Word::Configuration);
     };
     Ok(Read {
-        ticket,
+        ticket: named.ticket,
+        name: named.name,
+        value: named.value,
         options: options_in(given),
         site,
         turns,

@@ -4,7 +4,7 @@ ghost use Rattle.booth_host.specs.Past.{GrewSome};
 ghost use Rattle.booth_client.specs.declared.wait.Waited.{Waited};
 ghost use Rattle.booth_client.specs.Talk.{IsHeld};
 ghost use Rattle.booth_cli.specs.Serving.{HasBlame};
-ghost use Rattle.booth_cli.specs.Client.{EndsWith, IsReported, IsTold, is_good};
+ghost use Rattle.booth_cli.specs.Client.{EndsWith, IsPrinted, IsReported, IsTold, is_good};
 ghost use Rattle.booth_cli.specs.ClientRun.{IsAnswered};
 
 use crate::error_line::ErrorLine;
@@ -23,7 +23,7 @@ fn is_good(reply: &Reply) -> bool
 }
 
 // Prints what a good reply says, whose bytes these are.
-fn print_report<H: Host>(
+fn print<H: Host>(
     alloc: Global,
     asking: &Asking,
     reply: &Reply,
@@ -32,7 +32,7 @@ fn print_report<H: Host>(
     host: &mut H,
 ) -> Ended
     requires { IsHeld asking.now (Waited.Came reply.now reading) bytes.now }
-    ensures past { GrewSome (IsReported asking.now.order bytes.now result.outcome result.said)
+    ensures past { GrewSome (IsPrinted asking.now.order bytes.now result.outcome result.said)
         (H.past host.old) (H.past host.new) }
     ensures served { IsAnswered result.outcome }
     ensures blame { HasBlame result.outcome (H.faults host.old) (H.faults host.new) }
@@ -56,6 +56,31 @@ fn print_report<H: Host>(
     }
 }
 
+// Tells what a good reply says, whose bytes these are, where something is printed of it.
+fn report<H: Host>(
+    alloc: Global,
+    asking: &Asking,
+    reply: &Reply,
+    reading: u64,
+    bytes: &[u8],
+    host: &mut H,
+) -> Ended
+    requires { IsHeld asking.now (Waited.Came reply.now reading) bytes.now }
+    ensures past { GrewSome (IsReported asking.now.order bytes.now result.outcome result.said)
+        (H.past host.old) (H.past host.new) }
+    ensures served { IsAnswered result.outcome }
+    ensures blame { HasBlame result.outcome (H.faults host.old) (H.faults host.new) }
+    ensures later { H.faults host.old ≤ H.faults host.new }
+{
+    if asking.order.is_silent() {
+        return Ended {
+            outcome: Outcome::Report,
+            said: ErrorLine::none(),
+        };
+    }
+    print(alloc, asking, reply, reading, bytes, host)
+}
+
 // How a talk ends whose requests were sent; the bytes of the last reply are these.
 fn end<H: Host>(alloc: Global, asking: &Asking, last: &Waited, bytes: &[u8], host: &mut H) -> Ended
     requires { IsHeld asking.now last.now bytes.now }
@@ -68,7 +93,7 @@ fn end<H: Host>(alloc: Global, asking: &Asking, last: &Waited, bytes: &[u8], hos
     match last {
         Waited::Came { reply, reading } => {
             if is_good(reply) {
-                print_report(alloc, asking, reply, *reading, bytes, host)
+                report(alloc, asking, reply, *reading, bytes, host)
             } else {
                 Ended {
                     outcome: Outcome::Refused(reply.result),

@@ -36,6 +36,10 @@ pub(crate) fn usage_text(program: Program) -> ErrorLine
             b"usage: booth COMMAND [OPTIONS], with the command list, peers, grant or revoke; \
             see --help behind it",
         ),
+        Program::Geostore => line_of(
+            b"usage: geostore COMMAND [OPTIONS], with the command set, get, delete or list; \
+            see --help behind it",
+        ),
     }
 }
 

@@ -1,5 +1,5 @@
 -- What a client asks, of whom, and the bytes that ask it.
-use Rattle.std.specs.Prelude.{ℕ, ◌+◌, ◌%◌, ◌^◌, ◌||◌, Bool, false, List, Option, option_map, if◌then◌else◌}
+use Rattle.std.specs.Prelude.{ℕ, ◌+◌, ◌%◌, ◌^◌, ◌||◌, Bool, false, List, [], Option, Some, None, option_map, if◌then◌else◌}
 use Rattle.std.specs.List.{find}
 use Rattle.booth_base.specs.declared.address.MemberId.{MemberId}
 use Rattle.booth_base.specs.declared.address.Peer.{Peer as Place}
@@ -8,9 +8,10 @@ use Rattle.booth_conf.specs.Config.{ConfigSays, has_id}
 use Rattle.booth_conf.specs.declared.members.Member.{Member}
 use Rattle.booth_wire.specs.declared.codes.options.TheConstants.{IMMEDIATE, WAIT, COMMIT}
 use Rattle.booth_wire.specs.declared.command.Cmd.{Cmd}
-use Rattle.booth_wire.specs.declared.command.Cmd.TheVariants.{CLst, Peer, CGnt, CRvk}
+use Rattle.booth_wire.specs.declared.command.Cmd.TheVariants.{CLst, Peer, CGnt, CRvk, ASet, AGet, ADel, ALst}
+use Rattle.booth_wire.specs.declared.message.AttrPart.{AttrPart}
 use Rattle.booth_wire.specs.declared.message.TicketPart.{TicketPart}
-use Rattle.booth_wire.specs.PlainMessage.{PlainMessage, Content, Bare, Ticket}
+use Rattle.booth_wire.specs.PlainMessage.{PlainMessage, Content, Bare, Ticket, Attr}
 use Rattle.booth_auth.specs.Sealed.{sealed, stamped}
 use Rattle.booth_client.specs.declared.order.Asking.{Asking}
 use Rattle.booth_client.specs.declared.order.Options.{Options}
@@ -24,15 +25,18 @@ cmd_of orders.List = CLst
 cmd_of orders.Peers = Peer
 cmd_of (orders.Grant ticket options) = CGnt
 cmd_of (orders.Revoke ticket options) = CRvk
+cmd_of (orders.SetAttribute ticket name value) = ASet
+cmd_of (orders.GetAttribute ticket name) = AGet
+cmd_of (orders.DeleteAttribute ticket name) = ADel
+cmd_of (orders.ListAttributes ticket) = ALst
 
 abbrev pub no_options : Options
 no_options = record { immediate = false; wait = false; commit = false }
 
 abbrev pub order_options : Order → Options
-order_options orders.List = no_options
-order_options orders.Peers = no_options
 order_options (orders.Grant ticket options) = options
 order_options (orders.Revoke ticket options) = options
+order_options order = no_options
 
 -- the outcome is waited for
 abbrev pub is_waiting : Options → Bool
@@ -55,11 +59,19 @@ number_of start = start % 2 ^ 32
 abbrev pub asked_part : List ℕ → TicketPart
 asked_part ticket = record { ticket = ticket; leader = NO_ONE; term = 0; valid_for = 0 }
 
+-- the ticket is named, and the attribute where one is; a value is said by who sets it alone
+abbrev pub asked_attribute : List ℕ → Option (List ℕ) → List ℕ → AttrPart
+asked_attribute ticket name value = record { ticket = ticket; name = name; value = value }
+
 abbrev pub asked_content : Order → Content
 asked_content orders.List = Bare
 asked_content orders.Peers = Bare
 asked_content (orders.Grant ticket options) = Ticket (asked_part ticket)
 asked_content (orders.Revoke ticket options) = Ticket (asked_part ticket)
+asked_content (orders.SetAttribute ticket name value) = Attr (asked_attribute ticket (Some name) value)
+asked_content (orders.GetAttribute ticket name) = Attr (asked_attribute ticket (Some name) [])
+asked_content (orders.DeleteAttribute ticket name) = Attr (asked_attribute ticket (Some name) [])
+asked_content (orders.ListAttributes ticket) = Attr (asked_attribute ticket None [])
 
 -- the message of a request, but for time and MAC
 abbrev pub request : Order → ℕ → PlainMessage

@@ -1,7 +1,7 @@
 -- What is printed of a reply.
-use Rattle.std.specs.Prelude.{◌≡◌, ◌++◌, ◌⊎◌, ◌==◌, ℕ, List, [], Ok, codes, if◌then◌else◌}
+use Rattle.std.specs.Prelude.{◌≡◌, ◌++◌, ◌⊎◌, ◌==◌, ℕ, Bool, true, false, List, [], Ok, codes, if◌then◌else◌}
 use Rattle.booth_wire.specs.declared.codes.results.TheConstants.{ASYN}
-use Rattle.booth_wire.specs.PlainMessage.{PlainMessage, Content, Ticket, Text}
+use Rattle.booth_wire.specs.PlainMessage.{PlainMessage, Content, Ticket, Attr, Text}
 use Rattle.booth_wire.specs.Reading.{decoded}
 use Rattle.booth_client.specs.declared.lines.Form.{Form}
 use Rattle.booth_client.specs.declared.lines.Form.TheVariants as forms
@@ -15,7 +15,7 @@ IsShown form text shown =
     ((of : IsOf form text) × (shown ≡ shown_from form 0 (lines_of of.body)))
     ⊎ ((IsOf form text → ⊥) × (shown ≡ text))
 
--- a reply's text, and its ticket
+-- a reply's text, its ticket, and its attribute's value
 abbrev pub text_in : Content → List ℕ
 text_in (Text text) = text
 text_in content = []
@@ -23,6 +23,10 @@ text_in content = []
 abbrev pub ticket_in : Content → List ℕ
 ticket_in (Ticket part) = part.ticket
 ticket_in content = []
+
+abbrev pub value_in : Content → List ℕ
+value_in (Attr part) = part.value
+value_in content = []
 
 -- it was begun, or it was done
 abbrev pub grant_text : ℕ → List ℕ → List ℕ
@@ -35,12 +39,22 @@ revoke_text result ticket =
     if result == ASYN then codes "revoke of " ++ ticket ++ codes " requested\n"
     else codes "ticket " ++ ticket ++ codes " revoked\n"
 
--- what is printed of a reply to this order
+-- nothing is printed of a good reply
+abbrev pub is_silent : Order → Bool
+is_silent (orders.SetAttribute ticket name value) = true
+is_silent (orders.DeleteAttribute ticket name) = true
+is_silent order = false
+
+-- What is printed of a reply to this order. A value is a line, and attributes are as the daemon lists them.
 abbrev pub IsReport : Order → PlainMessage → List ℕ → Type 0
 IsReport orders.List m report = IsShown forms.List (text_in m.content) report
 IsReport orders.Peers m report = IsShown forms.Peers (text_in m.content) report
 IsReport (orders.Grant ticket options) m report = report ≡ grant_text m.head.result (ticket_in m.content)
 IsReport (orders.Revoke ticket options) m report = report ≡ revoke_text m.head.result (ticket_in m.content)
+IsReport (orders.SetAttribute ticket name value) m report = report ≡ []
+IsReport (orders.GetAttribute ticket name) m report = report ≡ value_in m.content ++ codes "\n"
+IsReport (orders.DeleteAttribute ticket name) m report = report ≡ []
+IsReport (orders.ListAttributes ticket) m report = report ≡ text_in m.content
 
 -- ---- of bytes
 

@@ -1,9 +1,10 @@
 //! What a client asks for, and of whom.
 ghost use Rattle.std.specs.Prelude.{◌≡◌, ◌≤◌};
 ghost use Rattle.booth_client.specs.Asking.{bit, cmd_of, find_peer, is_waiting, options_of, order_options};
+ghost use Rattle.booth_client.specs.Report.{is_silent};
 
 use booth_auth::Key;
-use booth_base::{MemberId, Name, Peer};
+use booth_base::{AttrValue, MemberId, Name, Peer};
 use booth_conf::Config;
 use booth_wire::{Cmd, options};
 
@@ -38,6 +39,24 @@ pub enum Order {
     Grant(Name, Options),
     /// That the ticket is given back.
     Revoke(Name, Options),
+    /// That an attribute of the ticket has this value.
+    SetAttribute {
+        ticket: Name,
+        name: Name,
+        value: AttrValue,
+    },
+    /// The value of an attribute of the ticket.
+    GetAttribute {
+        ticket: Name,
+        name: Name,
+    },
+    /// That an attribute of the ticket is gone.
+    DeleteAttribute {
+        ticket: Name,
+        name: Name,
+    },
+    /// The attributes of the ticket, with their values.
+    ListAttributes(Name),
 }
 
 /// A request, and the cluster that it is made to.
@@ -84,6 +103,21 @@ impl Order {
             Order::Peers => Cmd::Peer,
             Order::Grant(_, _) => Cmd::CGnt,
             Order::Revoke(_, _) => Cmd::CRvk,
+            Order::SetAttribute { .. } => Cmd::ASet,
+            Order::GetAttribute { .. } => Cmd::AGet,
+            Order::DeleteAttribute { .. } => Cmd::ADel,
+            Order::ListAttributes(_) => Cmd::ALst,
+        }
+    }
+
+    /// Whether nothing is printed of a good reply.
+    pub fn is_silent(&self) -> bool
+        ensures { result ≡ is_silent self.now }
+    {
+        match self {
+            Order::SetAttribute { .. } | Order::DeleteAttribute { .. } => true,
+            Order::List | Order::Peers | Order::Grant(_, _) | Order::Revoke(_, _) => false,
+            Order::GetAttribute { .. } | Order::ListAttributes(_) => false,
         }
     }
 
@@ -94,6 +128,8 @@ impl Order {
         match self {
             Order::List | Order::Peers => Options::NONE,
             Order::Grant(_, options) | Order::Revoke(_, options) => *options,
+            Order::SetAttribute { .. } | Order::GetAttribute { .. } => Options::NONE,
+            Order::DeleteAttribute { .. } | Order::ListAttributes(_) => Options::NONE,
         }
     }
 }

@@ -3,7 +3,7 @@ ghost use Rattle.std.specs.Prelude.{◌≡◌, ◌++◌, ℕ, List, codes, IfOk,
 ghost use Rattle.booth_wire.specs.PlainMessage.{content_of, plain_of};
 ghost use Rattle.booth_client.specs.declared.wait.Waited.{Waited};
 ghost use Rattle.booth_client.specs.Talk.{IsHeld};
-ghost use Rattle.booth_client.specs.Report.{IsReport, IsReportOf, IsShown, grant_text, revoke_text, text_in, ticket_in};
+ghost use Rattle.booth_client.specs.Report.{IsReport, IsReportOf, IsShown, grant_text, revoke_text, text_in, ticket_in, value_in};
 
 use crate::lines::{Form, shown_lines};
 use crate::{Asking, Order, Reply};
@@ -26,6 +26,15 @@ fn ticket_in<'m>(body: &'m Body<'_>) -> &'m [u8]
     match body {
         Body::Ticket(part) => part.ticket.bytes(),
         Body::Bare | Body::Attr(_) | Body::Text(_) => &[],
+    }
+}
+
+fn value_in<'m>(body: &'m Body<'_>) -> &'m [u8]
+    ensures { result.now ≡ value_in (content_of body.now) }
+{
+    match body {
+        Body::Attr(part) => part.value.bytes(),
+        Body::Bare | Body::Ticket(_) | Body::Text(_) => &[],
     }
 }
 
@@ -85,7 +94,8 @@ fn revoke_text(alloc: Global, code: u32, ticket: &[u8]) -> Result<ByteText, Allo
 
 /// What is printed of a reply to this order that says that it was done or begun.
 ///
-/// A list of tickets or members is shown line by line, with dates. A text that is none is printed as it is.
+/// A list of tickets or members is shown line by line, with dates. A text that is none is printed as it is, and so is
+/// a list of attributes. A value is a line. Of a set or deleted attribute it is empty.
 pub fn report(alloc: Global, order: &Order, reply: &Message<'_>) -> Result<ByteText, AllocError>
     ensures { IfOk result (λ report. IsReport order.now (plain_of reply.now) report) }
 {
@@ -94,6 +104,9 @@ pub fn report(alloc: Global, order: &Order, reply: &Message<'_>) -> Result<ByteT
         Order::Peers => shown(alloc, Form::Peers, text_in(&reply.body)),
         Order::Grant(_, _) => grant_text(alloc, reply.head.result, ticket_in(&reply.body)),
         Order::Revoke(_, _) => revoke_text(alloc, reply.head.result, ticket_in(&reply.body)),
+        Order::SetAttribute { .. } | Order::DeleteAttribute { .. } => ByteText::new(alloc, b""),
+        Order::GetAttribute { .. } => joined(alloc, "", value_in(&reply.body), "\n"),
+        Order::ListAttributes(_) => ByteText::new(alloc, text_in(&reply.body)),
     }
 }
 

@@ -1,12 +1,12 @@
 //! The request, as it is sent at a moment.
-ghost use Rattle.std.specs.Prelude.{◌≡◌, true};
+ghost use Rattle.std.specs.Prelude.{◌≡◌, true, option_map};
 ghost use Rattle.booth_wire.specs.Command.{kind_of};
-ghost use Rattle.booth_wire.specs.PlainMessage.{content_of, has_text, is_named, kind_in, plain_of};
-ghost use Rattle.booth_client.specs.Asking.{asked_content, asked_part, number_of, request, request_bytes};
+ghost use Rattle.booth_wire.specs.PlainMessage.{Attr, content_of, has_text, is_named, kind_in, plain_of};
+ghost use Rattle.booth_client.specs.Asking.{asked_attribute, asked_content, asked_part, number_of, request, request_bytes};
 
 use crate::{Asking, Order};
-use booth_base::{MemberId, NO_ONE, Name};
-use booth_wire::{Body, Frame, Head, Message, TicketPart};
+use booth_base::{AttrValue, MemberId, NO_ONE, Name};
+use booth_wire::{AttrPart, Body, Frame, Head, Message, TicketPart};
 
 /// The number of the request that is sent at this reading.
 pub(crate) fn number_of(start: u64) -> u32
@@ -26,12 +26,33 @@ fn part_of(ticket: &Name) -> TicketPart
     }
 }
 
+// An attribute of a ticket as it is asked for.
+fn attribute_of(ticket: &Name, name: Option<&Name>, value: AttrValue) -> Body<'static>
+    ensures { content_of result
+        ≡ Attr (asked_attribute ticket.now (option_map (λ n. n.now) name.entry) value) }
+{
+    Body::Attr(AttrPart {
+        ticket: ticket.copy(),
+        name: name.map(Name::copy),
+        value,
+    })
+}
+
 fn body_of(order: &Order) -> Body<'static>
     ensures { content_of result ≡ asked_content order.now }
 {
     match order {
         Order::List | Order::Peers => Body::Bare,
         Order::Grant(ticket, _) | Order::Revoke(ticket, _) => Body::Ticket(part_of(ticket)),
+        Order::SetAttribute {
+            ticket,
+            name,
+            value,
+        } => attribute_of(ticket, Some(name), value.copy()),
+        Order::GetAttribute { ticket, name } | Order::DeleteAttribute { ticket, name } => {
+            attribute_of(ticket, Some(name), AttrValue::default())
+        }
+        Order::ListAttributes(ticket) => attribute_of(ticket, None, AttrValue::default()),
     }
 }
 

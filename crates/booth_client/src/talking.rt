@@ -90,6 +90,8 @@ fn is_revoke(order: &Order) -> bool
     match order {
         Order::Revoke(_, _) => true,
         Order::List | Order::Peers | Order::Grant(_, _) => false,
+        Order::SetAttribute { .. } | Order::GetAttribute { .. } => false,
+        Order::DeleteAttribute { .. } | Order::ListAttributes(_) => false,
     }
 }
 

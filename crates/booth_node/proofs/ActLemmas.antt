@@ -23,6 +23,8 @@ use Rattle.booth_ticket.specs.Waiting.{spare_in, waiting_at}
 use Rattle.booth_node.specs.declared.event.Event.{Event}
 use Rattle.booth_node.specs.declared.node_config.NodeConfig.{NodeConfig}
 use Rattle.booth_node.specs.declared.state.Common.{Common}
+use Rattle.booth_attr.specs.Attributes.{Attributes}
+use Rattle.booth_node.specs.AttributeRequests.{is_ready}
 use Rattle.booth_node.specs.Acting.{Scene, IsKept, IsSaid, IsAskDone, ActsAs}
 use Rattle.booth_node.specs.Counting.{accepted, with_send}
 use Rattle.booth_node.specs.Reaction.{Ask, Keep, IsDone, peer_of, sent_as, sends, lifted, befalls, acts_as, acts}
@@ -190,12 +192,14 @@ pub acted : (node : NodeConfig) (moment place : ℕ) (event : Event) (state : St
     → ((rest : Common → TicketLeft → Deeds Ask State) →
     GrewSome (λ es. Leads (IsDone node.key)
     (lifted node moment name state.common
-    (befalls before (waiting_at state.waiters place) (spare_in state.waiters) event moment) rest) es
+    (befalls before (waiting_at state.waiters place) (spare_in state.waiters)
+    (is_ready node state.attributes place) event moment) rest) es
     (rest common after)) a b)
     → GrewSome (λ es. Leads (IsDone node.key) (acts node moment state place event) es
     (Ends (record {
       tickets = set state.tickets place after.ticket;
       waiters = waiters;
+      attributes = state.attributes;
       common = common;
       last_reading = state.last_reading;
     }))) a b
@@ -205,6 +209,7 @@ acted node moment place event state before after waiters common name a b there n
     (Ends (record {
       tickets = set state.tickets place after.ticket;
       waiters = ws;
+      attributes = state.attributes;
       common = common;
       last_reading = state.last_reading;
     }))) a b) (sym same)
@@ -213,7 +218,8 @@ acted node moment place event state before after waiters common name a b there n
     (Ends (with_ticket state place common after))) a b) (sym there)
     (subst (λ (n : List ℕ). GrewSome (λ es. Leads (IsDone node.key)
     (lifted node moment n state.common
-    (befalls before (waiting_at state.waiters place) (spare_in state.waiters) event moment)
+    (befalls before (waiting_at state.waiters place) (spare_in state.waiters)
+    (is_ready node state.attributes place) event moment)
     (λ c left. Ends (with_ticket state place c left))) es
     (Ends (with_ticket state place common after))) a b) named
     (past (λ c left. Ends (with_ticket state place c left)))))
@@ -245,16 +251,23 @@ said_nowhere x to head part nowhere = (
 )
 
 -- the state at a moment, of its parts
-abbrev pub state_of : List TicketState → List (List Waiter) → Common → ℕ → State
-state_of tickets waiters common moment =
-    record { tickets = tickets; waiters = waiters; common = common; last_reading = moment }
+abbrev pub state_of : List TicketState → List (List Waiter) → Attributes → Common → ℕ → State
+state_of tickets waiters attributes common moment = record {
+  tickets = tickets;
+  waiters = waiters;
+  attributes = attributes;
+  common = common;
+  last_reading = moment;
+}
 
-pub same_state : {ts ts' : List TicketState} {ws ws' : List (List Waiter)} {c c' : Common} (moment : ℕ)
-    → ts' ≡ ts → ws' ≡ ws → c' ≡ c → state_of ts' ws' c' moment ≡ state_of ts ws c moment
-same_state {ts} {ts'} {ws} {ws'} {c} {c'} moment tickets waiters common =
-    ap (λ (x : List TicketState). state_of x ws' c' moment) tickets
-    ∙ ap (λ (x : List (List Waiter)). state_of ts x c' moment) waiters
-    ∙ ap (λ (x : Common). state_of ts ws x moment) common
+pub same_state : {ts ts' : List TicketState} {ws ws' : List (List Waiter)} {all all' : Attributes}
+    {c c' : Common} (moment : ℕ)
+    → ts' ≡ ts → ws' ≡ ws → all' ≡ all → c' ≡ c → state_of ts' ws' all' c' moment ≡ state_of ts ws all c moment
+same_state {ts} {ts'} {ws} {ws'} {all} {all'} {c} {c'} moment tickets waiters attributes common =
+    ap (λ (x : List TicketState). state_of x ws' all' c' moment) tickets
+    ∙ ap (λ (x : List (List Waiter)). state_of ts x all' c' moment) waiters
+    ∙ ap (λ (x : Attributes). state_of ts ws x c' moment) attributes
+    ∙ ap (λ (x : Common). state_of ts ws all x moment) common
 
 -- the same, seen from the state before the sender was counted
 pub heard_so : (node node' : NodeConfig) (moment from place : ℕ) (event : Event) (old new : State)

@@ -1,6 +1,6 @@
 -- What the code's action says of the definition's, and where what is demanded of a ticket comes from.
 use Rattle.std.proofs.Common.{◌≡◌, ◌≢◌, ◌<◌, ℕ, Bool, true, false, List, [], ◌∷◌, length, get_or, refl, sym, ap, ◌∙◌, arith}
-use Rattle.std.specs.Prelude.{Option, Some, None, Result, Ok, Err, ◌==◌, position}
+use Rattle.std.specs.Prelude.{Option, Some, None, Result, Ok, Err, ◌==◌, position, if◌then◌else◌}
 use Rattle.std.proofs.lemmas.List.Quantifiers.{position-Some}
 use Rattle.std.proofs.lemmas.Bool.Decides.{nat_tests}
 use Rattle.booth_base.specs.declared.address.Peer.{Peer}
@@ -25,8 +25,12 @@ use Rattle.booth_ticket.specs.Ticket.{TicketState}
 use Rattle.booth_node.specs.declared.action.Action.TheVariants as made
 use Rattle.booth_node.specs.declared.node_config.NodeConfig.{NodeConfig}
 use Rattle.booth_node.specs.declared.state.Common.{Common}
+use Rattle.booth_node.specs.declared.attributes.AttrRequest.{AttrRequest}
+use Rattle.booth_node.specs.declared.attributes.AttrWish.{AttrWish}
+use Rattle.booth_node.specs.declared.attributes.AttrWish.TheVariants as wishes
 use Rattle.booth_node.specs.Actions.{IsAction}
-use Rattle.booth_node.specs.Reaction.{Action, Drops, Hears, Asks, Answers, Rests, answers, asks, requested, hears, said, routed, demanded, action}
+use Rattle.booth_node.specs.AttributeRequests.{attended_place, attr_answer, attr_request_in, is_at_site}
+use Rattle.booth_node.specs.Reaction.{Action, Drops, Hears, Asks, Attends, Answers, Rests, answers, asks, attends, attended, requested, hears, said, routed, demanded, action}
 use Rattle.booth_node.specs.Replies.{reply_to, request_in}
 
 -- ---- which action the code named
@@ -37,6 +41,7 @@ pub drop_is : (key : Option (List ℕ)) (a : Action) (fault : DropFault) (frame 
 drop_is key (Drops named) fault frame is = ap (λ f. Drops f) (sym is)
 drop_is key (Hears from ticket head part) fault frame is = absurd cc
 drop_is key (Asks ticket request) fault frame is = absurd cc
+drop_is key (Attends place wish) fault frame is = absurd cc
 drop_is key (Answers message) fault frame is = absurd is
 drop_is key Rests fault frame is = absurd is
 
@@ -46,6 +51,7 @@ pub hear_is : (key : Option (List ℕ)) (a : Action) (from ticket : ℕ) (head :
 hear_is key (Drops named) from ticket head part frame is = absurd is
 hear_is key (Hears f t h p) from ticket head part frame is = cc
 hear_is key (Asks t r) from ticket head part frame is = absurd cc
+hear_is key (Attends place wish) from ticket head part frame is = absurd cc
 hear_is key (Answers message) from ticket head part frame is = absurd is
 hear_is key Rests from ticket head part frame is = absurd is
 
@@ -54,14 +60,25 @@ pub ask_is : (key : Option (List ℕ)) (a : Action) (ticket : ℕ) (request : Re
 ask_is key (Drops named) ticket request frame is = absurd is
 ask_is key (Hears f t h p) ticket request frame is = absurd cc
 ask_is key (Asks t r) ticket request frame is = cc
+ask_is key (Attends place wish) ticket request frame is = absurd cc
 ask_is key (Answers message) ticket request frame is = absurd is
 ask_is key Rests ticket request frame is = absurd is
+
+pub attend_is : (key : Option (List ℕ)) (a : Action) (ticket : ℕ) (request : AttrRequest) (frame : List ℕ)
+    → IsAction key a (made.Attend ticket request) frame → a ≡ Attends ticket request
+attend_is key (Drops named) ticket request frame is = absurd is
+attend_is key (Hears f t h p) ticket request frame is = absurd cc
+attend_is key (Asks t r) ticket request frame is = absurd cc
+attend_is key (Attends t r) ticket request frame is = cc
+attend_is key (Answers message) ticket request frame is = absurd is
+attend_is key Rests ticket request frame is = absurd is
 
 pub answer_is : (key : Option (List ℕ)) (a : Action) (frame : List ℕ) → IsAction key a made.Answer frame
     → (message : PlainMessage) × (a ≡ Answers message) × (frame ≡ sealed key message) × Fits message
 answer_is key (Drops named) frame is = absurd is
 answer_is key (Hears f t h p) frame is = absurd cc
 answer_is key (Asks t r) frame is = absurd cc
+answer_is key (Attends place wish) frame is = absurd cc
 answer_is key (Answers message) frame is = (message, refl, is.0, is.1)
 answer_is key Rests frame is = absurd is
 
@@ -70,6 +87,7 @@ pub rest_is : (key : Option (List ℕ)) (a : Action) (frame : List ℕ) → IsAc
 rest_is key (Drops named) frame is = absurd is
 rest_is key (Hears f t h p) frame is = absurd cc
 rest_is key (Asks t r) frame is = absurd cc
+rest_is key (Attends place wish) frame is = absurd cc
 rest_is key (Answers message) frame is = absurd is
 rest_is key Rests frame is = refl
 
@@ -158,12 +176,27 @@ asks_no : (found : Option ℕ) (request : Request) (other : Action) (from ticket
 asks_no None request other from ticket h p never is = never is
 asks_no (Some place) request other from ticket h p never is = cc
 
+attends_no : (found : Option ℕ) (request : AttrRequest) (other : Action) (from ticket : ℕ) (h : Head)
+    (p : TicketPart)
+    → (other ≡ Hears from ticket h p → ⊥) → attends found request other ≡ Hears from ticket h p → ⊥
+attends_no None request other from ticket h p never is = never is
+attends_no (Some place) request other from ticket h p never is = cc
+
+attended_no : (node : NodeConfig) (found : Option AttrRequest) (other : Action) (from ticket : ℕ) (h : Head)
+    (p : TicketPart)
+    → (other ≡ Hears from ticket h p → ⊥) → attended node found other ≡ Hears from ticket h p → ⊥
+attended_no node None other from ticket h p never is = never is
+attended_no node (Some request) other from ticket h p never is =
+    attends_no (attended_place node request.ticket) request other from ticket h p never is
+
 requested_no : (node : NodeConfig) (moment : ℕ) (tickets : List TicketState) (common : Common)
     (message : PlainMessage)
     (found : Option (TicketPart × Request)) (from ticket : ℕ) (h : Head) (p : TicketPart)
     → requested node moment tickets common message found ≡ Hears from ticket h p → ⊥
 requested_no node moment tickets common message None from ticket h p is =
-    answers_no node.key moment (reply_to node moment tickets common message) from ticket h p is
+    attended_no node (attr_request_in message)
+    (answers node.key moment (reply_to node moment tickets common message)) from ticket h p
+    (answers_no node.key moment (reply_to node moment tickets common message) from ticket h p) is
 requested_no node moment tickets common message (Some found) from ticket h p is =
     asks_no (position (is_called found.0.ticket) node.config.tickets) found.1
     (answers node.key moment (reply_to node moment tickets common message)) from ticket h p
@@ -217,12 +250,26 @@ answers_asks_no : (key : Option (List ℕ)) (moment : ℕ) (reply : Option Plain
 answers_asks_no key moment None ticket r is = cc
 answers_asks_no key moment (Some reply) ticket r is = cc
 
+attends_asks_no : (found : Option ℕ) (request : AttrRequest) (other : Action) (ticket : ℕ) (r : Request)
+    → (other ≡ Asks ticket r → ⊥) → attends found request other ≡ Asks ticket r → ⊥
+attends_asks_no None request other ticket r never is = never is
+attends_asks_no (Some place) request other ticket r never is = cc
+
+attended_asks_no : (node : NodeConfig) (found : Option AttrRequest) (other : Action) (ticket : ℕ)
+    (r : Request)
+    → (other ≡ Asks ticket r → ⊥) → attended node found other ≡ Asks ticket r → ⊥
+attended_asks_no node None other ticket r never is = never is
+attended_asks_no node (Some request) other ticket r never is =
+    attends_asks_no (attended_place node request.ticket) request other ticket r never is
+
 requested_there : (node : NodeConfig) (moment : ℕ) (tickets : List TicketState) (common : Common)
     (message : PlainMessage)
     (found : Option (TicketPart × Request)) (ticket : ℕ) (r : Request)
     → requested node moment tickets common message found ≡ Asks ticket r → ticket < length node.config.tickets
 requested_there node moment tickets common message None ticket r is =
-    absurd (answers_asks_no node.key moment (reply_to node moment tickets common message) ticket r is)
+    absurd (attended_asks_no node (attr_request_in message)
+    (answers node.key moment (reply_to node moment tickets common message)) ticket r
+    (answers_asks_no node.key moment (reply_to node moment tickets common message) ticket r) is)
 requested_there node moment tickets common message (Some found) ticket r is =
     asks_there node found.0.ticket (position (is_called found.0.ticket) node.config.tickets) found.1 r
     (answers node.key moment (reply_to node moment tickets common message)) ticket refl
@@ -269,3 +316,104 @@ pub asked_there : (node : NodeConfig) (moment : ℕ) (tickets : List TicketState
 asked_there node moment tickets common sender bytes ticket r is =
     demanded_there node moment tickets common sender (verdict node.config node.key node.me moment bytes)
     ticket r is
+
+-- ---- a ticket whose attributes a client asks of
+
+pub place_at_site : (node : NodeConfig) (name : List ℕ) (site : Bool) (ticket : ℕ)
+    → (if site then position (is_called name) node.config.tickets else None) ≡ Some ticket
+    → ticket < length node.config.tickets
+place_at_site node name true ticket is = ticket_below node.config.tickets name ticket is
+place_at_site node name false ticket is = absurd cc
+
+attends_there : (node : NodeConfig) (found : Option ℕ) (request r : AttrRequest) (other : Action)
+    (ticket : ℕ)
+    → attended_place node request.ticket ≡ found → (other ≡ Attends ticket r → ⊥)
+    → attends found request other ≡ Attends ticket r → ticket < length node.config.tickets
+attends_there node None request r other ticket called never is = absurd (never is)
+attends_there node (Some place) request r other ticket called never is =
+    let same : place ≡ ticket = cc in
+    place_at_site node request.ticket (is_at_site node) ticket
+    (called ∙ ap (λ (n : ℕ). Some n) same)
+
+attended_at : (node : NodeConfig) (found : Option AttrRequest) (other : Action) (ticket : ℕ)
+    (r : AttrRequest)
+    → (other ≡ Attends ticket r → ⊥) → attended node found other ≡ Attends ticket r
+    → ticket < length node.config.tickets
+attended_at node None other ticket r never is = absurd (never is)
+attended_at node (Some request) other ticket r never is =
+    attends_there node (attended_place node request.ticket) request r other ticket refl never is
+
+answers_attends_no : (key : Option (List ℕ)) (moment : ℕ) (reply : Option PlainMessage) (ticket : ℕ)
+    (r : AttrRequest)
+    → answers key moment reply ≡ Attends ticket r → ⊥
+answers_attends_no key moment None ticket r is = cc
+answers_attends_no key moment (Some reply) ticket r is = cc
+
+asks_attends_no : (found : Option ℕ) (request : Request) (other : Action) (ticket : ℕ) (r : AttrRequest)
+    → (other ≡ Attends ticket r → ⊥) → asks found request other ≡ Attends ticket r → ⊥
+asks_attends_no None request other ticket r never is = never is
+asks_attends_no (Some place) request other ticket r never is = cc
+
+requested_at : (node : NodeConfig) (moment : ℕ) (tickets : List TicketState) (common : Common)
+    (message : PlainMessage)
+    (found : Option (TicketPart × Request)) (ticket : ℕ) (r : AttrRequest)
+    → requested node moment tickets common message found ≡ Attends ticket r
+    → ticket < length node.config.tickets
+requested_at node moment tickets common message None ticket r is =
+    attended_at node (attr_request_in message)
+    (answers node.key moment (reply_to node moment tickets common message)) ticket r
+    (answers_attends_no node.key moment (reply_to node moment tickets common message) ticket r) is
+requested_at node moment tickets common message (Some found) ticket r is =
+    absurd (asks_attends_no (position (is_called found.0.ticket) node.config.tickets) found.1
+    (answers node.key moment (reply_to node moment tickets common message)) ticket r
+    (answers_attends_no node.key moment (reply_to node moment tickets common message) ticket r) is)
+
+hears_attends_no : (m t : Option ℕ) (head : Head) (part : TicketPart) (ticket : ℕ) (r : AttrRequest)
+    → hears m t head part ≡ Attends ticket r → ⊥
+hears_attends_no None t head part ticket r is = cc
+hears_attends_no (Some m) None head part ticket r is = cc
+hears_attends_no (Some m) (Some t) head part ticket r is = cc
+
+said_attends_no : (node : NodeConfig) (head : Head) (content : Content) (ticket : ℕ) (r : AttrRequest)
+    → said node head content ≡ Attends ticket r → ⊥
+said_attends_no node head (Ticket part) ticket r is =
+    hears_attends_no (position (has_id head.from) node.config.members)
+    (position (is_called part.ticket) node.config.tickets)
+    head part ticket r is
+said_attends_no node head Bare ticket r is = cc
+said_attends_no node head (Attr part) ticket r is = cc
+said_attends_no node head (Text text) ticket r is = cc
+
+routed_at : (node : NodeConfig) (moment : ℕ) (tickets : List TicketState) (common : Common) (sender : Peer)
+    (message : PlainMessage) (d : Direction) (ticket : ℕ) (r : AttrRequest)
+    → routed node moment tickets common sender message d ≡ Attends ticket r
+    → ticket < length node.config.tickets
+routed_at node moment tickets common sender message ToDaemon ticket r is =
+    requested_at node moment tickets common message (request_in sender message) ticket r is
+routed_at node moment tickets common sender message BetweenMembers ticket r is =
+    absurd (said_attends_no node message.head message.content ticket r is)
+routed_at node moment tickets common sender message ToClient ticket r is = absurd cc
+
+demanded_at : (node : NodeConfig) (moment : ℕ) (tickets : List TicketState) (common : Common)
+    (sender : Peer)
+    (v : Result PlainMessage DropFault) (ticket : ℕ) (r : AttrRequest)
+    → demanded node moment tickets common sender v ≡ Attends ticket r → ticket < length node.config.tickets
+demanded_at node moment tickets common sender (Err fault) ticket r is = absurd cc
+demanded_at node moment tickets common sender (Ok message) ticket r is =
+    routed_at node moment tickets common sender message (direction_of message.head.cmd) ticket r is
+
+-- what a client asks of attributes is about one of the configuration's tickets
+pub attended_there : (node : NodeConfig) (moment : ℕ) (tickets : List TicketState) (common : Common)
+    (sender : Peer) (bytes : List ℕ)
+    (ticket : ℕ) (r : AttrRequest) → action node moment tickets common sender bytes ≡ Attends ticket r
+    → ticket < length node.config.tickets
+attended_there node moment tickets common sender bytes ticket r is =
+    demanded_at node moment tickets common sender (verdict node.config node.key node.me moment bytes)
+    ticket r is
+
+-- what answers a request about attributes is no member's command
+pub attr_to_client : (wish : AttrWish) → direction_of (attr_answer wish) ≡ BetweenMembers → ⊥
+attr_to_client (wishes.Set pair) e = cc
+attr_to_client (wishes.Get pair) e = cc
+attr_to_client (wishes.Delete pair) e = cc
+attr_to_client wishes.List e = cc

@@ -5,7 +5,7 @@ use Rattle.std.specs.List.{All}
 use Rattle.std.proofs.lemmas.List.{length-replicate}
 use Rattle.std.proofs.lemmas.Option.{slice_get_cases}
 use Rattle.booth_base.specs.declared.address.Peer.{Peer}
-use Rattle.booth_base.specs.Tree.{Ends, Leads, next}
+use Rattle.booth_base.specs.Tree.{Ends, Does, Leads, next}
 use Rattle.booth_conf.specs.Lookups.{is_called}
 use Rattle.booth_wire.specs.declared.command.Direction.{Direction}
 use Rattle.booth_wire.specs.declared.command.Direction.TheVariants.{ToDaemon, ToClient, BetweenMembers}
@@ -20,7 +20,7 @@ use Rattle.booth_host.specs.declared.entry.Entry.TheVariants as calls
 use Rattle.booth_host.specs.declared.host.Arrival.{Arrival}
 use Rattle.booth_host.specs.declared.host.Arrival.TheVariants as arrivals
 use Rattle.booth_host.specs.declared.host.Failed.{Failed}
-use Rattle.booth_raft.specs.Messages.{head_of, state_part}
+use Rattle.booth_raft.specs.Messages.{head_of}
 use Rattle.booth_ticket.specs.declared.request.Request.{Request}
 use Rattle.booth_ticket.specs.declared.waiters.Waiter.{Waiter}
 use Rattle.booth_ticket.specs.Acts.{Act}
@@ -32,14 +32,15 @@ use Rattle.booth_node.specs.declared.event.Event.TheVariants.{Due, Heard, Asked}
 use Rattle.booth_node.specs.declared.node.Turn.{Turn}
 use Rattle.booth_node.specs.declared.node.Turn.TheVariants.{Went, Stopped}
 use Rattle.booth_node.specs.declared.node_config.NodeConfig.{NodeConfig}
+use Rattle.booth_node.specs.AttributeRequests.{attr_letter, is_ready}
 use Rattle.booth_node.specs.Calls.{IsAmong, ReachesWaiters}
 use Rattle.booth_node.specs.Counting.{accepted, dropped}
 use Rattle.booth_node.specs.Laws.{IsSettled, NobodyIsForgotten, NothingRests, OpensWithItsTickets, KeepsItsTickets, DropsAlone, CountsEachFault, drops_by, drops_after, IsReplyTo, ClientsAreAnswered, asked_by, request_let_in, request_of, OthersAreNotAnswered}
 use Rattle.booth_node.specs.Opening.{AreSetUp, start_reading}
-use Rattle.booth_node.specs.Reaction.{Action, Drops, Hears, Asks, Answers, Rests, IsDone, action, acts, acts_as, arrived, demanded, due_places, dues, each_due, met, react, sent_as, turn_end}
+use Rattle.booth_node.specs.Reaction.{Action, Drops, Hears, Asks, Attends, Answers, Rests, Send, IsDone, action, after_attending, acts, acts_as, arrived, demanded, due_places, dues, each_due, met, react, sent_as, turn_end}
 use Rattle.booth_node.specs.State.{State}
 use Rattle.booth_node.proofs.ActionLemmas.{ticket_below}
-use Rattle.booth_node.proofs.ComesLemmas.{Comes, IsAnsweredAtOnce, IsAsked, IsHeard, comes}
+use Rattle.booth_node.proofs.ComesLemmas.{Comes, IsAnsweredAtOnce, IsAsked, IsAttended, IsHeard, comes}
 use Rattle.booth_node.proofs.DueLemmas.{Each, all_of_each}
 use Rattle.booth_node.proofs.PathLemmas.{Seen, Split, at_end, is_send, seen_parts, split}
 use Rattle.booth_node.proofs.StayLemmas.{AllFewer, AllRemember, Stays, acted_at, acted_remember, acted_set_up, acted_undropped, acts_stay, all_among, as_many, dues_stay, each_fewer, remember_on, set_up_at, started_set_up, stays_here}
@@ -81,6 +82,9 @@ module _ (node : NodeConfig) (moment : ℕ) where
       acts_set_up (accepted state member moment) ticket (Heard member head part) es after set_up leads
   met_set_up state from (Asks ticket request) es after set_up leads =
       acts_set_up state ticket (Asked request) es after set_up leads
+  met_set_up state from (Attends ticket request) [] after set_up leads = absurd cc
+  met_set_up state from (Attends ticket request) (e ∷ es) after set_up leads =
+      (stays_here node (after_attending state ticket request) after es set_up leads.2).set_up
   met_set_up state from (Answers letter) [] after set_up leads = absurd cc
   met_set_up state from (Answers letter) (e ∷ es) after set_up leads =
       (stays_here node state after es set_up leads.2).set_up
@@ -131,6 +135,8 @@ settled node from letter a (IsAnsweredAtOnce to reply is replies) = subst (λ (x
 settled node from letter a (IsAsked to place request is part named same_from same_number answer) =
     subst (λ (x : Action). IsSettled node x) (sym is)
     (ticket_below node.config.tickets part.ticket place named)
+settled node from letter a (IsAttended to place request is below number answer) =
+    subst (λ (x : Action). IsSettled node x) (sym is) below
 settled node from letter a (IsHeard to member place part is content known named) =
     subst (λ (x : Action). IsSettled node x) (sym is) (known, named)
 
@@ -215,6 +221,16 @@ module _ (node : NodeConfig) (moment : ℕ) where
       acts_undropped state place (Asked request) es after
       (subst (λ (x : Action). Leads (IsDone node.key) (met node moment state from x) es (Ends after)) is
       leads)
+  let_in_undropped state from letter a es after (IsAttended to place request is below number answer) leads =
+      sent es (subst (λ (x : Action). Leads (IsDone node.key) (met node moment state from x) es
+      (Ends after)) is leads)
+    where
+      sent : (es : List Entry)
+          → Leads (IsDone node.key) (met node moment state from (Attends place request)) es (Ends after)
+          → after.common.drops ≡ state.common.drops
+      sent [] leads = absurd cc
+      sent (e ∷ es) leads = ap (λ (s : State). s.common.drops)
+          (at_end (IsDone node.key) (after_attending state place request) after es leads.2).1
   let_in_undropped state from letter a es after (IsHeard to member place part is content known named) leads =
       acts_undropped (accepted state member moment) place (Heard member letter.head part) es after
       (subst (λ (x : Action). Leads (IsDone node.key) (met node moment state from x) es (Ends after)) is
@@ -271,13 +287,14 @@ record Answered (node : NodeConfig) (state : State) (from : Peer) (letter : Plai
 
 module _ (node : NodeConfig) (moment : ℕ) (state : State) (from : Peer) (letter : PlainMessage)
     (set_up : AreSetUp node state) where
-  answered_once : (reply : PlainMessage) (es : List Entry) (after : State) → IsReplyTo node letter reply
-      → Leads (IsDone node.key) (met node moment state from (Answers reply)) es (Ends after)
+  answered_once : (reply : PlainMessage) (mid : State) (es : List Entry) (after : State)
+      → IsReplyTo node letter reply → AreSetUp node mid
+      → Leads (IsDone node.key) (Does (Send from reply) (λ ok. Ends mid)) es (Ends after)
       → Answered node state from letter es after
-  answered_once reply [] after replies leads = absurd cc
-  answered_once reply (e ∷ es) after replies leads =
+  answered_once reply mid [] after replies mid_set_up leads = absurd cc
+  answered_once reply mid (e ∷ es) after replies mid_set_up leads =
       let sent = is_send node.key from reply leads.0 e leads.1 in
-      let over = at_end (IsDone node.key) state after es leads.2 in
+      let over = at_end (IsDone node.key) mid after es leads.2 in
       record {
         before = [];
         reply = reply;
@@ -285,7 +302,7 @@ module _ (node : NodeConfig) (moment : ℕ) (state : State) (from : Peer) (lette
         whole = ap (λ (l : List Entry). e ∷ l) over.0 ∙ ap (λ (x : Entry). x ∷ []) sent.1;
         replies = replies;
         among = tt;
-        set_up = subst (λ (s : State). AreSetUp node s) (sym over.1) set_up;
+        set_up = subst (λ (s : State). AreSetUp node s) (sym over.1) mid_set_up;
       }
 
   answered_so : (place : ℕ) (request : Request) (ticket : TicketState) (es : List Entry) (after : State)
@@ -297,11 +314,10 @@ module _ (node : NodeConfig) (moment : ℕ) (state : State) (from : Peer) (lette
   answered_so place request ticket es after same_from same_number answer there leads =
       let acted = acted_at node moment state place (Asked request) ticket es after there leads in
       let waiters : List Waiter = waiting_at state.waiters place in
-      let says : Replies ticket.setup waiters acted.left.waiters request (reply_cmd request.wish) moment
-      acted.did =
-      asked_replied ticket acted.left waiters (spare_in state.waiters) moment acted.did request acted.leads in
-      let last : Act = reply_act ticket.setup request (reply_cmd request.wish) says.result says.view moment
-      says.ok in
+      let says : Replies ticket.setup waiters acted.left.waiters request (reply_cmd request.wish) acted.did =
+      asked_replied ticket acted.left waiters (spare_in state.waiters) (is_ready node state.attributes place)
+      moment acted.did request acted.leads in
+      let last : Act = reply_act ticket.setup request (reply_cmd request.wish) says.result says.part says.ok in
       let own : ticket.setup.me ≡ node.me = ap (λ (s : Setup). s.me)
       (set_up_at node state place ticket set_up there).2 in
       let parts =
@@ -309,7 +325,7 @@ module _ (node : NodeConfig) (moment : ℕ) (state : State) (from : Peer) (lette
       (subst (λ (l : List Act). Seen node moment ticket.setup.ticket l es) says.whole acted.seen) in
       let reply : PlainMessage =
       sent_as node moment (head_of ticket.setup (reply_cmd request.wish) request.number 0 0 says.result)
-      (state_part ticket.setup says.view moment) in
+      says.part in
       let sent = parts.4.1 in
       record {
         before = parts.0;
@@ -350,12 +366,18 @@ module _ (node : NodeConfig) (moment : ℕ) (state : State) (from : Peer) (lette
       → Leads (IsDone node.key) (met node moment state from a) es (Ends after)
       → Answered node state from letter es after
   answered a es after asks (IsAnsweredAtOnce to reply is replies) leads =
-      answered_once reply es after replies
+      answered_once reply state es after replies set_up
       (subst (λ (x : Action). Leads (IsDone node.key) (met node moment state from x) es (Ends after)) is
       leads)
   answered a es after asks (IsAsked to place request is part named same_from same_number answer) leads =
       let it = ticket_there place part.ticket named in
       answered_so place request it.0 es after same_from same_number answer it.1
+      (subst (λ (x : Action). Leads (IsDone node.key) (met node moment state from x) es (Ends after)) is
+      leads)
+  answered a es after asks (IsAttended to place request is below number answer) leads =
+      answered_once (attr_letter node moment state.attributes place request)
+      (after_attending state place request) es after
+      (record { cmd = answer; request = number; options = refl; reason = refl; from = refl }) set_up
       (subst (λ (x : Action). Leads (IsDone node.key) (met node moment state from x) es (Ends after)) is
       leads)
   answered a es after asks (IsHeard to member place part is content known named) leads = absurd
@@ -412,11 +434,13 @@ module _ (node : NodeConfig) (moment : ℕ) (state : State) (set_up : AreSetUp n
   unasked_stays from letter a es after none
       (IsAsked to place request is part named same_from same_number answer) leads =
       absurd (asks_nothing (direction_of letter.head.cmd) letter none to)
+  unasked_stays from letter a es after none (IsAttended to place request is below number answer) leads =
+      absurd (asks_nothing (direction_of letter.head.cmd) letter none to)
   unasked_stays from letter a es after none (IsHeard to member place part is content known named) leads =
       quiet_by (accepted state member moment) es after refl
       (acts_stay node moment (accepted state member moment) place (Heard member letter.head part) es after
-      (λ ticket left waiters spare did leads.
-      heard_among ticket left waiters spare moment did member letter.head part leads)
+      (λ ticket left waiters spare ready did leads.
+      heard_among ticket left waiters spare ready moment did member letter.head part leads)
       set_up
       (subst (λ (x : Action). Leads (IsDone node.key) (met node moment state from x) es (Ends after)) is
       leads))
@@ -481,8 +505,8 @@ module _ (node : NodeConfig) (moment : ℕ) (state : State) (set_up : AreSetUp n
       by_ticket (Some ticket) is =
           let acted = acted_at node moment state place (Asked request) ticket es after is leads in
           acted_remember node moment state place (Asked request) ticket es after set_up is acted
-          (asked_replied ticket acted.left (waiting_at state.waiters place) (spare_in state.waiters) moment
-          acted.did request acted.leads).remembers
+          (asked_replied ticket acted.left (waiting_at state.waiters place) (spare_in state.waiters)
+          (is_ready node state.attributes place) moment acted.did request acted.leads).remembers
 
   met_remember : (from : Peer) (a : Action) (es : List Entry) (after : State)
       → Leads (IsDone node.key) (met node moment state from a) es (Ends after) → Kept es after
@@ -490,9 +514,14 @@ module _ (node : NodeConfig) (moment : ℕ) (state : State) (set_up : AreSetUp n
       (stays_here node (dropped state fault) after es set_up leads).remember
   met_remember from (Hears member ticket head part) es after leads =
       (acts_stay node moment (accepted state member moment) ticket (Heard member head part) es after
-      (λ t left waiters spare did l. heard_among t left waiters spare moment did member head part l) set_up
+      (λ t left waiters spare ready did l.
+      heard_among t left waiters spare ready moment did member head part l) set_up
       leads).remember
   met_remember from (Asks ticket request) es after leads = asks_remember ticket request es after leads
+  met_remember from (Attends ticket request) [] after leads = absurd cc
+  met_remember from (Attends ticket request) (e ∷ es) after leads = λ place w h.
+      inl (subst (λ (s : State). IsAmong w (waiting_at s.waiters place))
+      (sym (at_end (IsDone node.key) (after_attending state ticket request) after es leads.2).1) h)
   met_remember from (Answers letter) [] after leads = absurd cc
   met_remember from (Answers letter) (e ∷ es) after leads = λ place w h.
       inl (subst (λ (s : State). IsAmong w (waiting_at s.waiters place))

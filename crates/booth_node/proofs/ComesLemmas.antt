@@ -1,5 +1,5 @@
 -- What a message that was let in comes to.
-use Rattle.std.proofs.Common.{◌≡◌, ℕ, true, false, List, Option, Some, None, Result, Ok, Err, refl, sym, ap, subst, ◌∙◌}
+use Rattle.std.proofs.Common.{◌≡◌, ◌<◌, ℕ, true, false, List, length, Option, Some, None, Result, Ok, Err, refl, sym, ap, subst, ◌∙◌}
 use Rattle.std.specs.Prelude.{ok_or, option_map, position, is_some, not}
 use Rattle.booth_base.specs.declared.address.Peer.{Peer as Sender}
 use Rattle.booth_conf.specs.Config.{has_id}
@@ -13,7 +13,7 @@ use Rattle.booth_wire.specs.declared.message.FrameFault.{FrameFault}
 use Rattle.booth_wire.specs.declared.message.FrameFault.TheVariants as faults
 use Rattle.booth_wire.specs.declared.message.TicketPart.{TicketPart}
 use Rattle.booth_wire.specs.Command.{kind_of, direction_of, answer_of}
-use Rattle.booth_wire.specs.PlainMessage.{Content, Ticket, Attr, PlainMessage}
+use Rattle.booth_wire.specs.PlainMessage.{Content, Bare, Ticket, Attr, Text, PlainMessage}
 use Rattle.booth_wire.specs.Layout.{field_at}
 use Rattle.booth_wire.specs.Reading.{◌>>=◌, name_in, value_in, head_read, body_read, ticket_with, ticket_in, attr_with, content_in, decoded}
 use Rattle.booth_auth.specs.Verdict.{is_stranger, may_come_from, names_no_ticket, part_of_member, member_part, verdict}
@@ -24,8 +24,14 @@ use Rattle.booth_ticket.specs.declared.request.Wish.TheVariants.{Grant, Revoke}
 use Rattle.booth_ticket.specs.Ticket.{TicketState}
 use Rattle.booth_node.specs.declared.node_config.NodeConfig.{NodeConfig}
 use Rattle.booth_node.specs.declared.state.Common.{Common}
-use Rattle.booth_node.specs.Replies.{Reply, text_for, no_ticket, no_attribute, reply_with, reply_letter, reply_to, request_in, request_of, wish_of}
-use Rattle.booth_node.specs.Reaction.{Action, Hears, Asks, Answers, answers, asks, hears, requested, routed, said, demanded, action}
+use Rattle.booth_wire.specs.declared.message.Head.{Head}
+use Rattle.booth_node.specs.declared.attributes.AttrRequest.{AttrRequest}
+use Rattle.booth_node.specs.declared.attributes.AttrWish.{AttrWish}
+use Rattle.booth_node.specs.declared.attributes.AttrWish.TheVariants as wishes
+use Rattle.booth_node.specs.AttributeRequests.{attended_place, attr_answer, attr_request_in, attr_request_of, attr_wish, is_at_site}
+use Rattle.booth_node.proofs.ActionLemmas.{place_at_site}
+use Rattle.booth_node.specs.Replies.{Reply, text_for, no_ticket, no_attribute, no_attribute_of, reply_with, reply_letter, reply_to, request_in, request_of, wish_of}
+use Rattle.booth_node.specs.Reaction.{Action, Hears, Asks, Attends, Answers, answers, asks, attends, attended, hears, requested, routed, said, demanded, action}
 use Rattle.booth_node.specs.Laws.{IsReplyTo}
 use Rattle.booth_ticket.specs.Requests.{reply_cmd}
 
@@ -81,27 +87,56 @@ ticket_part bytes c read =
     let t = mapped (ticket_with bytes) (name_in (field_at 0 64 bytes)) c read in
     (_, sym t.2)
 
-attr_reply_with : (ticket name value : Option (List ℕ)) (c : Content) →
-    attr_with ticket (option_map (λ text. Some text) name) value ≡ Some c → HasReply (no_attribute c)
-attr_reply_with None name value c read = absurd cc
-attr_reply_with (Some ticket) None value c read = absurd cc
-attr_reply_with (Some ticket) (Some name) None c read = absurd cc
-attr_reply_with (Some ticket) (Some name) (Some value) c read =
+-- an attribute command's content is an attribute's part, and all but a list name it
+abbrev IsAttr : Content → Type 0
+IsAttr content = (part : AttrPart) × (content ≡ Attr part)
+
+abbrev IsNamedAttr : Content → Type 0
+IsNamedAttr content = (part : AttrPart) × (name : List ℕ) × (content ≡ Attr part) × (part.name ≡ Some name)
+
+attr_part : (ticket : Option (List ℕ)) (name : Option (Option (List ℕ))) (value : Option (List ℕ))
+    (c : Content) → attr_with ticket name value ≡ Some c → IsAttr c
+attr_part None name value c read = absurd cc
+attr_part (Some ticket) None value c read = absurd cc
+attr_part (Some ticket) (Some name) None c read = absurd cc
+attr_part (Some ticket) (Some name) (Some value) c read =
+    let part : AttrPart = record { ticket = ticket; name = name; value = value } in
+    let is : Attr part ≡ c = cc in
+    (part, sym is)
+
+named_part_with : (ticket name value : Option (List ℕ)) (c : Content) →
+    attr_with ticket (option_map (λ text. Some text) name) value ≡ Some c → IsNamedAttr c
+named_part_with None name value c read = absurd cc
+named_part_with (Some ticket) None value c read = absurd cc
+named_part_with (Some ticket) (Some name) None c read = absurd cc
+named_part_with (Some ticket) (Some name) (Some value) c read =
     let part : AttrPart = record { ticket = ticket; name = Some name; value = value } in
     let is : Attr part ≡ c = cc in
-    (_, ap no_attribute (sym is))
+    (part, name, sym is, refl)
 
-attr_reply : (bytes : List ℕ) (c : Content) →
+named_part : (bytes : List ℕ) (c : Content) →
     attr_with (name_in (field_at 0 64 bytes))
     (option_map (λ text. Some text) (name_in (field_at 64 64 bytes)))
-    (value_in (field_at 128 128 bytes)) ≡ Some c → HasReply (no_attribute c)
-attr_reply bytes c read =
-    attr_reply_with (name_in (field_at 0 64 bytes)) (name_in (field_at 64 64 bytes))
+    (value_in (field_at 128 128 bytes)) ≡ Some c → IsNamedAttr c
+named_part bytes c read =
+    named_part_with (name_in (field_at 0 64 bytes)) (name_in (field_at 64 64 bytes))
     (value_in (field_at 128 128 bytes)) c read
+
+-- a command that wishes nothing of attributes asks nothing of them
+asks_no_attribute : (head : Head) (c : Content)
+    → ((name : Option (List ℕ)) (value : List ℕ) → attr_wish head.cmd name value ≡ None)
+    → attr_request_of head c ≡ None
+asks_no_attribute head (Attr part) none =
+    ap (λ (w : Option AttrWish). option_map (λ wish. record { ticket = part.ticket; number = head.request; wish = wish }) w)
+    (none part.name part.value)
+asks_no_attribute head Bare none = refl
+asks_no_attribute head (Ticket part) none = refl
+asks_no_attribute head (Text text) none = refl
 
 -- ---- what it comes to
 
--- A client's message is answered at once or asked of a ticket, and a member's is heard by its ticket.
+-- A client's message is answered at once, or asked of a ticket or of its attributes, and a member's is heard by its
+-- ticket.
 pub data Comes (node : NodeConfig) (from : Sender) (letter : PlainMessage) (a : Action) : Type 0 where
   IsAnsweredAtOnce : direction_of letter.head.cmd ≡ ToDaemon → (reply : PlainMessage) → a ≡ Answers reply
       → IsReplyTo node letter reply → Comes node from letter a
@@ -109,6 +144,9 @@ pub data Comes (node : NodeConfig) (from : Sender) (letter : PlainMessage) (a : 
       → (part : TicketPart) → position (is_called part.ticket) node.config.tickets ≡ Some place
       → request.from ≡ from → request.number ≡ letter.head.request
       → answer_of letter.head.cmd ≡ Some (reply_cmd request.wish) → Comes node from letter a
+  IsAttended : direction_of letter.head.cmd ≡ ToDaemon → (place : ℕ) (request : AttrRequest)
+      → a ≡ Attends place request → place < length node.config.tickets → request.number ≡ letter.head.request
+      → answer_of letter.head.cmd ≡ Some (attr_answer request.wish) → Comes node from letter a
   IsHeard : direction_of letter.head.cmd ≡ BetweenMembers → (member place : ℕ) (part : TicketPart)
       → a ≡ Hears member place letter.head part → letter.content ≡ Ticket part
       → position (has_id letter.head.from) node.config.members ≡ Some member
@@ -133,13 +171,53 @@ module _ (node : NodeConfig) (moment : ℕ) (tickets : List TicketState) (common
   -- a request that is about no ticket goes to none
   unasked : (cmd out : Cmd) → letter.head.cmd ≡ cmd → answer_of cmd ≡ Some out → direction_of cmd ≡ ToDaemon
       → wish_of cmd ≡ None
+      → ((name : Option (List ℕ)) (value : List ℕ) → attr_wish cmd name value ≡ None)
       → HasReply (reply_with (text_for node moment tickets common cmd) cmd letter.content)
       → Comes node from letter Routed
-  unasked cmd out is answer to none found =
+  unasked cmd out is answer to none no_wish found =
       at_once cmd out is answer to found
       (ap (λ d. routed node moment tickets common from letter d) (ap direction_of is ∙ to)
       ∙ ap (λ w. requested node moment tickets common letter (request_of from letter.head w letter.content))
-      (ap wish_of is ∙ none))
+      (ap wish_of is ∙ none)
+      ∙ ap (λ r. attended node r (answers node.key moment (reply_to node moment tickets common letter)))
+      (asks_no_attribute letter.head letter.content
+      (λ name value. ap (λ (k : Cmd). attr_wish k name value) is ∙ no_wish name value)))
+
+  -- a request about attributes is attended to, or answered at once
+  attends_of : (cmd : Cmd) (part : AttrPart) (wish : AttrWish) → letter.head.cmd ≡ cmd
+      → direction_of cmd ≡ ToDaemon → wish_of cmd ≡ None → letter.content ≡ Attr part
+      → attr_wish cmd part.name part.value ≡ Some wish → answer_of cmd ≡ Some (attr_answer wish)
+      → HasReply (reply_with (text_for node moment tickets common cmd) cmd letter.content)
+      → Comes node from letter Routed
+  attends_of cmd part wish is to none content wished answer found =
+      by_place (attended_place node part.ticket) refl
+    where
+      once : Action
+      once = answers node.key moment (reply_to node moment tickets common letter)
+
+      with_wish : AttrWish → AttrRequest
+      with_wish w = record { ticket = part.ticket; number = letter.head.request; wish = w }
+
+      asked : attr_request_in letter ≡ Some (with_wish wish)
+      asked =
+          ap (λ (c : Content). attr_request_of letter.head c) content
+          ∙ ap (λ (k : Cmd). option_map with_wish (attr_wish k part.name part.value)) is
+          ∙ ap (λ (w : Option AttrWish). option_map with_wish w) wished
+
+      routes : (o : Option ℕ) → attended_place node part.ticket ≡ o
+          → Routed ≡ attends o (with_wish wish) once
+      routes o e =
+          ap (λ d. routed node moment tickets common from letter d) (ap direction_of is ∙ to)
+          ∙ ap (λ w. requested node moment tickets common letter (request_of from letter.head w letter.content))
+          (ap wish_of is ∙ none)
+          ∙ ap (λ r. attended node r once) asked
+          ∙ ap (λ o. attends o (with_wish wish) once) e
+
+      by_place : (o : Option ℕ) → attended_place node part.ticket ≡ o → Comes node from letter Routed
+      by_place None e = at_once cmd (attr_answer wish) is answer to found (routes None e)
+      by_place (Some place) e =
+          IsAttended (ap direction_of is ∙ to) place (with_wish wish) (routes (Some place) e)
+          (place_at_site node part.ticket (is_at_site node) place e) refl (ap answer_of is ∙ answer)
 
   asks_of : (cmd : Cmd) (request : Request) → letter.head.cmd ≡ cmd → direction_of cmd ≡ ToDaemon
       → (part : TicketPart) → request_in from letter ≡ Some (part, request)
@@ -166,10 +244,15 @@ module _ (node : NodeConfig) (moment : ℕ) (tickets : List TicketState) (common
           IsAsked (ap direction_of is ∙ to) place request (routes (Some place) e) part e same_from same_number
           (ap answer_of is ∙ answer)
 
+  repeats : (part : AttrPart) (name : List ℕ) → letter.content ≡ Attr part → part.name ≡ Some name
+      → HasReply (no_attribute letter.content)
+  repeats part name content named =
+      (_, ap no_attribute content ∙ ap (λ n. no_attribute_of part n) named)
+
   client_comes : (cmd : Cmd) → letter.head.cmd ≡ cmd → direction_of cmd ≡ ToDaemon → IsRead cmd letter.content
       → Comes node from letter Routed
-  client_comes CLst is to read = unasked CLst RLst is refl refl refl (_, refl)
-  client_comes Peer is to read = unasked Peer RPer is refl refl refl (_, refl)
+  client_comes CLst is to read = unasked CLst RLst is refl refl refl (λ name value. refl) (_, refl)
+  client_comes Peer is to read = unasked Peer RPer is refl refl refl (λ name value. refl) (_, refl)
   client_comes CGnt is to read =
       let it = ticket_part read.0 letter.content read.1 in
       asks_of CGnt
@@ -192,10 +275,21 @@ module _ (node : NodeConfig) (moment : ℕ) (tickets : List TicketState) (common
       }) is refl it.0
       (ap (λ w. request_of from letter.head w letter.content) (ap wish_of is)
       ∙ ap (λ c. request_of from letter.head (Some Revoke) c) it.1) refl (_, ap no_ticket it.1) refl refl
-  client_comes ASet is to read = unasked ASet RAtr is refl refl refl (attr_reply read.0 letter.content read.1)
-  client_comes AGet is to read = unasked AGet RAtr is refl refl refl (attr_reply read.0 letter.content read.1)
-  client_comes ADel is to read = unasked ADel RAtr is refl refl refl (attr_reply read.0 letter.content read.1)
-  client_comes ALst is to read = unasked ALst RALs is refl refl refl (_, refl)
+  client_comes ASet is to read =
+      let it = named_part read.0 letter.content read.1 in
+      attends_of ASet it.0 (wishes.Set (record { name = it.1; value = it.0.value })) is refl refl it.2
+      (ap (λ name. attr_wish ASet name it.0.value) it.3) refl (repeats it.0 it.1 it.2 it.3)
+  client_comes AGet is to read =
+      let it = named_part read.0 letter.content read.1 in
+      attends_of AGet it.0 (wishes.Get (record { name = it.1; value = it.0.value })) is refl refl it.2
+      (ap (λ name. attr_wish AGet name it.0.value) it.3) refl (repeats it.0 it.1 it.2 it.3)
+  client_comes ADel is to read =
+      let it = named_part read.0 letter.content read.1 in
+      attends_of ADel it.0 (wishes.Delete (record { name = it.1; value = it.0.value })) is refl refl it.2
+      (ap (λ name. attr_wish ADel name it.0.value) it.3) refl (repeats it.0 it.1 it.2 it.3)
+  client_comes ALst is to read =
+      let it = attr_part _ _ _ letter.content read.1 in
+      attends_of ALst it.0 wishes.List is refl refl it.1 refl refl (_, refl)
   client_comes RLst is to read = absurd cc
   client_comes RPer is to read = absurd cc
   client_comes RALs is to read = absurd cc

@@ -10,6 +10,7 @@ pub mod DueLemmas
 pub mod TurnLemmas
 pub mod StartLemmas
 pub mod PathLemmas
+pub mod ManualTalkLemmas
 pub mod TalkLemmas
 pub mod StayLemmas
 pub mod ComesLemmas

@@ -44,12 +44,14 @@ use Rattle.booth_node.specs.Calls.{ArrivalDoes, KeepsFirst}
 use Rattle.booth_node.specs.Counting.{accepted}
 use Rattle.booth_node.specs.Completeness.{GrantsAskAll, MajoritiesGain, RoundsAreAnswered, grant_of}
 use Rattle.booth_node.specs.Opening.{AreSetUp}
+use Rattle.booth_conf.specs.declared.tickets.GrantKind.TheVariants.{Manual}
+use Rattle.booth_node.specs.AttributeRequests.{is_ready}
 use Rattle.booth_node.specs.Reaction.{Action, Hears, Asks, IsDone, action, acts, answers as answers_with, asks, befalls, demanded, dues, met, peer_at, peer_of, requested, routed}
 use Rattle.booth_node.specs.Replies.{reply_to, request_of, wish_of}
 use Rattle.booth_node.specs.State.{State}
 use Rattle.booth_node.proofs.ActionLemmas.{place_below}
 use Rattle.booth_node.proofs.ClientLemmas.{Parts, at_moment, parts_of}
-use Rattle.booth_node.proofs.ComesLemmas.{Comes, IsAnsweredAtOnce, IsAsked, IsHeard, comes}
+use Rattle.booth_node.proofs.ComesLemmas.{Comes, IsAnsweredAtOnce, IsAsked, IsAttended, IsHeard, comes}
 use Rattle.booth_node.proofs.DueLemmas.{Each}
 use Rattle.booth_node.proofs.PathLemmas.{ActFirst, HasPeer, HavePeers, SaidFirst, Seen, are_calls, at_end, one_call}
 use Rattle.booth_node.proofs.StayLemmas.{Acted, acted_at, as_many, set_up_at}
@@ -214,7 +216,7 @@ pub lifted_done : (node : NodeConfig) (old new state : State) (moment place : �
     → Type 0) (entries first later : List Entry)
     (mid : State)
     → befalls (record { setup = setup; known = Automatic view }) (waiting_at state.waiters place)
-    (spare_in state.waiters) event moment ≡ by_rules setup deeds
+    (spare_in state.waiters) (is_ready node state.attributes place) event moment ≡ by_rules setup deeds
     → slice_get state.tickets place ≡ Some (record { setup = setup; known = Automatic view })
     → place < length state.waiters
     → Says node says → IsDoneBy deeds (kept tried true ∷ says) Holds → KeepsFirst entries
@@ -288,6 +290,9 @@ heard_by node from letter a place part between content named (IsAnsweredAtOnce t
     absurd (differ (direction_of letter.head.cmd) to between)
 heard_by node from letter a place part between content named
     (IsAsked to p request is q at same_from same answer) =
+    absurd (differ (direction_of letter.head.cmd) to between)
+heard_by node from letter a place part between content named
+    (IsAttended to p request is below number answer) =
     absurd (differ (direction_of letter.head.cmd) to between)
 heard_by node from letter a place part between content named (IsHeard to member p q is has known at) =
     let one : q ≡ part = same_part q part (sym has ∙ content) in
@@ -376,6 +381,7 @@ pub grants : GrantsAskAll
 grants node old new moment from letter entries place part setup view set_up turn about cmd none few well =
     let state : State = at_moment old moment in
     let request : Request = grant_of from letter in
+    let ready : Bool = is_ready node old.attributes place Manual in
     let parts : Parts node old moment (Ok (arrivals.Datagram from)) turn.bytes entries new =
     parts_of node old new moment (Ok (arrivals.Datagram from)) turn.bytes entries turn.deeds in
     let once : Action = answers_with node.key moment (reply_to node moment old.tickets old.common letter) in
@@ -391,11 +397,13 @@ grants node old new moment from letter entries place part setup view set_up turn
     let many : setup.members ≡ length node.config.members = all_members node old place setup view set_up
     about.there in
     lifted_done node old new state moment place (Asked request) setup view
-    (wish setup view (waiting_at old.waiters place) (spare_in old.waiters) request Grant moment) _ _ _ entries
+    (wish setup view (waiting_at old.waiters place) (spare_in old.waiters) ready request Grant moment) _ _ _
+    entries
     parts.first parts.later parts.mid refl about.there (listed node old place setup view set_up about.there)
     (says_joined node (said_to_each (others setup) _ _) (said (Client from) _ _ ∷ [])
     (says_others node setup _ _ many) ((refl, refl), tt))
-    (asks_everyone setup view (waiting_at old.waiters place) (spare_in old.waiters) request moment none few)
+    (asks_everyone setup view (waiting_at old.waiters place) (spare_in old.waiters) ready request moment none
+    few)
     well parts.whole
     (subst (λ (a : Action). Leads (IsDone node.key) (met node moment state from a) parts.first
     (Ends parts.mid)) to parts.to_mid)

@@ -10,9 +10,9 @@ use Rattle.booth_node.specs.Ours.{IsOurs}
 use Rattle.booth_conf.specs.declared.tickets.TicketConf.{TicketConf}
 use Rattle.booth_rec.specs.declared.record.Record.{Record}
 use Rattle.booth_rec.specs.Record.{record_or_none}
-use Rattle.booth_ticket.specs.Ticket.{TicketState, opened}
+use Rattle.booth_ticket.specs.Ticket.{TicketState}
 use Rattle.booth_node.specs.declared.node_config.NodeConfig.{NodeConfig}
-use Rattle.booth_node.specs.Opening.{setup_of, started_from}
+use Rattle.booth_node.specs.Opening.{opened_by, setup_of, started_from}
 
 -- one ticket more
 pub started_more : (node : NodeConfig) (now first i : ℕ) (tickets : List TicketConf)
@@ -20,54 +20,54 @@ pub started_more : (node : NodeConfig) (now first i : ℕ) (tickets : List Ticke
     (t : TicketConf) (r : Option Record) → i < length tickets → i < length records
     → started_from node now first (take (i + 1) tickets) (take (i + 1) records)
     ≡ started_from node now first (take i tickets) (take i records)
-    ++ opened (setup_of node (first + i) (get_or tickets i t)) (record_or_none (get_or records i r)) now ∷ []
+    ++ opened_by (get_or tickets i t) (setup_of node (first + i) (get_or tickets i t)) (record_or_none (get_or records i r)) now ∷ []
 started_more node now first i [] records t r below below_records = absurd (omega (arith, below))
 started_more node now first i (x ∷ tickets) [] t r below below_records = absurd (omega (arith, below_records))
 started_more node now first zero (x ∷ tickets) (y ∷ records) t r below below_records =
-    ap (λ (n : ℕ). opened (setup_of node n x) (record_or_none y) now ∷ []) (omega arith)
+    ap (λ (n : ℕ). opened_by x (setup_of node n x) (record_or_none y) now ∷ []) (omega arith)
 started_more node now first (suc i) (x ∷ tickets) (y ∷ records) t r below below_records =
     let one : suc i + 1 ≡ suc (i + 1) = omega arith in
     let at : first + 1 + i ≡ first + suc i = omega arith in
-    let here : TicketState = opened (setup_of node first x) (record_or_none y) now in
+    let here : TicketState = opened_by x (setup_of node first x) (record_or_none y) now in
     ap (λ (n : ℕ). started_from node now first (take n (x ∷ tickets)) (take n (y ∷ records))) one
     ∙ ap (λ (ts : List TicketState). here ∷ ts)
     (started_more node now (first + 1) i tickets records t r (omega (arith, below))
     (omega (arith, below_records)))
     ∙ ap (λ (n : ℕ). here ∷ started_from node now (first + 1) (take i tickets) (take i records)
-    ++ opened (setup_of node n (get_or tickets i t)) (record_or_none (get_or records i r)) now ∷ []) at
+    ++ opened_by (get_or tickets i t) (setup_of node n (get_or tickets i t)) (record_or_none (get_or records i r)) now ∷ []) at
 
 pub start_next : (node : NodeConfig) (now i : ℕ) (confs : List TicketConf) (records : List (Option Record))
     (t : TicketConf)
     (r : Option Record) (items items' : List TicketState) (new : TicketState) → i < length confs
     → i < length records
     → items ≡ started_from node now 0 (take i confs) (take i records) → items' ≡ items ++ new ∷ []
-    → new ≡ opened (setup_of node i (get_or confs i t)) (record_or_none (get_or records i r)) now
+    → new ≡ opened_by (get_or confs i t) (setup_of node i (get_or confs i t)) (record_or_none (get_or records i r)) now
     → items' ≡ started_from node now 0 (take (i + 1) confs) (take (i + 1) records)
 start_next node now i confs records t r items items' new below below_records so_far longer is =
     longer
     ∙ ap (λ (ts : List TicketState). ts ++ new ∷ []) so_far
     ∙ ap (λ (s : TicketState). started_from node now 0 (take i confs) (take i records) ++ s ∷ []) is
     ∙ ap (λ (n : ℕ). started_from node now 0 (take i confs) (take i records)
-    ++ opened (setup_of node n (get_or confs i t)) (record_or_none (get_or records i r)) now ∷ [])
+    ++ opened_by (get_or confs i t) (setup_of node n (get_or confs i t)) (record_or_none (get_or records i r)) now ∷ [])
     (omega arith)
     ∙ sym (started_more node now 0 i confs records t r below below_records)
 
 pub opened_is : (node : NodeConfig) (now i : ℕ) (conf conf' : TicketConf) (r r' : Option Record) (s : Setup)
     (new : TicketState)
-    → new ≡ opened s (record_or_none r) now → s ≡ setup_of node i conf → conf ≡ conf' → r ≡ r'
-    → new ≡ opened (setup_of node i conf') (record_or_none r') now
+    → new ≡ opened_by conf s (record_or_none r) now → s ≡ setup_of node i conf → conf ≡ conf' → r ≡ r'
+    → new ≡ opened_by conf' (setup_of node i conf') (record_or_none r') now
 opened_is node now i conf conf' r r' s new is setup same same_record =
     is
-    ∙ ap (λ (x : Setup). opened x (record_or_none r) now) (setup
-    ∙ ap (λ (x : TicketConf). setup_of node i x) same)
-    ∙ ap (λ (x : Option Record). opened (setup_of node i conf') (record_or_none x) now) same_record
+    ∙ ap (λ (x : Setup). opened_by conf x (record_or_none r) now) setup
+    ∙ ap (λ (x : TicketConf). opened_by x (setup_of node i x) (record_or_none r) now) same
+    ∙ ap (λ (x : Option Record). opened_by conf' (setup_of node i conf') (record_or_none x) now) same_record
 
 some_place : (o : Option ℕ) → IsSome o → o ≡ Some (unwrap_or o 0)
 some_place None some = absurd cc
 some_place (Some place) some = refl
 
 pub ours_one : (node : NodeConfig) (now i : ℕ) (conf : TicketConf) (rec : Record) (new : TicketState)
-    → IsSome (position (has_id node.me) node.config.members) → new ≡ opened (setup_of node i conf) rec now
+    → IsSome (position (has_id node.me) node.config.members) → new ≡ opened_by conf (setup_of node i conf) rec now
     → IsOurs node.me node.config.members new
 ours_one node now i conf rec new some is =
     subst (λ (t : TicketState). IsOurs node.me node.config.members t) (sym is)

@@ -6,6 +6,7 @@ use Rattle.std.proofs.lemmas.Option.{get_or_from_slice_get}
 use Rattle.std.proofs.lemmas.List.{length-map, length-set}
 use Rattle.booth_base.specs.declared.address.Peer.{Peer}
 use Rattle.booth_base.specs.Tree.{Ends, Leads}
+use Rattle.booth_conf.specs.declared.tickets.GrantKind.{GrantKind}
 use Rattle.booth_conf.specs.declared.tickets.TicketConf.{TicketConf}
 use Rattle.booth_rec.specs.declared.record.Record.{Record}
 use Rattle.booth_wire.specs.declared.message.Head.{Head}
@@ -28,6 +29,7 @@ use Rattle.booth_node.specs.declared.node_config.NodeConfig.{NodeConfig}
 use Rattle.booth_node.specs.declared.state.Common.{Common}
 use Rattle.booth_node.specs.Calls.{IsAmong, IsToldIn, ReachesWaiters}
 use Rattle.booth_node.specs.Opening.{AreSetUp, setup_of, setups_from, started_from}
+use Rattle.booth_node.specs.AttributeRequests.{is_ready}
 use Rattle.booth_node.specs.Reaction.{IsDone, acts, acts_as, befalls, dues, due_places, each_due, peer_of, sent_as}
 use Rattle.booth_node.specs.State.{State, with_ticket}
 use Rattle.booth_node.proofs.DueLemmas.{Each}
@@ -330,7 +332,8 @@ pub record Acted (node : NodeConfig) (moment : ℕ) (state : State) (place : ℕ
   pub left : TicketLeft
   pub common : Common
   pub leads : Leads IsAct
-      (befalls ticket (waiting_at state.waiters place) (spare_in state.waiters) event moment) did (Ends left)
+      (befalls ticket (waiting_at state.waiters place) (spare_in state.waiters)
+      (is_ready node state.attributes place) event moment) did (Ends left)
   pub seen : Seen node moment ticket.setup.ticket did es
   pub undropped : common.drops ≡ state.common.drops
   pub is : after ≡ with_ticket state place common left
@@ -343,7 +346,8 @@ pub acted_at : (node : NodeConfig) (moment : ℕ) (state : State) (place : ℕ) 
 acted_at node moment state place event ticket es after there leads =
     let p =
     path_of node moment ticket.setup.ticket (λ common left. with_ticket state place common left) after
-    (befalls ticket (waiting_at state.waiters place) (spare_in state.waiters) event moment) state.common es
+    (befalls ticket (waiting_at state.waiters place) (spare_in state.waiters)
+    (is_ready node state.attributes place) event moment) state.common es
     (subst (λ (o : Option TicketState). Leads (IsDone node.key) (acts_as node moment state place event o) es
     (Ends after)) there leads) in
     record {
@@ -363,8 +367,8 @@ pub acted_set_up : (node : NodeConfig) (moment : ℕ) (state : State) (place : �
 acted_set_up node moment state place event ticket es after set_up there acted =
     subst (λ (s : State). AreSetUp node s) (sym acted.is)
     (set_up_kept node state place ticket acted.left acted.common set_up there
-    (setup_stays ticket acted.left (waiting_at state.waiters place) (spare_in state.waiters) moment acted.did
-    event acted.leads))
+    (setup_stays ticket acted.left (waiting_at state.waiters place) (spare_in state.waiters)
+    (is_ready node state.attributes place) moment acted.did event acted.leads))
 
 pub acted_undropped : (node : NodeConfig) (moment : ℕ) (state : State) (place : ℕ) (event : Event)
     (ticket : TicketState)
@@ -397,8 +401,9 @@ acted_remember node moment state place event ticket es after set_up is acted rem
 -- what befalls a ticket reaches members and those that wait for it alone
 abbrev pub TalksAmong : Event → ℕ → Type 0
 TalksAmong event moment =
-    (ticket : TicketState) (left : TicketLeft) (waiters : List Waiter) (spare : ℕ) (did : List Act)
-    → Leads IsAct (befalls ticket waiters spare event moment) did (Ends left)
+    (ticket : TicketState) (left : TicketLeft) (waiters : List Waiter) (spare : ℕ)
+    (ready : GrantKind → Bool) (did : List Act)
+    → Leads IsAct (befalls ticket waiters spare ready event moment) did (Ends left)
     → Tells ticket.setup waiters left.waiters did
 
 pub acts_stay : (node : NodeConfig) (moment : ℕ) (state : State) (place : ℕ) (event : Event)
@@ -417,8 +422,8 @@ acts_stay node moment state place event es after talks set_up leads = by_ticket
         let acted = acted_at node moment state place event ticket es after is leads in
         let own = set_up_at node state place ticket set_up is in
         let told =
-        talks ticket acted.left (waiting_at state.waiters place) (spare_in state.waiters) acted.did
-        acted.leads in
+        talks ticket acted.left (waiting_at state.waiters place) (spare_in state.waiters)
+        (is_ready node state.attributes place) acted.did acted.leads in
         record {
           set_up = acted_set_up node moment state place event ticket es after set_up is acted;
           undropped = acted_undropped node moment state place event ticket es after acted;
@@ -441,7 +446,8 @@ each_due_stays node moment (place ∷ places) state after es set_up leads =
     split (IsDone node.key) (acts node moment state place Due) (each_due node moment places) es after leads in
     let one =
     acts_stay node moment state place Due parts.first parts.mid
-    (λ ticket left waiters spare did leads. due_among ticket left waiters spare moment did leads) set_up
+    (λ ticket left waiters spare ready did leads. due_among ticket left waiters spare ready moment did leads)
+    set_up
     parts.to_mid in
     stays_on node state parts.mid after parts.first parts.later es parts.whole one
     (each_due_stays node moment places parts.mid after parts.later one.set_up parts.to_end)

@@ -6,6 +6,8 @@ use Rattle.std.specs.List.{filter}
 use Rattle.std.specs.Option.{is_none}
 use Rattle.booth_base.specs.declared.address.Peer.{Peer}
 use Rattle.booth_base.specs.Tree.{Deeds, Ends, Leads}
+use Rattle.booth_conf.specs.declared.tickets.GrantKind.{GrantKind}
+use Rattle.booth_conf.specs.declared.tickets.GrantKind.TheVariants.{Auto, Manual}
 use Rattle.booth_rec.specs.declared.record.Record.{Record}
 use Rattle.booth_wire.specs.declared.command.Cmd.{Cmd}
 use Rattle.booth_wire.specs.declared.command.Cmd.TheVariants.{RGnt, RRvk}
@@ -15,7 +17,7 @@ use Rattle.booth_wire.specs.declared.message.TicketPart.{TicketPart}
 use Rattle.booth_wire.specs.declared.message.Setup.{Setup}
 use Rattle.booth_wire.specs.declared.message.Say.{Say as Words}
 use Rattle.booth_wire.specs.declared.message.Say.TheVariants as words
-use Rattle.booth_raft.specs.declared.deed.Note.TheVariants.{Asked as WasAsked}
+use Rattle.booth_raft.specs.declared.deed.Note.TheVariants.{Asked as WasAsked, Unready}
 use Rattle.booth_raft.specs.declared.deed.Told.{Told}
 use Rattle.booth_raft.specs.declared.deed.Told.TheVariants as tells
 use Rattle.booth_raft.specs.declared.deed.Want.{Want}
@@ -38,17 +40,19 @@ use Rattle.booth_ticket.specs.declared.request.Wish.{Wish}
 use Rattle.booth_ticket.specs.declared.request.Wish.TheVariants.{Grant, Revoke}
 use Rattle.booth_ticket.specs.declared.waiters.Waiter.{Waiter}
 use Rattle.booth_ticket.specs.Acts.{Ask, Keep, Say, Act, IsAct}
-use Rattle.booth_ticket.specs.Automatic.{Left, acquire, ends, follow, hear_message, role_due, rule_due, tick}
+use Rattle.booth_ticket.specs.Automatic.{Left, acquire, take_over, ends, follow, hear_message, role_due, rule_due, tick}
 use Rattle.booth_ticket.specs.Keeping.{carry_out, keep_of, keep_once, say_last}
 use Rattle.booth_ticket.specs.Requests.{grant, grant_result, refused_grant, refused_revoke, replies, reply, reply_cmd, revoke, revoke_result, wish}
+use Rattle.booth_ticket.specs.ManualRequests.{manual_reply_part}
 use Rattle.booth_ticket.specs.Saying.{others, places_in, say, say_back, say_each}
-use Rattle.booth_ticket.specs.Ticket.{TicketState, TicketLeft, Known, Automatic, by_rules, left_as}
+use Rattle.booth_ticket.specs.Ticket.{TicketState, TicketLeft, Known, Automatic, Manual as IsManual, by_rules, left_as}
 use Rattle.booth_ticket.specs.Waiting.{joined, joins, result_for, staying, tell_each, tell_one, waiter_of}
 use Rattle.booth_node.specs.declared.event.Event.{Event}
 use Rattle.booth_node.specs.declared.event.Event.TheVariants.{Due, Heard, Asked}
 use Rattle.booth_node.specs.Calls.{IsAmong, IsOutcome}
 use Rattle.booth_node.specs.Reaction.{befalls}
 use Rattle.booth_node.proofs.DueLemmas.{Each}
+use Rattle.booth_node.proofs.ManualTalkLemmas.{AllToMembers, ToMembers, asked_by_hand, due_by_hand, heard_by_hand}
 use Rattle.booth_node.proofs.PathLemmas.{Split, at_end, split}
 
 -- one of these clients that wait is told what became of its grant
@@ -360,47 +364,51 @@ module _ (setup : Setup) (waiters : List Waiter) (left : Left) where
       (telling (acquisition_failed setup view now) tells.AskFailed)
       (ask view reason now) tt (rules_speak.asked setup view reason now)
 
-  follows : (outcome : Outcome) (want : Want) (now : ℕ) → Speaks setup outcome
-      → Speaks setup (follow setup outcome want now)
-  follows outcome wants.Nothing now speaks = speaks
-  follows outcome wants.Renew now speaks = rules_speak.renewed setup outcome.view now
-  follows outcome wants.Acquire now speaks = acquires outcome.view TLST now
+  takes_over : (view : View) (ready : Bool) (now : ℕ) → Speaks setup (take_over setup view ready now)
+  takes_over view ready now =
+      on_cond (Speaks setup) ready (acquire setup view TLST now) (quiet (noted setup view now Unready))
+      (acquires view TLST now) tt
 
-  role_speaks : (view : View) (now : ℕ) → Speaks setup (role_due setup view now)
-  role_speaks view now =
+  follows : (outcome : Outcome) (want : Want) (ready : Bool) (now : ℕ) → Speaks setup outcome
+      → Speaks setup (follow setup outcome want ready now)
+  follows outcome wants.Nothing ready now speaks = speaks
+  follows outcome wants.Renew ready now speaks = rules_speak.renewed setup outcome.view now
+  follows outcome wants.Acquire ready now speaks = takes_over outcome.view ready now
+
+  role_speaks : (view : View) (ready : Bool) (now : ℕ) → Speaks setup (role_due setup view ready now)
+  role_speaks view ready now =
       on_cond (Speaks setup) (is_working view.role) (quiet (handler_failed setup view now))
-      (rule_due setup view now) tt
-      (follows (due_now setup view now) (due_now setup view now).deed.want now
+      (rule_due setup view ready now) tt
+      (follows (due_now setup view now) (due_now setup view now).deed.want ready now
       (rules_speak.due setup view now))
 
-  due_talks : (view : View) (now : ℕ) (acts : List Act)
-      → Leads IsAct (tick setup view waiters now) acts (Ends left) → Tells setup waiters left.waiters acts
-  due_talks view now acts leads =
-      let o : Outcome = role_due setup (greeted view) now in
+  due_talks : (view : View) (ready : Bool) (now : ℕ) (acts : List Act)
+      → Leads IsAct (tick setup view waiters ready now) acts (Ends left)
+      → Tells setup waiters left.waiters acts
+  due_talks view ready now acts leads =
+      let o : Outcome = role_due setup (greeted view) ready now in
       let role : Deeds Ask Left = carry_out setup None now o (ends setup now waiters) in
       let greeting = said None (hello setup view now) role acts (rules_speak.greeted setup view now) leads in
       let done =
-      carried None now o (ends setup now waiters) greeting.later (role_speaks (greeted view) now)
+      carried None now o (ends setup now waiters) greeting.later (role_speaks (greeted view) ready now)
       greeting.leads in
       ended now done.0 acts (talks_on role (ends setup now waiters done.0) acts greeting done.1)
 
 -- ---- a client's request
 
-abbrev pub reply_act : Setup → Request → Cmd → ℕ → View → ℕ → Bool → Act
-reply_act setup request cmd result view now ok = record {
-  ask = Say (Client request.from) (head_of setup cmd request.number 0 0 result) (state_part setup view now);
-  ok = ok;
-}
+abbrev pub reply_act : Setup → Request → Cmd → ℕ → TicketPart → Bool → Act
+reply_act setup request cmd result part ok =
+    record { ask = Say (Client request.from) (head_of setup cmd request.number 0 0 result) part; ok = ok }
 
 -- all acts but the last one reach members and those that wait alone, the last one is the reply, and nobody is
 -- forgotten
-pub record Replies (setup : Setup) (waiters stay : List Waiter) (request : Request) (cmd : Cmd) (now : ℕ)
+pub record Replies (setup : Setup) (waiters stay : List Waiter) (request : Request) (cmd : Cmd)
     (acts : List Act) : Type 0 where
   pub before : List Act
   pub result : ℕ
-  pub view : View
+  pub part : TicketPart
   pub ok : Bool
-  pub whole : acts ≡ before ++ reply_act setup request cmd result view now ok ∷ []
+  pub whole : acts ≡ before ++ reply_act setup request cmd result part ok ∷ []
   pub among : AllAmong setup waiters before
   pub remembers : Remembers setup waiters stay acts
 
@@ -419,7 +427,7 @@ module _ (setup : Setup) (waiters : List Waiter) (left : Left) (request : Reques
   replied : (result : ℕ) (view : View) (stay : List Waiter) (acts : List Act)
       → Talks setup waiters acts (reply setup request cmd result view now stay) left
       → Remembers setup waiters stay acts
-      → Replies setup waiters left.waiters request cmd now acts
+      → Replies setup waiters left.waiters request cmd acts
   replied result view stay acts talks remembers = by_acts talks.later talks.leads talks.whole
     where
       or_joined : (w : Waiter) → IsAmong w stay ⊎ IsTold setup w acts
@@ -429,7 +437,7 @@ module _ (setup : Setup) (waiters : List Waiter) (left : Left) (request : Reques
 
       by_acts : (later : List Act)
           → Leads IsAct (reply setup request cmd result view now stay) later (Ends left)
-          → acts ≡ talks.first ++ later → Replies setup waiters left.waiters request cmd now acts
+          → acts ≡ talks.first ++ later → Replies setup waiters left.waiters request cmd acts
       by_acts [] leads whole = absurd cc
       by_acts (act ∷ later) leads whole =
           let end : Left = record { view = view; waiters = joined request result stay } in
@@ -438,7 +446,7 @@ module _ (setup : Setup) (waiters : List Waiter) (left : Left) (request : Reques
           record {
             before = talks.first;
             result = result;
-            view = view;
+            part = state_part setup view now;
             ok = leads.0;
             whole = whole
                 ∙ ap (λ (l : List Act). talks.first ++ act ∷ l) none
@@ -451,7 +459,7 @@ module _ (setup : Setup) (waiters : List Waiter) (left : Left) (request : Reques
   -- those that wait are told, and then who asked is answered
   told_and_replied : (result : ℕ) (outcome : Outcome) (acts : List Act)
       → Talks setup waiters acts (replies setup waiters request cmd now result outcome) left
-      → Replies setup waiters left.waiters request cmd now acts
+      → Replies setup waiters left.waiters request cmd acts
   told_and_replied result outcome acts talks =
       let stay : List Waiter = staying outcome.deed.told waiters in
       let last : Deeds Ask Left = reply setup request cmd result outcome.view now stay in
@@ -472,7 +480,7 @@ module _ (setup : Setup) (waiters : List Waiter) (left : Left) (request : Reques
   granted : (view : View) (refused : Option ℕ) (acts : List Act)
       → Leads IsAct (grant setup view request.options refused now (replies setup waiters request cmd now))
       acts (Ends left)
-      → Replies setup waiters left.waiters request cmd now acts
+      → Replies setup waiters left.waiters request cmd acts
   granted view (Some result) acts leads =
       told_and_replied result (quiet view) acts (talks_none setup waiters left _ acts leads)
   granted view None acts leads =
@@ -485,7 +493,7 @@ module _ (setup : Setup) (waiters : List Waiter) (left : Left) (request : Reques
 
   revoked : (view : View) (refused : Option ℕ) (acts : List Act)
       → Leads IsAct (revoke setup view refused now (replies setup waiters request cmd now)) acts (Ends left)
-      → Replies setup waiters left.waiters request cmd now acts
+      → Replies setup waiters left.waiters request cmd acts
   revoked view (Some result) acts leads =
       told_and_replied result (quiet view) acts (talks_none setup waiters left _ acts leads)
   revoked view None acts leads =
@@ -496,18 +504,45 @@ module _ (setup : Setup) (waiters : List Waiter) (left : Left) (request : Reques
       (rules_speak.released setup view ADMN now) leads in
       told_and_replied (revoke_result done.0.deed.told) done.0 acts done.1
 
-module _ (setup : Setup) (waiters : List Waiter) (spare : ℕ) (left : Left) (request : Request) (now : ℕ) where
+module _ (setup : Setup) (waiters : List Waiter) (spare : ℕ) (ready : Bool) (left : Left) (request : Request)
+    (now : ℕ) where
   pub asked_replies : (view : View) (wished : Wish) (acts : List Act)
-      → Leads IsAct (wish setup view waiters spare request wished now) acts (Ends left)
-      → Replies setup waiters left.waiters request (reply_cmd wished) now acts
+      → Leads IsAct (wish setup view waiters spare ready request wished now) acts (Ends left)
+      → Replies setup waiters left.waiters request (reply_cmd wished) acts
   asked_replies view Grant acts leads =
-      granted setup waiters left request RGnt now view (refused_grant setup view spare request.options now)
-      acts leads
+      granted setup waiters left request RGnt now view
+      (refused_grant setup view spare ready request.options now) acts leads
   asked_replies view Revoke acts leads =
       revoked setup waiters left request RRvk now view (refused_revoke setup view request.options now) acts
       leads
 
 -- ---- what befalls a ticket
+
+-- acts that reach members alone reach nobody else
+members_among : (setup : Setup) (waiters : List Waiter) (acts : List Act) → AllToMembers setup acts
+    → AllAmong setup waiters acts
+members_among setup waiters [] members = tt
+members_among setup waiters (act ∷ acts) members =
+    (one act.ask members.0, members_among setup waiters acts members.1)
+  where
+    one : (ask : Ask) → ToMembers setup ask → Among setup waiters ask
+    one (Keep tried) member = tt
+    one (Say (Member place) head part) member = member
+    one (Say (Client peer) head part) member = absurd member
+
+-- those that wait stay, whatever is done
+all_stay : (setup : Setup) (waiters stay : List Waiter) (acts : List Act) → stay ≡ waiters
+    → Remembers setup waiters stay acts
+all_stay setup waiters stay acts same waiter waits =
+    inl (subst (λ (l : List Waiter). IsAmong waiter l) (sym same) waits)
+
+members_told : (setup : Setup) (waiters stay : List Waiter) (acts : List Act) → AllToMembers setup acts
+    → stay ≡ waiters → Tells setup waiters stay acts
+members_told setup waiters stay acts members same = record {
+  among = members_among setup waiters acts members;
+  fewer = λ waiter waits. subst (λ (l : List Waiter). IsAmong waiter l) same waits;
+  remembers = all_stay setup waiters stay acts same;
+}
 
 -- the rules' deeds, and what they leave
 ruled : (setup : Setup) (deeds : Deeds Ask Left) (acts : List Act) (left : TicketLeft)
@@ -524,11 +559,12 @@ ruled setup deeds acts left leads =
       over.1,
     )
 
-module _ (ticket : TicketState) (left : TicketLeft) (waiters : List Waiter) (spare now : ℕ) (acts : List Act) where
+module _ (ticket : TicketState) (left : TicketLeft) (waiters : List Waiter) (spare : ℕ) (ready : GrantKind → Bool)
+    (now : ℕ) (acts : List Act) where
   -- this befell the ticket, by what its rules know of it
   abbrev Befell : Known → Event → Type 0
   Befell known event =
-      Leads IsAct (befalls (record { setup = ticket.setup; known = known }) waiters spare event now) acts
+      Leads IsAct (befalls (record { setup = ticket.setup; known = known }) waiters spare ready event now) acts
       (Ends left)
 
   told_so : (end : Left) → left ≡ left_as ticket.setup end → Tells ticket.setup waiters end.waiters acts
@@ -537,34 +573,43 @@ module _ (ticket : TicketState) (left : TicketLeft) (waiters : List Waiter) (spa
       subst (λ (l : TicketLeft). Tells ticket.setup waiters l.waiters acts) (sym is) tells_all
 
   -- what befalls a ticket leaves its setup
-  pub setup_stays : (event : Event) → Leads IsAct (befalls ticket waiters spare event now) acts (Ends left)
+  pub setup_stays : (event : Event) → Leads IsAct (befalls ticket waiters spare ready event now) acts (Ends left)
       → left.ticket.setup ≡ ticket.setup
   setup_stays event leads = by_kind ticket.known event leads
     where
       by_kind : (known : Known) (event : Event) → Befell known event → left.ticket.setup ≡ ticket.setup
       by_kind (Automatic view) Due leads =
           ap (λ (l : TicketLeft). l.ticket.setup)
-          (ruled ticket.setup (tick ticket.setup view waiters now) acts left leads).2
+          (ruled ticket.setup (tick ticket.setup view waiters (ready Auto) now) acts left leads).2
       by_kind (Automatic view) (Heard from head part) leads =
           ap (λ (l : TicketLeft). l.ticket.setup)
           (ruled ticket.setup (hear_message ticket.setup view waiters from head part now) acts left leads).2
       by_kind (Automatic view) (Asked request) leads =
           ap (λ (l : TicketLeft). l.ticket.setup)
-          (ruled ticket.setup (wish ticket.setup view waiters spare request request.wish now) acts left
-          leads).2
+          (ruled ticket.setup (wish ticket.setup view waiters spare (ready Manual) request request.wish now) acts
+          left leads).2
+      by_kind (IsManual known) Due leads =
+          (due_by_hand ticket.setup waiters left acts known leads).1.setup_stays
+      by_kind (IsManual known) (Heard from head part) leads =
+          (heard_by_hand ticket.setup waiters left acts known from head part leads).1.setup_stays
+      by_kind (IsManual known) (Asked request) leads =
+          (asked_by_hand ticket.setup waiters left acts known spare (ready Manual) request leads).1.setup_stays
 
   -- a deadline and a member's message reach members and those that wait alone
-  pub due_among : Leads IsAct (befalls ticket waiters spare Due now) acts (Ends left)
+  pub due_among : Leads IsAct (befalls ticket waiters spare ready Due now) acts (Ends left)
       → Tells ticket.setup waiters left.waiters acts
   due_among leads = by_kind ticket.known leads
     where
       by_kind : (known : Known) → Befell known Due → Tells ticket.setup waiters left.waiters acts
       by_kind (Automatic view) leads =
-          let r = ruled ticket.setup (tick ticket.setup view waiters now) acts left leads in
-          told_so r.0 r.2 (due_talks ticket.setup waiters r.0 view now acts r.1)
+          let r = ruled ticket.setup (tick ticket.setup view waiters (ready Auto) now) acts left leads in
+          told_so r.0 r.2 (due_talks ticket.setup waiters r.0 view (ready Auto) now acts r.1)
+      by_kind (IsManual known) leads =
+          let it = due_by_hand ticket.setup waiters left acts known leads in
+          members_told ticket.setup waiters left.waiters acts it.0 it.1.waiters_stay
 
   pub heard_among : (from : ℕ) (head : Head) (part : TicketPart)
-      → Leads IsAct (befalls ticket waiters spare (Heard from head part) now) acts (Ends left)
+      → Leads IsAct (befalls ticket waiters spare ready (Heard from head part) now) acts (Ends left)
       → Tells ticket.setup waiters left.waiters acts
   heard_among from head part leads = by_kind ticket.known leads
     where
@@ -574,17 +619,32 @@ module _ (ticket : TicketState) (left : TicketLeft) (waiters : List Waiter) (spa
           let r =
           ruled ticket.setup (hear_message ticket.setup view waiters from head part now) acts left leads in
           told_so r.0 r.2 (heard_talks ticket.setup waiters r.0 view from head part now acts r.1)
+      by_kind (IsManual known) leads =
+          let it = heard_by_hand ticket.setup waiters left acts known from head part leads in
+          members_told ticket.setup waiters left.waiters acts it.0 it.1.waiters_stay
 
   pub asked_replied : (request : Request)
-      → Leads IsAct (befalls ticket waiters spare (Asked request) now) acts (Ends left)
-      → Replies ticket.setup waiters left.waiters request (reply_cmd request.wish) now acts
+      → Leads IsAct (befalls ticket waiters spare ready (Asked request) now) acts (Ends left)
+      → Replies ticket.setup waiters left.waiters request (reply_cmd request.wish) acts
   asked_replied request leads = by_kind ticket.known leads
     where
       by_kind : (known : Known) → Befell known (Asked request)
-          → Replies ticket.setup waiters left.waiters request (reply_cmd request.wish) now acts
+          → Replies ticket.setup waiters left.waiters request (reply_cmd request.wish) acts
       by_kind (Automatic view) leads =
           let r =
-          ruled ticket.setup (wish ticket.setup view waiters spare request request.wish now) acts left leads in
-          subst (λ (l : TicketLeft). Replies ticket.setup waiters l.waiters request (reply_cmd request.wish) now
+          ruled ticket.setup (wish ticket.setup view waiters spare (ready Manual) request request.wish now) acts
+          left leads in
+          subst (λ (l : TicketLeft). Replies ticket.setup waiters l.waiters request (reply_cmd request.wish)
           acts) (sym r.2)
-          (asked_replies ticket.setup waiters spare r.0 request now view request.wish acts r.1)
+          (asked_replies ticket.setup waiters spare (ready Manual) r.0 request now view request.wish acts r.1)
+      by_kind (IsManual known) leads =
+          let it = asked_by_hand ticket.setup waiters left acts known spare (ready Manual) request leads in
+          record {
+            before = it.0.before;
+            result = it.0.result;
+            part = manual_reply_part ticket.setup it.0.view;
+            ok = it.0.ok;
+            whole = it.0.whole;
+            among = members_among ticket.setup waiters it.0.before it.0.members;
+            remembers = all_stay ticket.setup waiters left.waiters acts it.1.waiters_stay;
+          }

@@ -9,7 +9,7 @@ use Rattle.booth_node.specs.declared.action.Action.{Action as Made}
 use Rattle.booth_node.specs.declared.action.Action.TheVariants as made
 use Rattle.booth_node.specs.declared.replies.Reply.{Reply as MadeReply}
 use Rattle.booth_node.specs.Replies.{Reply}
-use Rattle.booth_node.specs.Reaction.{Action, Drops, Hears, Asks, Answers, Rests}
+use Rattle.booth_node.specs.Reaction.{Action, Drops, Hears, Asks, Attends, Answers, Rests}
 
 -- a content of the form that its command has
 pub record HasForm (cmd : Cmd) (content : Content) : Type 0 where
@@ -25,6 +25,7 @@ abbrev pub IsAction : Option (List ℕ) → Action → Made → List ℕ → Typ
 IsAction key (Drops fault) (made.Drop named) frame = named ≡ fault
 IsAction key (Hears from ticket head part) made_action frame = made_action ≡ made.Hear from ticket head part
 IsAction key (Asks ticket request) made_action frame = made_action ≡ made.Ask ticket request
+IsAction key (Attends ticket request) made_action frame = made_action ≡ made.Attend ticket request
 IsAction key (Answers letter) made.Answer frame = (frame ≡ sealed key letter) × Fits letter
 IsAction key Rests made.Rest frame = Unit {0}
 IsAction key action made_action frame = ⊥

@@ -1,8 +1,9 @@
--- What may befall a ticket in a turn, under names for other crates.
+-- What may befall a ticket in a turn, and what may be asked of its attributes, under names for other crates.
 use Rattle.std.specs.Prelude.{ℕ}
 use Rattle.booth_wire.specs.declared.message.Head.{Head}
 use Rattle.booth_wire.specs.declared.message.TicketPart.{TicketPart}
 use Rattle.booth_ticket.specs.declared.request.Request.{Request}
+use Rattle.booth_node.specs.declared.attributes.AttrRequest.{AttrRequest}
 use Rattle.booth_node.specs.declared.event.Event.{Event}
 use Rattle.booth_node.specs.declared.event.Event.TheVariants.{Due, Heard, Asked}
 
@@ -20,3 +21,7 @@ is_told from head part = Heard from head part
 -- a client asks something of it
 abbrev pub is_asked : Request → Befalling
 is_asked request = Asked request
+
+-- what a client asks of the attributes of a ticket
+abbrev pub AttributeAsking : Type 0
+AttributeAsking = AttrRequest

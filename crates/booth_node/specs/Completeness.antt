@@ -3,6 +3,7 @@ use Rattle.std.specs.Prelude.{◌≡◌, ℕ, true, false, List, ◌∷◌, posi
 use Rattle.booth_base.specs.declared.address.Peer.{Peer}
 use Rattle.booth_conf.specs.Config.{has_id}
 use Rattle.booth_conf.specs.Lookups.{is_called}
+use Rattle.booth_conf.specs.declared.tickets.GrantKind.TheVariants.{Manual}
 use Rattle.booth_rec.specs.Record.{plain}
 use Rattle.booth_wire.specs.declared.codes.results.TheConstants.{ASYN}
 use Rattle.booth_wire.specs.declared.command.Cmd.TheVariants.{CGnt}
@@ -23,6 +24,7 @@ use Rattle.booth_ticket.specs.Requests.{refused_grant}
 use Rattle.booth_ticket.specs.Ticket.{Automatic}
 use Rattle.booth_ticket.specs.Waiting.{joined, spare_in, waiting_at}
 use Rattle.booth_node.specs.declared.node_config.NodeConfig.{NodeConfig}
+use Rattle.booth_node.specs.AttributeRequests.{is_ready}
 use Rattle.booth_node.specs.Calls.{ArrivalDoes, IsCallOf, KeepsFirst, LetsIn}
 use Rattle.booth_node.specs.Opening.{AreSetUp}
 use Rattle.booth_node.specs.State.{State}
@@ -58,9 +60,9 @@ abbrev pub grant_of : Peer → PlainMessage → Request
 grant_of from letter =
     record { wish = Grant; from = from; number = letter.head.request; options = letter.head.options }
 
--- A grant that meets no refusal asks every other member for its vote in that turn, and tells the client that it was
--- begun, where the keep of the new term answers Ok and this member is no majority by itself. The client then waits,
--- where it asked to.
+-- A grant that meets no refusal, so that its prerequisites hold, asks every other member for its vote in that turn, and
+-- tells the client that it was begun, where the keep of the new term answers Ok and this member is no majority by
+-- itself. The client then waits, where it asked to.
 abbrev pub GrantsAskAll : Type 0
 GrantsAskAll =
     (node : NodeConfig) (old new : State) (moment : ℕ) (from : Peer) (letter : PlainMessage)
@@ -68,7 +70,8 @@ GrantsAskAll =
     → AreSetUp node old → LetsIn node old moment from letter entries new
     → IsAbout node old letter place part setup view
     → letter.head.cmd ≡ CGnt
-    → refused_grant setup view (spare_in old.waiters) letter.head.options moment ≡ None
+    → refused_grant setup view (spare_in old.waiters) (is_ready node old.attributes place Manual)
+    letter.head.options moment ≡ None
     → is_majority setup (own_answer setup view moment) ≡ false → KeepsFirst entries
     → ArrivalDoes node moment place setup (asking_acts setup view (grant_of from letter) moment)
     (AsksVotes (plain (next_term view) view.kept.lease)

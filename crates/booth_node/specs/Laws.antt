@@ -26,7 +26,7 @@ use Rattle.booth_node.specs.declared.state.Common.{Common}
 use Rattle.booth_node.specs.Calls.{IsAmong, IsToldIn, LetsIn, ReachesWaiters}
 use Rattle.booth_node.specs.Counting.{dropped, with_drop}
 use Rattle.booth_node.specs.Opening.{AreSetUp, opened}
-use Rattle.booth_node.specs.Reaction.{Action, Drops, Hears, Asks, Answers, Rests, IsDone, action, dues, react}
+use Rattle.booth_node.specs.Reaction.{Action, Drops, Hears, Asks, Attends, Answers, Rests, IsDone, action, dues, react}
 use Rattle.booth_node.specs.State.{State}
 
 -- ---- the tickets of a node
@@ -55,10 +55,12 @@ IsSettled node (Hears from ticket head part) =
     (position (has_id head.from) node.config.members ≡ Some from)
     × (position (is_called part.ticket) node.config.tickets ≡ Some ticket)
 IsSettled node (Asks ticket request) = ticket < length node.config.tickets
+IsSettled node (Attends ticket request) = ticket < length node.config.tickets
 IsSettled node (Answers letter) = Unit {0}
 IsSettled node Rests = ⊥
 
--- No datagram demands nothing: each is dropped, heard by its ticket, asked of its ticket, or answered at once.
+-- No datagram demands nothing: each is dropped, heard by its ticket, asked of its ticket or of that one's attributes, or
+-- answered at once.
 abbrev pub NothingRests : Type 0
 NothingRests =
     (node : NodeConfig) (moment : ℕ) (state : State) (from : Peer) (bytes : List ℕ)

@@ -7,6 +7,7 @@ pub mod Ours
 pub mod Counting
 pub mod Opening
 pub mod Replies
+pub mod AttributeRequests
 pub mod Reaction
 pub mod Befalling
 pub mod Actions

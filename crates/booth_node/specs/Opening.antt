@@ -1,5 +1,5 @@
 -- The state of a node that is opened.
-use Rattle.std.specs.Prelude.{◌≡◌, ℕ, ◌+◌, ◌-◌, ◌^◌, min, Bool, false, List, [], ◌∷◌, length, map, position, replicate, slice_get, Option, unwrap_or, if◌then◌else◌}
+use Rattle.std.specs.Prelude.{◌≡◌, ℕ, ◌+◌, ◌-◌, ◌^◌, min, Bool, true, false, List, [], ◌∷◌, length, map, position, replicate, slice_get, Option, unwrap_or, if◌then◌else◌}
 use Rattle.std.specs.Option.{option_map_or}
 use Rattle.booth_conf.specs.Config.{has_id}
 use Rattle.booth_conf.specs.Lookups.{rank_of, weights_at}
@@ -8,7 +8,8 @@ use Rattle.booth_conf.specs.declared.tickets.TicketConf.{TicketConf}
 use Rattle.booth_rec.specs.declared.record.Record.{Record}
 use Rattle.booth_rec.specs.Record.{record_or_none}
 use Rattle.booth_wire.specs.declared.message.Setup.{Setup}
-use Rattle.booth_ticket.specs.Ticket.{TicketState, opened as ticket_opened}
+use Rattle.booth_attr.specs.Attributes.{no_attributes}
+use Rattle.booth_ticket.specs.Ticket.{Known, TicketState, opened as ticket_opened, opened_by_hand}
 use Rattle.booth_node.specs.declared.node_config.NodeConfig.{NodeConfig}
 use Rattle.booth_node.specs.Counting.{nothing_counted}
 use Rattle.booth_node.specs.State.{State}
@@ -50,10 +51,20 @@ AreSetUp node state =
     (map (λ ticket. ticket.setup) state.tickets ≡ setups_from node 0 node.config.tickets)
     × (length state.waiters ≡ length node.config.tickets)
 
+-- what is known of a ticket at its start, by whether it is granted by hand
+abbrev pub known_at_start : Bool → Setup → Record → ℕ → Known
+known_at_start true setup rec now = (opened_by_hand setup rec now).known
+known_at_start false setup rec now = (ticket_opened setup rec now).known
+
+-- a ticket of the configuration starts, by its kind
+abbrev pub opened_by : TicketConf → Setup → Record → ℕ → TicketState
+opened_by ticket setup rec now =
+    record { setup = setup; known = known_at_start ticket.manual setup rec now }
+
 -- each ticket starts from its record, from this place on
 abbrev pub started_from : NodeConfig → ℕ → ℕ → List TicketConf → List (Option Record) → List TicketState
 started_from node now index (ticket ∷ tickets) (rec ∷ records) =
-    ticket_opened (setup_of node index ticket) (record_or_none rec) now
+    opened_by ticket (setup_of node index ticket) (record_or_none rec) now
     ∷ started_from node now (index + 1) tickets records
 started_from node now index tickets records = []
 
@@ -65,6 +76,7 @@ abbrev pub opened : NodeConfig → List (Option Record) → ℕ → State
 opened node records reading = record {
   tickets = started_from node (start_reading reading) 0 node.config.tickets records;
   waiters = replicate (length node.config.tickets) [];
+  attributes = no_attributes (length node.config.tickets);
   common = nothing_counted;
   last_reading = start_reading reading;
 }

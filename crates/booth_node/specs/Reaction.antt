@@ -5,6 +5,8 @@ use Rattle.booth_base.specs.Tree.{Deeds, Ends, Does, Leads, next}
 use Rattle.booth_conf.specs.Config.{ConfigSays, has_id}
 use Rattle.booth_conf.specs.Lookups.{is_called}
 use Rattle.booth_conf.specs.declared.members.Member.{Member}
+use Rattle.booth_conf.specs.declared.tickets.GrantKind.{GrantKind}
+use Rattle.booth_conf.specs.declared.tickets.GrantKind.TheVariants as kinds
 use Rattle.booth_rec.specs.declared.record.Record.{Record}
 use Rattle.booth_wire.specs.declared.command.Direction.{Direction}
 use Rattle.booth_wire.specs.declared.command.Direction.TheVariants.{ToDaemon, ToClient, BetweenMembers}
@@ -29,6 +31,7 @@ use Rattle.booth_ticket.specs.declared.waiters.Waiter.{Waiter}
 use Rattle.booth_ticket.specs.Acts.{Ask as TicketAsk, Keep as KeepsRecord, Say}
 use Rattle.booth_ticket.specs.Ticket.{TicketState, TicketLeft, deadline, ticket_asked, ticket_due, ticket_heard}
 use Rattle.booth_ticket.specs.Waiting.{spare_in, waiting_at}
+use Rattle.booth_node.specs.declared.attributes.AttrRequest.{AttrRequest}
 use Rattle.booth_node.specs.declared.event.Event.{Event}
 use Rattle.booth_node.specs.declared.event.Event.TheVariants.{Due, Heard, Asked}
 use Rattle.booth_node.specs.declared.node.Turn.{Turn}
@@ -37,6 +40,7 @@ use Rattle.booth_node.specs.declared.node_config.NodeConfig.{NodeConfig}
 use Rattle.booth_node.specs.declared.state.Common.{Common}
 use Rattle.booth_node.specs.Counting.{dropped, accepted, with_send}
 use Rattle.booth_node.specs.Replies.{reply_to, request_in}
+use Rattle.booth_node.specs.AttributeRequests.{after_wish, attended_place, attr_letter, attr_request_in, is_ready}
 use Rattle.booth_node.specs.State.{State, with_ticket}
 
 -- ---- what is asked of the host
@@ -89,19 +93,24 @@ lifted node moment name common (Does (Say to head part) goes_on) rest =
     sends (peer_of node.config to) (sent_as node moment head part) common to
     (λ counted. lifted node moment name counted (goes_on true) rest)
 
--- what befalls a ticket at this moment, for which these clients wait, and for all tickets so many more may
-abbrev pub befalls : TicketState → List Waiter → ℕ → Event → ℕ → Deeds TicketAsk TicketLeft
-befalls ticket waiters spare Due moment = ticket_due ticket.setup ticket.known waiters moment
-befalls ticket waiters spare (Heard from head part) moment =
+-- What befalls a ticket at this moment, for which these clients wait, and for all tickets so many more may; its
+-- prerequisites of a kind hold or do not. At a deadline those of a grant by itself are asked for, and at a client's
+-- request those of a grant by hand.
+abbrev pub befalls : TicketState → List Waiter → ℕ → (GrantKind → Bool) → Event → ℕ
+    → Deeds TicketAsk TicketLeft
+befalls ticket waiters spare ready Due moment =
+    ticket_due ticket.setup ticket.known waiters (ready kinds.Auto) moment
+befalls ticket waiters spare ready (Heard from head part) moment =
     ticket_heard ticket.setup ticket.known waiters from head part moment
-befalls ticket waiters spare (Asked request) moment =
-    ticket_asked ticket.setup ticket.known waiters spare request moment
+befalls ticket waiters spare ready (Asked request) moment =
+    ticket_asked ticket.setup ticket.known waiters spare (ready kinds.Manual) request moment
 
 abbrev pub acts_as : NodeConfig → ℕ → State → ℕ → Event → Option TicketState → Deeds Ask State
 acts_as node moment state place event None = Ends state
 acts_as node moment state place event (Some ticket) =
     lifted node moment ticket.setup.ticket state.common
-    (befalls ticket (waiting_at state.waiters place) (spare_in state.waiters) event moment)
+    (befalls ticket (waiting_at state.waiters place) (spare_in state.waiters)
+    (is_ready node state.attributes place) event moment)
     (λ common left. Ends (with_ticket state place common left))
 
 -- what the ticket at a place does
@@ -118,6 +127,8 @@ pub data Action : Type 0 where
   Hears : (from ticket : ℕ) → Head → TicketPart → Action
   -- a client asks something of the ticket at a place
   Asks : (ticket : ℕ) → Request → Action
+  -- a client asks something of the attributes of the ticket at a place
+  Attends : (ticket : ℕ) → AttrRequest → Action
   -- a client's request is answered with this message
   Answers : PlainMessage → Action
   -- nothing
@@ -132,11 +143,21 @@ abbrev pub asks : Option ℕ → Request → Action → Action
 asks None request other = other
 asks (Some ticket) request other = Asks ticket request
 
--- a request about a ticket of the configuration goes to it, and each other one is answered at once
+abbrev pub attends : Option ℕ → AttrRequest → Action → Action
+attends None request other = other
+attends (Some ticket) request other = Attends ticket request
+
+-- a request about attributes goes to those of its ticket, at a site
+abbrev pub attended : NodeConfig → Option AttrRequest → Action → Action
+attended node None other = other
+attended node (Some request) other = attends (attended_place node request.ticket) request other
+
+-- a request about a ticket of the configuration goes to it, or to its attributes, and each other one is answered at once
 abbrev pub requested : NodeConfig → ℕ → List TicketState → Common → PlainMessage
     → Option (TicketPart × Request) → Action
 requested node moment tickets common letter None =
-    answers node.key moment (reply_to node moment tickets common letter)
+    attended node (attr_request_in letter)
+    (answers node.key moment (reply_to node moment tickets common letter))
 requested node moment tickets common letter (Some found) =
     asks (position (is_called found.0.ticket) node.config.tickets) found.1
     (answers node.key moment (reply_to node moment tickets common letter))
@@ -170,13 +191,21 @@ abbrev pub action : NodeConfig → ℕ → List TicketState → Common → Peer 
 action node moment tickets common from bytes =
     demanded node moment tickets common from (verdict node.config node.key node.me moment bytes)
 
+-- the state once it is done what a client asks of the attributes of the ticket at a place
+abbrev pub after_attending : State → ℕ → AttrRequest → State
+after_attending state ticket request =
+    record state { attributes = after_wish state.attributes ticket request.wish }
+
 -- The deeds of an action. A dropped datagram changes one counter; a member's command is counted for it, and then its
--- ticket hears it.
+-- ticket hears it; a request about attributes is done, and answered.
 abbrev pub met : NodeConfig → ℕ → State → Peer → Action → Deeds Ask State
 met node moment state from (Drops fault) = Ends (dropped state fault)
 met node moment state from (Hears member ticket head part) =
     acts node moment (accepted state member moment) ticket (Heard member head part)
 met node moment state from (Asks ticket request) = acts node moment state ticket (Asked request)
+met node moment state from (Attends ticket request) =
+    Does (Send from (attr_letter node moment state.attributes ticket request))
+    (λ ok. Ends (after_attending state ticket request))
 met node moment state from (Answers letter) = Does (Send from letter) (λ ok. Ends state)
 met node moment state from Rests = Ends state
 

@@ -48,7 +48,7 @@ owner_text config (Some shown) =
 -- the line of a ticket: its name, its owner at this moment, and the end of the owner's lease in seconds
 abbrev pub list_line : ConfigSays → ℕ → TicketState → List ℕ
 list_line config moment ticket =
-    ticket.setup.ticket ++ codes " " ++ owner_text config (owner ticket.known moment) ++ codes "\n"
+    ticket.setup.ticket ++ codes " " ++ owner_text config (owner ticket.setup ticket.known moment) ++ codes "\n"
 
 -- a line for each ticket, in the order of the configuration
 abbrev pub list_text : NodeConfig → ℕ → List TicketState → List ℕ

@@ -1,14 +1,16 @@
 -- What a node is between two turns: plain data.
 use Rattle.std.specs.Prelude.{ℕ, List, slice_set}
+use Rattle.booth_attr.specs.Attributes.{Attributes}
 use Rattle.booth_node.specs.declared.state.Common.{Common}
 use Rattle.booth_ticket.specs.declared.waiters.Waiter.{Waiter}
 use Rattle.booth_ticket.specs.Ticket.{TicketState, TicketLeft}
 
--- the tickets in the order of the configuration, the clients that wait for each, what is counted beside them, and the
--- last reading that was used, in milliseconds
+-- the tickets in the order of the configuration, the clients that wait for each, the attributes of each, what is counted
+-- beside them, and the last reading that was used, in milliseconds
 pub record State : Type 0 where
   pub tickets : List TicketState
   pub waiters : List (List Waiter)
+  pub attributes : Attributes
   pub common : Common
   pub last_reading : ℕ
 

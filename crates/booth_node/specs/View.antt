@@ -10,6 +10,7 @@ state_with table last_reading =
     record {
       tickets = table.tickets.items;
       waiters = table.waiters;
+      attributes = table.attrs;
       common = table.common;
       last_reading = last_reading;
     }

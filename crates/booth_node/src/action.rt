@@ -1,4 +1,5 @@
 //! What a datagram demands.
+use crate::attributes::AttrRequest;
 use booth_auth::DropFault;
 use booth_ticket::Request;
 use booth_wire::{Head, TicketPart};
@@ -19,6 +20,11 @@ pub(crate) enum Action {
     Ask {
         ticket: usize,
         request: Request,
+    },
+    /// A client asks something of the attributes of the ticket at a place.
+    Attend {
+        ticket: usize,
+        request: AttrRequest,
     },
     /// The reply that stands in the frame is sent.
     Answer,

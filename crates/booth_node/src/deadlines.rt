@@ -93,6 +93,7 @@ pub(crate) fn expire_each<H: Host>(
         (record {
           tickets = table.old.tickets.items;
           waiters = table.old.waiters;
+          attributes = table.old.attrs;
           common = table.old.common;
           last_reading = now;
         }))
@@ -100,6 +101,7 @@ pub(crate) fn expire_each<H: Host>(
         (record {
           tickets = table.new.tickets.items;
           waiters = table.new.waiters;
+          attributes = table.new.attrs;
           common = table.new.common;
           last_reading = now;
         })))

@@ -12,15 +12,18 @@ ghost use Rattle.booth_ticket.specs.Ticket.{TicketLeft};
 ghost use Rattle.booth_ticket.specs.Waiting.{spare_in, waiting_at};
 ghost use Rattle.booth_node.specs.declared.state.Common as C;
 ghost use Rattle.booth_node.specs.Acting.{ActsAs, Scene, MayBefall, IsSetAt};
+ghost use Rattle.booth_node.specs.AttributeRequests.{is_ready};
 ghost use Rattle.booth_node.specs.Counting.{with_send};
 ghost use Rattle.booth_node.specs.Reaction.{Ask, IsDone, peer_at, peer_of, sent_as, lifted, befalls, acts};
 ghost use Rattle.booth_node.specs.State.{State};
 
+use crate::attributes::is_ready;
 use crate::event::Event;
 use crate::{Common, NodeConfig};
+use booth_attr::Attrs;
 use booth_auth::seal;
 use booth_base::{Name, Peer};
-use booth_conf::{Config, Member};
+use booth_conf::{Config, GrantKind, Member};
 use booth_host::{Failed, Host};
 use booth_rec::Record;
 use booth_ticket::{Hands, Ticket, To, Waiters};
@@ -197,25 +200,27 @@ impl<'a, H: Host> Hands for NodeHands<'a, H> {
     }
 }
 
-/// What befalls a ticket, by these hands. Its clients wait at the place `list`.
+/// What befalls the ticket at the place `list`, by these hands. Its clients wait there, and its attributes are there.
 fn befall<H: Host>(
     ticket: &mut Ticket,
     event: &Event,
     list: u32,
     waiters: &mut Waiters,
+    attrs: &Attrs,
     hands: &mut NodeHands<'_, H>,
 )
     requires early { hands.old.now < 2 ^ 62 }
     requires may { MayBefall ticket.old event.now hands.old.now }
     requires exists { list < length waiters.old }
+    requires named { list < length attrs.now.lists }
     ensures host { hands.new.host.ghost_name ≡ hands.old.host.ghost_name }
     ensures counts { hands.new.common.ghost_name ≡ hands.old.common.ghost_name }
     ensures buffer { hands.new.frame.ghost_name ≡ hands.old.frame.ghost_name }
     ensures past { (rest : C.Common → TicketLeft → Deeds Ask State)
         → GrewSome (λ es. Leads (IsDone hands.old.node.now.key)
         (lifted hands.old.node.now hands.old.now hands.old.name.now hands.old.common.now
-        (befalls ticket.old (waiting_at waiters.old list) (spare_in waiters.old) event.now
-        hands.old.now) rest)
+        (befalls ticket.old (waiting_at waiters.old list) (spare_in waiters.old)
+        (is_ready hands.old.node.now attrs.now list) event.now hands.old.now) rest)
         es (rest hands.new.common.now
         (record { ticket = ticket.new; waiters = waiting_at waiters.new list })))
         (H.past hands.old.host.now) (H.past hands.new.host.now) }
@@ -225,24 +230,32 @@ fn befall<H: Host>(
 {
     let now = hands.now;
     match event {
-        Event::Due => ticket.tick(now, list, waiters, hands),
+        Event::Due => {
+            let ready = is_ready(hands.node, attrs, list, GrantKind::Auto);
+            ticket.tick(now, ready, list, waiters, hands)
+        }
         Event::Heard { from, head, part } => {
             ticket.hear(now, *from, head, part, list, waiters, hands)
         }
-        Event::Asked(request) => ticket.client(now, request, list, waiters, hands),
+        Event::Asked(request) => {
+            let ready = is_ready(hands.node, attrs, list, GrantKind::Manual);
+            ticket.client(now, request, ready, list, waiters, hands)
+        }
     }
 }
 
-/// What befalls the ticket at a place, by these hands, which have its name.
+/// What befalls the ticket that stands at a place among these, by hands which have its name.
 pub(crate) fn act_at<H: Host>(
     tickets: &mut Vec<Ticket>,
     place: u32,
     event: &Event,
     waiters: &mut Waiters,
+    attrs: &Attrs,
     hands: &mut NodeHands<'_, H>,
 )
     requires early { hands.old.now < 2 ^ 62 }
     requires exists { place < length waiters.old }
+    requires named { place < length attrs.now.lists }
     requires may { IsSomeAnd (slice_get tickets.old.items place)
         (λ ticket. MayBefall ticket event.now hands.old.now
         × (hands.old.name.now ≡ ticket.setup.ticket)) }
@@ -254,6 +267,7 @@ pub(crate) fn act_at<H: Host>(
         (record {
           tickets = tickets.old.items;
           waiters = waiters.old;
+          attributes = attrs.now;
           common = hands.old.common.now;
           last_reading = hands.old.now;
         }) place event.now)
@@ -261,6 +275,7 @@ pub(crate) fn act_at<H: Host>(
         (record {
           tickets = tickets.new.items;
           waiters = waiters.new;
+          attributes = attrs.now;
           common = hands.new.common.now;
           last_reading = hands.old.now;
         })))
@@ -269,5 +284,12 @@ pub(crate) fn act_at<H: Host>(
     ensures others { IsSetAt tickets.old.items place tickets.new.items }
     ensures lists { length waiters.new ≡ length waiters.old }
 {
-    befall(&mut tickets[place as usize], event, place, waiters, hands);
+    befall(
+        &mut tickets[place as usize],
+        event,
+        place,
+        waiters,
+        attrs,
+        hands,
+    );
 }

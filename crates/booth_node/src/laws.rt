@@ -12,7 +12,7 @@ pub fn keeps_its_tickets()
     ensures { KeepsItsTickets }
 {}
 
-/// Each datagram is dropped, heard by its ticket, asked of its ticket, or answered at once.
+/// Each datagram is dropped, heard by its ticket, asked of its ticket or of that one's attributes, or answered at once.
 pub fn nothing_rests()
     ensures { NothingRests }
 {}

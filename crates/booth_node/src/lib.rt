@@ -2,6 +2,7 @@
 #![tactic(auto)]
 
 mod action;
+mod attributes;
 mod deadlines;
 mod event;
 mod hands;

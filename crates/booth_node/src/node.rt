@@ -14,6 +14,7 @@ use crate::reply_buffer::ReplyBuffer;
 use crate::state::READINGS_END;
 use crate::tickets::TicketTable;
 use crate::{Common, Counters, NodeConfig};
+use booth_attr::Attrs;
 use booth_auth::Key;
 use booth_base::{MemberId, Peer};
 use booth_chain::Wheel;
@@ -77,12 +78,14 @@ impl Node {
         let tickets = start_tickets(alloc, &node, records, last_reading)?;
         let wheel = start_wheel(alloc, &tickets)?;
         let waiters = Waiters::new(alloc, tickets.len() as u32)?;
+        let attrs = Attrs::new(alloc, tickets.len() as u32)?;
         let due = Vec::with_capacity(alloc, tickets.len())?;
         Ok(Node {
             table: TicketTable {
                 node,
                 tickets,
                 waiters,
+                attrs,
                 common: Common::nothing_counted(),
                 buffer: ReplyBuffer::new(alloc)?,
             },

@@ -1,11 +1,13 @@
 //! The tickets that a node starts with, and their timer.
-ghost use Rattle.std.specs.Prelude.{◌≡◌, ◌<◌, ◌≤◌, ◌^◌, IfOk, IsSome, Some, length, map, position, slice_get};
+ghost use Rattle.std.specs.Prelude.{◌≡◌, ◌<◌, ◌≤◌, ◌^◌, IfOk, IsSome, Some, length, map, position, slice_get, option_copied};
 ghost use Rattle.std.specs.List.{All};
 ghost use Rattle.booth_conf.specs.Config.{has_id};
 ghost use Rattle.booth_conf.specs.Sound.{HasTimes};
 ghost use Rattle.booth_base.specs.declared.limits.TheConstants.{MEMBERS};
 ghost use Rattle.booth_raft.specs.Sound.{IsSound};
-ghost use Rattle.booth_node.specs.Opening.{own_place, is_site_at, rank_at, setup_of, started_from};
+ghost use Rattle.booth_rec.specs.Record.{record_or_none};
+ghost use Rattle.booth_node.specs.AttributeRequests.{is_at_site};
+ghost use Rattle.booth_node.specs.Opening.{own_place, is_site_at, opened_by, rank_at, setup_of, started_from};
 ghost use Rattle.booth_node.specs.Ours.{IsOurs};
 ghost use Rattle.booth_node.specs.Reaction.{deadline_of};
 
@@ -45,6 +47,13 @@ fn rank_at(node: &NodeConfig, ticket: usize) -> u32
     }
 }
 
+/// Whether this member is a site, and no arbitrator.
+pub(crate) fn is_at_site(node: &NodeConfig) -> bool
+    ensures { result ≡ is_at_site node.now }
+{
+    is_site_at(node.config.members(), own_place(node))
+}
+
 // The setup of the ticket at a place.
 fn setup_of(node: &NodeConfig, index: usize, ticket: &TicketConf) -> Setup
     requires there { index < length node.now.config.tickets }
@@ -62,6 +71,20 @@ fn setup_of(node: &NodeConfig, index: usize, ticket: &TicketConf) -> Setup
         site: is_site_at(node.config.members(), place),
         rank: rank_at(node, index),
         times: ticket.times,
+    }
+}
+
+// A ticket starts, by its kind.
+fn open_ticket(conf: &TicketConf, setup: &Setup, kept: Option<&Record>, now: u64) -> Ticket
+    requires sound { IsSound setup.now }
+    requires early { now < 2 ^ 62 }
+    ensures { result
+        ≡ opened_by conf.now setup.now (record_or_none (option_copied kept.entry)) now }
+{
+    if conf.manual {
+        Ticket::open_manual(setup, kept, now)
+    } else {
+        Ticket::open(setup, kept, now)
     }
 }
 
@@ -85,7 +108,7 @@ pub(crate) fn start_tickets(
     let mut tickets = Vec::with_capacity(alloc, confs.len())?;
     for (index, ticket) in confs.iter().enumerate() {
         let setup = setup_of(node, index, ticket);
-        tickets.push_reserved(Ticket::open(&setup, records[index].as_ref(), now));
+        tickets.push_reserved(open_ticket(ticket, &setup, records[index].as_ref(), now));
     }
     Ok(tickets)
 }

@@ -106,8 +106,8 @@ fn body_for<'a>(cmd: Cmd, body: &Body<'_>, text: &'a [u8]) -> Option<Reply<'a>>
     }
 }
 
-// The message of a reply to the request with this number.
-fn letter<'a>(me: MemberId, request: u32, cmd: Cmd, reply: Reply<'a>) -> Message<'a>
+/// The message of a reply to the request with this number.
+pub(crate) fn letter<'a>(me: MemberId, request: u32, cmd: Cmd, reply: Reply<'a>) -> Message<'a>
     ensures { plain_of result ≡ reply_letter me request cmd (reply_of reply.entry) }
 {
     Message {

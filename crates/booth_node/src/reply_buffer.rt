@@ -4,12 +4,19 @@ ghost use Rattle.booth_base.specs.declared.limits.TheConstants.{MEMBERS};
 ghost use Rattle.booth_wire.specs.Command.{direction_of};
 ghost use Rattle.booth_wire.specs.PlainMessage.{plain_of, content_of};
 ghost use Rattle.booth_node.specs.Replies.{reply_to, request_in};
-ghost use Rattle.booth_node.specs.Reaction.{answers, requested, hears, said, routed};
+ghost use Rattle.booth_auth.specs.Sealed.{sealed};
+ghost use Rattle.booth_wire.specs.Spelling.{Fits};
+ghost use Rattle.booth_node.specs.AttributeRequests.{after_wish, attr_letter, attr_request_in};
+ghost use Rattle.booth_node.specs.Reaction.{answers, attended, requested, hears, said, routed};
 ghost use Rattle.booth_node.specs.Actions.{IsAction};
 
 use crate::action::Action;
-use crate::replies::{answer, request_in, write_text};
+use crate::attributes::{
+    AttrRequest, answer_cmd, attend, attended_place, attr_request_in, write_pairs,
+};
+use crate::replies::{answer, letter, request_in, write_text};
 use crate::{Common, NodeConfig};
+use booth_attr::Attrs;
 use booth_auth::seal;
 use booth_base::{Peer, TextBuf};
 use booth_ticket::{Request, Ticket};
@@ -95,7 +102,31 @@ impl ReplyBuffer {
         }
     }
 
-    // A request about a ticket of the configuration goes to it, and each other one is answered.
+    // A request about attributes goes to those of its ticket, at a site, and each other one is answered.
+    fn attended(
+        &mut self,
+        node: &NodeConfig,
+        tickets: &[Ticket],
+        common: &Common,
+        message: &Message<'_>,
+        now: u64,
+    ) -> Action
+        requires { length tickets.now ≤ 64 }
+        ensures { IsAction node.now.key
+            (attended node.now (attr_request_in (plain_of message.now))
+            (answers node.now.key now (reply_to node.now now tickets.now common.now (plain_of message.now))))
+            result self.new.frame }
+    {
+        let Some(request) = attr_request_in(message) else {
+            return self.answer(node, tickets, common, message, now);
+        };
+        match attended_place(node, &request.ticket) {
+            Some(ticket) => Action::Attend { ticket, request },
+            None => self.answer(node, tickets, common, message, now),
+        }
+    }
+
+    // A request about a ticket of the configuration goes to it, and each other one to its attributes or to be answered.
     fn request(
         &mut self,
         node: &NodeConfig,
@@ -111,12 +142,34 @@ impl ReplyBuffer {
             self.new.frame }
     {
         let Some((part, request)) = found else {
-            return self.answer(node, tickets, common, message, now);
+            return self.attended(node, tickets, common, message, now);
         };
         match node.config.ticket(&part.ticket) {
             Some(ticket) => Action::Ask { ticket, request },
             None => self.answer(node, tickets, common, message, now),
         }
+    }
+
+    /// Does what a client wishes of the attributes of the ticket at a place, and puts the answer into the frame.
+    pub fn attend(
+        &mut self,
+        node: &NodeConfig,
+        attrs: &mut Attrs,
+        place: u32,
+        request: &AttrRequest,
+        now: u64,
+    )
+        requires { place < length attrs.old.lists }
+        ensures attributes { attrs.new ≡ after_wish attrs.old place request.now.wish }
+        ensures lists { length attrs.new.lists ≡ length attrs.old.lists }
+        ensures written { self.new.frame ≡ sealed node.now.key
+            (attr_letter node.now now attrs.old place request.now) }
+        ensures fits { Fits (attr_letter node.now now attrs.old place request.now) }
+    {
+        write_pairs(attrs, place, &request.wish, &mut self.text);
+        let made = attend(attrs, place, request, self.text.bytes());
+        let message = letter(node.me, request.number, answer_cmd(&request.wish), made);
+        seal(&message, node.key.as_ref(), now, &mut self.frame);
     }
 
     /// What a message that was let in at this reading in ms demands.

@@ -1,9 +1,11 @@
 //! Turns over a host in memory, each call worked out by hand from the rules or spelled by Python.
+mod attributes;
 mod cluster;
 mod counters;
 mod failed_keeps;
 mod frames;
 mod lines;
+mod manual;
 mod many_tickets;
 mod replies;
 mod rows;

@@ -6,36 +6,43 @@ ghost use Rattle.booth_conf.specs.Config.{has_id};
 ghost use Rattle.booth_host.specs.Past.{GrewSome};
 ghost use Rattle.booth_ticket.specs.Ticket.{IsDue};
 ghost use Rattle.booth_node.specs.Acting.{MayBefall, IsSetAt};
+ghost use Rattle.booth_wire.specs.Spelling.{Fits};
+ghost use Rattle.booth_auth.specs.Sealed.{sealed};
 ghost use Rattle.booth_node.specs.Actions.{IsAction};
+ghost use Rattle.booth_node.specs.AttributeRequests.{after_wish, attr_letter};
 ghost use Rattle.booth_node.specs.Counting.{accepted, counted, counters_at, with_counters, with_drop};
 ghost use Rattle.booth_node.specs.Reaction.{IsDone, action, acts, met, deadline_of};
 ghost use Rattle.booth_node.specs.Ours.{IsOurs};
 ghost use Rattle.booth_node.specs.State.{State};
 
 use crate::action::Action;
+use crate::attributes::AttrRequest;
 use crate::event::Event;
 use crate::hands::{NodeHands, act_at};
 use crate::reply_buffer::ReplyBuffer;
 use crate::{Common, NodeConfig};
+use booth_attr::Attrs;
 use booth_auth::DropFault;
 use booth_base::Peer;
 use booth_host::Host;
 use booth_ticket::{Request, Ticket, Waiters};
 use booth_wire::{Head, TicketPart};
 
-/// The tickets in the order of the configuration, the clients that wait for each, what is counted, and where messages
-/// are made.
+/// The tickets in the order of the configuration, the clients that wait for each, the attributes of each, what is
+/// counted, and where messages are made.
 #[derive(Drop)]
 pub(crate) struct TicketTable {
     pub node: NodeConfig,
     pub tickets: Vec<Ticket>,
     pub waiters: Waiters,
+    pub attrs: Attrs,
     pub common: Common,
     pub buffer: ReplyBuffer,
     ghost ours: { All (IsOurs node.me node.config.members) tickets.items },
     ghost whole: { length tickets.items ≡ length node.config.tickets },
     ghost few: { length tickets.items ≤ 64 },
     ghost lists: { length waiters ≡ length tickets.items },
+    ghost named: { length attrs.lists ≡ length tickets.items },
 }
 
 impl TicketTable {
@@ -49,6 +56,7 @@ impl TicketTable {
             (record {
               tickets = self.old.tickets.items;
               waiters = self.old.waiters;
+              attributes = self.old.attrs;
               common = self.old.common;
               last_reading = now;
             })
@@ -57,6 +65,7 @@ impl TicketTable {
             (record {
               tickets = self.new.tickets.items;
               waiters = self.new.waiters;
+              attributes = self.new.attrs;
               common = self.new.common;
               last_reading = now;
             })))
@@ -79,6 +88,7 @@ impl TicketTable {
             place as u32,
             event,
             &mut self.waiters,
+            &self.attrs,
             &mut hands,
         );
     }
@@ -91,6 +101,7 @@ impl TicketTable {
         ensures node { self.new.node ≡ self.old.node }
         ensures tickets { self.new.tickets.items ≡ self.old.tickets.items }
         ensures waiters { self.new.waiters ≡ self.old.waiters }
+        ensures attributes { self.new.attrs ≡ self.old.attrs }
         ensures common { self.new.common ≡ self.old.common }
     {
         match self.node.admit(now, bytes) {
@@ -107,6 +118,7 @@ impl TicketTable {
         ensures node { self.new.node ≡ self.old.node }
         ensures tickets { self.new.tickets.items ≡ self.old.tickets.items }
         ensures waiters { self.new.waiters ≡ self.old.waiters }
+        ensures attributes { self.new.attrs ≡ self.old.attrs }
     {
         self.common = self.common.with_drop(fault);
     }
@@ -118,6 +130,7 @@ impl TicketTable {
         ensures node { self.new.node ≡ self.old.node }
         ensures tickets { self.new.tickets.items ≡ self.old.tickets.items }
         ensures waiters { self.new.waiters ≡ self.old.waiters }
+        ensures attributes { self.new.attrs ≡ self.old.attrs }
     {
         self.common = self.common.with_accepted(member, now);
     }
@@ -141,6 +154,7 @@ impl TicketTable {
             (accepted (record {
               tickets = self.old.tickets.items;
               waiters = self.old.waiters;
+              attributes = self.old.attrs;
               common = self.old.common;
               last_reading = now;
             }) from now)
@@ -149,6 +163,7 @@ impl TicketTable {
             (record {
               tickets = self.new.tickets.items;
               waiters = self.new.waiters;
+              attributes = self.new.attrs;
               common = self.new.common;
               last_reading = now;
             })))
@@ -171,6 +186,7 @@ impl TicketTable {
             (record {
               tickets = self.old.tickets.items;
               waiters = self.old.waiters;
+              attributes = self.old.attrs;
               common = self.old.common;
               last_reading = now;
             })
@@ -179,6 +195,7 @@ impl TicketTable {
             (record {
               tickets = self.new.tickets.items;
               waiters = self.new.waiters;
+              attributes = self.new.attrs;
               common = self.new.common;
               last_reading = now;
             })))
@@ -188,6 +205,22 @@ impl TicketTable {
         ensures others { IsSetAt self.old.tickets.items ticket self.new.tickets.items }
     {
         self.act(ticket, &Event::Asked(request), now, host);
+    }
+
+    // Does what a client wishes of the attributes of the ticket at a place. The answer then stands in the frame.
+    fn attend(&mut self, ticket: usize, request: &AttrRequest, now: u64)
+        requires { ticket < length self.old.tickets.items }
+        ensures attributes { self.new.attrs ≡ after_wish self.old.attrs ticket request.now.wish }
+        ensures written { self.new.buffer.frame ≡ sealed self.old.node.key
+            (attr_letter self.old.node now self.old.attrs ticket request.now) }
+        ensures fits { Fits (attr_letter self.old.node now self.old.attrs ticket request.now) }
+        ensures node { self.new.node ≡ self.old.node }
+        ensures tickets { self.new.tickets.items ≡ self.old.tickets.items }
+        ensures waiters { self.new.waiters ≡ self.old.waiters }
+        ensures common { self.new.common ≡ self.old.common }
+    {
+        self.buffer
+            .attend(&self.node, &mut self.attrs, ticket as u32, request, now);
     }
 
     /// Does what a datagram demands. Where it befalls a ticket, this is that one's place.
@@ -204,6 +237,7 @@ impl TicketTable {
             (record {
               tickets = self.old.tickets.items;
               waiters = self.old.waiters;
+              attributes = self.old.attrs;
               common = self.old.common;
               last_reading = now;
             })
@@ -213,6 +247,7 @@ impl TicketTable {
             (record {
               tickets = self.new.tickets.items;
               waiters = self.new.waiters;
+              attributes = self.new.attrs;
               common = self.new.common;
               last_reading = now;
             })))
@@ -240,6 +275,11 @@ impl TicketTable {
                 self.ask(ticket, request, now, host);
                 Some(ticket)
             }
+            Action::Attend { ticket, request } => {
+                self.attend(ticket, &request, now);
+                let _ = host.send(&from, self.buffer.frame.bytes());
+                None
+            }
             Action::Answer => {
                 let _ = host.send(&from, self.buffer.frame.bytes());
                 None
@@ -257,6 +297,7 @@ impl TicketTable {
             (record {
               tickets = self.old.tickets.items;
               waiters = self.old.waiters;
+              attributes = self.old.attrs;
               common = self.old.common;
               last_reading = now;
             })
@@ -265,6 +306,7 @@ impl TicketTable {
             (record {
               tickets = self.new.tickets.items;
               waiters = self.new.waiters;
+              attributes = self.new.attrs;
               common = self.new.common;
               last_reading = now;
             })))

@@ -124,19 +124,20 @@ first_none : (b : Bool) (answer : ℕ) (rest : Option ℕ) → cond b (Some answ
 first_none true answer rest e = absurd (cc)
 first_none false answer rest e = (refl, e)
 
-unrefused : (setup : Setup) (view : View) (spare options now : ℕ)
-    → refused_grant setup view spare options now ≡ None
+unrefused : (setup : Setup) (view : View) (spare : ℕ) (ready : Bool) (options now : ℕ)
+    → refused_grant setup view spare ready options now ≡ None
     → (not (is_follower view.role) || is_promised_elsewhere view.promise setup.me now ≡ false)
     × (are_terms_spent view ≡ false)
-unrefused setup view spare options now e =
+unrefused setup view spare ready options now e =
     let one = first_none (not setup.site || not (options == 0 || waits options)) _ _ e in
     let two = first_none (is_holder setup view now) _ _ one.1 in
     let three = first_none (is_shown_elsewhere view.shown setup.me now) _ _ two.1 in
     let four =
     first_none (not (is_follower view.role) || is_promised_elsewhere view.promise setup.me
     now) _ _ three.1 in
-    let five = first_none (are_terms_spent view) _ _ four.1 in
-    (four.0, five.0)
+    let five = first_none (not ready) _ _ four.1 in
+    let six = first_none (are_terms_spent view) _ _ five.1 in
+    (four.0, six.0)
 
 follows : (role : Role) (promised : Bool) → not (is_follower role) || promised ≡ false
     → is_leader role ≡ false
@@ -269,8 +270,8 @@ in_kept_term setup view now =
     }
 
 pub asks_everyone : GrantAsksAll
-asks_everyone setup view waiters spare request now none few =
-    let free = unrefused setup view spare request.options now none in
+asks_everyone setup view waiters spare ready request now none few =
+    let free = unrefused setup view spare ready request.options now none in
     let Holds : Left → Type 0 = asks_now setup waiters request now (in_kept_term setup view now).kept in
     let later =
     opens setup waiters request now (in_kept_term setup view now)

@@ -10,3 +10,6 @@ pub mod FollowLemmas
 pub mod RoomLemmas
 pub mod CallLemmas
 pub mod LawLemmas
+pub mod ManualSpeechLemmas
+pub mod ManualLemmas
+pub mod ManualLawLemmas

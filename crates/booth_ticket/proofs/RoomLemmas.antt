@@ -1,9 +1,9 @@
 -- A client waits only where there is room for it.
-use Rattle.std.proofs.Common.{◌≡◌, ℕ, ◌<◌, Bool, true, false, ◌&&◌, ◌||◌, arith, refl, sym, ◌∙◌, subst}
+use Rattle.std.proofs.Common.{◌≡◌, ℕ, ◌<◌, Bool, true, false, cond, ◌&&◌, ◌||◌, arith, refl, sym, ◌∙◌, subst}
 use Rattle.std.proofs.lemmas.Bool.Decides.{nat_tests}
 use Rattle.std.specs.Prelude.{Option, Some, None, not, ◌==◌}
 use Rattle.booth_wire.specs.declared.message.Setup.{Setup}
-use Rattle.booth_wire.specs.declared.codes.results.TheConstants.{SUCCESS, ASYN, FAIL, IARG, PEND, OVER, BUSY}
+use Rattle.booth_wire.specs.declared.codes.results.TheConstants.{SUCCESS, ASYN, FAIL, IARG, PEND, APRQ, OVER, BUSY}
 use Rattle.booth_raft.specs.declared.view.View.{View}
 use Rattle.booth_raft.specs.AskAndRenew.{are_terms_spent}
 use Rattle.booth_raft.specs.Members.{is_follower, is_promised_elsewhere}
@@ -51,13 +51,13 @@ module _ (spare : ℕ) where
       no : (n : ℕ) → None ≡ Some n → ⊥
       no n e = cc
 
-  pub room_refused : (setup : Setup) (view : View) (options now answer : ℕ)
-      → refused_grant setup view spare options now ≡ Some answer
+  pub room_refused : (setup : Setup) (view : View) (ready : Bool) (options now answer : ℕ)
+      → refused_grant setup view spare ready options now ≡ Some answer
       → waits options && answer == ASYN ≡ true → 0 < spare
-  room_refused setup view options now answer is begun =
+  room_refused setup view ready options now answer is begun =
       every answer is (both_right (waits options) (answer == ASYN) begun)
     where
-      every : Fine (refused_grant setup view spare options now)
+      every : Fine (refused_grant setup view spare ready options now)
       every =
           on_cond Fine (not setup.site || not (options == 0 || waits options)) _ _
           (fine IARG (other IARG refl))
@@ -67,5 +67,31 @@ module _ (spare : ℕ) where
           (on_cond Fine
           (not (is_follower view.role) || is_promised_elsewhere view.promise setup.me now) _ _
           (fine BUSY (other BUSY refl))
+          (on_cond Fine (not ready) _ _ (fine APRQ (other APRQ refl))
           (on_cond Fine (are_terms_spent view) _ _ (fine FAIL (other FAIL refl))
-          (on_cond Fine (waits options && spare == 0) _ _ (fine BUSY (other BUSY refl)) fine_none)))))
+          (on_cond Fine (waits options && spare == 0) _ _ (fine BUSY (other BUSY refl)) fine_none))))))
+
+  passed : (b : Bool) (answer : ℕ) (rest : Option ℕ) → cond b (Some answer) rest ≡ None
+      → (b ≡ false) × (rest ≡ None)
+  passed true answer rest e = absurd (cc)
+  passed false answer rest e = (refl, e)
+
+  room_left : (a b : Bool) (n : ℕ) → a && n == 0 ≡ false → a && b ≡ true → 0 < n
+  room_left true b n full begun = grind (arith, nat_tests)
+  room_left false b n full begun = absurd (cc)
+
+  -- where nothing is refused, there is room for one that waits
+  pub room_unrefused : (setup : Setup) (view : View) (ready : Bool) (options now answer : ℕ)
+      → refused_grant setup view spare ready options now ≡ None
+      → waits options && answer == ASYN ≡ true → 0 < spare
+  room_unrefused setup view ready options now answer none begun =
+      let one = passed (not setup.site || not (options == 0 || waits options)) IARG _ none in
+      let two = passed (is_holder setup view now) _ _ one.1 in
+      let three = passed (is_shown_elsewhere view.shown setup.me now) OVER _ two.1 in
+      let four =
+      passed (not (is_follower view.role) || is_promised_elsewhere view.promise setup.me now) BUSY _
+      three.1 in
+      let five = passed (not ready) APRQ _ four.1 in
+      let six = passed (are_terms_spent view) FAIL _ five.1 in
+      let seven = passed (waits options && spare == 0) BUSY None six.1 in
+      room_left (waits options) (answer == ASYN) spare seven.0 begun

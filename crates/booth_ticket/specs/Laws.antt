@@ -1,5 +1,5 @@
 -- Laws over the trees: what is done where it may be, whatever the setup, the view and the message.
-use Rattle.std.specs.Prelude.{◌≡◌, ◌≢◌, ℕ, ◌+◌, ◌<◌, true, false, List, [], ◌∷◌, ◌++◌, map, Some, None}
+use Rattle.std.specs.Prelude.{◌≡◌, ◌≢◌, ℕ, ◌+◌, ◌<◌, Bool, true, false, List, [], ◌∷◌, ◌++◌, map, Some, None}
 use Rattle.booth_base.specs.declared.address.MemberId.{MemberId}
 use Rattle.booth_base.specs.Tree.{Deeds, Ends, Does, Leads}
 use Rattle.booth_rec.specs.declared.record.Lease.{Lease}
@@ -88,10 +88,11 @@ pub record AsksVotes (kept : Record) (waiters : List Waiter) (left : Left) : Typ
 -- is no majority by itself; and its client waits, where it asked to.
 abbrev pub GrantAsksAll : Type 0
 GrantAsksAll =
-    (setup : Setup) (view : View) (waiters : List Waiter) (spare : ℕ) (request : Request) (now : ℕ)
-    → refused_grant setup view spare request.options now ≡ None
+    (setup : Setup) (view : View) (waiters : List Waiter) (spare : ℕ) (ready : Bool) (request : Request)
+    (now : ℕ) → refused_grant setup view spare ready request.options now ≡ None
     → is_majority setup (own_answer setup view now) ≡ false
-    → IsDoneBy (wish setup view waiters spare request Grant now) (asking_acts setup view request now)
+    → IsDoneBy (wish setup view waiters spare ready request Grant now)
+    (asking_acts setup view request now)
     (AsksVotes (plain (next_term view) view.kept.lease) (joined request ASYN waiters))
 
 -- ---- an answer is heard

@@ -6,6 +6,10 @@ pub mod Waiting
 pub mod Pooled
 pub mod Requests
 pub mod Automatic
+pub mod Manual
+pub mod ManualRequests
 pub mod Ticket
+pub mod Kinds
 pub mod Fake
 pub mod Laws
+pub mod ManualLaws

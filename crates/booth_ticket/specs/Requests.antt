@@ -6,7 +6,7 @@ use Rattle.booth_wire.specs.declared.command.Cmd.{Cmd}
 use Rattle.booth_wire.specs.declared.command.Cmd.TheVariants.{RGnt, RRvk}
 use Rattle.booth_wire.specs.declared.message.Setup.{Setup}
 use Rattle.booth_wire.specs.declared.codes.reasons.TheConstants.{ADMN}
-use Rattle.booth_wire.specs.declared.codes.results.TheConstants.{SUCCESS, ASYN, FAIL, IARG, PEND, TIDL, OVER, BUSY, REDR}
+use Rattle.booth_wire.specs.declared.codes.results.TheConstants.{SUCCESS, ASYN, FAIL, IARG, PEND, APRQ, TIDL, OVER, BUSY, REDR}
 use Rattle.booth_wire.specs.declared.codes.options.TheConstants.{WAIT}
 use Rattle.booth_raft.specs.declared.deed.Note.TheVariants.{Asked}
 use Rattle.booth_raft.specs.declared.deed.Told.{Told}
@@ -48,14 +48,16 @@ holder_result sure spare options =
     if commits options then (if spare == 0 then BUSY else ASYN) else
     PEND
 
--- what a grant is answered at once: the first of these that holds; else the ticket is acquired
-abbrev pub refused_grant : Setup → View → ℕ → ℕ → ℕ → Option ℕ
-refused_grant setup view spare options now =
+-- what a grant is answered at once, where its prerequisites hold or do not: the first of these that
+-- holds; else the ticket is acquired
+abbrev pub refused_grant : Setup → View → ℕ → Bool → ℕ → ℕ → Option ℕ
+refused_grant setup view spare ready options now =
     if not setup.site || not (options == 0 || waits options) then Some IARG else
     if is_holder setup view now then Some (holder_result view.sure spare options) else
     if is_shown_elsewhere view.shown setup.me now then Some OVER else
     if not (is_follower view.role) || is_promised_elsewhere view.promise setup.me now
     then Some BUSY else
+    if not ready then Some APRQ else
     if are_terms_spent view then Some FAIL else
     if waits options && spare == 0 then Some BUSY else
     None
@@ -108,11 +110,11 @@ revoke setup view None now rest =
 -- ---- by what is wished
 
 -- what is done for a client before it is answered
-abbrev pub done_for : {S : Type 0} → Setup → View → ℕ → ℕ → Wish → ℕ → (ℕ → Outcome → Deeds Ask S)
+abbrev pub done_for : {S : Type 0} → Setup → View → ℕ → Bool → ℕ → Wish → ℕ → (ℕ → Outcome → Deeds Ask S)
     → Deeds Ask S
-done_for setup view spare options Grant now rest =
-    grant setup view options (refused_grant setup view spare options now) now rest
-done_for setup view spare options Revoke now rest =
+done_for setup view spare ready options Grant now rest =
+    grant setup view options (refused_grant setup view spare ready options now) now rest
+done_for setup view spare ready options Revoke now rest =
     revoke setup view (refused_revoke setup view options now) now rest
 
 abbrev pub reply_cmd : Wish → Cmd
@@ -132,8 +134,9 @@ abbrev pub replies : Setup → List Waiter → Request → Cmd → ℕ → ℕ �
 replies setup waiters request cmd now result outcome =
     tell setup now waiters outcome (reply setup request cmd result outcome.view now)
 
--- a client's request is followed; so many more clients may wait
-abbrev pub wish : Setup → View → List Waiter → ℕ → Request → Wish → ℕ → Deeds Ask Left
-wish setup view waiters spare request wanted now =
-    done_for setup view spare request.options wanted now
+-- a client's request is followed; so many more clients may wait, and the prerequisites of a grant
+-- hold or do not
+abbrev pub wish : Setup → View → List Waiter → ℕ → Bool → Request → Wish → ℕ → Deeds Ask Left
+wish setup view waiters spare ready request wanted now =
+    done_for setup view spare ready request.options wanted now
     (replies setup waiters request (reply_cmd wanted) now)

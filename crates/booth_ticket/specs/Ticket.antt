@@ -1,5 +1,5 @@
 -- A ticket between two calls, and what it does in each.
-use Rattle.std.specs.Prelude.{◌≤◌, ℕ, ◌/◌, nat_lt, List, Option, Some, None, IsSomeAnd, if◌then◌else◌}
+use Rattle.std.specs.Prelude.{◌≤◌, ℕ, ◌/◌, Bool, nat_lt, List, Option, Some, None, IsSomeAnd, if◌then◌else◌}
 use Rattle.booth_base.specs.Tree.{Deeds, Ends, next}
 use Rattle.booth_rec.specs.declared.record.Record.{Record}
 use Rattle.booth_wire.specs.declared.message.Head.{Head}
@@ -8,16 +8,21 @@ use Rattle.booth_wire.specs.declared.message.Setup.{Setup}
 use Rattle.booth_raft.specs.declared.view.Shown.{Shown}
 use Rattle.booth_raft.specs.declared.view.View.{View}
 use Rattle.booth_raft.specs.StartAndLearn.{started}
+use Rattle.booth_base.specs.declared.address.MemberId.{MemberId}
+use Rattle.booth_manual.specs.declared.view.ManualView.{ManualView}
 use Rattle.booth_ticket.specs.declared.ticket.Owner.{Owner}
 use Rattle.booth_ticket.specs.declared.request.Request.{Request}
 use Rattle.booth_ticket.specs.declared.waiters.Waiter.{Waiter}
 use Rattle.booth_ticket.specs.Acts.{Ask}
 use Rattle.booth_ticket.specs.Automatic.{Left, hear_message, tick}
+use Rattle.booth_ticket.specs.Manual.{ManualKnown, manual_started, manual_heard, manual_due}
+use Rattle.booth_ticket.specs.ManualRequests.{manual_asked}
 use Rattle.booth_ticket.specs.Requests.{wish}
 
 -- What the rules of a ticket know of it, by its kind.
 pub data Known : Type 0 where
   Automatic : View → Known
+  Manual : ManualKnown → Known
 
 -- A ticket: its setup, and what its rules know.
 pub record TicketState : Type 0 where
@@ -27,6 +32,10 @@ pub record TicketState : Type 0 where
 -- a ticket starts, from the record that was kept
 abbrev pub opened : Setup → Record → ℕ → TicketState
 opened setup rec now = record { setup = setup; known = Automatic (started setup rec now) }
+
+-- a manual ticket starts so
+abbrev pub opened_by_hand : Setup → Record → ℕ → TicketState
+opened_by_hand setup rec now = record { setup = setup; known = Manual (manual_started rec now) }
 
 -- What a call leaves: the ticket, and the clients that wait for it.
 pub record TicketLeft : Type 0 where
@@ -43,23 +52,39 @@ left_as setup left = record {
 abbrev pub by_rules : Setup → Deeds Ask Left → Deeds Ask TicketLeft
 by_rules setup deeds = next deeds (λ left. Ends (left_as setup left))
 
+-- a manual ticket's deeds likewise; nobody begins or ends to wait for one
+abbrev pub left_by_hand : Setup → List Waiter → ManualKnown → TicketLeft
+left_by_hand setup waiters known =
+    record { ticket = record { setup = setup; known = Manual known }; waiters = waiters }
+
+abbrev pub by_hand : Setup → List Waiter → Deeds Ask ManualKnown → Deeds Ask TicketLeft
+by_hand setup waiters deeds = next deeds (λ known. Ends (left_by_hand setup waiters known))
+
 -- the message of the member at a place is heard
 abbrev pub ticket_heard : Setup → Known → List Waiter → ℕ → Head → TicketPart → ℕ → Deeds Ask TicketLeft
 ticket_heard setup (Automatic view) waiters from head part now =
     by_rules setup (hear_message setup view waiters from head part now)
+ticket_heard setup (Manual known) waiters from head part now =
+    by_hand setup waiters (manual_heard setup known from head part)
 
--- a client's request is followed; so many more clients may wait
-abbrev pub ticket_asked : Setup → Known → List Waiter → ℕ → Request → ℕ → Deeds Ask TicketLeft
-ticket_asked setup (Automatic view) waiters spare request now =
-    by_rules setup (wish setup view waiters spare request request.wish now)
+-- a client's request is followed; so many more clients may wait, and the prerequisites of a grant that
+-- is asked for hold or do not
+abbrev pub ticket_asked : Setup → Known → List Waiter → ℕ → Bool → Request → ℕ → Deeds Ask TicketLeft
+ticket_asked setup (Automatic view) waiters spare ready request now =
+    by_rules setup (wish setup view waiters spare ready request request.wish now)
+ticket_asked setup (Manual known) waiters spare ready request now =
+    by_hand setup waiters (manual_asked setup known spare ready request)
 
--- the deadline has come
-abbrev pub ticket_due : Setup → Known → List Waiter → ℕ → Deeds Ask TicketLeft
-ticket_due setup (Automatic view) waiters now = by_rules setup (tick setup view waiters now)
+-- the deadline has come, and the prerequisites of a takeover hold or do not
+abbrev pub ticket_due : Setup → Known → List Waiter → Bool → ℕ → Deeds Ask TicketLeft
+ticket_due setup (Automatic view) waiters ready now =
+    by_rules setup (tick setup view waiters ready now)
+ticket_due setup (Manual known) waiters ready now = by_hand setup waiters (manual_due setup known)
 
 -- when the ticket is next to be looked at
 abbrev pub deadline : Known → Option ℕ
 deadline (Automatic view) = view.due
+deadline (Manual known) = known.greets_at
 
 -- the deadline has come
 abbrev pub IsDue : Known → ℕ → Type 0
@@ -73,5 +98,15 @@ shown_owner (Some shown) now =
     then Some (record { site = shown.owner; until_secs = shown.until / 1000 })
     else None
 
-abbrev pub owner : Known → ℕ → Option Owner
-owner (Automatic view) now = shown_owner view.shown now
+-- a site that holds a manual ticket, whose lease has no end: it is told as 0
+abbrev pub endless_owner : Option MemberId → Option Owner
+endless_owner None = None
+endless_owner (Some site) = Some (record { site = site; until_secs = 0 })
+
+-- who holds a manual ticket, as far as this member knows: itself, or who is shown
+abbrev pub manual_owner : Setup → ManualView → Option Owner
+manual_owner setup view = endless_owner (if view.owner then Some setup.me else view.shown)
+
+abbrev pub owner : Setup → Known → ℕ → Option Owner
+owner setup (Automatic view) now = shown_owner view.shown now
+owner setup (Manual known) now = manual_owner setup known.view

@@ -1,5 +1,6 @@
 //! Laws over the trees, each the contract of a function that does nothing.
 ghost use Rattle.booth_ticket.specs.Laws.{AnswersWhereItMay, GrantAsksAll, MajorityGains};
+ghost use Rattle.booth_ticket.specs.ManualLaws.{GrantsByHand, RevokesByHand};
 
 /// A round that may be answered is answered, before all else.
 pub fn answers_where_it_may()
@@ -15,4 +16,16 @@ pub fn grant_asks_all()
 /// A majority that answers in time gives the lease, where its record is kept.
 pub fn majority_gains()
     ensures { MajorityGains }
+{}
+
+/// A manual ticket's grant that meets no refusal is kept, told to all others and answered with success,
+/// where the keep answers Ok.
+pub fn grants_by_hand()
+    ensures { GrantsByHand }
+{}
+
+/// A manual ticket's revoke at its holder is kept, told to all others and answered with success, where the
+/// keep answers Ok.
+pub fn revokes_by_hand()
+    ensures { RevokesByHand }
 {}

@@ -6,6 +6,8 @@ mod fake;
 mod hands;
 mod keeping;
 pub mod laws;
+mod manual;
+mod manual_requests;
 mod request;
 mod requests;
 mod saying;

@@ -22,7 +22,7 @@ use booth_raft::{
 use booth_wire::Setup;
 use booth_wire::options::WAIT;
 use booth_wire::reasons::ADMN;
-use booth_wire::results::{ASYN, BUSY, FAIL, IARG, OVER, PEND, REDR, SUCCESS, TIDL};
+use booth_wire::results::{APRQ, ASYN, BUSY, FAIL, IARG, OVER, PEND, REDR, SUCCESS, TIDL};
 
 // This site leads, and its lease is not over.
 fn is_holder(setup: &Setup, view: &View, now: u64) -> bool
@@ -53,8 +53,15 @@ fn holder_result(sure: bool, spare: u32, options: u32) -> u32
 }
 
 // What a grant is answered at once, or none where the ticket is acquired.
-fn refused_grant(setup: &Setup, view: &View, spare: u32, options: u32, now: u64) -> Option<u32>
-    ensures { result ≡ refused_grant setup.now view.now spare options now }
+fn refused_grant(
+    setup: &Setup,
+    view: &View,
+    spare: u32,
+    ready: bool,
+    options: u32,
+    now: u64,
+) -> Option<u32>
+    ensures { result ≡ refused_grant setup.now view.now spare ready options now }
 {
     if !setup.site || options != 0 && !waits(options) {
         return Some(IARG);
@@ -67,6 +74,9 @@ fn refused_grant(setup: &Setup, view: &View, spare: u32, options: u32, now: u64)
     }
     if view.role != Role::Follower || is_promised_elsewhere(view.promise, setup.me, now) {
         return Some(BUSY);
+    }
+    if !ready {
+        return Some(APRQ);
     }
     if are_terms_spent(view) {
         return Some(FAIL);
@@ -121,19 +131,26 @@ fn acquire_for<W: Hands>(core: &mut Core, options: u32, now: u64, hands: &mut W)
 }
 
 // The ticket is granted, or it is found why not.
-fn grant<W: Hands>(core: &mut Core, spare: u32, options: u32, now: u64, hands: &mut W) -> Done
+fn grant<W: Hands>(
+    core: &mut Core,
+    spare: u32,
+    ready: bool,
+    options: u32,
+    now: u64,
+    hands: &mut W,
+) -> Done
     requires early { now < 2 ^ 62 }
     requires idle { core.old.view.waiting ≡ None }
     ensures did { DidSome W.did (λ acts. (rest : ℕ → Outcome → Deeds Ask Left) → Leads IsAct
         (grant core.old.setup core.old.view options
-        (refused_grant core.old.setup core.old.view spare options now) now rest) acts
+        (refused_grant core.old.setup core.old.view spare ready options now) now rest) acts
         (rest result.answer (record { view = core.new.view; deed = result.last })))
         hands.old hands.new }
     ensures room { IsTrue (waits options && result.answer == ASYN) → 0 < spare }
     ensures setup { core.new.setup ≡ core.old.setup }
     ensures idle { core.new.view.waiting ≡ None }
 {
-    match refused_grant(core.setup(), core.view(), spare, options, now) {
+    match refused_grant(core.setup(), core.view(), spare, ready, options, now) {
         Some(answer) => Done {
             answer,
             last: telling(Told::Nothing),
@@ -216,28 +233,36 @@ fn revoke<W: Hands>(core: &mut Core, options: u32, now: u64, hands: &mut W) -> D
 }
 
 // What the client wishes is done, or it is found why not.
-fn do_for<W: Hands>(core: &mut Core, request: &Request, spare: u32, now: u64, hands: &mut W) -> Done
+fn do_for<W: Hands>(
+    core: &mut Core,
+    request: &Request,
+    spare: u32,
+    ready: bool,
+    now: u64,
+    hands: &mut W,
+) -> Done
     requires early { now < 2 ^ 62 }
     requires idle { core.old.view.waiting ≡ None }
     ensures did { DidSome W.did (λ acts. (rest : ℕ → Outcome → Deeds Ask Left) → Leads IsAct
-        (done_for core.old.setup core.old.view spare request.now.options request.now.wish now rest)
-        acts (rest result.answer (record { view = core.new.view; deed = result.last })))
+        (done_for core.old.setup core.old.view spare ready request.now.options request.now.wish now
+        rest) acts (rest result.answer (record { view = core.new.view; deed = result.last })))
         hands.old hands.new }
     ensures room { IsTrue (joins request.now result.answer) → 0 < spare }
     ensures setup { core.new.setup ≡ core.old.setup }
     ensures idle { core.new.view.waiting ≡ None }
 {
     match request.wish {
-        Wish::Grant => grant(core, spare, request.options, now, hands),
+        Wish::Grant => grant(core, spare, ready, request.options, now, hands),
         Wish::Revoke => revoke(core, request.options, now, hands),
     }
 }
 
 /// A client's request is followed: what it wishes is done, those that wait are told, and then it is
-/// answered.
+/// answered. `ready` where the prerequisites of a grant hold.
 pub(crate) fn follow_request<W: Hands>(
     core: &mut Core,
     request: &Request,
+    ready: bool,
     now: u64,
     list: u32,
     waiters: &mut Waiters,
@@ -247,7 +272,7 @@ pub(crate) fn follow_request<W: Hands>(
     requires idle { core.old.view.waiting ≡ None }
     requires exists { list < length waiters.old }
     ensures did { DidSome W.did (λ acts. Leads IsAct
-        (wish core.old.setup core.old.view (waiting_at waiters.old list) (spare_in waiters.old)
+        (wish core.old.setup core.old.view (waiting_at waiters.old list) (spare_in waiters.old) ready
         request.now request.now.wish now) acts
         (Deeds.Ends (record { view = core.new.view; waiters = waiting_at waiters.new list })))
         hands.old hands.new }
@@ -255,7 +280,7 @@ pub(crate) fn follow_request<W: Hands>(
     ensures setup { core.new.setup ≡ core.old.setup }
     ensures idle { core.new.view.waiting ≡ None }
 {
-    let done = do_for(core, request, waiters.spare(), now, hands);
+    let done = do_for(core, request, waiters.spare(), ready, now, hands);
     tell(core, done.last.told, now, list, waiters, hands);
     reply(core, request, done.answer, now, hands);
     join(request, done.answer, list, waiters);

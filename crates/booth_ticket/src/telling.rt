@@ -32,7 +32,8 @@ pub(crate) fn waits(options: u32) -> bool
     options == WAIT || commits(options)
 }
 
-fn reply_head(setup: &Setup, number: u32, cmd: Cmd, answer: u32) -> Head
+/// The head of a message to a client.
+pub(crate) fn reply_head(setup: &Setup, number: u32, cmd: Cmd, answer: u32) -> Head
     ensures { result ≡ head_of setup.now cmd number 0 0 answer }
 {
     Head {
@@ -141,7 +142,8 @@ pub(crate) fn join(request: &Request, answer: u32, list: u32, waiters: &mut Wait
     }
 }
 
-fn reply_cmd(wish: Wish) -> Cmd
+/// The command that answers a request.
+pub(crate) fn reply_cmd(wish: Wish) -> Cmd
     ensures cmd { result ≡ reply_cmd wish }
     ensures kind { kind_of result ≡ Kind.Ticket }
 {

@@ -1,10 +1,10 @@
 //! A ticket.
 ghost use Rattle.std.specs.Prelude.{◌≡◌, ◌≢◌, ◌<◌, ◌^◌, length, slice_set};
-ghost use Rattle.booth_ticket.specs.Ticket.{shown_owner};
+ghost use Rattle.booth_ticket.specs.Ticket.{manual_owner, shown_owner};
 
 use crate::hands::Hands;
+use crate::manual::ManualTicket;
 use crate::request::Request;
-use crate::telling::tell;
 use crate::waiters::Waiters;
 use crate::{automatic, requests};
 use booth_base::MemberId;
@@ -28,18 +28,27 @@ pub struct Owner {
 /// memory.
 #[derive(Drop)]
 pub struct Ticket {
-    core: Core,
+    kind: Kind,
+}
+
+/// The rules of a ticket, by its kind.
+#[derive(Drop)]
+enum Kind {
+    /// It is granted by votes.
+    Automatic(Core),
+    /// It is granted by hand alone.
+    Manual(ManualTicket),
 }
 
 impl Model for Ticket {
-    ghost use Rattle.std.specs.Prelude.{◌≡◌, None};
-    ghost use Rattle.booth_ticket.specs.Ticket.{TicketState, Automatic};
+    ghost use Rattle.booth_ticket.specs.Kinds.{IsIdle, state_of};
+    ghost use Rattle.booth_ticket.specs.Ticket.{TicketState};
 
     ghost Value = { TicketState };
 
-    ghost view = { λ ticket. record { setup = ticket.core.setup; known = Automatic ticket.core.view } };
+    ghost view = { λ ticket. state_of ticket.kind };
 
-    ghost invariant = { λ ticket. ticket.core.view.waiting ≡ None };
+    ghost invariant = { λ ticket. IsIdle ticket.kind };
 }
 
 // The owner that is shown, while its lease is not over.
@@ -53,13 +62,29 @@ fn shown_owner(shown: Option<Shown>, now: u64) -> Option<Owner>
     })
 }
 
+// The owner of a manual ticket, whose lease has no end.
+fn manual_owner(ticket: &ManualTicket) -> Option<Owner>
+    ensures { result ≡ manual_owner ticket.now.setup ticket.now.known.view }
+{
+    let view = ticket.view();
+    let site = if view.owner {
+        Some(ticket.setup().me)
+    } else {
+        view.shown
+    };
+    Some(Owner {
+        site: site?,
+        until_secs: 0,
+    })
+}
+
 impl Ticket {
     ghost use Rattle.booth_base.specs.Tree.{Deeds, Leads};
     ghost use Rattle.booth_raft.specs.Sound.{IsSound};
     ghost use Rattle.booth_rec.specs.Record.{record_or_none};
     ghost use Rattle.std.specs.Prelude.{option_copied};
     ghost use Rattle.booth_ticket.specs.Acts.{DidSome, IsAct};
-    ghost use Rattle.booth_ticket.specs.Ticket.{opened, ticket_heard, ticket_asked, ticket_due, deadline, owner, IsDue};
+    ghost use Rattle.booth_ticket.specs.Ticket.{opened, opened_by_hand, ticket_heard, ticket_asked, ticket_due, deadline, owner, IsDue};
     ghost use Rattle.booth_ticket.specs.Waiting.{waiting_at, spare_in};
 
     /// An automatic ticket starts, from the record that was kept.
@@ -69,7 +94,17 @@ impl Ticket {
         ensures { result ≡ opened setup.now (record_or_none (option_copied kept.entry)) now }
     {
         Ticket {
-            core: Core::start(setup, kept, now),
+            kind: Kind::Automatic(Core::start(setup, kept, now)),
+        }
+    }
+
+    /// A manual ticket starts, from the record that was kept.
+    pub fn open_manual(setup: &Setup, kept: Option<&Record>, now: u64) -> Ticket
+        requires sound { IsSound setup.now }
+        ensures { result ≡ opened_by_hand setup.now (record_or_none (option_copied kept.entry)) now }
+    {
+        Ticket {
+            kind: Kind::Manual(ManualTicket::open(setup, kept, now)),
         }
     }
 
@@ -78,7 +113,10 @@ impl Ticket {
         ensures value { result.now ≡ self.now.setup }
         ensures sound { IsSound result.now }
     {
-        self.core.setup()
+        match &self.kind {
+            Kind::Automatic(core) => core.setup(),
+            Kind::Manual(ticket) => ticket.setup(),
+        }
     }
 
     /// A message of the member at the place `from`, another than this one, is heard.
@@ -104,15 +142,21 @@ impl Ticket {
         ensures setup { self.new.setup ≡ self.old.setup }
         ensures others { waiters.new ≡ slice_set waiters.old list (waiting_at waiters.new list) }
     {
-        let last = automatic::hear_message(&mut self.core, from, head, part, now, hands);
-        tell(&self.core, last.told, now, list, waiters, hands);
+        match &mut self.kind {
+            Kind::Automatic(core) => {
+                automatic::hear(core, now, from, head, part, list, waiters, hands)
+            }
+            Kind::Manual(ticket) => ticket.hear(from, head, part, hands),
+        }
     }
 
-    /// A client's request is followed. The reply is the last deed.
+    /// A client's request is followed; `ready` says whether the prerequisites of a grant hold that is
+    /// asked for. The reply is the last deed.
     pub fn client<W: Hands>(
         &mut self,
         now: u64,
         request: &Request,
+        ready: bool,
         list: u32,
         waiters: &mut Waiters,
         hands: &mut W,
@@ -121,42 +165,62 @@ impl Ticket {
         requires exists { list < length waiters.old }
         ensures did { DidSome W.did (λ acts. Leads IsAct
             (ticket_asked self.old.setup self.old.known (waiting_at waiters.old list)
-            (spare_in waiters.old) request.now now) acts
+            (spare_in waiters.old) ready request.now now) acts
             (Deeds.Ends (record { ticket = self.new; waiters = waiting_at waiters.new list })))
             hands.old hands.new }
         ensures setup { self.new.setup ≡ self.old.setup }
         ensures others { waiters.new ≡ slice_set waiters.old list (waiting_at waiters.new list) }
     {
-        requests::follow_request(&mut self.core, request, now, list, waiters, hands)
+        match &mut self.kind {
+            Kind::Automatic(core) => {
+                requests::follow_request(core, request, ready, now, list, waiters, hands)
+            }
+            Kind::Manual(ticket) => ticket.client(request, waiters.spare(), ready, hands),
+        }
     }
 
-    /// The deadline has come.
-    pub fn tick<W: Hands>(&mut self, now: u64, list: u32, waiters: &mut Waiters, hands: &mut W)
+    /// The deadline has come; `ready` says whether the prerequisites of a takeover hold.
+    pub fn tick<W: Hands>(
+        &mut self,
+        now: u64,
+        ready: bool,
+        list: u32,
+        waiters: &mut Waiters,
+        hands: &mut W,
+    )
         requires early { now < 2 ^ 62 }
         requires due { IsDue self.old.known now }
         requires exists { list < length waiters.old }
         ensures did { DidSome W.did (λ acts. Leads IsAct
-            (ticket_due self.old.setup self.old.known (waiting_at waiters.old list) now) acts
+            (ticket_due self.old.setup self.old.known (waiting_at waiters.old list) ready now) acts
             (Deeds.Ends (record { ticket = self.new; waiters = waiting_at waiters.new list })))
             hands.old hands.new }
         ensures setup { self.new.setup ≡ self.old.setup }
         ensures others { waiters.new ≡ slice_set waiters.old list (waiting_at waiters.new list) }
     {
-        let last = automatic::tick(&mut self.core, now, hands);
-        tell(&self.core, last.told, now, list, waiters, hands);
+        match &mut self.kind {
+            Kind::Automatic(core) => automatic::come_due(core, now, ready, list, waiters, hands),
+            Kind::Manual(ticket) => ticket.tick(hands),
+        }
     }
 
     /// When it is next to be looked at, in milliseconds since 1970.
     pub fn deadline(&self) -> Option<u64>
         ensures { result ≡ deadline self.now.known }
     {
-        self.core.view().due
+        match &self.kind {
+            Kind::Automatic(core) => core.view().due,
+            Kind::Manual(ticket) => ticket.greets_at(),
+        }
     }
 
     /// Who is shown as the owner now; none where nobody is.
     pub fn owner(&self, now: u64) -> Option<Owner>
-        ensures { result ≡ owner self.now.known now }
+        ensures { result ≡ owner self.now.setup self.now.known now }
     {
-        shown_owner(self.core.view().shown, now)
+        match &self.kind {
+            Kind::Automatic(core) => shown_owner(core.view().shown, now),
+            Kind::Manual(ticket) => manual_owner(ticket),
+        }
     }
 }

@@ -249,9 +249,11 @@ module _ (w : World) (sound : IsSoundConfig w.config) where
         retries = timed.retries;
       }
 
-  pub setting_of : (place : ℕ) (ticket : TicketConf) → slice_get w.config.tickets place ≡ Some ticket → Setting w place ticket
-  setting_of place ticket is = record {
+  pub setting_of : (place : ℕ) (ticket : TicketConf) → slice_get w.config.tickets place ≡ Some ticket → ticket.manual ≡ false
+      → Setting w place ticket
+  setting_of place ticket is automatic = record {
     there = is;
+    automatic = automatic;
     ids = ids_apart;
     names = λ other t at ne. names_apart w.config sound place other ticket t is at ne;
     sound = setup_sound place ticket is;

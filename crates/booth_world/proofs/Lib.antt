@@ -34,6 +34,7 @@ pub mod Mirrors
 pub mod Echoes
 pub mod Plans
 pub mod NodeTrees
+pub mod ManualKeeps
 pub mod NodeTurns
 pub mod NodeArrivals
 pub mod HostRuns
@@ -41,6 +42,7 @@ pub mod WorldSteps
 pub mod WorldEntries
 pub mod WorldHosts
 pub mod WorldRuns
+pub mod ManualTerms
 pub mod Configured
 pub mod WorldLaws
 pub mod WorldShadows

@@ -30,10 +30,13 @@ use Rattle.booth_ticket.specs.Waiting.{spare_in, waiting_at}
 use Rattle.booth_node.specs.declared.node.Turn.{Turn}
 use Rattle.booth_node.specs.declared.node_config.NodeConfig.{NodeConfig}
 use Rattle.booth_node.specs.declared.state.Common.{Common}
-use Rattle.booth_node.specs.Befalling.{is_told, is_asked}
+use Rattle.booth_node.specs.Befalling.{AttributeAsking, is_told, is_asked}
 use Rattle.booth_node.specs.Counting.{dropped, accepted}
 use Rattle.booth_auth.specs.Verdict.{verdict}
-use Rattle.booth_node.specs.Reaction.{Ask, Action, Drops, Hears, Asks, Answers, Rests, answers, asks, requested, hears, said, routed, demanded, action, met, turn_end, dues, acts, react}
+use Rattle.booth_conf.specs.declared.tickets.GrantKind.TheVariants.{Auto, Manual}
+use Rattle.booth_node.specs.AttributeRequests.{attr_request_in, is_ready}
+use Rattle.booth_node.proofs.ActionLemmas.{attr_to_client}
+use Rattle.booth_node.specs.Reaction.{Ask, Action, Drops, Hears, Asks, Attends, Answers, Rests, answers, asks, attends, attended, requested, hears, said, routed, demanded, action, after_attending, met, turn_end, dues, acts, react}
 use Rattle.booth_node.specs.Replies.{Reply, answered, reply_to, request_in}
 use Rattle.booth_node.specs.State.{State, with_ticket}
 use Rattle.booth_world.specs.Rules.{MemberLetter, Hears as HearsLetter}
@@ -43,7 +46,7 @@ use Rattle.booth_world.proofs.Mirrors.{IsKept, Mirrors, mirrors_kept, mirrors_ne
 use Rattle.booth_world.proofs.Echoes.{echoes_as}
 use Rattle.booth_world.proofs.Plans.{always, ask_plan, ask_may, heard, asked}
 use Rattle.booth_world.proofs.NodeTrees.{left_as, minds_heard, minds_asked}
-use Rattle.booth_world.proofs.NodeTurns.{IsPlacedAt, IsOver, Over, over_kept, own_set, own_acts, other_acts, after_plan, after_may, dues_over}
+use Rattle.booth_world.proofs.NodeTurns.{IsPlacedAt, IsOver, Over, over_kept, own_set, own_acts, other_acts, ready_in, after_plan, after_may, dues_over}
 
 -- ---- what an action stands for
 
@@ -100,8 +103,18 @@ module _ (node : NodeConfig) (moment : ℕ) (tickets : List TicketState) (common
   from_ask None request letter = from_reply letter
   from_ask (Some place) request letter = tt
 
+  from_attend : (place : Option ℕ) (request : AttributeAsking) (letter : PlainMessage)
+      → Comes node r (attends place request (answers node.key moment (reply_to node moment tickets common letter)))
+  from_attend None request letter = from_reply letter
+  from_attend (Some place) request letter = tt
+
+  from_attended : (letter : PlainMessage) (found : Option AttributeAsking)
+      → Comes node r (attended node found (answers node.key moment (reply_to node moment tickets common letter)))
+  from_attended letter None = from_reply letter
+  from_attended letter (Some request) = from_attend _ request letter
+
   from_request : (letter : PlainMessage) (found : Option (TicketPart × Request)) → Comes node r (requested node moment tickets common letter found)
-  from_request letter None = from_reply letter
+  from_request letter None = from_attended letter (attr_request_in letter)
   from_request letter (Some found) = from_ask (position (is_called found.0.ticket) node.config.tickets) found.1 letter
 
   from_hear : (letter : PlainMessage) (part : TicketPart) (member place : Option ℕ) → r ≡ Ok letter → direction_of letter.head.cmd ≡ BetweenMembers
@@ -164,19 +177,25 @@ module _ (s : Setup) (place : ℕ) (node : NodeConfig) (moment : ℕ) (all : s.m
     abbrev Then : List MemberLetter → State → TurnTree → Type 0
     Then sent state tree = Over s place node moment all sent (dues node moment turn state) tree
 
-    abbrev then_plan : View → Plan
-    then_plan view = after_plan s place node moment all own turn view
+    abbrev ready_at : State → Bool
+    ready_at state = ready_in s place node moment all own state
+
+    abbrev ready_by : State → Bool
+    ready_by state = is_ready node state.attributes place Manual
+
+    abbrev then_plan : State → View → Plan
+    then_plan state view = after_plan s place node moment all own (ready_at state) turn view
 
     then_dues : (state : State) (view : View) (sent : List MemberLetter) → IsPlacedAt s place view state.tickets → state.last_reading ≡ moment
-        → Then sent state (plan_tree s moment view (then_plan view))
+        → Then sent state (plan_tree s moment view (then_plan state view))
     then_dues state view sent at last_is = dues_over s place node moment all own turn state view sent at last_is
 
     nothing : (state : State) (view : View) → IsPlacedAt s place view state.tickets → state.last_reading ≡ moment
         → IsTurnOf view (dues node moment turn state)
     nothing state view at last_is = record {
       came = None;
-      plan = then_plan;
-      may = after_may s place node moment all own turn view;
+      plan = then_plan state;
+      may = after_may s place node moment all own (ready_at state) turn view;
       good = no_letter Good;
       over = λ sent. then_dues state view sent at last_is;
     }
@@ -191,7 +210,7 @@ module _ (s : Setup) (place : ℕ) (node : NodeConfig) (moment : ℕ) (all : s.m
         (over_kept s place node moment all) sent sent' tree tree' x (m counted)
 
     left_dues : (state : State) (view : View) → IsPlacedAt s place view state.tickets → state.last_reading ≡ moment
-        → (left : Left) (sent : List MemberLetter) → LeftThen state sent left (plan_tree s moment left.view (then_plan left.view))
+        → (left : Left) (sent : List MemberLetter) → LeftThen state sent left (plan_tree s moment left.view (then_plan state left.view))
     left_dues state view at last_is left sent =
         λ counted. then_dues (with_ticket state place counted (left_as s moment left)) left.view sent (own_set s place view left.view state.tickets at) last_is
 
@@ -205,9 +224,10 @@ module _ (s : Setup) (place : ℕ) (node : NodeConfig) (moment : ℕ) (all : s.m
         → IsTurnOf view (next (acts node moment state place (is_told member head part)) (dues node moment turn))
     hears_own state view member head part at last_is plain = record {
       came = Some (record { sender = member; head = plain.0; part = part });
-      plan = then_plan;
-      may = always (λ left. MayPlan s moment left (then_plan left))
-          (call_tree s moment view (HearsLetter (record { sender = member; head = plain.0; part = part }))) (after_may s place node moment all own turn);
+      plan = then_plan state;
+      may = always (λ left. MayPlan s moment left (then_plan state left))
+          (call_tree s moment view (HearsLetter (record { sender = member; head = plain.0; part = part })))
+          (after_may s place node moment all own (ready_at state) turn);
       good = one_letter Good _ plain.4;
       over = λ sent. joined (acts node moment state place (is_told member head part)) sent (heard_tree plain.0)
           (subst (λ (h : Head). Mirrors (is_some node.key) s Then sent (acts node moment state place (is_told member h part)) (heard_tree plain.0))
@@ -215,36 +235,38 @@ module _ (s : Setup) (place : ℕ) (node : NodeConfig) (moment : ℕ) (all : s.m
           (own_acts s place node moment all Then state view (is_told member (stamped_head plain.1 plain.2 plain.0) part) sent (heard_tree plain.0) at.own
           (echoes_as s (LeftThen state) (λ sent' left tree'. (counted : Common) → Then sent' (with_ticket state place counted left) tree') (left_as s moment)
           sent (hear_message s view (waiting_at state.waiters place) member plain.0 part moment) (heard_tree plain.0) (λ sent' left tree' m. m)
-          (heard s moment own (LeftThen state) (left_kept state) then_plan (left_dues state view at last_is) view (waiting_at state.waiters place) member plain.0 part sent))));
+          (heard s moment own (LeftThen state) (left_kept state) (then_plan state) (left_dues state view at last_is) view (waiting_at state.waiters place) member plain.0 part sent))));
     }
       where
         heard_tree : Head → TurnTree
-        heard_tree h = turn_tree s moment view (Some (record { sender = member; head = h; part = part })) then_plan
+        heard_tree h = turn_tree s moment view (Some (record { sender = member; head = h; part = part })) (then_plan state)
 
     asks_own : (state : State) (view : View) (request : Request) → IsPlacedAt s place view state.tickets → state.last_reading ≡ moment
         → IsTurnOf view (next (acts node moment state place (is_asked request)) (dues node moment turn))
     asks_own state view request at last_is = record {
       came = None;
-      plan = ask_plan s moment (spare_in state.waiters) request then_plan;
-      may = ask_may s moment (spare_in state.waiters) request then_plan (after_may s place node moment all own turn) view;
+      plan = ask_plan s moment (spare_in state.waiters) (ready_by state) request (then_plan state);
+      may = ask_may s moment (spare_in state.waiters) (ready_by state) request (then_plan state)
+          (after_may s place node moment all own (ready_at state) turn) view;
       good = no_letter Good;
-      over = λ sent. joined (acts node moment state place (is_asked request)) sent (plan_tree s moment view (ask_plan s moment (spare_in state.waiters) request then_plan view))
-          (own_acts s place node moment all Then state view (is_asked request) sent (plan_tree s moment view (ask_plan s moment (spare_in state.waiters) request then_plan view)) at.own
+      over = λ sent. joined (acts node moment state place (is_asked request)) sent (plan_tree s moment view (ask_plan s moment (spare_in state.waiters) (ready_by state) request (then_plan state) view))
+          (own_acts s place node moment all Then state view (is_asked request) sent (plan_tree s moment view (ask_plan s moment (spare_in state.waiters) (ready_by state) request (then_plan state) view)) at.own
           (echoes_as s (LeftThen state) (λ sent' left tree'. (counted : Common) → Then sent' (with_ticket state place counted left) tree') (left_as s moment)
-          sent (wish s view (waiting_at state.waiters place) (spare_in state.waiters) request request.wish moment) (plan_tree s moment view (ask_plan s moment (spare_in state.waiters) request then_plan view)) (λ sent' left tree' m. m)
-          (asked s moment own (LeftThen state) (left_kept state) then_plan (left_dues state view at last_is) view (waiting_at state.waiters place) (spare_in state.waiters) request sent)));
+          sent (wish s view (waiting_at state.waiters place) (spare_in state.waiters) (ready_by state) request request.wish moment) (plan_tree s moment view (ask_plan s moment (spare_in state.waiters) (ready_by state) request (then_plan state) view)) (λ sent' left tree' m. m)
+          (asked s moment own (LeftThen state) (left_kept state) (then_plan state) (left_dues state view at last_is) view (waiting_at state.waiters place)
+          (spare_in state.waiters) (ready_by state) request sent)));
     }
 
     hears_other : (state : State) (view : View) (member other : ℕ) (head : Head) (part : TicketPart) → other ≢ place → IsPlacedAt s place view state.tickets
         → state.last_reading ≡ moment → IsTurnOf view (next (acts node moment state other (is_told member head part)) (dues node moment turn))
     hears_other state view member other head part ne at last_is = record {
       came = None;
-      plan = then_plan;
-      may = after_may s place node moment all own turn view;
+      plan = then_plan state;
+      may = after_may s place node moment all own (ready_at state) turn view;
       good = no_letter Good;
-      over = λ sent. joined (acts node moment state other (is_told member head part)) sent (plan_tree s moment view (then_plan view))
-          (other_acts s place node moment all Then state view other (is_told member head part) sent (plan_tree s moment view (then_plan view)) at ne
-          (λ t waiters spare. minds_heard t.setup moment t.known waiters member head part)
+      over = λ sent. joined (acts node moment state other (is_told member head part)) sent (plan_tree s moment view (then_plan state view))
+          (other_acts s place node moment all Then state view other (is_told member head part) sent (plan_tree s moment view (then_plan state view)) at ne
+          (λ t waiters spare ready. minds_heard t.setup moment t.known waiters member head part)
           (λ tickets waiters counted placed_now. then_dues (record state { tickets = tickets; waiters = waiters; common = counted }) view sent placed_now last_is));
     }
 
@@ -252,12 +274,12 @@ module _ (s : Setup) (place : ℕ) (node : NodeConfig) (moment : ℕ) (all : s.m
         → state.last_reading ≡ moment → IsTurnOf view (next (acts node moment state other (is_asked request)) (dues node moment turn))
     asks_other state view other request ne at last_is = record {
       came = None;
-      plan = then_plan;
-      may = after_may s place node moment all own turn view;
+      plan = then_plan state;
+      may = after_may s place node moment all own (ready_at state) turn view;
       good = no_letter Good;
-      over = λ sent. joined (acts node moment state other (is_asked request)) sent (plan_tree s moment view (then_plan view))
-          (other_acts s place node moment all Then state view other (is_asked request) sent (plan_tree s moment view (then_plan view)) at ne
-          (λ t waiters spare. minds_asked t.setup moment t.known waiters spare request)
+      over = λ sent. joined (acts node moment state other (is_asked request)) sent (plan_tree s moment view (then_plan state view))
+          (other_acts s place node moment all Then state view other (is_asked request) sent (plan_tree s moment view (then_plan state view)) at ne
+          (λ t waiters spare ready. minds_asked t.setup moment t.known waiters spare (ready Manual) request)
           (λ tickets waiters counted placed_now. then_dues (record state { tickets = tickets; waiters = waiters; common = counted }) view sent placed_now last_is));
     }
 
@@ -283,10 +305,22 @@ module _ (s : Setup) (place : ℕ) (node : NodeConfig) (moment : ℕ) (all : s.m
             subst (λ (p : ℕ). IsTurnOf view (next (acts node moment state p (is_asked request)) (dues node moment turn))) (sym e)
             (asks_own state view request at last_is)
         by_place (inr ne) = asks_other state view ticket request ne at last_is
+    meets r state view from (Attends ticket request) at last_is c unstamp =
+        let after : State = after_attending state ticket request in
+        record {
+          came = None;
+          plan = then_plan after;
+          may = after_may s place node moment all own (ready_at after) turn view;
+          good = no_letter Good;
+          over = λ sent. (
+            record { truly = refl; spoken = λ part between is named. absurd (attr_to_client _ between) },
+            λ ok. then_dues after view sent at last_is,
+          );
+        }
     meets r state view from (Answers letter) at last_is c unstamp = record {
       came = None;
-      plan = then_plan;
-      may = after_may s place node moment all own turn view;
+      plan = then_plan state;
+      may = after_may s place node moment all own (ready_at state) turn view;
       good = no_letter Good;
       over = λ sent. (
         record { truly = c.0; spoken = λ part between is named. absurd (c.1 between) },

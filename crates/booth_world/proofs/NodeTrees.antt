@@ -34,19 +34,26 @@ use Rattle.booth_raft.specs.Outcome.{Outcome, quiet}
 use Rattle.booth_raft.specs.Speech.{IsSpeech, Speaks}
 use Rattle.booth_raft.proofs.FactsLemmas.{on_cond}
 use Rattle.booth_raft.proofs.SpeechLemmas.{rules_speak}
+use Rattle.booth_manual.specs.declared.view.ManualView.{ManualView}
+use Rattle.booth_manual.specs.GrantAndRevoke.{finish as finish_by_hand}
+use Rattle.booth_manual.specs.Hearing.{hear as hear_by_hand}
+use Rattle.booth_manual.specs.Outcome.{Keep as Tries}
 use Rattle.booth_ticket.specs.declared.hands.To.{To}
 use Rattle.booth_ticket.specs.declared.hands.To.TheVariants.{Member, Client}
 use Rattle.booth_ticket.specs.declared.request.Request.{Request}
 use Rattle.booth_ticket.specs.declared.request.Wish.{Wish}
 use Rattle.booth_ticket.specs.declared.request.Wish.TheVariants.{Grant, Revoke}
 use Rattle.booth_ticket.specs.Acts.{Ask as TicketAsk, Keep as KeepsRecord, Say}
-use Rattle.booth_ticket.specs.Automatic.{Left, ends, hear_message, acquire, follow, role_due, tick}
+use Rattle.booth_ticket.specs.Automatic.{Left, ends, hear_message, acquire, take_over, follow, role_due, tick}
 use Rattle.booth_ticket.specs.Keeping.{keep_of, keep_once, say_last, carry_out}
-use Rattle.booth_ticket.specs.Requests.{refused_grant, grant, grant_result, refused_revoke, revoke, revoke_result, replies, reply, wish}
+use Rattle.booth_ticket.specs.Requests.{refused_grant, grant, grant_result, refused_revoke, revoke, revoke_result, replies, reply, reply_cmd, wish}
+use Rattle.booth_ticket.specs.Manual.{ManualKnown, greeting, manual_due, manual_heard}
+use Rattle.booth_ticket.specs.ManualRequests.{done_by_hand, manual_asked, manual_reply, refused_by_hand, result_of_keep, tried, tries_for}
 use Rattle.booth_ticket.specs.Saying.{others, places_in, say_each, say}
 use Rattle.booth_ticket.specs.declared.waiters.Waiter.{Waiter}
+use Rattle.booth_ticket.proofs.ManualSpeechLemmas.{greeting_speaks, hearing_speaks, keep_speaks}
 use Rattle.booth_ticket.specs.Waiting.{result_for, staying, tell_each, tell_one}
-use Rattle.booth_ticket.specs.Ticket.{TicketLeft, Known, Automatic, ticket_due, ticket_heard, ticket_asked}
+use Rattle.booth_ticket.specs.Ticket.{TicketLeft, Known, Automatic, Manual, by_hand, left_by_hand, ticket_due, ticket_heard, ticket_asked}
 use Rattle.booth_node.specs.declared.node_config.NodeConfig.{NodeConfig}
 use Rattle.booth_node.specs.declared.state.Common.{Common}
 use Rattle.booth_node.specs.Counting.{with_send}
@@ -134,24 +141,31 @@ module _ (s : Setup) (now : ℕ) where
   abbrev Any : Left → Type 0
   Any left = Unit {0}
 
+  abbrev AnyKnown : ManualKnown → Type 0
+  AnyKnown known = Unit {0}
+
   speaks_acquired : (view : View) (reason : ℕ) → Speaks s (acquire s view reason now)
   speaks_acquired view reason = on_cond (Speaks s) (are_terms_spent view) _ _ tt (rules_speak.asked s view reason now)
 
-  speaks_follow : (outcome : Outcome) (want : Want) → Speaks s outcome → Speaks s (follow s outcome want now)
-  speaks_follow outcome wants.Nothing speaks = speaks
-  speaks_follow outcome wants.Renew speaks = rules_speak.renewed s outcome.view now
-  speaks_follow outcome wants.Acquire speaks = speaks_acquired outcome.view _
+  speaks_taken_over : (view : View) (ready : Bool) → Speaks s (take_over s view ready now)
+  speaks_taken_over view ready = on_cond (Speaks s) ready _ _ (speaks_acquired view _) tt
+
+  speaks_follow : (outcome : Outcome) (want : Want) (ready : Bool) → Speaks s outcome → Speaks s (follow s outcome want ready now)
+  speaks_follow outcome wants.Nothing ready speaks = speaks
+  speaks_follow outcome wants.Renew ready speaks = rules_speak.renewed s outcome.view now
+  speaks_follow outcome wants.Acquire ready speaks = speaks_taken_over outcome.view ready
 
   minds_ends : (waiters : List Waiter) (o : Outcome) → Minds Any s.ticket (ends s now waiters o)
   minds_ends waiters o =
       minds_told s Any o.view now o.deed.told waiters (Ends (record { view = o.view; waiters = staying o.deed.told waiters })) tt
 
-  pub minds_tick : (view : View) (waiters : List Waiter) → Minds Any s.ticket (tick s view waiters now)
-  minds_tick view waiters =
-      minds_say s Any None (hello s view now) (carry_out s None now (role_due s (greeted view) now) (ends s now waiters)) (rules_speak.greeted s view now)
-      (minds_carried s Any None now (role_due s (greeted view) now) (ends s now waiters)
+  pub minds_tick : (view : View) (waiters : List Waiter) (ready : Bool) → Minds Any s.ticket (tick s view waiters ready now)
+  minds_tick view waiters ready =
+      minds_say s Any None (hello s view now) (carry_out s None now (role_due s (greeted view) ready now) (ends s now waiters))
+      (rules_speak.greeted s view now)
+      (minds_carried s Any None now (role_due s (greeted view) ready now) (ends s now waiters)
       (on_cond (Speaks s) (is_working (greeted view).role) _ _ tt
-      (speaks_follow (due_now s (greeted view) now) (due_now s (greeted view) now).deed.want (rules_speak.due s (greeted view) now)))
+      (speaks_follow (due_now s (greeted view) now) (due_now s (greeted view) now).deed.want ready (rules_speak.due s (greeted view) now)))
       (minds_ends waiters))
 
   pub minds_hear : (view : View) (waiters : List Waiter) (from : ℕ) (head : Head) (part : TicketPart)
@@ -181,10 +195,10 @@ module _ (s : Setup) (now : ℕ) where
       minds_carried s Any None now (release view ADMN now) (λ o. replies s waiters request RRvk now (revoke_result o.deed.told) o)
       (rules_speak.released s view ADMN now) (λ o. minds_replies waiters request RRvk (revoke_result o.deed.told) o refl)
 
-  pub minds_wish : (view : View) (waiters : List Waiter) (spare : ℕ) (request : Request) (w : Wish)
-      → Minds Any s.ticket (wish s view waiters spare request w now)
-  minds_wish view waiters spare request Grant = minds_grant view waiters request (refused_grant s view spare request.options now)
-  minds_wish view waiters spare request Revoke = minds_revoke view waiters request (refused_revoke s view request.options now)
+  pub minds_wish : (view : View) (waiters : List Waiter) (spare : ℕ) (ready : Bool) (request : Request) (w : Wish)
+      → Minds Any s.ticket (wish s view waiters spare ready request w now)
+  minds_wish view waiters spare ready request Grant = minds_grant view waiters request (refused_grant s view spare ready request.options now)
+  minds_wish view waiters spare ready request Revoke = minds_revoke view waiters request (refused_revoke s view request.options now)
 
   -- what is left has the same setup
   abbrev pub HasSetup : TicketLeft → Type 0
@@ -193,20 +207,53 @@ module _ (s : Setup) (now : ℕ) where
   abbrev pub left_as : Left → TicketLeft
   left_as left = record { ticket = record { setup = s; known = Automatic left.view }; waiters = left.waiters }
 
-  pub minds_due : (known : Known) (waiters : List Waiter) → Minds HasSetup s.ticket (ticket_due s known waiters now)
-  minds_due (Automatic view) waiters =
-      minds_as Any HasSetup left_as s.ticket (tick s view waiters now) (λ left any. refl) (minds_tick view waiters)
+  -- a manual ticket's
+  minds_by_hand : (waiters : List Waiter) (deeds : Deeds TicketAsk ManualKnown) → Minds AnyKnown s.ticket deeds
+      → Minds HasSetup s.ticket (by_hand s waiters deeds)
+  minds_by_hand waiters deeds m = minds_as AnyKnown HasSetup (left_by_hand s waiters) s.ticket deeds (λ left any. refl) m
+
+  minds_tried : (wish : Wish) (tries : Tries) (rest : ℕ → ManualView → Deeds TicketAsk ManualKnown)
+      → ((result : ℕ) (view : ManualView) → Minds AnyKnown s.ticket (rest result view))
+      → Minds AnyKnown s.ticket (tried s wish tries rest)
+  minds_tried wish tries rest on =
+      λ ok. minds_say s AnyKnown None (finish_by_hand s tries.view ok).say (rest (result_of_keep wish ok) (finish_by_hand s tries.view ok).view)
+      (keep_speaks s tries.view ok) (on (result_of_keep wish ok) (finish_by_hand s tries.view ok).view)
+
+  minds_done : (view : ManualView) (refused : Option ℕ) (wish : Wish) (rest : ℕ → ManualView → Deeds TicketAsk ManualKnown)
+      → ((result : ℕ) (view : ManualView) → Minds AnyKnown s.ticket (rest result view))
+      → Minds AnyKnown s.ticket (done_by_hand s view refused wish rest)
+  minds_done view (Some result) wish rest on = on result view
+  minds_done view None wish rest on = minds_tried wish (tries_for view wish) rest on
+
+  to_client : (wish : Wish) → direction_of (reply_cmd wish) ≡ ToClient
+  to_client Grant = refl
+  to_client Revoke = refl
+
+  pub minds_due : (known : Known) (waiters : List Waiter) (ready : Bool) → Minds HasSetup s.ticket (ticket_due s known waiters ready now)
+  minds_due (Automatic view) waiters ready =
+      minds_as Any HasSetup left_as s.ticket (tick s view waiters ready now) (λ left any. refl) (minds_tick view waiters ready)
+  minds_due (Manual known) waiters ready =
+      minds_by_hand waiters (manual_due s known)
+      (minds_say s AnyKnown None (greeting s known) (Ends (record known { greets_at = None })) (greeting_speaks s known) tt)
 
   pub minds_heard : (known : Known) (waiters : List Waiter) (from : ℕ) (head : Head) (part : TicketPart)
       → Minds HasSetup s.ticket (ticket_heard s known waiters from head part now)
   minds_heard (Automatic view) waiters from head part =
       minds_as Any HasSetup left_as s.ticket (hear_message s view waiters from head part now) (λ left any. refl) (minds_hear view waiters from head part)
+  minds_heard (Manual known) waiters from head part =
+      minds_by_hand waiters (manual_heard s known from head part)
+      (minds_say s AnyKnown (Some from) (hear_by_hand s known.view head part head.cmd).say
+      (Ends (record known { view = (hear_by_hand s known.view head part head.cmd).view })) (hearing_speaks s known.view head part head.cmd) tt)
 
-  pub minds_asked : (known : Known) (waiters : List Waiter) (spare : ℕ) (request : Request)
-      → Minds HasSetup s.ticket (ticket_asked s known waiters spare request now)
-  minds_asked (Automatic view) waiters spare request =
-      minds_as Any HasSetup left_as s.ticket (wish s view waiters spare request request.wish now) (λ left any. refl)
-      (minds_wish view waiters spare request request.wish)
+  pub minds_asked : (known : Known) (waiters : List Waiter) (spare : ℕ) (ready : Bool) (request : Request)
+      → Minds HasSetup s.ticket (ticket_asked s known waiters spare ready request now)
+  minds_asked (Automatic view) waiters spare ready request =
+      minds_as Any HasSetup left_as s.ticket (wish s view waiters spare ready request request.wish now) (λ left any. refl)
+      (minds_wish view waiters spare ready request request.wish)
+  minds_asked (Manual known) waiters spare ready request =
+      minds_by_hand waiters (manual_asked s known spare ready request)
+      (minds_done known.view (refused_by_hand s known.view spare ready request.options request.wish) request.wish
+      (manual_reply s request known.greets_at) (λ result view. (to_client request.wish, tt)))
 
 -- ---- a ticket's deeds as the node's
 

@@ -17,6 +17,9 @@ use Rattle.booth_node.specs.declared.node.Turn.TheVariants.{Went, Stopped}
 use Rattle.booth_node.specs.declared.node_config.NodeConfig.{NodeConfig}
 use Rattle.booth_node.specs.declared.state.Common.{Common}
 use Rattle.booth_node.specs.Befalling.{Befalling, comes_due}
+use Rattle.booth_conf.specs.declared.tickets.GrantKind.{GrantKind}
+use Rattle.booth_conf.specs.declared.tickets.GrantKind.TheVariants.{Auto}
+use Rattle.booth_node.specs.AttributeRequests.{is_ready}
 use Rattle.booth_node.specs.Reaction.{Ask, befalls, acts_as, acts, deadline_of, due_places, each_due, dues}
 use Rattle.booth_node.specs.State.{State, with_ticket}
 use Rattle.booth_node.proofs.DueLemmas.{Each, Once, DueAt, all_due, all_once}
@@ -165,18 +168,21 @@ module _ (s : Setup) (place : ℕ) (node : NodeConfig) (moment : ℕ) (all : s.m
     pub own_acts : (state : State) (view : View) (event : Befalling) (sent : List MemberLetter) (tree : TurnTree)
         → slice_get state.tickets place ≡ Some (record { setup = s; known = Automatic view })
         → Echoes s (λ sent' left tree'. (counted : Common) → Q sent' (with_ticket state place counted left) tree') sent
-        (befalls (record { setup = s; known = Automatic view }) (waiting_at state.waiters place) (spare_in state.waiters) event moment) tree
+        (befalls (record { setup = s; known = Automatic view }) (waiting_at state.waiters place) (spare_in state.waiters)
+        (is_ready node state.attributes place) event moment) tree
         → Here sent (acts node moment state place event) tree
     own_acts state view event sent tree is m =
         subst (λ (o : Option TicketState). Here sent (acts_as node moment state place event o) tree) (sym is)
         (own_lifted s node moment Q all state.common sent
-        (befalls (record { setup = s; known = Automatic view }) (waiting_at state.waiters place) (spare_in state.waiters) event moment) tree
+        (befalls (record { setup = s; known = Automatic view }) (waiting_at state.waiters place) (spare_in state.waiters)
+        (is_ready node state.attributes place) event moment) tree
         (λ common left. Ends (with_ticket state place common left)) m)
 
     -- those of another ticket
     pub other_acts : (state : State) (view : View) (other : ℕ) (event : Befalling) (sent : List MemberLetter) (tree : TurnTree)
         → IsPlacedAt s place view state.tickets → other ≢ place
-        → ((t : TicketState) (waiters : List Waiter) (spare : ℕ) → Minds (HasSetup t.setup moment) t.setup.ticket (befalls t waiters spare event moment))
+        → ((t : TicketState) (waiters : List Waiter) (spare : ℕ) (ready : GrantKind → Bool)
+        → Minds (HasSetup t.setup moment) t.setup.ticket (befalls t waiters spare ready event moment))
         → ((tickets : List TicketState) (waiters : List (List Waiter)) (counted : Common) → IsPlacedAt s place view tickets
         → Q sent (record state { tickets = tickets; waiters = waiters; common = counted }) tree)
         → Here sent (acts node moment state other event) tree
@@ -186,8 +192,9 @@ module _ (s : Setup) (place : ℕ) (node : NodeConfig) (moment : ℕ) (all : s.m
         by_ticket None is = on state.tickets state.waiters state.common at
         by_ticket (Some t) is =
             other_lifted s node moment Q t.setup.ticket (at.others other t is ne) state.common sent (HasSetup t.setup moment)
-            (befalls t (waiting_at state.waiters other) (spare_in state.waiters) event moment) tree (λ common left. Ends (with_ticket state other common left))
-            (minds t (waiting_at state.waiters other) (spare_in state.waiters))
+            (befalls t (waiting_at state.waiters other) (spare_in state.waiters) (is_ready node state.attributes other) event moment) tree
+            (λ common left. Ends (with_ticket state other common left))
+            (minds t (waiting_at state.waiters other) (spare_in state.waiters) (is_ready node state.attributes other))
             (λ counted left same. on (set state.tickets other left.ticket) (set state.waiters other left.waiters) counted
             (other_set s place other view state.tickets t left.ticket at is ne same))
 
@@ -209,77 +216,87 @@ module _ (s : Setup) (place : ℕ) (node : NodeConfig) (moment : ℕ) (all : s.m
     passing (p ∷ places) state sent tree none over =
         mirrors_next (is_some node.key) s IsOver IsOver (each_due node moment places) sent (acts node moment state p comes_due) tree
         (λ sent' state' tree' m. passing places state' sent' tree' (λ h. none (inr h)) m)
-        (other_acts IsOver state over.view p comes_due sent tree over.at (λ e. none (inl e)) (λ t waiters spare. minds_due t.setup moment t.known waiters)
+        (other_acts IsOver state over.view p comes_due sent tree over.at (λ e. none (inl e))
+        (λ t waiters spare ready. minds_due t.setup moment t.known waiters (ready Auto))
         (λ tickets waiters counted at. record { view = over.view; ended = over.ended; at = at; moment_is = over.moment_is }))
 
+    -- the prerequisites of a takeover hold
+    abbrev pub ready_in : State → Bool
+    ready_in state = is_ready node state.attributes place Auto
+
+    abbrev pub due_tree : View → Bool → TurnTree
+    due_tree view ready = plan_tree s moment view (due_plan s moment ready rests)
+
     -- where its deadline is still to come in the turn
-    pub record IsAhead (view : View) (sent : List MemberLetter) (state : State) (tree : TurnTree) : Type 0 where
-      pub ahead : tree ≡ plan_tree s moment view (due_plan s moment rests)
+    pub record IsAhead (view : View) (ready : Bool) (sent : List MemberLetter) (state : State) (tree : TurnTree) : Type 0 where
+      pub ahead : tree ≡ due_tree view ready
       pub placed_at : IsPlacedAt s place view state.tickets
       pub moment_is : state.last_reading ≡ moment
+      pub ready_is : ready_in state ≡ ready
 
     own_due : (state : State) (view : View) (sent : List MemberLetter) → IsPlacedAt s place view state.tickets → state.last_reading ≡ moment
-        → Over sent (acts node moment state place comes_due) (plan_tree s moment view (due_plan s moment rests))
+        → Over sent (acts node moment state place comes_due) (due_tree view (ready_in state))
     own_due state view sent at last_is =
-        own_acts IsOver state view comes_due sent (plan_tree s moment view (due_plan s moment rests)) at.own
+        own_acts IsOver state view comes_due sent (due_tree view (ready_in state)) at.own
         (echoes_as s Done (λ sent' left tree'. (counted : Common) → IsOver sent' (with_ticket state place counted left) tree')
-        (left_as s moment) sent (tick s view (waiting_at state.waiters place) moment) (plan_tree s moment view (due_plan s moment rests))
+        (left_as s moment) sent (tick s view (waiting_at state.waiters place) (ready_in state) moment) (due_tree view (ready_in state))
         (λ sent' left tree' m counted. record { view = left.view; ended = m; at = own_set s place view left.view state.tickets at; moment_is = last_is })
-        (ticked s moment own Done done_kept rests (λ left sent'. refl) view (waiting_at state.waiters place) sent))
+        (ticked s moment own Done done_kept rests (λ left sent'. refl) view (waiting_at state.waiters place) (ready_in state) sent))
 
-    meeting : (places : List ℕ) (state : State) (view : View) (sent : List MemberLetter) → Has places place → Once places
-        → IsPlacedAt s place view state.tickets → state.last_reading ≡ moment
-        → Over sent (each_due node moment places state) (plan_tree s moment view (due_plan s moment rests))
-    meeting [] state view sent h once at last_is = absurd h
-    meeting (p ∷ places) state view sent h once at last_is = by_place (same_or_not p place) (λ state' sent' g. meeting places state' view sent' g once.1)
+    meeting : (places : List ℕ) (state : State) (view : View) (ready : Bool) (sent : List MemberLetter) → Has places place → Once places
+        → IsPlacedAt s place view state.tickets → state.last_reading ≡ moment → ready_in state ≡ ready
+        → Over sent (each_due node moment places state) (due_tree view ready)
+    meeting [] state view ready sent h once at last_is ready_is = absurd h
+    meeting (p ∷ places) state view ready sent h once at last_is ready_is =
+        by_place (same_or_not p place) (λ state' sent' g. meeting places state' view ready sent' g once.1)
       where
         by_place : (p ≡ place) ⊎ (p ≢ place)
             → ((state' : State) (sent' : List MemberLetter) → Has places place → IsPlacedAt s place view state'.tickets → state'.last_reading ≡ moment
-            → Over sent' (each_due node moment places state') (plan_tree s moment view (due_plan s moment rests)))
-            → Over sent (next (acts node moment state p comes_due) (each_due node moment places)) (plan_tree s moment view (due_plan s moment rests))
+            → ready_in state' ≡ ready → Over sent' (each_due node moment places state') (due_tree view ready))
+            → Over sent (next (acts node moment state p comes_due) (each_due node moment places)) (due_tree view ready)
         by_place (inl e) rest =
-            subst (λ (q : ℕ). Over sent (next (acts node moment state q comes_due) (each_due node moment places)) (plan_tree s moment view (due_plan s moment rests))) (sym e)
+            subst (λ (q : ℕ). Over sent (next (acts node moment state q comes_due) (each_due node moment places)) (due_tree view ready)) (sym e)
             (mirrors_next (is_some node.key) s IsOver IsOver (each_due node moment places) sent (acts node moment state place comes_due)
-            (plan_tree s moment view (due_plan s moment rests))
+            (due_tree view ready)
             (λ sent' state' tree' m. passing places state' sent' tree'
             (λ g. each_has (λ y. p ≢ y) places place once.0 g e) m)
-            (own_due state view sent at last_is))
+            (subst (λ (b : Bool). Over sent (acts node moment state place comes_due) (due_tree view b)) ready_is (own_due state view sent at last_is)))
         by_place (inr ne) rest =
-            mirrors_next (is_some node.key) s (IsAhead view) IsOver (each_due node moment places) sent (acts node moment state p comes_due)
-            (plan_tree s moment view (due_plan s moment rests))
+            mirrors_next (is_some node.key) s (IsAhead view ready) IsOver (each_due node moment places) sent (acts node moment state p comes_due)
+            (due_tree view ready)
             (λ sent' state' tree' m. subst (λ (t : TurnTree). Over sent' (each_due node moment places state') t) (sym m.ahead)
-            (rest state' sent' (still ne h) m.placed_at m.moment_is))
-            (other_acts (IsAhead view) state view p comes_due sent (plan_tree s moment view (due_plan s moment rests)) at ne
-            (λ t waiters spare. minds_due t.setup moment t.known waiters)
-            (λ tickets waiters counted placed_now. record { ahead = refl; placed_at = placed_now; moment_is = last_is }))
+            (rest state' sent' (still ne h) m.placed_at m.moment_is m.ready_is))
+            (other_acts (IsAhead view ready) state view p comes_due sent (due_tree view ready) at ne
+            (λ t waiters spare ready. minds_due t.setup moment t.known waiters (ready Auto))
+            (λ tickets waiters counted placed_now. record { ahead = refl; placed_at = placed_now; moment_is = last_is; ready_is = ready_is }))
           where
             still : p ≢ place → Has (p ∷ places) place → Has places place
             still away (inl e) = absurd (away e)
             still away (inr g) = g
 
     -- what follows the arrival
-    abbrev pub after_plan : Turn → View → Plan
-    after_plan Went view = if is_due view.due moment then due_plan s moment rests else Rests
-    after_plan Stopped view = Rests
+    abbrev pub after_plan : Bool → Turn → View → Plan
+    after_plan ready Went view = if is_due view.due moment then due_plan s moment ready rests else Rests
+    after_plan ready Stopped view = Rests
 
-    pub after_may : (turn : Turn) (view : View) → MayPlan s moment view (after_plan turn view)
-    after_may Went view = by_test (is_due view.due moment)
+    pub after_may : (ready : Bool) (turn : Turn) (view : View) → MayPlan s moment view (after_plan ready turn view)
+    after_may ready Went view = by_test (is_due view.due moment)
       where
-        by_test : (b : Bool) → MayPlan s moment view (if b then due_plan s moment rests else Rests)
-        by_test true = due_may s moment rests view (λ left. tt)
+        by_test : (b : Bool) → MayPlan s moment view (if b then due_plan s moment ready rests else Rests)
+        by_test true = due_may s moment ready rests view (λ left. tt)
         by_test false = tt
-    after_may Stopped view = tt
+    after_may ready Stopped view = tt
 
     pub dues_over : (turn : Turn) (state : State) (view : View) (sent : List MemberLetter) → IsPlacedAt s place view state.tickets
-        → state.last_reading ≡ moment → Over sent (dues node moment turn state) (plan_tree s moment view (after_plan turn view))
+        → state.last_reading ≡ moment → Over sent (dues node moment turn state) (plan_tree s moment view (after_plan (ready_in state) turn view))
     dues_over Stopped state view sent at last_is = record { view = view; ended = refl; at = at; moment_is = last_is }
     dues_over Went state view sent at last_is = by_test (is_due view.due moment) refl
       where
         by_test : (b : Bool) → is_due view.due moment ≡ b
-            → Over sent (each_due node moment (due_places moment state.tickets) state) (plan_tree s moment view (if b then due_plan s moment rests else Rests))
+            → Over sent (each_due node moment (due_places moment state.tickets) state) (plan_tree s moment view (if b then due_plan s moment (ready_in state) rests else Rests))
         by_test true due =
-            meeting (due_places moment state.tickets) state view sent (in_dues moment place state.tickets _ at.own due)
-            (all_once moment state.tickets) at last_is
+            meeting (due_places moment state.tickets) state view (ready_in state) sent (in_dues moment place state.tickets _ at.own due)
+            (all_once moment state.tickets) at last_is refl
         by_test false due =
             passing (due_places moment state.tickets) state sent (Ends view) (not_in_dues moment place state.tickets _ at.own due)
             (record { view = view; ended = refl; at = at; moment_is = last_is })

@@ -35,7 +35,7 @@ use Rattle.booth_ticket.specs.declared.request.Request.{Request}
 use Rattle.booth_ticket.specs.declared.request.Wish.{Wish}
 use Rattle.booth_ticket.specs.declared.request.Wish.TheVariants.{Grant, Revoke}
 use Rattle.booth_ticket.specs.Acts.{Ask}
-use Rattle.booth_ticket.specs.Automatic.{Left, ends, hear_message, acquire, follow, rule_due, role_due, tick}
+use Rattle.booth_ticket.specs.Automatic.{Left, ends, hear_message, acquire, take_over, follow, rule_due, role_due, tick}
 use Rattle.booth_ticket.specs.Keeping.{carry_out}
 use Rattle.booth_ticket.specs.Requests.{is_holder, is_shown_elsewhere, refused_grant, grant, grant_result, refused_revoke, revoke, revoke_result, replies, reply, wish}
 use Rattle.booth_ticket.specs.declared.waiters.Waiter.{Waiter}
@@ -118,19 +118,23 @@ no_deeds s now outcome none nothing =
 abbrev pub acquire_plan : ℕ → (View → Plan) → View → Plan
 acquire_plan reason go view = if are_terms_spent view then Calls (MakesNote notes.AskFailed) go else Calls (Asks reason) go
 
-abbrev want_plan : (View → Plan) → Want → Plan
-want_plan go wants.Nothing = Calls MeetsDeadline go
-want_plan go wants.Renew = Calls MeetsDeadline (λ left. Calls RenewsLease go)
-want_plan go wants.Acquire = Calls MeetsDeadline (acquire_plan TLST go)
+-- the ticket is taken over where its prerequisites hold, and else it is noted that they do not
+abbrev take_over_plan : Bool → (View → Plan) → View → Plan
+take_over_plan ready go view = if ready then acquire_plan TLST go view else Calls (MakesNote notes.Unready) go
+
+abbrev want_plan : Bool → (View → Plan) → Want → Plan
+want_plan ready go wants.Nothing = Calls MeetsDeadline go
+want_plan ready go wants.Renew = Calls MeetsDeadline (λ left. Calls RenewsLease go)
+want_plan ready go wants.Acquire = Calls MeetsDeadline (take_over_plan ready go)
 
 -- the rule of the role at its deadline
-abbrev role_plan : Setup → ℕ → (View → Plan) → View → Plan
-role_plan s now go view =
-    if is_working view.role then Calls (MakesNote notes.HandlerFailed) go else want_plan go (due_now s view now).deed.want
+abbrev role_plan : Setup → ℕ → Bool → (View → Plan) → View → Plan
+role_plan s now ready go view =
+    if is_working view.role then Calls (MakesNote notes.HandlerFailed) go else want_plan ready go (due_now s view now).deed.want
 
 -- the deadline has come: hello, and then the rule of the role
-abbrev pub due_plan : Setup → ℕ → (View → Plan) → Plan
-due_plan s now go = Calls Greets (role_plan s now go)
+abbrev pub due_plan : Setup → ℕ → Bool → (View → Plan) → Plan
+due_plan s now ready go = Calls Greets (role_plan s now ready go)
 
 -- a client's request is refused, or followed
 abbrev grant_plan : (View → Plan) → View → Option ℕ → Plan
@@ -141,12 +145,12 @@ abbrev revoke_plan : (View → Plan) → View → Option ℕ → Plan
 revoke_plan go view (Some result) = go view
 revoke_plan go view None = Calls (GivesBack ADMN) go
 
-abbrev wish_plan : Setup → ℕ → ℕ → Request → (View → Plan) → View → Wish → Plan
-wish_plan s now spare request go view Grant = grant_plan go view (refused_grant s view spare request.options now)
-wish_plan s now spare request go view Revoke = revoke_plan go view (refused_revoke s view request.options now)
+abbrev wish_plan : Setup → ℕ → ℕ → Bool → Request → (View → Plan) → View → Wish → Plan
+wish_plan s now spare ready request go view Grant = grant_plan go view (refused_grant s view spare ready request.options now)
+wish_plan s now spare ready request go view Revoke = revoke_plan go view (refused_revoke s view request.options now)
 
-abbrev pub ask_plan : Setup → ℕ → ℕ → Request → (View → Plan) → View → Plan
-ask_plan s now spare request go view = wish_plan s now spare request go view request.wish
+abbrev pub ask_plan : Setup → ℕ → ℕ → Bool → Request → (View → Plan) → View → Plan
+ask_plan s now spare ready request go view = wish_plan s now spare ready request go view request.wish
 
 -- ---- each call may be made
 
@@ -190,38 +194,47 @@ module _ (s : Setup) (now : ℕ) where
       (first_true (is_follower view.role) (is_working view.role) follows, always (λ left. MayPlan s now left (go left)) (call_tree s now view (MakesNote notes.AskFailed)) may)
       (site, always (λ left. MayPlan s now left (go left)) (call_tree s now view (Asks reason)) may)
 
-  want_may : (go : View → Plan) (view : View) (want : Want) → MayGoOn go → WantsWell s (due_now s view now) want
-      → MayPlan s now view (want_plan go want)
-  want_may go view wants.Nothing may w = (tt, always (λ left. MayPlan s now left (go left)) (call_tree s now view MeetsDeadline) may)
-  want_may go view wants.Renew may w = (
+  take_over_may : (ready : Bool) (go : View → Plan) (view : View) → MayGoOn go → IsTrue s.site → IsTrue (is_follower view.role)
+      → MayPlan s now view (take_over_plan ready go view)
+  take_over_may ready go view may site follows =
+      on_cond (MayPlan s now view) ready _ _ (acquire_may TLST go view may site follows)
+      (follows, always (λ left. MayPlan s now left (go left)) (call_tree s now view (MakesNote notes.Unready)) may)
+
+  want_may : (ready : Bool) (go : View → Plan) (view : View) (want : Want) → MayGoOn go → WantsWell s (due_now s view now) want
+      → MayPlan s now view (want_plan ready go want)
+  want_may ready go view wants.Nothing may w = (tt, always (λ left. MayPlan s now left (go left)) (call_tree s now view MeetsDeadline) may)
+  want_may ready go view wants.Renew may w = (
     tt,
     subst (λ (t : TurnTree). LeavesAlways (λ left. MayPlan s now left (Calls RenewsLease go)) t)
         (sym (no_deeds s now (due_now s view now) w.0 w.1))
         (w.2, always (λ left. MayPlan s now left (go left)) (call_tree s now (due_now s view now).view RenewsLease) may),
   )
-  want_may go view wants.Acquire may w = (
+  want_may ready go view wants.Acquire may w = (
     tt,
-    subst (λ (t : TurnTree). LeavesAlways (λ left. MayPlan s now left (acquire_plan TLST go left)) t)
+    subst (λ (t : TurnTree). LeavesAlways (λ left. MayPlan s now left (take_over_plan ready go left)) t)
         (sym (no_deeds s now (due_now s view now) w.0 w.1))
-        (acquire_may TLST go (due_now s view now).view may w.2 w.3),
+        (take_over_may ready go (due_now s view now).view may w.2 w.3),
   )
 
-  role_may : (go : View → Plan) → MayGoOn go → MayGoOn (role_plan s now go)
-  role_may go may view =
-      on_test (MayPlan s now view) (is_working view.role) (Calls (MakesNote notes.HandlerFailed) go) (want_plan go (due_now s view now).deed.want)
+  role_may : (ready : Bool) (go : View → Plan) → MayGoOn go → MayGoOn (role_plan s now ready go)
+  role_may ready go may view =
+      on_test (MayPlan s now view) (is_working view.role) (Calls (MakesNote notes.HandlerFailed) go) (want_plan ready go (due_now s view now).deed.want)
       (λ e. (
         either_true (is_follower view.role) (is_working view.role) e,
         always (λ left. MayPlan s now left (go left)) (call_tree s now view (MakesNote notes.HandlerFailed)) may,
       ))
-      (λ e. want_may go view (due_now s view now).deed.want may (wants_well s view now))
+      (λ e. want_may ready go view (due_now s view now).deed.want may (wants_well s view now))
 
-  pub due_may : (go : View → Plan) (view : View) → MayGoOn go → MayPlan s now view (due_plan s now go)
-  due_may go view may = (tt, always (λ left. MayPlan s now left (role_plan s now go left)) (call_tree s now view Greets) (role_may go may))
+  pub due_may : (ready : Bool) (go : View → Plan) (view : View) → MayGoOn go → MayPlan s now view (due_plan s now ready go)
+  due_may ready go view may = (
+    tt,
+    always (λ left. MayPlan s now left (role_plan s now ready go left)) (call_tree s now view Greets) (role_may ready go may),
+  )
 
-  grant_may : (go : View → Plan) (view : View) (spare : ℕ) (request : Request) (result : Option ℕ) → MayGoOn go
-      → refused_grant s view spare request.options now ≡ result → MayPlan s now view (grant_plan go view result)
-  grant_may go view spare request (Some result) may is = may view
-  grant_may go view spare request None may is =
+  grant_may : (go : View → Plan) (view : View) (spare : ℕ) (ready : Bool) (request : Request) (result : Option ℕ) → MayGoOn go
+      → refused_grant s view spare ready request.options now ≡ result → MayPlan s now view (grant_plan go view result)
+  grant_may go view spare ready request (Some result) may is = may view
+  grant_may go view spare ready request None may is =
       let site = not_refused (not s.site || not (request.options == 0 || waits request.options)) IARG _ is in
       let other = not_refused (is_holder s view now) _ _ site.1 in
       let open_now = not_refused (is_shown_elsewhere view.shown s.me now) OVER _ other.1 in
@@ -240,11 +253,11 @@ module _ (s : Setup) (now : ℕ) where
         always (λ left. MayPlan s now left (go left)) (call_tree s now view (GivesBack ADMN)) may,
       )
 
-  pub ask_may : (spare : ℕ) (request : Request) (go : View → Plan) → MayGoOn go → MayGoOn (ask_plan s now spare request go)
-  ask_may spare request go may view = by_wish request.wish
+  pub ask_may : (spare : ℕ) (ready : Bool) (request : Request) (go : View → Plan) → MayGoOn go → MayGoOn (ask_plan s now spare ready request go)
+  ask_may spare ready request go may view = by_wish request.wish
     where
-      by_wish : (w : Wish) → MayPlan s now view (wish_plan s now spare request go view w)
-      by_wish Grant = grant_may go view spare request (refused_grant s view spare request.options now) may refl
+      by_wish : (w : Wish) → MayPlan s now view (wish_plan s now spare ready request go view w)
+      by_wish Grant = grant_may go view spare ready request (refused_grant s view spare ready request.options now) may refl
       by_wish Revoke = revoke_may go view request (refused_revoke s view request.options now) may refl
 
   -- ---- the ticket's deeds are those of the plan
@@ -292,33 +305,39 @@ module _ (s : Setup) (now : ℕ) where
     heard view waiters from head part sent =
         called (Some from) (hear s view from head part now head.cmd) (ends s now waiters) sent go (ended waiters)
 
-    want_due : (view : View) (waiters : List Waiter) (want : Want) (sent : List MemberLetter) → WantsWell s (due_now s view now) want
-        → Echoes s P sent (carry_out s None now (follow s (due_now s view now) want now) (ends s now waiters)) (plan_tree s now view (want_plan go want))
-    want_due view waiters wants.Nothing sent w = called None (due_now s view now) (ends s now waiters) sent go (ended waiters)
-    want_due view waiters wants.Renew sent w =
+    taken_over : (view : View) (ready : Bool) (rest : Outcome → Deeds Ask Left) (sent : List MemberLetter)
+        → ((o : Outcome) (sent' : List MemberLetter) → Echoes s P sent' (rest o) (plan_tree s now o.view (go o.view)))
+        → Echoes s P sent (carry_out s None now (take_over s view ready now) rest) (plan_tree s now view (take_over_plan ready go view))
+    taken_over view true rest sent then_so = acquired TLST view rest sent then_so
+    taken_over view false rest sent then_so = then_so (quiet (noted s view now notes.Unready)) sent
+
+    want_due : (view : View) (waiters : List Waiter) (ready : Bool) (want : Want) (sent : List MemberLetter) → WantsWell s (due_now s view now) want
+        → Echoes s P sent (carry_out s None now (follow s (due_now s view now) want ready now) (ends s now waiters)) (plan_tree s now view (want_plan ready go want))
+    want_due view waiters ready wants.Nothing sent w = called None (due_now s view now) (ends s now waiters) sent go (ended waiters)
+    want_due view waiters ready wants.Renew sent w =
         subst (λ (t : TurnTree). Echoes s P sent (carry_out s None now (renew s (due_now s view now).view now) (ends s now waiters))
         (next t (λ left. plan_tree s now left (Calls RenewsLease go)))) (sym (no_deeds s now (due_now s view now) w.0 w.1))
         (called None (renew s (due_now s view now).view now) (ends s now waiters) sent go (ended waiters))
-    want_due view waiters wants.Acquire sent w =
-        subst (λ (t : TurnTree). Echoes s P sent (carry_out s None now (acquire s (due_now s view now).view TLST now) (ends s now waiters))
-        (next t (λ left. plan_tree s now left (acquire_plan TLST go left)))) (sym (no_deeds s now (due_now s view now) w.0 w.1))
-        (acquired TLST (due_now s view now).view (ends s now waiters) sent (ended waiters))
+    want_due view waiters ready wants.Acquire sent w =
+        subst (λ (t : TurnTree). Echoes s P sent (carry_out s None now (take_over s (due_now s view now).view ready now) (ends s now waiters))
+        (next t (λ left. plan_tree s now left (take_over_plan ready go left)))) (sym (no_deeds s now (due_now s view now) w.0 w.1))
+        (taken_over (due_now s view now).view ready (ends s now waiters) sent (ended waiters))
 
-    role : (waiters : List Waiter) (view : View) (sent : List MemberLetter)
-        → Echoes s P sent (carry_out s None now (role_due s view now) (ends s now waiters)) (plan_tree s now view (role_plan s now go view))
-    role waiters view sent = by_test (is_working view.role)
+    role : (waiters : List Waiter) (ready : Bool) (view : View) (sent : List MemberLetter)
+        → Echoes s P sent (carry_out s None now (role_due s view ready now) (ends s now waiters)) (plan_tree s now view (role_plan s now ready go view))
+    role waiters ready view sent = by_test (is_working view.role)
       where
         by_test : (b : Bool)
-            → Echoes s P sent (carry_out s None now (if b then quiet (handler_failed s view now) else rule_due s view now) (ends s now waiters))
-            (plan_tree s now view (if b then Calls (MakesNote notes.HandlerFailed) go else want_plan go (due_now s view now).deed.want))
+            → Echoes s P sent (carry_out s None now (if b then quiet (handler_failed s view now) else rule_due s view ready now) (ends s now waiters))
+            (plan_tree s now view (if b then Calls (MakesNote notes.HandlerFailed) go else want_plan ready go (due_now s view now).deed.want))
         by_test true = ended waiters (quiet (handler_failed s view now)) sent
-        by_test false = want_due view waiters (due_now s view now).deed.want sent (wants_well s view now)
+        by_test false = want_due view waiters ready (due_now s view now).deed.want sent (wants_well s view now)
 
-    pub ticked : (view : View) (waiters : List Waiter) (sent : List MemberLetter)
-        → Echoes s P sent (tick s view waiters now) (plan_tree s now view (due_plan s now go))
-    ticked view waiters sent =
-        said s own P kept (λ left. plan_tree s now left (role_plan s now go left)) None (hello s view now) sent (greeted view)
-        (carry_out s None now (role_due s (greeted view) now) (ends s now waiters)) (role waiters (greeted view) sent)
+    pub ticked : (view : View) (waiters : List Waiter) (ready : Bool) (sent : List MemberLetter)
+        → Echoes s P sent (tick s view waiters ready now) (plan_tree s now view (due_plan s now ready go))
+    ticked view waiters ready sent =
+        said s own P kept (λ left. plan_tree s now left (role_plan s now ready go left)) None (hello s view now) sent (greeted view)
+        (carry_out s None now (role_due s (greeted view) ready now) (ends s now waiters)) (role waiters ready (greeted view) sent)
 
     -- a client's reply is said last
     replied : (waiters : List Waiter) (request : Request) (cmd : Cmd) (result : ℕ) (o : Outcome) (sent : List MemberLetter) → direction_of cmd ≡ ToClient
@@ -344,11 +363,11 @@ module _ (s : Setup) (now : ℕ) where
         (λ o. replies s waiters request RRvk now (revoke_result o.deed.told) o) sent go
         (λ o sent'. replied waiters request RRvk (revoke_result o.deed.told) o sent' refl)
 
-    wished : (view : View) (waiters : List Waiter) (spare : ℕ) (request : Request) (w : Wish) (sent : List MemberLetter)
-        → Echoes s P sent (wish s view waiters spare request w now) (plan_tree s now view (wish_plan s now spare request go view w))
-    wished view waiters spare request Grant sent = granted view waiters request (refused_grant s view spare request.options now) sent
-    wished view waiters spare request Revoke sent = revoked view waiters request (refused_revoke s view request.options now) sent
+    wished : (view : View) (waiters : List Waiter) (spare : ℕ) (ready : Bool) (request : Request) (w : Wish) (sent : List MemberLetter)
+        → Echoes s P sent (wish s view waiters spare ready request w now) (plan_tree s now view (wish_plan s now spare ready request go view w))
+    wished view waiters spare ready request Grant sent = granted view waiters request (refused_grant s view spare ready request.options now) sent
+    wished view waiters spare ready request Revoke sent = revoked view waiters request (refused_revoke s view request.options now) sent
 
-    pub asked : (view : View) (waiters : List Waiter) (spare : ℕ) (request : Request) (sent : List MemberLetter)
-        → Echoes s P sent (wish s view waiters spare request request.wish now) (plan_tree s now view (ask_plan s now spare request go view))
-    asked view waiters spare request sent = wished view waiters spare request request.wish sent
+    pub asked : (view : View) (waiters : List Waiter) (spare : ℕ) (ready : Bool) (request : Request) (sent : List MemberLetter)
+        → Echoes s P sent (wish s view waiters spare ready request request.wish now) (plan_tree s now view (ask_plan s now spare ready request go view))
+    asked view waiters spare ready request sent = wished view waiters spare ready request request.wish sent

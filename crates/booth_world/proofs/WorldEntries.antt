@@ -12,10 +12,10 @@ use Rattle.booth_host.specs.declared.entry.Entry.{Entry}
 use Rattle.booth_host.specs.declared.entry.Entry.TheVariants as calls
 use Rattle.booth_raft.specs.declared.view.View.{View}
 use Rattle.booth_raft.specs.StartAndLearn.{started}
-use Rattle.booth_ticket.specs.Ticket.{TicketState, opened as ticket_opened}
+use Rattle.booth_ticket.specs.Ticket.{TicketState}
 use Rattle.booth_node.specs.declared.node_config.NodeConfig.{NodeConfig}
 use Rattle.booth_node.specs.Clock.{HasClocks, reads}
-use Rattle.booth_node.specs.Opening.{setup_of, started_from, start_reading, opened}
+use Rattle.booth_node.specs.Opening.{setup_of, started_from, start_reading, known_at_start, opened, opened_by}
 use Rattle.booth_node.specs.Reaction.{Ask, Send, Keep, used, react}
 use Rattle.booth_node.specs.Records.{may_after_keep, may_after, record_at}
 use Rattle.booth_node.specs.Session.{CutCall, CutNext, CutNow, CutSend, CutKeep, Starts, Makes, IsCut, Stand, Down, Doing, Hearing, MayMake, after_call, MayBeCut}
@@ -50,26 +50,26 @@ clamped_start reading small = min-eq_left (omega (arith, small))
 
 -- ---- a start
 
-started_at : (node : NodeConfig) (now first i : ℕ) (tickets : List TicketConf) (records : List (Option Record)) (t : TicketConf)
+pub started_at : (node : NodeConfig) (now first i : ℕ) (tickets : List TicketConf) (records : List (Option Record)) (t : TicketConf)
     → length records ≡ length tickets → slice_get tickets i ≡ Some t
     → slice_get (started_from node now first tickets records) i
-    ≡ Some (ticket_opened (setup_of node (first + i) t) (record_or_none (unwrap_or (slice_get records i) None)) now)
+    ≡ Some (opened_by t (setup_of node (first + i) t) (record_or_none (unwrap_or (slice_get records i) None)) now)
 started_at node now first i [] records t same is = absurd (none_is t is)
 started_at node now first i (x ∷ tickets) [] t same is = absurd (omega (arith, same))
 started_at node now first zero (x ∷ tickets) (r ∷ records) t same is =
-    ap (λ (y : TicketConf). Some (ticket_opened (setup_of node first y) (record_or_none r) now)) (some_same x t is)
-    ∙ ap (λ (n : ℕ). Some (ticket_opened (setup_of node n t) (record_or_none r) now)) (omega arith)
+    ap (λ (y : TicketConf). Some (opened_by y (setup_of node first y) (record_or_none r) now)) (some_same x t is)
+    ∙ ap (λ (n : ℕ). Some (opened_by t (setup_of node n t) (record_or_none r) now)) (omega arith)
 started_at node now first (suc i) (x ∷ tickets) (r ∷ records) t same is =
     started_at node now (first + 1) i tickets records t (omega (arith, same)) is
-    ∙ ap (λ (n : ℕ). Some (ticket_opened (setup_of node n t) (record_or_none (unwrap_or (slice_get records i) None)) now)) (omega arith)
+    ∙ ap (λ (n : ℕ). Some (opened_by t (setup_of node n t) (record_or_none (unwrap_or (slice_get records i) None)) now)) (omega arith)
 
-started_is : (node : NodeConfig) (now first i : ℕ) (tickets : List TicketConf) (records : List (Option Record)) (s : TicketState)
+pub started_is : (node : NodeConfig) (now first i : ℕ) (tickets : List TicketConf) (records : List (Option Record)) (s : TicketState)
     → slice_get (started_from node now first tickets records) i ≡ Some s
     → (t : TicketConf) × (slice_get tickets i ≡ Some t) × (s.setup.ticket ≡ t.name)
 started_is node now first i [] records s is = absurd (none_is s is)
 started_is node now first i (x ∷ tickets) [] s is = absurd (none_is s is)
 started_is node now first zero (x ∷ tickets) (r ∷ records) s is =
-    (x, refl, ap (λ (y : TicketState). y.setup.ticket) (sym (some_same (ticket_opened (setup_of node first x) (record_or_none r) now) s is)))
+    (x, refl, ap (λ (y : TicketState). y.setup.ticket) (sym (some_same (opened_by x (setup_of node first x) (record_or_none r) now) s is)))
 started_is node now first (suc i) (x ∷ tickets) (r ∷ records) s is = started_is node now (first + 1) i tickets records s is
 
 module _ (w : World) (clocks : HasTrueClocks w) (place : ℕ) (ticket : TicketConf) (setting : Setting w place ticket) where
@@ -271,9 +271,13 @@ module _ (w : World) (clocks : HasTrueClocks w) (place : ℕ) (ticket : TicketCo
       (opened (node_at w m) records reading).tickets
   opened_at m now reading records all is small = record {
     own = started_at (node_at w m) (start_reading reading) 0 place w.config.tickets records ticket all setting.there
-        ∙ ap (λ (n : ℕ). Some (ticket_opened (setup_of (node_at w m) n ticket) (record_at records place) (start_reading reading))) (omega arith)
-        ∙ ap (λ (n : ℕ). Some (ticket_opened (setup_at w place ticket setting m) (record_at records place) n))
-        (ap start_reading is ∙ clamped_start now small);
+        ∙ ap (λ (n : ℕ). Some (opened_by ticket (setup_of (node_at w m) n ticket) (record_at records place) (start_reading reading))) (omega arith)
+        ∙ ap (λ (n : ℕ). Some (opened_by ticket (setup_at w place ticket setting m) (record_at records place) n))
+        (ap start_reading is ∙ clamped_start now small)
+        ∙ ap (λ (b : Bool). Some (record {
+          setup = setup_at w place ticket setting m;
+          known = known_at_start b (setup_at w place ticket setting m) (record_at records place) now;
+        })) setting.automatic;
     others = λ other t read ne named.
         let q : (conf : TicketConf) × (slice_get w.config.tickets other ≡ Some conf) × (t.setup.ticket ≡ conf.name) =
         started_is (node_at w m) (start_reading reading) 0 other w.config.tickets records t read in

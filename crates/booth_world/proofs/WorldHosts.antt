@@ -82,7 +82,7 @@ after_entries_join : (stand : Stand) (xs ys : List SessionEntry) → after_entri
 after_entries_join stand [] ys = refl
 after_entries_join stand (x ∷ xs) ys = after_entries_join (after_entry stand x) xs ys
 
-may_join : (ticket : TicketPlace) (may : List Record) (xs ys : List SessionEntry)
+pub may_join : (ticket : TicketPlace) (may : List Record) (xs ys : List SessionEntry)
     → may_after_all ticket may (xs ++ ys) ≡ may_after_all ticket (may_after_all ticket may xs) ys
 may_join ticket may [] ys = refl
 may_join ticket may (x ∷ xs) ys = may_join ticket (may_after ticket may x) xs ys

@@ -93,7 +93,7 @@ read_in w is_world place ticket setting before m reading time k t same_m same_t 
 
 pub worlds_have_shadows : WorldsHaveShadows
 worlds_have_shadows w is_world place ticket automatic moment =
-    let setting = setting_of w is_world.form.sound place ticket automatic.0 in
+    let setting = setting_of w is_world.form.sound place ticket automatic.0 automatic.1 in
     let c = cluster w place ticket setting in
     let k = cast w place ticket setting in
     let r = reached w is_world place ticket setting moment in

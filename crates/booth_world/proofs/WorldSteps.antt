@@ -51,6 +51,7 @@ IsTrace w name m now what (Reads k time) = (k ≡ m) × (time ≡ now) × TakesR
 -- name, and each member's setup is one that the rules take.
 pub record Setting (w : World) (place : ℕ) (ticket : TicketConf) : Type 0 where
   pub there : slice_get w.config.tickets place ≡ Some ticket
+  pub automatic : ticket.manual ≡ false
   pub ids : (m : ℕ) → m < members_of w → position (has_id (id_at w m)) w.config.members ≡ Some m
   pub names : (other : ℕ) (t : TicketConf) → slice_get w.config.tickets other ≡ Some t → other ≢ place → t.name ≢ ticket.name
   pub sound : (m : ℕ) → m < members_of w → IsSound (setup_of (node_at w m) place ticket)

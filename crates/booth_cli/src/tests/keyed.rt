@@ -1,44 +1,27 @@
 //! A run with a key: what is dropped and what is sent, each with its MAC by another program.
-use super::scripts::{Comes, calls_of, host_of, script_of};
-use std::test::Fail;
+use super::WORDS;
+use super::scripts::{check_calls, host_of};
+use std::process::Abort;
 
-const KEYED: &[u8] = b"site=\"192.168.201.100\"\nsite=\"192.168.202.100\"\n\
+const KEYED: &str = "site=\"192.168.201.100\"\nsite=\"192.168.202.100\"\n\
     arbitrator=\"192.168.203.100\"\nticket=\"ticket-db8\"\nauthfile = /k\n";
 
 // A list request with the MAC of another key, and a request for the members with the right one.
-const WRONG: [u8; 76] = [
-    0, 0, 0, 1, 0x65, 0x53, 0xf1, 0, 0, 0, 0, 0, 0x5f, 0x1b, 0xa0, 0x8c, 0, 1, 0, 3, 0, 0, 0, 0, 0,
-    0, 0, 76, 0x43, 0x4c, 0x73, 0x74, 0, 0, 0, 1, 0, 0, 0, 0, 0, 0, 0, 0, 0, 0, 0, 0, 0, 0, 0, 2,
-    0x8f, 0x5d, 0xe5, 0x52, 0x2e, 0x98, 0x96, 0xf5, 0x61, 0xc9, 0xa7, 0x86, 0x04, 0x3d, 0x91, 0xf7,
-    0x38, 0x44, 0xee, 0x5a, 0, 0, 0, 0,
-];
-
-const PEERS: [u8; 76] = [
-    0, 0, 0, 1, 0x65, 0x53, 0xf1, 0, 0, 0, 0, 0, 0x5f, 0x1b, 0xa0, 0x8c, 0, 1, 0, 3, 0, 0, 0, 0, 0,
-    0, 0, 76, 0x50, 0x65, 0x65, 0x72, 0, 0, 0, 2, 0, 0, 0, 0, 0, 0, 0, 0, 0, 0, 0, 0, 0, 0, 0, 2,
-    0xb6, 0x6d, 0xac, 0xb7, 0x30, 0x82, 0xc6, 0xd6, 0x1c, 0x9b, 0x93, 0xeb, 0x3c, 0x94, 0x19, 0xfe,
-    0x31, 0x01, 0xf7, 0x47, 0, 0, 0, 0,
-];
+const COMES: &str = "\
+1700000000123 bytes # \
+00000001 6553f100 00000000 5f1ba08c 00010003 00000000 0000004c 434c7374 \
+00000001 00000000 00000000 00000000 00000002 8f5de552 2e9896f5 61c9a786 \
+043d91f7 3844ee5a 00000000
+1700000000200 bytes # \
+00000001 6553f100 00000000 5f1ba08c 00010003 00000000 0000004c 50656572 \
+00000002 00000000 00000000 00000000 00000002 b66dacb7 3082c6d6 1c9b93eb \
+3c9419fe 3101f747 00000000";
 
 #[test]
-fn members_are_counted_as_they_are_sent_to(rt: HostRuntime) -> Result<(), Fail> {
+fn members_are_counted_as_they_are_sent_to(rt: HostRuntime) {
     let alloc = rt.alloc();
-    let script = script_of(
-        alloc,
-        1_700_000_000_000,
-        &[
-            (1_700_000_000_123, Comes::Bytes(&WRONG)),
-            (1_700_000_000_200, Comes::Bytes(&PEERS)),
-        ],
-    )?;
-    let calls = calls_of(
-        alloc,
-        "192.168.201.100",
-        host_of(alloc, script, KEYED, &[])?,
-    )?;
-    assert_eq!(rt;
-        calls.as_str(),
-        "\
+    let host = host_of(&rt, alloc, 1_700_000_000_000, COMES, KEYED, "");
+    let calls = "\
 read /etc/booth.conf
 read /k
 lock /var/run/booth.lock
@@ -58,7 +41,6 @@ site 192.168.202.100 0 0 1 0/arbitrator 192.168.203.100 0 0 1 0/ \
 mac 512faa75543bf465ae4be690ed6f87d89352ce00
 next 100 stop
 now 1700000000200
-"
-    );
-    Ok(())
+";
+    check_calls(&rt, alloc, WORDS, host, &[calls]);
 }

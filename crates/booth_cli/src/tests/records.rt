@@ -1,39 +1,29 @@
 //! The records that a daemon starts from, and what is said where one cannot be read.
-use super::scripts::{Comes, calls_of, host_of, script_of};
-use super::{kinds, last_text, strings};
+use super::scripts::{behind, calls_of, host_of};
+use super::{WORDS, check_kinds, check_said, strings};
 use crate::{Outcome, boothd};
 use booth_base::{ByteText, Name, Peer};
 use booth_host::{Arrival, Datagram, Failed, Host, MemoryHost, Place, ReadFault};
-use booth_rec::{Lease, Record};
+use booth_rec::Record;
 use std::alloc::Global;
-use std::test::Fail;
+use std::process::Abort;
 
 // Three tickets, in another order than that of their names.
-const THREE: &[u8] = b"site=\"192.168.201.100\"\nsite=\"192.168.202.100\"\n\
+const THREE: &str = "site=\"192.168.201.100\"\nsite=\"192.168.202.100\"\n\
     ticket=\"c\"\nticket=\"a\"\nticket=\"b\"\n";
 
 const NOW: u64 = 1_700_000_000_000;
 
 // The records are found by name, each is read once in the order of the file, and the first list shows them.
 #[test]
-fn each_ticket_starts_from_its_record(rt: HostRuntime) -> Result<(), Fail> {
+fn each_ticket_starts_from_its_record(rt: HostRuntime) {
     let alloc = rt.alloc();
-    let held = Lease {
-        term: 5,
-        until: NOW + 600_999,
-    };
-    let over = Lease {
-        term: 8,
-        until: NOW,
-    };
-    let records: [(&[u8], Record); 3] = [
-        (b"b", Record::plain(9, Some(over))),
-        (b"other", Record::plain(7, Some(held))),
-        (b"c", Record::plain(6, Some(held))),
-    ];
-    let script = script_of(alloc, NOW, &[(NOW, Comes::List)])?;
-    let host = host_of(alloc, script, THREE, &records)?;
-    let calls = calls_of(alloc, "192.168.201.100", host)?;
+    let records = "\
+b 9 8 1700000000000
+other 7 5 1700000600999
+c 6 5 1700000600999";
+    let host = host_of(&rt, alloc, NOW, "1700000000000 list", THREE, records);
+    let calls = calls_of(&rt, alloc, WORDS, host);
     let wanted = "\
 read /etc/booth.conf
 lock /var/run/booth.lock
@@ -46,8 +36,7 @@ next 100 client:4000: CLst of - at 1700000000000 1 0 0 0
 now 1700000000000
 send client:4000: RLst of S1 at 1700000000000 1 0 0 0 c 192.168.201.100 1700000600/a none 0/b none 0/
 ";
-    assert!(rt; calls.as_str().starts_with(wanted), "{}", calls.as_str());
-    Ok(())
+    let _ = behind(&rt, calls.as_str(), &[wanted]);
 }
 
 // A host in memory of which the read of one ticket's record fails. Its count of faults stands at its end.
@@ -111,25 +100,22 @@ impl Host for Unreading {
 }
 
 // The ticket whose record cannot be read, the calls, and what is said.
+fn check_unread(rt: &impl Abort, alloc: Global, ticket: &'static str, calls: &str, said: &str) {
+    let host = host_of(rt, alloc, NOW, "1700000000000 list", THREE, "");
+    let mut host = Unreading { host, ticket };
+    let outcome = boothd(alloc, &strings(rt, alloc, WORDS), &mut host);
+    assert!(rt; outcome == Outcome::RecordUnread && outcome.status() == 1);
+    check_kinds(rt, alloc, &host.host, calls);
+    check_said(rt, &host.host, said);
+}
+
 #[test]
-fn a_record_that_cannot_be_read_ends_the_opening(rt: HostRuntime) -> Result<(), Fail> {
+fn a_record_that_cannot_be_read_ends_the_opening(rt: HostRuntime) {
     let alloc = rt.alloc();
-    let words = strings(
-        alloc,
-        &["daemon", "-c", "/etc/booth.conf", "-s", "192.168.201.100"],
-    )?;
-    for (ticket, calls, said) in [
-        ("c", "rlnoke", b"boothd: cannot read the record of c\n"),
-        ("a", "rlnokke", b"boothd: cannot read the record of a\n"),
-        ("b", "rlnokkke", b"boothd: cannot read the record of b\n"),
-    ] {
-        let script = script_of(alloc, NOW, &[(NOW, Comes::List)])?;
-        let host = host_of(alloc, script, THREE, &[])?;
-        let mut host = Unreading { host, ticket };
-        let outcome = boothd(alloc, &words, &mut host);
-        assert!(rt; outcome == Outcome::RecordUnread && outcome.status() == 1);
-        assert_eq!(rt; kinds(alloc, &host.host)?.as_str(), calls);
-        assert!(rt; last_text(&host.host)? == said.as_slice());
-    }
-    Ok(())
+    let said = "boothd: cannot read the record of c\n";
+    check_unread(&rt, alloc, "c", "rlnoke", said);
+    let said = "boothd: cannot read the record of a\n";
+    check_unread(&rt, alloc, "a", "rlnokke", said);
+    let said = "boothd: cannot read the record of b\n";
+    check_unread(&rt, alloc, "b", "rlnokkke", said);
 }

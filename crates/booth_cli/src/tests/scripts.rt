@@ -1,153 +1,244 @@
-//! Whole runs of a daemon over a script, from what comes to the calls as text.
+//! Whole runs over a script, from what comes to the calls as text.
+//!
+//! What comes is a line a step: the reading, and then `nothing`, `failure`, `list` for a client's list request,
+//! `bytes` and hexadecimal words of a client, or a frame that was sent at 0: from whom, command, request, options
+//! and result. Behind them stand the leader, term and seconds of the ticket; or ` = ` and a text, in which `/` ends
+//! a line; or ` long ` and of how many letters a text is.
 use super::transcript::transcript;
-use super::{CLIENT, REQUEST, add, strings};
-use crate::{Outcome, boothd};
+use super::{CLIENT, REQUEST, add, byte_text, run, scripted};
+use crate::Outcome;
 use booth_base::{Address, ByteText, Name, Peer};
-use booth_host::{Arrival, MemoryHost, Script, Step};
-use booth_rec::Record;
+use booth_host::{Arrival, Failed, MemoryHost, Step};
+use booth_rec::{Lease, Record};
 use std::alloc::Global;
-use std::test::Fail;
+use std::process::Abort;
 
-/// The ids of the members of the file.
-pub const S1: u32 = 0xD085_F484;
-
-pub const AR: u32 = 0xE2B3_9606;
-
-const NO_ONE: u32 = 0xFFFF_FFFF;
-
-/// Commands, by their letters.
-pub const GRANT: u32 = 0x4347_6E74;
-
-pub const REVOKE: u32 = 0x4352_766B;
-
-pub const VOTE: u32 = 0x5674_4672;
-
-pub const ACK: u32 = 0x4163_6B2E;
-
-pub const UPDATE: u32 = 0x5570_6445;
-
-/// What comes in a step.
-#[derive(Clone, Copy)]
-pub enum Comes {
-    Nothing,
-    /// A client asks for the list.
-    List,
-    /// A client asks this of the ticket, as request 7 without options.
-    Asks(u32),
-    /// A client sends these bytes.
-    Bytes(&'static [u8]),
-    /// The member of this id says this command, with these options, of a leader, a term and seconds.
-    Says(u32, u32, u32, [u32; 3]),
-}
-
-// The bytes of these numbers.
-fn put_words(bytes: &mut Vec<u8>, words: &[u32]) -> Result<(), Fail> {
-    for word in words {
-        bytes.extend_from_slice(&word.to_be_bytes())?;
+/// A number of the frame: a member by its name, a command or a result by its letters, or digits.
+pub fn number_of(rt: &impl Abort, word: &str) -> u32 {
+    match word {
+        "client" => 0,
+        "S1" => 0xD085_F484,
+        "S2" => 0xFBA8_A747,
+        "AR" => 0xE2B3_9606,
+        "none" => 0xFFFF_FFFF,
+        "stranger" => 0x0102_0304,
+        _ => match word.as_bytes() {
+            [a @ b'A'..=b'Z', b, c, d] => u32::from_be_bytes([*a, *b, *c, *d]),
+            _ => word.parse::<u32>().expect(rt, word),
+        },
     }
-    Ok(())
 }
 
-// A frame about the ticket, sent at 0: from, request and options, and then leader, term and seconds.
-fn frame(alloc: Global, cmd: u32, head: [u32; 3], body: [u32; 3]) -> Result<ByteText, Fail> {
-    let [from, request, options] = head;
+fn moment_of(rt: &impl Abort, word: &str) -> u64 {
+    word.parse::<u64>().expect(rt, word)
+}
+
+fn put(rt: &impl Abort, bytes: &mut Vec<u8>, number: u32) {
+    let number = number.to_be_bytes();
+    bytes.extend_from_slice(&number).expect(rt, "memory");
+}
+
+// Puts the number of a line's first word, and gives the other words.
+fn put_first<'a>(rt: &impl Abort, bytes: &mut Vec<u8>, line: &'a str) -> &'a str {
+    let (word, rest) = line.split_once(" ").unwrap_or((line, ""));
+    put(rt, bytes, number_of(rt, word));
+    rest
+}
+
+// The head of a frame of so many bytes. The line goes on behind the result.
+fn put_head<'a>(rt: &impl Abort, bytes: &mut Vec<u8>, len: u32, line: &'a str) -> &'a str {
+    put(rt, bytes, 0);
+    put(rt, bytes, 0);
+    put(rt, bytes, 0);
+    put(rt, bytes, 0x5F1B_A08C);
+    put(rt, bytes, 0x0001_0003);
+    let line = put_first(rt, bytes, line);
+    put(rt, bytes, len);
+    let line = put_first(rt, bytes, line);
+    let line = put_first(rt, bytes, line);
+    let line = put_first(rt, bytes, line);
+    put(rt, bytes, 0);
+    put_first(rt, bytes, line)
+}
+
+fn put_ticket(rt: &impl Abort, bytes: &mut Vec<u8>, line: &str) {
+    let line = put_head(rt, bytes, 124, line);
+    bytes
+        .extend_from_slice("ticket-db8".as_bytes())
+        .expect(rt, "memory");
+    bytes.resize(112, 0).expect(rt, "memory");
+    let line = put_first(rt, bytes, line);
+    let line = put_first(rt, bytes, line);
+    let line = put_first(rt, bytes, line);
+    assert!(rt; line.is_empty(), "too many words: {line}");
+}
+
+fn put_text(rt: &impl Abort, bytes: &mut Vec<u8>, line: &str, text: &str) {
+    let len = u32::try_from(text.len().saturating_add(48)).expect(rt, "a short text");
+    let line = put_head(rt, bytes, len, line);
+    assert!(rt; line.is_empty(), "too many words: {line}");
+    for byte in text.as_bytes() {
+        let byte = if *byte == b'/' { b'\n' } else { *byte };
+        bytes.push(byte).expect(rt, "memory");
+    }
+}
+
+fn put_long(rt: &impl Abort, bytes: &mut Vec<u8>, line: &str, count: &str) {
+    let len = number_of(rt, count).saturating_add(48);
+    let line = put_head(rt, bytes, len, line);
+    assert!(rt; line.is_empty(), "too many words: {line}");
+    bytes.resize(len as usize, b'a').expect(rt, "memory");
+}
+
+fn put_frame(rt: &impl Abort, bytes: &mut Vec<u8>, line: &str) {
+    if let Some((head, text)) = line.split_once(" = ") {
+        put_text(rt, bytes, head, text);
+        return;
+    }
+    match line.split_once(" long ") {
+        Some((head, count)) => put_long(rt, bytes, head, count),
+        None => put_ticket(rt, bytes, line),
+    }
+}
+
+fn frame_of(rt: &impl Abort, alloc: Global, line: &str) -> ByteText {
     let mut bytes = Vec::new(alloc);
-    let opening = [
-        0,
-        0,
-        0,
-        0x5F1B_A08C,
-        0x0001_0003,
-        from,
-        124,
-        cmd,
-        request,
-        options,
-        0,
-        0,
-    ];
-    put_words(&mut bytes, &opening)?;
-    bytes.extend_from_slice(b"ticket-db8")?;
-    bytes.extend_from_slice(&[0; 54])?;
-    put_words(&mut bytes, &body)?;
-    Ok(ByteText::new(alloc, &bytes)?)
+    put_frame(rt, &mut bytes, line);
+    ByteText::new(alloc, &bytes).expect(rt, "memory")
 }
 
-// Where the arbitrator or the first site sends from.
-fn sender(id: u32) -> Peer {
-    let last = if id == S1 { 201 } else { 203 };
+// Where a member or a client sends from.
+fn sender(rt: &impl Abort, line: &str) -> Peer {
+    let (name, _) = line.split_once(" ").expect(rt, line);
+    let last = match name {
+        "client" | "stranger" => return CLIENT,
+        "S1" => 201,
+        "S2" => 202,
+        "AR" => 203,
+        _ => panic!(rt; "nobody is {name}"),
+    };
     Peer {
         address: Address::V4([192, 168, last, 100]),
         port: 9929,
     }
 }
 
-fn step(alloc: Global, reading: u64, comes: Comes) -> Result<Step, Fail> {
-    let (arrival, bytes) = match comes {
-        Comes::Nothing => (Arrival::Quiet, ByteText::new(alloc, &[])?),
-        Comes::List => (Arrival::Datagram(CLIENT), ByteText::new(alloc, &REQUEST)?),
-        Comes::Bytes(bytes) => (Arrival::Datagram(CLIENT), ByteText::new(alloc, bytes)?),
-        Comes::Asks(cmd) => (
-            Arrival::Datagram(CLIENT),
-            frame(alloc, cmd, [0, 7, 0], [NO_ONE, 0, 0])?,
-        ),
-        Comes::Says(from, cmd, options, body) => (
-            Arrival::Datagram(sender(from)),
-            frame(alloc, cmd, [from, 0, options], body)?,
-        ),
-    };
-    Ok(Step {
-        arrival: Ok(arrival),
-        bytes,
-        reading,
+fn arrival_of(rt: &impl Abort, comes: &str) -> Result<Arrival, Failed> {
+    if comes == "nothing" {
+        return Ok(Arrival::Quiet);
+    }
+    if comes == "failure" {
+        return Err(Failed);
+    }
+    if comes == "list" || comes.starts_with("bytes ") {
+        return Ok(Arrival::Datagram(CLIENT));
+    }
+    Ok(Arrival::Datagram(sender(rt, comes)))
+}
+
+fn bytes_that_come(rt: &impl Abort, alloc: Global, comes: &str) -> ByteText {
+    if comes == "nothing" || comes == "failure" {
+        return byte_text(rt, alloc, "");
+    }
+    if comes == "list" {
+        return byte_text(rt, alloc, REQUEST);
+    }
+    match comes.strip_prefix("bytes ") {
+        Some(words) => byte_text(rt, alloc, words),
+        None => frame_of(rt, alloc, comes),
+    }
+}
+
+/// A step: its reading, and what comes.
+pub fn step_of(rt: &impl Abort, alloc: Global, line: &str) -> Step {
+    let (reading, comes) = line.split_once(" ").expect(rt, line);
+    Step {
+        arrival: arrival_of(rt, comes),
+        bytes: bytes_that_come(rt, alloc, comes),
+        reading: moment_of(rt, reading),
         fail_send: false,
         fail_keep: false,
         fail_out: false,
-    })
-}
-
-/// A script that begins at this reading, and has these steps.
-pub fn script_of(alloc: Global, first: u64, steps: &[(u64, Comes)]) -> Result<Script, Fail> {
-    let mut made = Vec::new(alloc);
-    for (reading, comes) in steps {
-        made.push(step(alloc, *reading, *comes)?)?;
     }
-    Ok(Script {
-        first,
-        steps: made,
-        taken: false,
-        fail_open: false,
-        fail_lock: false,
-        fail_kept: false,
-        fail_err: false,
-        fail_send: false,
-        fail_out: false,
-    })
 }
 
-/// A host with this script, this file, the key `secret-key` as /k, and these records of tickets.
-pub fn host_of(
-    alloc: Global,
-    script: Script,
-    file: &[u8],
-    records: &[(&[u8], Record)],
-) -> Result<MemoryHost, Fail> {
-    let mut files = Vec::new(alloc);
-    add(alloc, &mut files, "/etc/booth.conf", file)?;
-    add(alloc, &mut files, "/k", b"  secret-key\n")?;
+fn steps_of(rt: &impl Abort, alloc: Global, text: &str) -> Vec<Step> {
+    let mut steps = Vec::new(alloc);
+    for line in text.split("\n") {
+        steps.push(step_of(rt, alloc, line)).expect(rt, "memory");
+    }
+    steps
+}
+
+// A record of a term, and of a lease where its term and end follow.
+fn record_of(rt: &impl Abort, line: &str) -> Record {
+    let (term, lease) = line.split_once(" ").unwrap_or((line, ""));
+    let term = number_of(rt, term);
+    let Some((lease_term, until)) = lease.split_once(" ") else {
+        return Record::plain(term, None);
+    };
+    let lease = Lease {
+        term: number_of(rt, lease_term),
+        until: moment_of(rt, until),
+    };
+    Record::plain(term, Some(lease))
+}
+
+fn kept_of(rt: &impl Abort, line: &str) -> (Name, Record) {
+    let (ticket, record) = line.split_once(" ").expect(rt, line);
+    let name = Name::read(ticket.as_bytes()).expect(rt, "a name");
+    (name, record_of(rt, record))
+}
+
+// The records of a text, a line for each.
+fn records_of(rt: &impl Abort, alloc: Global, text: &str) -> Vec<(Name, Record)> {
     let mut kept = Vec::new(alloc);
-    for (ticket, record) in records {
-        let name = Name::read(ticket).map_err(|_| Fail::from("a name"))?;
-        kept.push((name, *record))?;
+    if text.is_empty() {
+        return kept;
     }
-    Ok(MemoryHost::new(alloc, script, files, kept, 100)?)
+    for line in text.split("\n") {
+        kept.push(kept_of(rt, line)).expect(rt, "memory");
+    }
+    kept
 }
 
-/// The calls of the daemon at this address over this host, which ends with Done.
-pub fn calls_of(alloc: Global, address: &str, mut host: MemoryHost) -> Result<String, Fail> {
-    let words = strings(alloc, &["daemon", "-c", "/etc/booth.conf", "-s", address])?;
-    if boothd(alloc, &words, &mut host) != Outcome::Done {
-        return Err(Fail::from("another outcome"));
+/// A host that begins at this reading, to which this comes, with this file, the key `secret-key` as /k, and
+/// these records of tickets.
+pub fn host_of(
+    rt: &impl Abort,
+    alloc: Global,
+    first: u64,
+    comes: &str,
+    file: &str,
+    records: &str,
+) -> MemoryHost {
+    let script = scripted(first, steps_of(rt, alloc, comes), "");
+    let mut files = Vec::new(alloc);
+    add(rt, alloc, &mut files, "/etc/booth.conf", file.as_bytes());
+    add(rt, alloc, &mut files, "/k", "  secret-key\n".as_bytes());
+    let kept = records_of(rt, alloc, records);
+    MemoryHost::new(alloc, script, files, kept, 100).expect(rt, "memory")
+}
+
+/// What stands in the calls behind these texts, with which they begin.
+pub fn behind<'a>(rt: &impl Abort, calls: &'a str, texts: &[&str]) -> &'a str {
+    let mut rest = calls;
+    for text in texts {
+        rest = rest.strip_prefix(*text).expect(rt, rest);
     }
-    transcript(alloc, &host)
+    rest
+}
+
+/// The calls of the daemon of these words over this host, which ends with Done.
+pub fn calls_of(rt: &impl Abort, alloc: Global, words: &str, host: MemoryHost) -> String {
+    let mut host = host;
+    run(rt, alloc, words, &mut host, Outcome::Done);
+    transcript(rt, alloc, &host)
+}
+
+/// These calls are exactly those of the texts.
+pub fn check_calls(rt: &impl Abort, alloc: Global, words: &str, host: MemoryHost, texts: &[&str]) {
+    let calls = calls_of(rt, alloc, words, host);
+    let rest = behind(rt, calls.as_str(), texts);
+    assert!(rt; rest.is_empty(), "more calls: {rest}");
 }

@@ -1,9 +1,13 @@
 //! The calls of a run as lines of text, each with all that it holds. Frames are read here by their layout.
+ghost use Rattle.std.specs.Prelude.{◌≤◌, length};
+
 use booth_base::{Address, Peer};
 use booth_host::{Arrival, Entry, Failed, MemoryHost};
-use booth_rec::Record;
+use booth_rec::{Lease, Record};
 use std::alloc::Global;
-use std::test::Fail;
+use std::process::Abort;
+
+const HEAD_BYTES: usize = 48;
 
 // An address, by its place in the file.
 fn named(address: &Address) -> &'static str {
@@ -28,229 +32,235 @@ fn member(id: u32) -> &'static str {
     }
 }
 
-fn word(bytes: &[u8]) -> Result<(u32, &[u8]), Fail> {
-    match bytes {
-        [a, b, c, d, rest @ ..] => Ok((u32::from_be_bytes([*a, *b, *c, *d]), rest)),
-        _ => Err(Fail::from("too few bytes")),
-    }
+fn put(rt: &impl Abort, line: &mut String, text: &str) {
+    line.push_str(text).expect(rt, "memory");
+}
+
+fn put_char(rt: &impl Abort, line: &mut String, byte: u8) {
+    line.push(char::from(byte)).expect(rt, "memory");
+}
+
+fn put_number(rt: &impl Abort, alloc: Global, line: &mut String, number: u64) {
+    let text = format!(in alloc; " {number}").expect(rt, "memory");
+    put(rt, line, text.as_str());
+}
+
+// The number whose four bytes stand here.
+fn number_at(rt: &impl Abort, bytes: &[u8], at: usize) -> u32 {
+    assert!(rt; at <= bytes.len() && bytes.len() - at >= 4);
+    u32::from_be_bytes([bytes[at], bytes[at + 1], bytes[at + 2], bytes[at + 3]])
+}
+
+fn put_number_at(rt: &impl Abort, alloc: Global, line: &mut String, bytes: &[u8], at: usize) {
+    put_number(rt, alloc, line, u64::from(number_at(rt, bytes, at)));
+}
+
+fn put_member_at(rt: &impl Abort, line: &mut String, bytes: &[u8], at: usize) {
+    put(rt, line, " ");
+    put(rt, line, member(number_at(rt, bytes, at)));
 }
 
 // A command, a reason or a result: its four letters, or 0.
-fn put_code(line: &mut String, code: u32) -> Result<(), Fail> {
+fn put_code_at(rt: &impl Abort, line: &mut String, bytes: &[u8], at: usize) {
+    let code = number_at(rt, bytes, at);
+    put(rt, line, " ");
     if code == 0 {
-        line.push_str(" 0")?;
-        return Ok(());
+        put(rt, line, "0");
+        return;
     }
-    line.push(' ')?;
     for byte in code.to_be_bytes() {
-        line.push(char::from(byte))?;
+        put_char(rt, line, byte);
     }
-    Ok(())
 }
 
 // A name's field: the bytes before its first zero, behind which all are zero.
-fn put_name(line: &mut String, field: &[u8]) -> Result<(), Fail> {
+fn put_name(rt: &impl Abort, line: &mut String, field: &[u8]) {
     let mut ended = false;
-    line.push(' ')?;
+    put(rt, line, " ");
     for byte in field {
         if *byte == 0 {
             ended = true;
-        } else if ended {
-            return Err(Fail::from("no name"));
         } else {
-            line.push(char::from(*byte))?;
+            assert!(rt; !ended);
+            put_char(rt, line, *byte);
         }
     }
-    Ok(())
 }
 
 // Bytes as text; `/` stands for the end of a line.
-fn put_bytes(line: &mut String, bytes: &[u8]) -> Result<(), Fail> {
-    line.push(' ')?;
+fn put_bytes(rt: &impl Abort, line: &mut String, bytes: &[u8]) {
+    put(rt, line, " ");
     for byte in bytes {
         match *byte {
-            b'\n' => line.push('/')?,
-            0x20..=0x7E => line.push(char::from(*byte))?,
-            _ => line.push('?')?,
+            b'\n' => put(rt, line, "/"),
+            0x20..=0x7E => put_char(rt, line, *byte),
+            _ => put(rt, line, "?"),
         }
     }
-    Ok(())
 }
 
 // What a ticket's body says: its name, the leader, the term and the seconds.
-fn put_ticket(alloc: Global, line: &mut String, body: &[u8]) -> Result<(), Fail> {
-    let Some((name, rest)) = body.split_at_checked(64) else {
-        return Err(Fail::from("no ticket"));
-    };
-    put_name(line, name)?;
-    let (leader, rest) = word(rest)?;
-    let (term, rest) = word(rest)?;
-    let (seconds, rest) = word(rest)?;
-    let text = format!(in alloc; " {} {term} {seconds}", member(leader))?;
-    line.push_str(text.as_str())?;
-    if rest.is_empty() {
-        Ok(())
-    } else {
-        Err(Fail::from("too many bytes"))
+fn put_ticket(rt: &impl Abort, alloc: Global, line: &mut String, body: &[u8]) {
+    assert!(rt; body.len() == 76);
+    put_name(rt, line, body.get(..64).expect(rt, "a name"));
+    put_member_at(rt, line, body, 64);
+    put_number_at(rt, alloc, line, body, 68);
+    put_number_at(rt, alloc, line, body, 72);
+}
+
+fn put_hexadecimal(rt: &impl Abort, alloc: Global, line: &mut String, bytes: &[u8]) {
+    for byte in bytes {
+        let text = format!(in alloc; "{byte:02x}").expect(rt, "memory");
+        put(rt, line, text.as_str());
     }
 }
 
-// The authentication part, where there is one: hash id 2, the MAC, and four zeros.
-fn put_auth(alloc: Global, line: &mut String, auth: &[u8]) -> Result<(), Fail> {
-    match auth {
-        [] => Ok(()),
-        [0, 0, 0, 2, mac @ .., 0, 0, 0, 0] => {
-            line.push_str(" mac ")?;
-            for byte in mac {
-                let text = format!(in alloc; "{byte:02x}")?;
-                line.push_str(text.as_str())?;
-            }
-            Ok(())
-        }
-        _ => Err(Fail::from("no authentication part")),
+// The authentication part: hash id 2, the MAC, and four zeros.
+fn put_auth(rt: &impl Abort, alloc: Global, line: &mut String, auth: &[u8]) {
+    assert!(rt; auth.len() == 28);
+    assert!(rt; number_at(rt, auth, 0) == 2 && number_at(rt, auth, 24) == 0);
+    put(rt, line, " mac ");
+    put_hexadecimal(rt, alloc, line, &auth[4..24]);
+}
+
+// The magic number, the version, and the frame's length.
+fn check_form(rt: &impl Abort, bytes: &[u8]) {
+    assert!(rt; number_at(rt, bytes, 12) == 0x5F1B_A08C);
+    assert!(rt; number_at(rt, bytes, 16) == 0x0001_0003);
+    assert!(rt; number_at(rt, bytes, 24) as usize == bytes.len());
+}
+
+// The sender's clock in ms.
+fn put_moment(rt: &impl Abort, alloc: Global, line: &mut String, bytes: &[u8]) {
+    let secs = u64::from(number_at(rt, bytes, 4));
+    let usecs = number_at(rt, bytes, 8);
+    assert!(rt; usecs % 1000 == 0);
+    put(rt, line, " at");
+    put_number(rt, alloc, line, secs * 1000 + u64::from(usecs / 1000));
+}
+
+fn put_body(rt: &impl Abort, alloc: Global, line: &mut String, cmd: u32, body: &[u8]) {
+    match &cmd.to_be_bytes() {
+        b"CLst" | b"Peer" => assert!(rt; body.is_empty()),
+        b"RLst" | b"RPer" => put_bytes(rt, line, body),
+        _ => put_ticket(rt, alloc, line, body),
     }
+}
+
+// The body, and the authentication part where the opts say that there is one.
+fn put_rest(rt: &impl Abort, alloc: Global, line: &mut String, bytes: &[u8]) {
+    let cmd = number_at(rt, bytes, 28);
+    let rest = bytes.get(HEAD_BYTES..).expect(rt, "a body");
+    if number_at(rt, bytes, 0) == 0 {
+        put_body(rt, alloc, line, cmd, rest);
+        return;
+    }
+    assert!(rt; number_at(rt, bytes, 0) == 1 && rest.len() >= 28);
+    let (body, auth) = rest.split_at(rest.len() - 28);
+    put_body(rt, alloc, line, cmd, body);
+    put_auth(rt, alloc, line, auth);
 }
 
 // A frame: command, sender, its clock, request, options, reason, result, and the body.
-fn put_frame(alloc: Global, line: &mut String, bytes: &[u8]) -> Result<(), Fail> {
-    let (opts, rest) = word(bytes)?;
-    let (secs, rest) = word(rest)?;
-    let (usecs, rest) = word(rest)?;
-    let (magic, rest) = word(rest)?;
-    let (version, rest) = word(rest)?;
-    let (from, rest) = word(rest)?;
-    let (length, rest) = word(rest)?;
-    let (cmd, rest) = word(rest)?;
-    let (request, rest) = word(rest)?;
-    let (options, rest) = word(rest)?;
-    let (reason, rest) = word(rest)?;
-    let (result, body) = word(rest)?;
-    if opts > 1 || magic != 0x5F1B_A08C || version != 0x0001_0003 {
-        return Err(Fail::from("no frame"));
-    }
-    if length as usize != bytes.len() {
-        return Err(Fail::from("another length"));
-    }
-    if usecs % 1000 != 0 {
-        return Err(Fail::from("no milliseconds"));
-    }
-    put_code(line, cmd)?;
-    let moment = u64::from(secs) * 1000 + u64::from(usecs / 1000);
-    let text = format!(in alloc; " of {} at {moment} {request} {options}", member(from))?;
-    line.push_str(text.as_str())?;
-    put_code(line, reason)?;
-    put_code(line, result)?;
-    let auth_bytes = if opts == 1 { 28 } else { 0 };
-    let end = body.len().saturating_sub(auth_bytes);
-    let Some((body, auth)) = body.split_at_checked(end) else {
-        return Err(Fail::from("no body"));
-    };
-    match &cmd.to_be_bytes() {
-        b"CLst" | b"Peer" => {}
-        b"RLst" | b"RPer" => put_bytes(line, body)?,
-        _ => put_ticket(alloc, line, body)?,
-    }
-    put_auth(alloc, line, auth)
+fn put_frame(rt: &impl Abort, alloc: Global, line: &mut String, bytes: &[u8]) {
+    check_form(rt, bytes);
+    put_code_at(rt, line, bytes, 28);
+    put(rt, line, " of");
+    put_member_at(rt, line, bytes, 20);
+    put_moment(rt, alloc, line, bytes);
+    put_number_at(rt, alloc, line, bytes, 32);
+    put_number_at(rt, alloc, line, bytes, 36);
+    put_code_at(rt, line, bytes, 40);
+    put_code_at(rt, line, bytes, 44);
+    put_rest(rt, alloc, line, bytes);
+}
+
+fn put_lease(rt: &impl Abort, alloc: Global, line: &mut String, lease: Lease) {
+    let text = format!(in alloc; " {{{}, {}}}", lease.term, lease.until).expect(rt, "memory");
+    put(rt, line, text.as_str());
 }
 
 // A record: its term, and its lease with the lease's term and end.
-fn put_record(alloc: Global, line: &mut String, kept: &Record) -> Result<(), Fail> {
-    let text = match kept.lease {
-        Some(lease) => format!(in alloc;
-            " {{{}, {{{}, {}}}}}",
-            kept.term, lease.term, lease.until
-        )?,
-        None => format!(in alloc; " {{{}, no lease}}", kept.term)?,
-    };
-    line.push_str(text.as_str())?;
-    Ok(())
+fn put_record(rt: &impl Abort, alloc: Global, line: &mut String, kept: &Record) {
+    let text = format!(in alloc; " {{{},", kept.term).expect(rt, "memory");
+    put(rt, line, text.as_str());
+    match kept.lease {
+        Some(lease) => put_lease(rt, alloc, line, lease),
+        None => put(rt, line, " no lease"),
+    }
+    put(rt, line, "}");
 }
 
-fn put_done(line: &mut String, answer: &Result<(), Failed>) -> Result<(), Fail> {
+fn put_done(rt: &impl Abort, line: &mut String, answer: &Result<(), Failed>) {
     if answer.is_err() {
-        line.push_str(" failed")?;
+        put(rt, line, " failed");
     }
-    Ok(())
+}
+
+fn put_peer(rt: &impl Abort, alloc: Global, line: &mut String, peer: &Peer) {
+    let text = format!(in alloc; " {}:{}:", named(&peer.address), peer.port);
+    put(rt, line, text.expect(rt, "memory").as_str());
 }
 
 fn put_next(
+    rt: &impl Abort,
     alloc: Global,
     line: &mut String,
     answer: &Result<Arrival, Failed>,
     bytes: &[u8],
-) -> Result<(), Fail> {
+) {
     match answer {
         Ok(Arrival::Datagram(from)) => {
-            let text = format!(in alloc; " {}:{}:", named(&from.address), from.port)?;
-            line.push_str(text.as_str())?;
-            put_frame(alloc, line, bytes)
+            put_peer(rt, alloc, line, from);
+            put_frame(rt, alloc, line, bytes);
         }
-        Ok(Arrival::Quiet) => {
-            line.push_str(" quiet")?;
-            Ok(())
-        }
-        Ok(Arrival::Stop) => {
-            line.push_str(" stop")?;
-            Ok(())
-        }
-        Err(Failed) => {
-            line.push_str(" failed")?;
-            Ok(())
-        }
+        Ok(Arrival::Quiet) => put(rt, line, " quiet"),
+        Ok(Arrival::Stop) => put(rt, line, " stop"),
+        Err(Failed) => put(rt, line, " failed"),
     }
 }
 
 fn put_kept(
+    rt: &impl Abort,
     alloc: Global,
     line: &mut String,
     answer: &Result<Option<Record>, Failed>,
-) -> Result<(), Fail> {
+) {
     match answer {
-        Ok(Some(kept)) => put_record(alloc, line, kept),
-        Ok(None) => {
-            line.push_str(" none")?;
-            Ok(())
-        }
-        Err(Failed) => {
-            line.push_str(" failed")?;
-            Ok(())
-        }
+        Ok(Some(kept)) => put_record(rt, alloc, line, kept),
+        Ok(None) => put(rt, line, " none"),
+        Err(Failed) => put(rt, line, " failed"),
     }
 }
 
-fn put_send(
+fn put_local(
+    rt: &impl Abort,
     alloc: Global,
     line: &mut String,
-    to: &Peer,
-    bytes: &[u8],
-    answer: &Result<(), Failed>,
-) -> Result<(), Fail> {
-    let text = format!(in alloc; "send {}:{}:", named(&to.address), to.port)?;
-    line.push_str(text.as_str())?;
-    put_frame(alloc, line, bytes)?;
-    put_done(line, answer)
+    local: &Option<Address>,
+    port: u16,
+) {
+    let local = match local {
+        Some(address) => named(address),
+        None => "any",
+    };
+    let text = format!(in alloc; " {local}:{port}").expect(rt, "memory");
+    put(rt, line, text.as_str());
 }
 
-// A call with its answer.
-fn put_entry(alloc: Global, line: &mut String, entry: &Entry) -> Result<(), Fail> {
+// A call with its answer, behind its name.
+fn put_entry(rt: &impl Abort, alloc: Global, line: &mut String, entry: &Entry) {
+    put(rt, line, name_of(entry));
     match entry {
         Entry::ReadFile { path, answer } => {
-            line.push_str("read")?;
-            put_bytes(line, path.bytes())?;
-            line.push_str(if answer.is_ok() { "" } else { " failed" })?;
-            Ok(())
+            put_bytes(rt, line, path.bytes());
+            put(rt, line, if answer.is_ok() { "" } else { " failed" });
         }
         Entry::Lock { path, answer } => {
-            line.push_str("lock")?;
-            put_bytes(line, path.bytes())?;
-            line.push_str(if *answer == Ok(true) { "" } else { " not got" })?;
-            Ok(())
+            put_bytes(rt, line, path.bytes());
+            put(rt, line, if *answer == Ok(true) { "" } else { " not got" });
         }
-        Entry::Now { reading } => {
-            let text = format!(in alloc; "now {reading}")?;
-            line.push_str(text.as_str())?;
-            Ok(())
-        }
+        Entry::Now { reading } => put_number(rt, alloc, line, *reading),
         Entry::Open {
             local,
             port,
@@ -258,60 +268,65 @@ fn put_entry(alloc: Global, line: &mut String, entry: &Entry) -> Result<(), Fail
             conf_path,
             answer,
         } => {
-            let local = match local {
-                Some(address) => named(address),
-                None => "any",
-            };
-            let text = format!(in alloc; "open {local}:{port}")?;
-            line.push_str(text.as_str())?;
-            put_bytes(line, records.bytes())?;
-            put_bytes(line, conf_path.bytes())?;
-            put_done(line, answer)
+            put_local(rt, alloc, line, local, *port);
+            put_bytes(rt, line, records.bytes());
+            put_bytes(rt, line, conf_path.bytes());
+            put_done(rt, line, answer);
         }
         Entry::Kept { ticket, answer } => {
-            line.push_str("kept")?;
-            put_bytes(line, ticket.bytes())?;
-            put_kept(alloc, line, answer)
+            put_bytes(rt, line, ticket.bytes());
+            put_kept(rt, alloc, line, answer);
         }
         Entry::Next {
             wait_ms,
             answer,
             bytes,
         } => {
-            let text = format!(in alloc; "next {wait_ms}")?;
-            line.push_str(text.as_str())?;
-            put_next(alloc, line, answer, bytes.bytes())
+            put_number(rt, alloc, line, *wait_ms);
+            put_next(rt, alloc, line, answer, bytes.bytes());
         }
-        Entry::Send { to, bytes, answer } => put_send(alloc, line, to, bytes.bytes(), answer),
+        Entry::Send { to, bytes, answer } => {
+            put_peer(rt, alloc, line, to);
+            put_frame(rt, alloc, line, bytes.bytes());
+            put_done(rt, line, answer);
+        }
         Entry::Keep {
             ticket,
             record,
             answer,
         } => {
-            line.push_str("keep")?;
-            put_bytes(line, ticket.bytes())?;
-            put_record(alloc, line, record)?;
-            put_done(line, answer)
+            put_bytes(rt, line, ticket.bytes());
+            put_record(rt, alloc, line, record);
+            put_done(rt, line, answer);
         }
-        Entry::Out { bytes, answer } => {
-            line.push_str("out")?;
-            put_bytes(line, bytes.bytes())?;
-            put_done(line, answer)
-        }
-        Entry::Err { bytes, answer } => {
-            line.push_str("err")?;
-            put_bytes(line, bytes.bytes())?;
-            put_done(line, answer)
+        Entry::Out { bytes, answer } | Entry::Err { bytes, answer } => {
+            put_bytes(rt, line, bytes.bytes());
+            put_done(rt, line, answer);
         }
     }
 }
 
-/// All calls of a run, a line for each.
-pub fn transcript(alloc: Global, host: &MemoryHost) -> Result<String, Fail> {
-    let mut text = String::new(alloc);
-    for entry in host.past().ok_or("untold")? {
-        put_entry(alloc, &mut text, entry)?;
-        text.push('\n')?;
+fn name_of(entry: &Entry) -> &'static str {
+    match entry {
+        Entry::ReadFile { .. } => "read",
+        Entry::Lock { .. } => "lock",
+        Entry::Now { .. } => "now",
+        Entry::Open { .. } => "open",
+        Entry::Kept { .. } => "kept",
+        Entry::Next { .. } => "next",
+        Entry::Send { .. } => "send",
+        Entry::Keep { .. } => "keep",
+        Entry::Out { .. } => "out",
+        Entry::Err { .. } => "err",
     }
-    Ok(text)
+}
+
+/// All calls of a run, a line for each.
+pub fn transcript(rt: &impl Abort, alloc: Global, host: &MemoryHost) -> String {
+    let mut text = String::new(alloc);
+    for entry in host.past().expect(rt, "the calls") {
+        put_entry(rt, alloc, &mut text, entry);
+        put(rt, &mut text, "\n");
+    }
+    text
 }

@@ -1,280 +1,195 @@
 //! Words that ask for no daemon, or for one that does not open.
-use super::{GOOD, host, kinds, last_text, script, strings};
+use super::{check_kinds, check_refused, check_said, good_host, last_text, run, strings};
 use crate::{Outcome, Word, boothd};
 use clap::error::ErrorKind;
 use std::alloc::Global;
-use std::test::Fail;
+use std::process::Abort;
 
-// The words, what comes of them, and what is said in the one call.
-#[test]
-fn each_reader_refuses_its_word(rt: HostRuntime) -> Result<(), Fail> {
-    let alloc = rt.alloc();
-    let (site, number, path) = (
-        Outcome::BadWord(Word::Site),
-        Outcome::BadWord(Word::Number),
-        Outcome::BadWord(Word::Path),
-    );
-    let table: [(&[&str], Outcome, &[u8]); 13] = [
-        (&["daemon", "-s", "1.2.3.04"], site, b"boothd: bad site\n"),
-        (&["daemon", "-s", "::1%lo"], site, b"boothd: bad site\n"),
-        (&["daemon", "-s", ""], site, b"boothd: bad site\n"),
-        (
-            &["daemon", "-s", "::1", "-n", "0"],
-            number,
-            b"boothd: bad number\n",
-        ),
-        (
-            &["daemon", "-s", "::1", "-n", "007"],
-            number,
-            b"boothd: bad number\n",
-        ),
-        (
-            &["daemon", "-s", "::1", "-n", "+1"],
-            number,
-            b"boothd: bad number\n",
-        ),
-        (
-            &["daemon", "-s", "::1", "-n", "4611686018427387905"],
-            number,
-            b"boothd: bad number\n",
-        ),
-        (
-            &["daemon", "-s", "::1", "-l", ""],
-            path,
-            b"boothd: bad path\n",
-        ),
-        (
-            &["daemon", "-d", "", "-s", "::1"],
-            path,
-            b"boothd: bad path\n",
-        ),
-        (&["status", "-l", ""], path, b"boothd: bad path\n"),
-        (
-            &["daemon", "-n", "", "-s", "::1"],
-            number,
-            b"boothd: bad number\n",
-        ),
-        // the first by its kind is told, wherever it stands
-        (
-            &["daemon", "-l", "", "-n", "x", "-s", "y"],
-            site,
-            b"boothd: bad site\n",
-        ),
-        (
-            &["daemon", "-l", "", "-n", "x", "-s", "::1"],
-            number,
-            b"boothd: bad number\n",
-        ),
-    ];
-    for (words, outcome, said) in table {
-        let mut host = host(alloc, script(alloc)?, [GOOD, b""], b"")?;
-        assert!(rt;
-            boothd(alloc, &strings(alloc, words)?, &mut host) == outcome,
-            "{words:?}"
-        );
-        assert!(rt; outcome.status() == 1 && kinds(alloc, &host)?.as_str() == "e");
-        assert!(rt; last_text(&host)? == said, "{words:?}");
-    }
-    Ok(())
+fn check_word(rt: &impl Abort, alloc: Global, words: &str, word: Word, said: &str) {
+    let mut host = good_host(rt, alloc, "");
+    let outcome = Outcome::BadWord(word);
+    check_refused(rt, alloc, words, &mut host, outcome, "e", said);
 }
 
-// The words, and why the command does not take them.
-#[test]
-fn words_that_are_not_taken_are_usage(rt: HostRuntime) -> Result<(), Fail> {
-    let alloc = rt.alloc();
-    let table: [(&[&str], Option<ErrorKind>); 26] = [
-        (&[], None),
-        (&[""], None),
-        (&["Daemon", "-s", "::1"], None),
-        (&["--help"], None),
-        (&["client", "daemon"], None),
-        (&["daemon"], Some(ErrorKind::MissingRequiredArgument)),
-        (
-            &["daemon", "-c", "x"],
-            Some(ErrorKind::MissingRequiredArgument),
-        ),
-        (&["daemon", "-s"], Some(ErrorKind::InvalidValue)),
-        (&["daemon", "-s", "-n", "1"], Some(ErrorKind::InvalidValue)),
-        (&["daemon", "-s::1", "-c"], Some(ErrorKind::InvalidValue)),
-        (&["daemon", "-s::1", "-l"], Some(ErrorKind::InvalidValue)),
-        (&["daemon", "-s::1", "-d"], Some(ErrorKind::InvalidValue)),
-        (
-            &["daemon", "-s::1", "-n", "--"],
-            Some(ErrorKind::InvalidValue),
-        ),
-        (
-            &["daemon", "-s", "::1", "-n", "1", "-n", "1"],
-            Some(ErrorKind::ArgumentConflict),
-        ),
-        (
-            &["daemon", "-s::1", "-s::1"],
-            Some(ErrorKind::ArgumentConflict),
-        ),
-        (
-            &["daemon", "-ca", "-s::1", "-cb"],
-            Some(ErrorKind::ArgumentConflict),
-        ),
-        (
-            &["daemon", "-la", "-s::1", "-lb"],
-            Some(ErrorKind::ArgumentConflict),
-        ),
-        (
-            &["daemon", "-da", "-s::1", "-db"],
-            Some(ErrorKind::ArgumentConflict),
-        ),
-        (
-            &["daemon", "--", "-s", "::1"],
-            Some(ErrorKind::UnknownArgument),
-        ),
-        (
-            &["daemon", "-s", "::1", "more"],
-            Some(ErrorKind::UnknownArgument),
-        ),
-        (
-            &["daemon", "-s", "::1", "--", "-n"],
-            Some(ErrorKind::UnknownArgument),
-        ),
-        (
-            &["daemon", "--site", "::1"],
-            Some(ErrorKind::UnknownArgument),
-        ),
-        (&["status", "-s", "::1"], Some(ErrorKind::UnknownArgument)),
-        (
-            &["status", "--", "-l", "/l"],
-            Some(ErrorKind::UnknownArgument),
-        ),
-        (&["status", "-l"], Some(ErrorKind::InvalidValue)),
-        (
-            &["status", "-l", "a", "-l", "b"],
-            Some(ErrorKind::ArgumentConflict),
-        ),
-    ];
-    for (words, kind) in table {
-        let mut host = host(alloc, script(alloc)?, [GOOD, b""], b"")?;
-        let outcome = boothd(alloc, &strings(alloc, words)?, &mut host);
-        assert!(rt; outcome == Outcome::Usage(kind), "{words:?}: {outcome:?}");
-        assert!(rt; outcome.status() == 1 && kinds(alloc, &host)?.as_str() == "e");
-        let begin = if kind.is_some() {
-            b"error: ".as_slice()
-        } else {
-            b"boothd: usage: ".as_slice()
-        };
-        assert!(rt; last_text(&host)?.starts_with(begin), "{words:?}");
-    }
-    Ok(())
+fn check_site(rt: &impl Abort, alloc: Global, words: &str) {
+    check_word(rt, alloc, words, Word::Site, "boothd: bad site\n");
 }
 
-// The words of a daemon, and what it cannot read.
+fn check_number(rt: &impl Abort, alloc: Global, words: &str) {
+    check_word(rt, alloc, words, Word::Number, "boothd: bad number\n");
+}
+
+fn check_path(rt: &impl Abort, alloc: Global, words: &str) {
+    check_word(rt, alloc, words, Word::Path, "boothd: bad path\n");
+}
+
 #[test]
-fn a_configuration_is_named_or_a_path(rt: HostRuntime) -> Result<(), Fail> {
+fn each_reader_refuses_its_word(rt: HostRuntime) {
     let alloc = rt.alloc();
-    let table: [(&[&str], &[u8]); 9] = [
-        (
-            &["-s", "::1"],
-            b"boothd: cannot read /etc/booth/booth.conf\n",
-        ),
-        (
-            &["-s::1", "-cother"],
-            b"boothd: cannot read /etc/booth/other.conf\n",
-        ),
-        (
-            &["-c", "x.conf", "-s=::1"],
-            b"boothd: cannot read /etc/booth/x.conf\n",
-        ),
-        (
-            &["-c", ".conf", "-s", "::1"],
-            b"boothd: cannot read /etc/booth/.conf\n",
-        ),
-        (
-            &["-c", "", "-s", "::1"],
-            b"boothd: cannot read /etc/booth/.conf\n",
-        ),
-        (
-            &["-c", "x.conf.d", "-s", "::1"],
-            b"boothd: cannot read /etc/booth/x.conf.d.conf\n",
-        ),
-        (&["-c", "./x", "-s", "::1"], b"boothd: cannot read ./x\n"),
-        (&["-c=/x/y", "-s", "::1"], b"boothd: cannot read /x/y\n"),
-        (&["-c", "/", "-s", "::1"], b"boothd: cannot read /\n"),
-    ];
-    for (words, said) in table {
-        let mut host = host(alloc, script(alloc)?, [GOOD, b""], b"")?;
-        let mut all = strings(alloc, &["daemon"])?;
-        all.append(&mut strings(alloc, words)?)?;
-        assert!(rt;
-            boothd(alloc, &all, &mut host) == Outcome::ConfUnread,
-            "{words:?}"
-        );
-        assert!(rt; last_text(&host)? == said, "{words:?}");
+    check_site(&rt, alloc, "daemon -s 1.2.3.04");
+    check_site(&rt, alloc, "daemon -s ::1%lo");
+    check_site(&rt, alloc, "daemon -s ");
+    check_number(&rt, alloc, "daemon -s ::1 -n 0");
+    check_number(&rt, alloc, "daemon -s ::1 -n 007");
+    check_number(&rt, alloc, "daemon -s ::1 -n +1");
+    check_number(&rt, alloc, "daemon -s ::1 -n 4611686018427387905");
+    check_path(&rt, alloc, "daemon -s ::1 -l ");
+    check_path(&rt, alloc, "daemon -d  -s ::1");
+    check_path(&rt, alloc, "status -l ");
+    check_number(&rt, alloc, "daemon -n  -s ::1");
+    // the first by its kind is told, wherever it stands
+    check_site(&rt, alloc, "daemon -l  -n x -s y");
+    check_number(&rt, alloc, "daemon -l  -n x -s ::1");
+}
+
+fn kind_of(rt: &impl Abort, name: &str) -> Option<ErrorKind> {
+    match name {
+        "None" => None,
+        "MissingRequiredArgument" => Some(ErrorKind::MissingRequiredArgument),
+        "InvalidValue" => Some(ErrorKind::InvalidValue),
+        "ArgumentConflict" => Some(ErrorKind::ArgumentConflict),
+        "UnknownArgument" => Some(ErrorKind::UnknownArgument),
+        _ => panic!(rt; "no kind: {name}"),
     }
-    Ok(())
+}
+
+fn check_usage(rt: &impl Abort, alloc: Global, words: &[String], kind: Option<ErrorKind>) {
+    let mut host = good_host(rt, alloc, "");
+    let outcome = boothd(alloc, words, &mut host);
+    assert!(rt; outcome == Outcome::Usage(kind) && outcome.status() == 1);
+    check_kinds(rt, alloc, &host, "e");
+    let begin = if kind.is_some() {
+        "error: "
+    } else {
+        "boothd: usage: "
+    };
+    assert!(rt; last_text(rt, &host).starts_with(begin.as_bytes()));
+}
+
+fn check_usage_line(rt: &impl Abort, alloc: Global, line: &str) {
+    let (words, kind) = line.split_once(" | ").expect(rt, line);
+    check_usage(rt, alloc, &strings(rt, alloc, words), kind_of(rt, kind));
+}
+
+// The words, and why the command does not take them. Those of the last line are one empty word.
+#[test]
+fn words_that_are_not_taken_are_usage(rt: HostRuntime) {
+    let alloc = rt.alloc();
+    check_usage(&rt, alloc, &Vec::new(alloc), None);
+    let table = "\
+Daemon -s ::1 | None
+--help | None
+client daemon | None
+daemon | MissingRequiredArgument
+daemon -c x | MissingRequiredArgument
+daemon -s | InvalidValue
+daemon -s -n 1 | InvalidValue
+daemon -s::1 -c | InvalidValue
+daemon -s::1 -l | InvalidValue
+daemon -s::1 -d | InvalidValue
+daemon -s::1 -n -- | InvalidValue
+daemon -s ::1 -n 1 -n 1 | ArgumentConflict
+daemon -s::1 -s::1 | ArgumentConflict
+daemon -ca -s::1 -cb | ArgumentConflict
+daemon -la -s::1 -lb | ArgumentConflict
+daemon -da -s::1 -db | ArgumentConflict
+daemon -- -s ::1 | UnknownArgument
+daemon -s ::1 more | UnknownArgument
+daemon -s ::1 -- -n | UnknownArgument
+daemon --site ::1 | UnknownArgument
+status -s ::1 | UnknownArgument
+status -- -l /l | UnknownArgument
+status -l | InvalidValue
+status -l a -l b | ArgumentConflict
+ | None";
+    for line in table.split("\n") {
+        check_usage_line(&rt, alloc, line);
+    }
+}
+
+// The words of a daemon, and what it says that it cannot read.
+fn check_unread(rt: &impl Abort, alloc: Global, line: &str) {
+    let (words, path) = line.split_once(" | ").expect(rt, line);
+    let mut host = good_host(rt, alloc, "");
+    run(rt, alloc, words, &mut host, Outcome::ConfUnread);
+    let said = format!(in alloc; "boothd: cannot read {path}\n").expect(rt, "memory");
+    check_said(rt, &host, said.as_str());
+}
+
+#[test]
+fn a_configuration_is_named_or_a_path(rt: HostRuntime) {
+    let alloc = rt.alloc();
+    let table = "\
+daemon -s ::1 | /etc/booth/booth.conf
+daemon -s::1 -cother | /etc/booth/other.conf
+daemon -c x.conf -s=::1 | /etc/booth/x.conf
+daemon -c .conf -s ::1 | /etc/booth/.conf
+daemon -c  -s ::1 | /etc/booth/.conf
+daemon -c x.conf.d -s ::1 | /etc/booth/x.conf.d.conf
+daemon -c ./x -s ::1 | ./x
+daemon -c=/x/y -s ::1 | /x/y
+daemon -c / -s ::1 | /";
+    for line in table.split("\n") {
+        check_unread(&rt, alloc, line);
+    }
 }
 
 // A word that begins so and goes on with x, of so many bytes.
-fn long_word(alloc: Global, first: char, len: u32) -> Result<String, Fail> {
-    let mut word = String::new(alloc);
-    word.push(first)?;
+fn long_word(rt: &impl Abort, alloc: Global, first: &str, len: u32) -> String {
+    let mut word = String::from_str(alloc, first).expect(rt, "memory");
     for _ in 1..len {
-        word.push('x')?;
+        word.push('x').expect(rt, "memory");
     }
-    Ok(word)
+    word
 }
 
-// Which option, how many bytes its word has and whether it begins with a slash, and what comes of it.
+// Which option, with what its word begins, and how many bytes it has.
+fn check_long(rt: &impl Abort, alloc: Global, option: &str, len: u32, outcome: Outcome) {
+    let (option, first) = option.split_once(" ").expect(rt, option);
+    let mut words = strings(rt, alloc, "daemon -s ::1");
+    let option = String::from_str(alloc, option).expect(rt, "memory");
+    words.push(option).expect(rt, "memory");
+    words
+        .push(long_word(rt, alloc, first, len))
+        .expect(rt, "memory");
+    let mut host = good_host(rt, alloc, "");
+    let got = boothd(alloc, &words, &mut host);
+    assert!(rt; got == outcome, "{len} bytes");
+}
+
 #[test]
-fn a_path_has_at_most_255_bytes(rt: HostRuntime) -> Result<(), Fail> {
+fn a_path_has_at_most_255_bytes(rt: HostRuntime) {
     let alloc = rt.alloc();
-    let (path, conf) = (
-        Outcome::BadWord(Word::Path),
-        Outcome::BadWord(Word::Configuration),
-    );
-    let table = [
-        ("-l", '/', 255, Outcome::ConfUnread),
-        ("-l", '/', 256, path),
-        ("-d", '/', 255, Outcome::ConfUnread),
-        ("-d", '/', 256, path),
-        ("-c", '/', 255, Outcome::ConfUnread),
-        ("-c", '/', 256, conf),
-        // `/etc/booth/` and `.conf` have 16 bytes
-        ("-c", 'x', 239, Outcome::ConfUnread),
-        ("-c", 'x', 240, conf),
-        ("-c", 'x', 300, conf),
-    ];
-    for (option, first, len, outcome) in table {
-        let mut host = host(alloc, script(alloc)?, [GOOD, b""], b"")?;
-        let mut words = strings(alloc, &["daemon", "-s", "::1", option])?;
-        words.push(long_word(alloc, first, len)?)?;
-        assert!(rt;
-            boothd(alloc, &words, &mut host) == outcome,
-            "{option}: {len} bytes"
-        );
-    }
-    Ok(())
+    let path = Outcome::BadWord(Word::Path);
+    let conf = Outcome::BadWord(Word::Configuration);
+    check_long(&rt, alloc, "-l /", 255, Outcome::ConfUnread);
+    check_long(&rt, alloc, "-l /", 256, path);
+    check_long(&rt, alloc, "-d /", 255, Outcome::ConfUnread);
+    check_long(&rt, alloc, "-d /", 256, path);
+    check_long(&rt, alloc, "-c /", 255, Outcome::ConfUnread);
+    check_long(&rt, alloc, "-c /", 256, conf);
+    // `/etc/booth/` and `.conf` have 16 bytes
+    check_long(&rt, alloc, "-c x", 239, Outcome::ConfUnread);
+    check_long(&rt, alloc, "-c x", 240, conf);
+    check_long(&rt, alloc, "-c x", 300, conf);
 }
 
 // The address of `-s`, and how it is told.
+fn check_stranger(rt: &impl Abort, alloc: Global, words: &str, said: &str) {
+    let mut host = good_host(rt, alloc, "");
+    run(rt, alloc, words, &mut host, Outcome::NotMember);
+    check_kinds(rt, alloc, &host, "re");
+    check_said(rt, &host, said);
+}
+
 #[test]
-fn an_address_of_no_member_is_told(rt: HostRuntime) -> Result<(), Fail> {
+fn an_address_of_no_member_is_told(rt: HostRuntime) {
     let alloc = rt.alloc();
-    let table: [(&str, &[u8]); 3] = [
-        ("10.0.0.1", b"boothd: 10.0.0.1 is not a member\n"),
-        ("FE80:0::1", b"boothd: fe80::1 is not a member\n"),
-        (
-            "::ffff:192.168.201.100",
-            b"boothd: ::ffff:c0a8:c964 is not a member\n",
-        ),
-    ];
-    for (site, said) in table {
-        let mut host = host(alloc, script(alloc)?, [GOOD, b""], b"")?;
-        let words = strings(alloc, &["daemon", "-c", "/etc/booth.conf", "-s", site])?;
-        assert!(rt;
-            boothd(alloc, &words, &mut host) == Outcome::NotMember,
-            "{site}"
-        );
-        assert!(rt;
-            kinds(alloc, &host)?.as_str() == "re" && last_text(&host)? == said,
-            "{site}"
-        );
-    }
-    Ok(())
+    let words = "daemon -c /etc/booth.conf -s 10.0.0.1";
+    check_stranger(&rt, alloc, words, "boothd: 10.0.0.1 is not a member\n");
+    let words = "daemon -c /etc/booth.conf -s FE80:0::1";
+    check_stranger(&rt, alloc, words, "boothd: fe80::1 is not a member\n");
+    let words = "daemon -c /etc/booth.conf -s ::ffff:192.168.201.100";
+    let said = "boothd: ::ffff:c0a8:c964 is not a member\n";
+    check_stranger(&rt, alloc, words, said);
 }

@@ -1,13 +1,15 @@
 //! Three nodes over hosts in memory, whose datagrams the test hands on: they elect, renew, lose and take
-//! over.
+//! over, and two own a manual ticket.
 //!
 //! Each turn begins with its member. `from` a member alone is the first datagram that is under way from
 //! there, and `loses from` loses it.
 use super::lines::{AR, CLIENT, S1, S2, peer_of};
+use super::manual::{BY_HAND, held};
 use super::script::{FILE, Fails, calls, came_of, check_calls, head_of, opened, run};
 use crate::Node;
 use booth_base::{MemberId, Peer};
 use booth_host::{Entry, MemoryHost};
+use booth_rec::Record;
 use std::alloc::Global;
 use std::process::Abort;
 
@@ -171,6 +173,95 @@ send client: S1 RLst 77 0 0 0 = ticket-db8 192.168.202.100 2506/
 AR at 1906250 from client: 0 CRvk 77 0 0 0 ticket-db8 none 0 0
 send client: AR RRvk 77 0 0 Redr ticket-db8 S2 2 600";
 
+/// S1 starts as the owner of a manual ticket. The arbitrator hears of it, and S2 hears so from both.
+const OWNER: &str = "\
+S1 at 0 quiet
+send S2: S1 Stat 0 0 0 0 ticket-db8 S1 1 4294967295
+send AR: S1 Stat 0 0 0 0 ticket-db8 S1 1 4294967295
+
+S2 loses from S1
+
+AR at 10 from S1
+send S1: AR MIdx 0 0 0 0 ticket-db8 none 0 0
+send S1: AR Stat 0 0 0 0 ticket-db8 S1 0 4294967295
+send S2: AR Stat 0 0 0 0 ticket-db8 S1 0 4294967295
+
+S1 at 10 from AR
+
+S1 at 10 from AR
+send AR: S1 MIdx 0 0 0 0 ticket-db8 S1 1 4294967295
+
+S2 at 20 from AR
+send AR: S2 MIdx 0 0 0 0 ticket-db8 none 0 0
+send S1: S2 Stat 0 0 0 0 ticket-db8 S1 0 4294967295
+send AR: S2 Stat 0 0 0 0 ticket-db8 S1 0 4294967295
+
+AR at 20 from S1
+
+AR at 20 from S2
+
+S1 at 20 from S2
+send S2: S1 MIdx 0 0 0 0 ticket-db8 S1 1 4294967295
+
+AR at 20 from S2
+send S2: AR MIdx 0 0 0 0 ticket-db8 S1 0 4294967295
+
+S2 at 30 from S1
+
+S2 at 30 from AR
+
+S2 at 40 from client: 0 CGnt 77 0 0 0 ticket-db8 none 0 0
+send client: S2 RGnt 77 0 0 Over ticket-db8 S1 0 0";
+
+/// S2 takes it by force. Both own it, and each lists itself.
+const FORCED: &str = "\
+S2 at 50 from client: 0 CGnt 77 1 0 0 ticket-db8 none 0 0
+keep ticket-db8 1 1 4611686018427387904
+send S1: S2 UpdE 0 0 0 0 ticket-db8 S2 1 4294967295
+send AR: S2 UpdE 0 0 0 0 ticket-db8 S2 1 4294967295
+send client: S2 RGnt 77 0 0 0 ticket-db8 S2 1 4294967295
+
+S1 at 60 from S2
+
+AR at 60 from S2
+
+S1 at 70 from client: 0 CLst 77 0 0 0
+send client: S1 RLst 77 0 0 0 = ticket-db8 192.168.201.100 0/
+
+S2 at 70 from client: 0 CLst 77 0 0 0
+send client: S2 RLst 77 0 0 0 = ticket-db8 192.168.202.100 0/
+
+AR at 70 from client: 0 CLst 77 0 0 0
+send client: AR RLst 77 0 0 0 = ticket-db8 192.168.202.100 0/";
+
+/// S1 gives it back, which is nothing to who knows of S2; and then so does S2.
+const GIVEN_BACK: &str = "\
+S1 at 80 from client: 0 CRvk 77 0 0 0 ticket-db8 none 0 0
+keep ticket-db8 1
+send S2: S1 Revk 0 0 Admn 0 ticket-db8 none 1 0
+send AR: S1 Revk 0 0 Admn 0 ticket-db8 none 1 0
+send client: S1 RRvk 77 0 0 0 ticket-db8 none 1 0
+
+S2 at 90 from S1
+
+AR at 90 from S1
+
+AR at 100 from client: 0 CRvk 77 0 0 0 ticket-db8 none 0 0
+send client: AR RRvk 77 0 0 Redr ticket-db8 S2 0 0
+
+S2 at 110 from client: 0 CRvk 77 0 0 0 ticket-db8 none 0 0
+keep ticket-db8 1
+send S1: S2 Revk 0 0 Admn 0 ticket-db8 none 1 0
+send AR: S2 Revk 0 0 Admn 0 ticket-db8 none 1 0
+send client: S2 RRvk 77 0 0 0 ticket-db8 none 1 0
+
+S1 at 120 from S2
+
+AR at 120 from S2
+
+AR at 130 from client: 0 CLst 77 0 0 0
+send client: AR RLst 77 0 0 0 = ticket-db8 none 0/";
+
 /// What is under way.
 #[derive(Drop)]
 struct Datagram {
@@ -227,8 +318,15 @@ fn place_of(rt: &impl Abort, member: &str) -> usize {
     }
 }
 
-fn put_node(rt: &impl Abort, alloc: Global, nodes: &mut Vec<Node>, me: MemberId) {
-    let node = opened(rt, alloc, FILE, me, &[None]);
+fn put_node(
+    rt: &impl Abort,
+    alloc: Global,
+    nodes: &mut Vec<Node>,
+    file: &str,
+    me: MemberId,
+    record: Option<Record>,
+) {
+    let node = opened(rt, alloc, file, me, &[record]);
     assert!(rt; nodes.push(node).is_ok());
 }
 
@@ -240,12 +338,12 @@ struct Cluster {
 }
 
 impl Cluster {
-    // All start at 0, without records.
-    fn new(rt: &impl Abort, alloc: Global) -> Cluster {
+    // All start at 0, the first site from this record and the others without one.
+    fn new(rt: &impl Abort, alloc: Global, file: &str, record: Option<Record>) -> Cluster {
         let mut nodes = Vec::new(alloc);
-        put_node(rt, alloc, &mut nodes, S1);
-        put_node(rt, alloc, &mut nodes, S2);
-        put_node(rt, alloc, &mut nodes, AR);
+        put_node(rt, alloc, &mut nodes, file, S1, record);
+        put_node(rt, alloc, &mut nodes, file, S2, None);
+        put_node(rt, alloc, &mut nodes, file, AR, None);
         Cluster {
             nodes,
             net: Net {
@@ -310,13 +408,19 @@ impl Cluster {
     }
 }
 
-fn play(rt: &impl Abort, alloc: Global, texts: &[&str]) {
-    let mut cluster = Cluster::new(rt, alloc);
+fn play(rt: &impl Abort, alloc: Global, file: &str, record: Option<Record>, texts: &[&str]) {
+    let mut cluster = Cluster::new(rt, alloc, file, record);
     cluster.check(rt, alloc, texts);
 }
 
 #[test]
 fn a_ticket_passes_from_one_site_to_the_next(rt: HostRuntime) {
     let texts = [HELLOS, ELECTION, RENEWAL, LOSS, TAKEOVER, REFUSAL];
-    play(&rt, rt.alloc(), &texts);
+    play(&rt, rt.alloc(), FILE, None, &texts);
+}
+
+#[test]
+fn a_manual_ticket_is_owned_by_two(rt: HostRuntime) {
+    let texts = [OWNER, FORCED, GIVEN_BACK];
+    play(&rt, rt.alloc(), BY_HAND, Some(held(1)), &texts);
 }

@@ -2,7 +2,8 @@
 //!
 //! A send has its frame's numbers in the order of the bytes: sender, command, request, options, reason,
 //! result, and of a ticket then its name, leader, term and seconds; ` = ` stands before a text, in which `/`
-//! ends a line; and `#` stands before all bytes in hexadecimal. A keep has the ticket, the term, and of a
+//! ends a line; ` @ ` before an attribute's ticket, name (`-` where it has none) and value; and `#` stands before all
+//! bytes in hexadecimal. A keep has the ticket, the term, and of a
 //! lease the term and the end. A call that ends in `failed` fails.
 ghost use Rattle.std.specs.Prelude.{◌<◌};
 
@@ -17,6 +18,12 @@ const HEAD_BYTES: usize = 48;
 const NAME_BYTES: usize = 64;
 
 const TICKET_BYTES: usize = 76;
+
+/// The length of a frame with an attribute.
+const ATTRIBUTE_FRAME: u32 = 304;
+
+/// The bit of the opening that says that a frame has an attribute.
+const ATTRIBUTE_BIT: u32 = 4;
 
 pub const S1: MemberId = MemberId(0xD085_F484);
 
@@ -78,8 +85,8 @@ fn put(rt: &impl Abort, bytes: &mut Vec<u8>, number: u32) {
 }
 
 // What each frame of this moment begins with: no key, seconds and microseconds, the magic and the version.
-fn put_opening(rt: &impl Abort, bytes: &mut Vec<u8>, now: u64) {
-    put(rt, bytes, 0);
+fn put_opening(rt: &impl Abort, bytes: &mut Vec<u8>, opts: u32, now: u64) {
+    put(rt, bytes, opts);
     put(rt, bytes, u32::try_from(now / 1000).unwrap_or(u32::MAX));
     put(rt, bytes, (now % 1000) as u32 * 1000);
     put(rt, bytes, 0x5F1B_A08C);
@@ -134,17 +141,50 @@ fn bytes_of(rt: &impl Abort, alloc: Global, words: &str) -> Vec<u8> {
     bytes
 }
 
+// A field that ends at this place.
+fn put_field(rt: &impl Abort, bytes: &mut Vec<u8>, text: &str, end: usize) {
+    bytes
+        .extend_from_slice(text.as_bytes())
+        .expect(rt, "memory");
+    bytes.resize(end, 0).expect(rt, "memory");
+}
+
+// The frame of these numbers, with an attribute.
+fn attribute_frame(
+    rt: &impl Abort,
+    alloc: Global,
+    now: u64,
+    numbers: &str,
+    attribute: &str,
+) -> Vec<u8> {
+    let (ticket, named) = attribute.split_once(' ').expect(rt, "a name");
+    let (name, value) = named.split_once(' ').unwrap_or((named, ""));
+    let name = if name == "-" { "" } else { name };
+    let mut bytes = Vec::new(alloc);
+    put_opening(rt, &mut bytes, ATTRIBUTE_BIT, now);
+    for (place, word) in numbers.split_whitespace().enumerate() {
+        put_word(rt, &mut bytes, place, word, ATTRIBUTE_FRAME);
+    }
+    put_field(rt, &mut bytes, ticket, 112);
+    put_field(rt, &mut bytes, name, 176);
+    put_field(rt, &mut bytes, value, 304);
+    bytes
+}
+
 /// The frame that a line says, at this moment.
 pub fn frame_of(rt: &impl Abort, alloc: Global, now: u64, line: &str) -> Vec<u8> {
     if let Some(words) = line.strip_prefix("# ") {
         return bytes_of(rt, alloc, words);
+    }
+    if let Some((numbers, attribute)) = line.split_once(" @ ") {
+        return attribute_frame(rt, alloc, now, numbers, attribute);
     }
     let (numbers, text) = line.split_once(" = ").unwrap_or((line, ""));
     let of_ticket = numbers.split_whitespace().count() > 6;
     let body_bytes = if of_ticket { TICKET_BYTES } else { text.len() };
     let length = u32::try_from(body_bytes.saturating_add(HEAD_BYTES)).expect(rt, "a short line");
     let mut bytes = Vec::new(alloc);
-    put_opening(rt, &mut bytes, now);
+    put_opening(rt, &mut bytes, 0, now);
     for (place, word) in numbers.split_whitespace().enumerate() {
         put_word(rt, &mut bytes, place, word, length);
     }

@@ -73,9 +73,13 @@ fn each_request_has_its_reply(rt: HostRuntime) {
         frames::CGNT,
         frames::CRVK,
         frames::ASET,
+        frames::AGET_ELSEWHERE,
         frames::AGET,
-        frames::ADEL,
         frames::ALST,
+        frames::ADEL,
+        frames::ADEL_AGAIN,
+        frames::AGET_GONE,
+        frames::ALST_EMPTY,
     ];
     play_plain(&rt, rt.alloc(), 0, &turns);
     let turns = [

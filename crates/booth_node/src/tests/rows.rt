@@ -39,13 +39,13 @@ send S2: S1 UpdE 0 0 0 0 ticket-db8 S1 1 600
 send AR: S1 UpdE 0 0 0 0 ticket-db8 S1 1 600";
 
 /// S2 likewise.
-const SECOND_HELLO: &str = "\
+pub const SECOND_HELLO: &str = "\
 at 0 quiet
 send S1: S2 Stat 0 0 0 0 ticket-db8 none 0 0
 send AR: S2 Stat 0 0 0 0 ticket-db8 none 0 0";
 
 /// S2 hears of the lease of S1.
-const LEASE_HEARD: &str = "at 1000060 from S1: S1 UpdE 0 0 0 0 ticket-db8 S1 1 600";
+pub const LEASE_HEARD: &str = "at 1000060 from S1: S1 UpdE 0 0 0 0 ticket-db8 S1 1 600";
 
 #[test]
 fn a_majority_gains_and_the_lease_is_listed(rt: HostRuntime) {

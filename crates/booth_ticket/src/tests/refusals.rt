@@ -10,18 +10,18 @@ use std::alloc::Global;
 use std::process::Abort;
 
 /// Owner, term and seconds left.
-type State = (MemberId, u32, u32);
+pub type State = (MemberId, u32, u32);
 
 const NOBODYS: State = (NO_ONE, 0, 0);
 
 /// The grant is answered at once.
-fn granted(rt: &impl Abort, stage: &mut Stage, now: u64, answer: u32, state: State) {
+pub fn granted(rt: &impl Abort, stage: &mut Stage, now: u64, answer: u32, state: State) {
     let reply = replies(stage.ticket.setup().me, Cmd::RGnt, answer, state);
     check(rt, stage, now, Call::Grant(0), &[reply]);
 }
 
 /// The revoke is answered at once.
-fn revoked(rt: &impl Abort, stage: &mut Stage, now: u64, answer: u32, state: State) {
+pub fn revoked(rt: &impl Abort, stage: &mut Stage, now: u64, answer: u32, state: State) {
     let reply = replies(stage.ticket.setup().me, Cmd::RRvk, answer, state);
     check(rt, stage, now, Call::Revoke(0), &[reply]);
 }
@@ -35,7 +35,7 @@ fn grants_second(rt: &impl Abort, s2: &mut Stage, now: u64) {
 }
 
 /// The second site, which voted for the first one at 1,000,040.
-fn voter(rt: &impl Abort, alloc: Global) -> Stage {
+pub fn voter(rt: &impl Abort, alloc: Global) -> Stage {
     let mut s2 = opened(rt, alloc, 1, 3, None);
     greets(rt, &mut s2, S2, (0, 2));
     let vote = Said::of(S2, Cmd::VtFr, S1, 1, 0);
@@ -118,7 +118,7 @@ fn a_candidate_is_busy(rt: HostRuntime) {
 }
 
 /// The first site, which kept this term without a lease, after its hello.
-fn of_term(rt: &impl Abort, alloc: Global, term: u32) -> Stage {
+pub fn of_term(rt: &impl Abort, alloc: Global, term: u32) -> Stage {
     let mut s1 = opened(rt, alloc, 0, 3, Some(free(term)));
     let stat = Said::of(S1, Cmd::Stat, NO_ONE, term, 0);
     check(rt, &mut s1, 0, Call::Due, &[to(1, stat), to(2, stat)]);

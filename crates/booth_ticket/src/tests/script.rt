@@ -61,6 +61,8 @@ pub struct Stage {
     pub ticket: Ticket,
     /// Whether the ticket is the second one.
     pub second: bool,
+    /// Whether the prerequisites hold.
+    pub ready: bool,
     waiters: Waiters,
     hands: FakeHands,
     ghost two: { length waiters ≡ 2 },
@@ -77,6 +79,24 @@ pub fn opened(
     Stage {
         ticket: Ticket::open(&setup(rt, place, members), kept.as_ref(), 0),
         second: false,
+        ready: true,
+        waiters: Waiters::new(alloc, 2).expect(rt, "memory for those that wait"),
+        hands: FakeHands::new(alloc),
+    }
+}
+
+/// The same of a manual ticket.
+pub fn opened_manual(
+    rt: &impl Abort,
+    alloc: Global,
+    place: u32,
+    members: u32,
+    kept: Option<Record>,
+) -> Stage {
+    Stage {
+        ticket: Ticket::open_manual(&setup(rt, place, members), kept.as_ref(), 0),
+        second: false,
+        ready: true,
         waiters: Waiters::new(alloc, 2).expect(rt, "memory for those that wait"),
         hands: FakeHands::new(alloc),
     }
@@ -223,8 +243,14 @@ impl Stage {
         requires { now < 2 ^ 62 }
     {
         let list = self.list();
-        self.ticket
-            .client(now, &request, list, &mut self.waiters, &mut self.hands);
+        self.ticket.client(
+            now,
+            &request,
+            self.ready,
+            list,
+            &mut self.waiters,
+            &mut self.hands,
+        );
     }
 
     fn hear(&mut self, rt: &impl Abort, now: u64, from: u32, heard: Said)
@@ -270,7 +296,7 @@ impl Stage {
         );
         let list = self.list();
         self.ticket
-            .tick(now, list, &mut self.waiters, &mut self.hands);
+            .tick(now, self.ready, list, &mut self.waiters, &mut self.hands);
     }
 
     fn play(&mut self, rt: &impl Abort, now: u64, call: Call) {

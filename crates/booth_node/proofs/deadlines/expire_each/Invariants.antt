@@ -9,9 +9,9 @@ use Rattle.booth_node.proofs.deadlines.expire_each.Given as goal
 abbrev pub invariant-loop-place : goal.invariant-loop-place
 invariant-loop-place g l = record {
   past : GrewSome (λ es. Leads (IsDone l.fn.table.node.key)
-      (each_due l.fn.table.node l.now l.due (state_of l.fn.table.tickets.items l.fn.table.waiters l.fn.table.common l.now)) es
+      (each_due l.fn.table.node l.now l.due (state_of l.fn.table.tickets.items l.fn.table.waiters l.fn.table.attrs l.fn.table.common l.now)) es
       (each_due l.fn.table.node l.now (drop l.place-index l.due)
-      (state_of l.table.tickets.items l.table.waiters l.table.common l.now)))
+      (state_of l.table.tickets.items l.table.waiters l.table.attrs l.table.common l.now)))
       (g.H.Host.past l.fn.host) (g.H.Host.past l.host);
   later : g.H.Host.faults l.fn.host ≤ g.H.Host.faults l.host;
   node : l.table.node ≡ l.fn.table.node;

@@ -13,7 +13,7 @@ returns-clause-past g c =
     × (hands.name.now ≡ t.setup.ticket))
     c.args.tickets.now.items c.args.place _ c.index_mut.result.now c.index_mut.ensures.value c.requires.may in
     acted hands.node.now hands.now c.args.place c.args.event.now
-    (state_of c.args.tickets.now.items c.args.waiters.now hands.common.now hands.now)
+    (state_of c.args.tickets.now.items c.args.waiters.now c.args.attrs.now hands.common.now hands.now)
     c.index_mut.result.now
     (record { ticket = c.befall.new.ticket; waiters = waiting_at c.befall.new.waiters c.args.place })
     c.befall.new.waiters c.befall.new.hands.common.now hands.name.now _ _ found.0

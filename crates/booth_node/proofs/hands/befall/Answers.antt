@@ -1,4 +1,4 @@
-use Rattle.std.proofs.Common.{ℕ}
+use Rattle.std.proofs.Common.{ℕ, sym}
 use Rattle.booth_base.specs.Tree.{Ends}
 use Rattle.booth_node.proofs.ActLemmas.{some_stays, some_lifts}
 use Rattle.booth_node.proofs.hands.befall.Goals as goal
@@ -13,7 +13,7 @@ pub returns-in-Due-clause-buffer : goal.returns-in-Due-clause-buffer
 returns-in-Due-clause-buffer g c = some_stays c.tick.ensures.did (λ x. x.frame.ghost_name) (λ x y act d. d.2)
 
 pub returns-in-Due-clause-past : goal.returns-in-Due-clause-past
-returns-in-Due-clause-past g c rest = rw c.in-Due.is
+returns-in-Due-clause-past g c rest = rw (c.in-Due.is, sym c.is_ready-ready.ensures)
     (some_lifts c.tick.ensures.did
     (λ x. record {
       node = x.node.now;
@@ -83,7 +83,7 @@ returns-in-Asked-clause-buffer g c = some_stays c.client.ensures.did (λ x. x.fr
     (λ x y act d. d.2)
 
 pub returns-in-Asked-clause-past : goal.returns-in-Asked-clause-past
-returns-in-Asked-clause-past g c rest = rw c.in-Asked.is
+returns-in-Asked-clause-past g c rest = rw (c.in-Asked.is, sym c.is_ready-ready-in-Asked.ensures)
     (some_lifts c.client.ensures.did
     (λ x. record {
       node = x.node.now;

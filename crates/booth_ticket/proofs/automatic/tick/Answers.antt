@@ -13,7 +13,8 @@ returns-clause-did g c =
     let setup = c.args.core.now.setup in
     let view = c.args.core.now.view in
     let now = c.args.now in
-    let o = role_due setup (greeted view) now in
+    let ready = c.args.ready in
+    let o = role_due setup (greeted view) ready now in
     let last = outcome_of c.carry_out.new.core.view c.carry_out.result in
     let greets = c.hello-words.ensures.view in
     said_then setup None (hello setup view now) (carry_out setup None now o) last
@@ -23,6 +24,6 @@ returns-clause-did g c =
     (as_ruled setup c.role_due-deed.new.core.setup None now o last c.role_due-deed.new.core.view
     c.role_due-deed.result
     (c.role_due-deed.ensures.setup ∙ ap (λ (s : State). s.setup) greets)
-    (c.role_due-deed.ensures.view ∙ ap (λ (s : State). (role_due s.setup s.view now).view) greets)
-    (c.role_due-deed.ensures.deed ∙ ap (λ (s : State). (role_due s.setup s.view now).deed) greets)
+    (c.role_due-deed.ensures.view ∙ ap (λ (s : State). (role_due s.setup s.view ready now).view) greets)
+    (c.role_due-deed.ensures.deed ∙ ap (λ (s : State). (role_due s.setup s.view ready now).deed) greets)
     c.carry_out.ensures.did)

@@ -1,8 +1,13 @@
 use Rattle.std.proofs.Common.{sym, ◌∙◌}
-use Rattle.booth_ticket.proofs.RoomLemmas.{room_refused}
+use Rattle.booth_ticket.proofs.RoomLemmas.{room_refused, room_unrefused}
 use Rattle.booth_ticket.proofs.requests.grant.Goals as goal
 
 pub returns-in-Some-clause-room : goal.returns-in-Some-clause-room
 returns-in-Some-clause-room g c =
-    room_refused c.args.spare c.setup.result.now c.view.result.now c.args.options c.args.now
+    room_refused c.args.spare c.setup.result.now c.view.result.now c.args.ready c.args.options c.args.now
     c.in-Some.answer (sym c.refused_grant.ensures ∙ c.in-Some.is)
+
+pub returns-in-None-clause-room : goal.returns-in-None-clause-room
+returns-in-None-clause-room g c =
+    room_unrefused c.args.spare c.setup.result.now c.view.result.now c.args.ready c.args.options c.args.now
+    _ (sym c.refused_grant.ensures ∙ c.in-None.is)

@@ -24,8 +24,8 @@ returns-clause-past g c =
     let new = c.accept.new.self in
     heard_so old.node new.node c.args.now c.args.from c.args.ticket
     (Heard c.args.from c.args.head c.args.part)
-    (state_of old.tickets.items old.waiters old.common c.args.now)
-    (state_of new.tickets.items new.waiters new.common c.args.now)
+    (state_of old.tickets.items old.waiters old.attrs old.common c.args.now)
+    (state_of new.tickets.items new.waiters new.attrs new.common c.args.now)
     new.common _ _ _ c.accept.ensures.node
-    (same_state c.args.now c.accept.ensures.tickets c.accept.ensures.waiters refl)
+    (same_state c.args.now c.accept.ensures.tickets c.accept.ensures.waiters c.accept.ensures.attributes refl)
     c.accept.ensures.common c.act.ensures.past

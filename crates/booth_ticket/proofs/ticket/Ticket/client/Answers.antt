@@ -1,16 +1,46 @@
+use Rattle.std.proofs.Common.{ℕ, sym, ap, ◌∙◌, subst}
+use Rattle.booth_base.specs.Tree.{Ends, Leads}
+use Rattle.booth_ticket.specs.declared.ticket.Kind.TheVariants as kinds
+use Rattle.booth_ticket.specs.Acts.{DidSome, IsAct}
+use Rattle.booth_ticket.specs.Kinds.{state_of}
+use Rattle.booth_ticket.specs.ManualRequests.{manual_asked}
 use Rattle.booth_ticket.specs.Requests.{wish}
-use Rattle.booth_ticket.specs.Waiting.{waiting_at, spare_in}
+use Rattle.booth_ticket.specs.Ticket.{TicketState, ticket_asked}
+use Rattle.booth_ticket.specs.Waiting.{spare_in, waiting_at}
 use Rattle.booth_ticket.proofs.CallLemmas.{by_rules_did}
+use Rattle.booth_ticket.proofs.ManualLemmas.{by_hand_did, did_by_kind}
+use Rattle.booth_ticket.proofs.ticket.Ticket.client.Goals.{in-Automatic, in-Manual}
 use Rattle.booth_ticket.proofs.ticket.Ticket.client.Goals as goal
 
 pub returns-clause-did : goal.returns-clause-did
 returns-clause-did g c =
-    let core = c.self.inside.core in
     let lists = c.args.waiters.now in
-    let after = c.follow_request.new.core in
-    rw (← c.self.view_is)
-    (by_rules_did core.setup after.setup
-    (wish core.setup core.view (waiting_at lists c.args.list) (spare_in lists) c.args.request.now
-    c.args.request.now.wish c.args.now)
-    (record { view = after.view; waiters = waiting_at c.follow_request.new.waiters c.args.list })
-    c.follow_request.ensures.setup c.follow_request.ensures.did)
+    let waiting = waiting_at lists c.args.list in
+    let spare = spare_in lists in
+    let request = c.args.request.now in
+    let ready = c.args.ready in
+    elim c.match-self.branch [
+      | in-Automatic w ↦
+          let core = w.in-Automatic.core in
+          let after = w.follow_request.new.core in
+          did_by_kind (λ (s : TicketState). ticket_asked s.setup s.known waiting spare ready request c.args.now)
+          c.args.list (state_of (kinds.Automatic core)) c.args.self.now (record { kind = kinds.Automatic after })
+          c.match-self.self-inside w.follow_request.new.waiters c.match-self.waiters
+          (sym c.self.view_is ∙ ap state_of w.in-Automatic.is) w.self-inside-is w.waiters-is w.hands-is
+          (by_rules_did core.setup after.setup
+          (wish core.setup core.view waiting spare ready request request.wish c.args.now)
+          (record { view = after.view; waiters = waiting_at w.follow_request.new.waiters c.args.list })
+          w.follow_request.ensures.setup w.follow_request.ensures.did)
+      | in-Manual w ↦
+          let ticket = w.in-Manual.ticket in
+          let after = w.client.new.self in
+          did_by_kind (λ (s : TicketState). ticket_asked s.setup s.known waiting spare ready request c.args.now)
+          c.args.list (state_of (kinds.Manual ticket)) c.args.self.now (record { kind = kinds.Manual after })
+          c.match-self.self-inside lists c.match-self.waiters
+          (sym c.self.view_is ∙ ap state_of w.in-Manual.is) w.self-inside-is w.waiters-is w.hands-is
+          (by_hand_did ticket.setup after.setup waiting (manual_asked ticket.setup ticket.known spare ready request)
+          after.known w.client.ensures.setup
+          (subst (λ (n : ℕ). DidSome g.W.Hands.did
+          (λ acts. Leads IsAct (manual_asked ticket.setup ticket.known n ready request) acts (Ends after.known))
+          c.args.hands.now w.client.new.hands) w.spare.ensures w.client.ensures.did))
+    ]

@@ -1,34 +1,41 @@
-use Rattle.std.proofs.Common.{sym, ap, ◌∙◌, set}
-use Rattle.std.specs.Prelude.{Some}
-use Rattle.booth_raft.specs.OtherMessages.{hear}
+use Rattle.std.proofs.Common.{sym, ap, ◌∙◌}
+use Rattle.booth_ticket.specs.declared.ticket.Kind.TheVariants as kinds
 use Rattle.booth_ticket.specs.Automatic.{hear_message}
-use Rattle.booth_ticket.specs.Keeping.{carry_out}
+use Rattle.booth_ticket.specs.Kinds.{state_of}
+use Rattle.booth_ticket.specs.Manual.{manual_heard}
+use Rattle.booth_ticket.specs.Ticket.{TicketState, ticket_heard}
 use Rattle.booth_ticket.specs.Waiting.{waiting_at}
-use Rattle.booth_ticket.proofs.CallLemmas.{finished_call, by_rules_did}
-use Rattle.booth_ticket.proofs.KeepLemmas.{outcome_of}
-use Rattle.booth_ticket.proofs.TellLemmas.{waiting_set}
+use Rattle.booth_ticket.proofs.CallLemmas.{by_rules_did}
+use Rattle.booth_ticket.proofs.ManualLemmas.{by_hand_did, did_by_kind}
+use Rattle.booth_ticket.proofs.ticket.Ticket.hear.Goals.{in-Automatic, in-Manual}
 use Rattle.booth_ticket.proofs.ticket.Ticket.hear.Goals as goal
 
 pub returns-clause-did : goal.returns-clause-did
 returns-clause-did g c =
-    let core = c.self.inside.core in
-    let after = c.hear_message-last.new.core in
     let lists = c.args.waiters.now in
-    let waiters = waiting_at lists c.args.list in
-    let stay = waiting_at c.tell.new.waiters c.args.list in
-    rw (← c.self.view_is)
-    (by_rules_did core.setup after.setup (hear_message core.setup core.view waiters c.args.from c.args.head.now c.args.part.now c.args.now)
-    (record { view = after.view; waiters = stay }) c.hear_message-last.ensures.setup
-    (finished_call core.setup after.setup c.args.now waiters stay
-    (carry_out core.setup (Some c.args.from) c.args.now
-    (hear core.setup core.view c.args.from c.args.head.now c.args.part.now c.args.now c.args.head.now.cmd))
-    (outcome_of after.view c.hear_message-last.result) c.hear_message-last.ensures.setup
-    c.hear_message-last.ensures.did c.tell.ensures.did
-    (waiting_set lists c.args.list _ c.tell.new.waiters c.requires.exists c.tell.ensures.left)))
-
-pub returns-clause-others : goal.returns-clause-others
-returns-clause-others g c =
-    c.tell.ensures.left
-    ∙ ap (set c.args.waiters.now c.args.list)
-    (sym (waiting_set c.args.waiters.now c.args.list _ c.tell.new.waiters c.requires.exists
-    c.tell.ensures.left))
+    let waiting = waiting_at lists c.args.list in
+    let head = c.args.head.now in
+    let part = c.args.part.now in
+    elim c.match-self.branch [
+      | in-Automatic w ↦
+          let core = w.in-Automatic.core in
+          let after = w.hear.new.core in
+          did_by_kind (λ (s : TicketState). ticket_heard s.setup s.known waiting c.args.from head part c.args.now)
+          c.args.list (state_of (kinds.Automatic core)) c.args.self.now (record { kind = kinds.Automatic after })
+          c.match-self.self-inside w.hear.new.waiters c.match-self.waiters
+          (sym c.self.view_is ∙ ap state_of w.in-Automatic.is) w.self-inside-is w.waiters-is w.hands-is
+          (by_rules_did core.setup after.setup
+          (hear_message core.setup core.view waiting c.args.from head part c.args.now)
+          (record { view = after.view; waiters = waiting_at w.hear.new.waiters c.args.list })
+          w.hear.ensures.setup w.hear.ensures.did)
+      | in-Manual w ↦
+          let ticket = w.in-Manual.ticket in
+          let after = w.hear-in-Manual.new.self in
+          did_by_kind (λ (s : TicketState). ticket_heard s.setup s.known waiting c.args.from head part c.args.now)
+          c.args.list (state_of (kinds.Manual ticket)) c.args.self.now (record { kind = kinds.Manual after })
+          c.match-self.self-inside lists c.match-self.waiters
+          (sym c.self.view_is ∙ ap state_of w.in-Manual.is) w.self-inside-is w.waiters-is w.hands-is
+          (by_hand_did ticket.setup after.setup waiting
+          (manual_heard ticket.setup ticket.known c.args.from head part) after.known
+          w.hear-in-Manual.ensures.setup w.hear-in-Manual.ensures.did)
+    ]

@@ -1,30 +1,37 @@
-use Rattle.std.proofs.Common.{sym, ap, ◌∙◌, set}
-use Rattle.booth_ticket.specs.Automatic.{comes_due, tick}
+use Rattle.std.proofs.Common.{sym, ap, ◌∙◌}
+use Rattle.booth_ticket.specs.declared.ticket.Kind.TheVariants as kinds
+use Rattle.booth_ticket.specs.Automatic.{tick}
+use Rattle.booth_ticket.specs.Kinds.{state_of}
+use Rattle.booth_ticket.specs.Manual.{manual_due}
+use Rattle.booth_ticket.specs.Ticket.{TicketState, ticket_due}
 use Rattle.booth_ticket.specs.Waiting.{waiting_at}
-use Rattle.booth_ticket.proofs.CallLemmas.{finished_call, by_rules_did}
-use Rattle.booth_ticket.proofs.KeepLemmas.{outcome_of}
-use Rattle.booth_ticket.proofs.TellLemmas.{waiting_set}
+use Rattle.booth_ticket.proofs.CallLemmas.{by_rules_did}
+use Rattle.booth_ticket.proofs.ManualLemmas.{by_hand_did, did_by_kind}
+use Rattle.booth_ticket.proofs.ticket.Ticket.tick.Goals.{in-Automatic, in-Manual}
 use Rattle.booth_ticket.proofs.ticket.Ticket.tick.Goals as goal
 
 pub returns-clause-did : goal.returns-clause-did
 returns-clause-did g c =
-    let core = c.self.inside.core in
-    let after = c.tick-last.new.core in
     let lists = c.args.waiters.now in
-    let waiters = waiting_at lists c.args.list in
-    let stay = waiting_at c.tell.new.waiters c.args.list in
-    rw (← c.self.view_is)
-    (by_rules_did core.setup after.setup (tick core.setup core.view waiters c.args.now)
-    (record { view = after.view; waiters = stay }) c.tick-last.ensures.setup
-    (finished_call core.setup after.setup c.args.now waiters stay
-    (comes_due core.setup core.view c.args.now)
-    (outcome_of after.view c.tick-last.result) c.tick-last.ensures.setup
-    c.tick-last.ensures.did c.tell.ensures.did
-    (waiting_set lists c.args.list _ c.tell.new.waiters c.requires.exists c.tell.ensures.left)))
-
-pub returns-clause-others : goal.returns-clause-others
-returns-clause-others g c =
-    c.tell.ensures.left
-    ∙ ap (set c.args.waiters.now c.args.list)
-    (sym (waiting_set c.args.waiters.now c.args.list _ c.tell.new.waiters c.requires.exists
-    c.tell.ensures.left))
+    let waiting = waiting_at lists c.args.list in
+    elim c.match-self.branch [
+      | in-Automatic w ↦
+          let core = w.in-Automatic.core in
+          let after = w.come_due.new.core in
+          did_by_kind (λ (s : TicketState). ticket_due s.setup s.known waiting c.args.ready c.args.now)
+          c.args.list (state_of (kinds.Automatic core)) c.args.self.now (record { kind = kinds.Automatic after })
+          c.match-self.self-inside w.come_due.new.waiters c.match-self.waiters
+          (sym c.self.view_is ∙ ap state_of w.in-Automatic.is) w.self-inside-is w.waiters-is w.hands-is
+          (by_rules_did core.setup after.setup (tick core.setup core.view waiting c.args.ready c.args.now)
+          (record { view = after.view; waiters = waiting_at w.come_due.new.waiters c.args.list })
+          w.come_due.ensures.setup w.come_due.ensures.did)
+      | in-Manual w ↦
+          let ticket = w.in-Manual.ticket in
+          let after = w.tick.new.self in
+          did_by_kind (λ (s : TicketState). ticket_due s.setup s.known waiting c.args.ready c.args.now)
+          c.args.list (state_of (kinds.Manual ticket)) c.args.self.now (record { kind = kinds.Manual after })
+          c.match-self.self-inside lists c.match-self.waiters
+          (sym c.self.view_is ∙ ap state_of w.in-Manual.is) w.self-inside-is w.waiters-is w.hands-is
+          (by_hand_did ticket.setup after.setup waiting (manual_due ticket.setup ticket.known) after.known
+          w.tick.ensures.setup w.tick.ensures.did)
+    ]

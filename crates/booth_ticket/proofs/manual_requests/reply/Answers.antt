@@ -1,0 +1,30 @@
+use Rattle.std.proofs.Common.{◌∙◌, true, refl, ap}
+use Rattle.booth_wire.specs.declared.command.Cmd.{Cmd}
+use Rattle.booth_wire.specs.declared.message.Setup.{Setup}
+use Rattle.booth_manual.specs.declared.view.ManualView.{ManualView}
+use Rattle.booth_raft.specs.Messages.{head_of}
+use Rattle.booth_ticket.specs.declared.hands.To.TheVariants.{Client}
+use Rattle.booth_ticket.specs.ManualRequests.{manual_reply_part}
+use Rattle.booth_ticket.specs.Requests.{reply_cmd}
+use Rattle.booth_ticket.proofs.CallLemmas.{said_to_client}
+use Rattle.booth_ticket.proofs.ManualLemmas.{RepliesBy}
+use Rattle.booth_ticket.proofs.manual_requests.reply.Goals as goal
+
+pub returns : goal.returns
+returns g c =
+    let setup = c.args.rules.now.setup in
+    let view = c.args.rules.now.view in
+    let request = c.args.request.now in
+    record {
+      did = said_to_client (Client request.from) c.reply_head-head.result
+          (head_of setup (reply_cmd request.wish) request.number 0 0 c.args.answer) c.reply_part-part.result
+          (manual_reply_part setup view) (RepliesBy setup request c.args.answer view)
+          (c.reply_head-head.ensures
+          ∙ ap (λ (s : Setup). head_of s c.reply_cmd-cmd.result request.number 0 0 c.args.answer) c.setup.ensures
+          ∙ ap (λ (m : Cmd). head_of setup m request.number 0 0 c.args.answer) c.reply_cmd-cmd.ensures.cmd)
+          (c.reply_part-part.ensures
+          ∙ ap (λ (s : Setup). manual_reply_part s c.view.result.now) c.setup-2.ensures
+          ∙ ap (λ (v : ManualView). manual_reply_part setup v) c.view.ensures.value)
+          c.say.ensures.did
+          (λ greets_at. (true, refl, refl));
+    }

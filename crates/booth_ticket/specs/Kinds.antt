@@ -1,0 +1,14 @@
+-- The code's ticket as what contracts see of it. No public clause cites this module.
+use Rattle.std.specs.Prelude.{◌≡◌, None}
+use Rattle.booth_ticket.specs.declared.ticket.Kind.{Kind}
+use Rattle.booth_ticket.specs.declared.ticket.Kind.TheVariants as kinds
+use Rattle.booth_ticket.specs.Ticket.{TicketState, Automatic, Manual}
+
+abbrev pub state_of : Kind → TicketState
+state_of (kinds.Automatic core) = record { setup = core.setup; known = Automatic core.view }
+state_of (kinds.Manual ticket) = record { setup = ticket.setup; known = Manual ticket.known }
+
+-- no keep waits between two calls; that none of a manual ticket does is so of each
+abbrev pub IsIdle : Kind → Type 0
+IsIdle (kinds.Automatic core) = core.view.waiting ≡ None
+IsIdle (kinds.Manual ticket) = Unit {0}
