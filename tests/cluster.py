@@ -14,6 +14,7 @@ the whole run, and never from what a daemon says of itself.
 
 import os
 import shutil
+import subprocess
 import sys
 import tempfile
 import time
@@ -255,6 +256,134 @@ def a_member_with_another_key(cluster):
     passed("its frames are dropped, and counted with their fault")
 
 
+# What a site's handler does: it notes each run and its descriptors, and then sleeps or fails where a file says so.
+HANDLER = """#!/bin/sh
+cd {folder}
+echo "$BOOTH_TICKET $BOOTH_TICKET_EXPIRES $1" >> "ran.$BOOTH_LOCAL"
+ls -l "/proc/$$/fd" > "descriptors.$BOOTH_LOCAL"
+echo $$ > "pid.$BOOTH_LOCAL"
+[ ! -e "fails.$BOOTH_LOCAL" ] || exit 3
+[ ! -e "sleeps.$BOOTH_LOCAL" ] || exec sleep "$(cat "sleeps.$BOOTH_LOCAL")"
+"""
+# a daemon whose standard streams are closed
+CLOSED = """#!/bin/sh
+exec {program} "$@" <&- >&- 2>&-
+"""
+
+
+def script(path, text):
+    with open(path, "w", encoding="ascii") as file:
+        file.write(text)
+    os.chmod(path, 0o755)
+    return path
+
+
+def handler_in(folder):
+    """The setting that names the handler, which is made in this folder."""
+    return f'before-acquire-handler = "{script(folder + "/check", HANDLER.format(folder=folder))} db8"\n'
+
+
+class Handler:
+    """The handler of a member, by the files in the cluster's folder."""
+
+    def __init__(self, cluster, member):
+        self.path = lambda name: os.path.join(cluster.folder, f"{name}.{member.address}")
+
+    def read(self, name):
+        try:
+            with open(self.path(name), encoding="ascii") as file:
+                return file.read()
+        except OSError:
+            return ""
+
+    def set(self, name, text=""):
+        with open(self.path(name), "w", encoding="ascii") as file:
+            file.write(text)
+
+    def clear(self, name):
+        os.remove(self.path(name))
+
+    def runs(self):
+        """What each of its runs was told: the ticket, the end of its lease, and its word."""
+        return [line.split() for line in self.read("ran").splitlines()]
+
+    def is_running(self):
+        return os.path.exists(f"/proc/{self.read('pid').strip()}")
+
+
+def answered_meanwhile(member, asker):
+    """Asks for the list until this run of booth is over. The longest that an answer took."""
+    longest = 0
+    while asker.poll() is None:
+        asked = time.monotonic()
+        require(member.ask("CLst") is not None, "a list is not answered while the handler runs")
+        longest = max(longest, time.monotonic() - asked)
+        time.sleep(0.01)
+    return longest
+
+
+@story
+def sites_with_a_handler(cluster):
+    """a cluster whose ticket has a handler"""
+    times = cluster.times
+    one, two, arbitrator = cluster.members
+    first, second = Handler(cluster, one), Handler(cluster, two)
+    one.start(cluster.program, cluster.conf)
+    two.start(script(cluster.folder + "/closed", CLOSED.format(program=cluster.program)), cluster.conf)
+    arbitrator.start(cluster.program, cluster.conf)
+    abstains(cluster, now())
+    first.set("fails")
+    says(one, ("grant", "-w", NAME), 1, "booth: handler failed\n")
+    require(first.runs() == [[NAME, "0", "db8"]] and one.record() is None, f"ran {first.runs()}, kept {one.record()}")
+    passed("a grant is refused where the handler fails, and nothing is kept or asked for")
+    first.clear("fails")
+
+    first.set("sleeps", "2")
+    asked = now()
+    words = [cluster.client, "grant", "-w", NAME, "-c", cluster.conf, "-s", one.address]
+    asker = subprocess.Popen(words, stdin=subprocess.DEVNULL, stdout=subprocess.PIPE, text=True)
+    longest = answered_meanwhile(one, asker)
+    require((asker.wait(), asker.communicate()[0]) == (0, f"ticket {NAME} granted\n"), "the grant failed")
+    require(now() - asked > 2, "the grant did not wait for its handler")
+    require(longest < SLACK, f"a list took {longest:.2f} s")
+    first.clear("sleeps")
+    passed(f"a handler that runs delays the grant, and no list ({longest * 1000:.0f} ms at most)")
+
+    end, ends = now() + 2 * times.expire, set()
+    while now() < end:
+        record = one.record()
+        require(record is not None and record.holds(now()), "the lease ended though its handler does not fail")
+        ends.add(int(record.until))
+        time.sleep(0.02)
+    told = {int(run[1]) for run in first.runs()[2:]}
+    require(told and told <= ends, f"the handler was told {told}, and leases ended at {ends}")
+    passed(f"each renewal waits for the handler, which is told the end of the lease ({len(told)} of them)")
+
+    held = one.record()
+    first.set("fails")
+    require(wait_for(lambda: one.record().until is None, times.renewal + times.timeout + SLACK), "the lease is kept")
+    given_back = now()
+    require(wait_for(lambda: is_held_by(cluster, two), 3 * times.timeout + SLACK), "the other site did not take over")
+    require(not second.runs()[0][1].strip("0") and now() < given_back + 3 * times.timeout + SLACK, f"{second.runs()}")
+    passed(f"a handler that begins to fail gives the lease back, and the other site takes over ({now() - given_back:.1f} s)")
+    for handler in (first, second):
+        kept_out = handler.read("descriptors")
+        require(kept_out and not any(word in kept_out for word in ("socket", "records", "lock")), kept_out)
+    passed("no file and no socket of a daemon reaches its handler, also where its standard streams are closed")
+
+    second.set("sleeps", "30")
+    require(wait_for(lambda: len(second.runs()) > 1, times.renewal + SLACK), "no renewal started the handler")
+    last = two.record()
+    time.sleep(max(0, last.until + 0.1 - now()))
+    require(two.record() == last and two.shown() != two.address, "a lease is renewed whose handler runs on")
+    require(second.is_running(), "the handler was ended before it was started again")
+    second.clear("sleeps")
+    pid = second.read("pid")
+    says(two, ("grant", "-w", NAME), 0, f"ticket {NAME} granted\n")
+    require(not os.path.exists(f"/proc/{pid.strip()}"), "the handler that ran on runs still")
+    passed("a lease ends whose handler runs on, and that one is ended before the next start")
+
+
 def lists_by_hand(cluster, owner):
     """Every member that runs lists this owner of the manual ticket, whose lease has no end, by booth."""
     address = owner.address if owner else "none"
@@ -398,6 +527,7 @@ def run(program, client, geostore):
             if "ipv6" in function.__name__:
                 places[0] = "::1"
             settings = PREREQUISITES if "attributes" in function.__name__ else ""
+            settings += handler_in(folder) if "handler" in function.__name__ else ""
             more = {"key": key, "client": client, "geostore": geostore, "settings": settings, "manual": manual}
             with Cluster(program, folder, places, **more) as cluster:
                 try:

@@ -331,24 +331,25 @@ def not_a_member(room):
 
 @check
 def not_built(room):
-    """a ticket that needs what is not built is reported by its key, before the key file, and what is built is served"""
+    """a manual ticket with a handler is reported by that key, before the key file, and what is built is served"""
     handler, mode, prereq = b"before-acquire-handler", b"mode = manual\n", b"attr-prereq = auto a eq b\n"
     line, default = handler + b" = /bin/true\n", b"ticket = __default__\n"
     for text in (
-        FILE + line,
+        FILE + mode + line,
         FILE + mode + prereq + line,
-        FILE + mode + b"ticket = t\n" + line,
-        default + line + FILE,
+        FILE + line + b"ticket = t\n" + mode + line,
+        default + line + FILE + mode,
     ):
         path = room.file(here(room, text) + b"authfile = /missing\n")
         room.refuses(room.words(path), b"not built: " + handler, what=f"the file {text}")
     # one's own value comes before the default's
     station = room.station()
-    for text in (FILE + mode, FILE + prereq, default + mode + FILE + b"mode = auto\n"):
+    others = FILE + line + b"ticket = t\n" + mode
+    for text in (FILE + mode, FILE + prereq + line, others, default + mode + FILE + b"mode = auto\n" + line):
         with room.serving(station, here(room, text)) as daemon, Asker(daemon) as asker:
             asker.asks("CLst")
     example = f"{TOP}/examples/booth.conf"
-    room.refuses(room.words(example, "147.4.215.19"), b"not built: " + handler)
+    room.refuses(room.words(example, "147.4.215.19"), b"cannot read /etc/booth/authkey")
 
 
 def with_key(room, path):

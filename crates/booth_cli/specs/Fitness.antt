@@ -1,5 +1,5 @@
 -- Whether a daemon can serve a configuration: it has this member, and asks for no part that is not built yet.
-use Rattle.std.specs.Prelude.{◌≡◌, ℕ, Bool, true, false, List, Option, Some, None, is_some}
+use Rattle.std.specs.Prelude.{◌≡◌, ℕ, Bool, true, false, ◌&&◌, List, Option, Some, None, is_some}
 use Rattle.std.specs.Prelude.{Result, Ok, Err, if◌then◌else◌}
 use Rattle.std.specs.List.{list_any}
 use Rattle.booth_base.specs.declared.address.Address.{Address}
@@ -19,13 +19,14 @@ use Rattle.booth_cli.specs.Texts.{not_member_text, unbuilt_text}
 abbrev pub has_member : ConfigSays → Address → Bool
 has_member config address = list_any (is_at address) config.members
 
-abbrev pub has_handler : TicketConf → Bool
-has_handler ticket = is_some ticket.handler
+-- a manual ticket has a handler, which no daemon asks yet
+abbrev pub is_handled_by_hand : TicketConf → Bool
+is_handled_by_hand ticket = ticket.manual && is_some ticket.handler
 
 -- the first key that asks for a part which is not built yet
 abbrev pub unbuilt : List TicketConf → Option KeyNo
 unbuilt tickets =
-    if list_any has_handler tickets then Some (number_of BeforeAcquireHandler) else None
+    if list_any is_handled_by_hand tickets then Some (number_of BeforeAcquireHandler) else None
 
 -- the text says a configuration that this daemon can serve, and of which it is a member
 pub record IsFit (address : Address) (text : List ℕ) (config : ConfigSays) : Type 0 where

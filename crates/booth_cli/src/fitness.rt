@@ -2,7 +2,7 @@
 ghost use Rattle.std.specs.Prelude.{◌≡◌, ℕ, IfErr};
 ghost use Rattle.std.specs.List.{list_any};
 ghost use Rattle.booth_conf.specs.Rules.{is_at};
-ghost use Rattle.booth_cli.specs.Fitness.{has_member, has_handler, unbuilt};
+ghost use Rattle.booth_cli.specs.Fitness.{has_member, is_handled_by_hand, unbuilt};
 ghost use Rattle.booth_cli.specs.Fitness.{IsAdmitted};
 ghost use Rattle.booth_cli.specs.Serving.{HasBlame, IsServed};
 
@@ -23,17 +23,19 @@ fn has_member(config: &Config, address: &Address) -> bool
     config.members().iter().any(|member| is_at(address, member))
 }
 
-fn any_handler(tickets: &[TicketConf]) -> bool
-    ensures { result ≡ list_any has_handler tickets.now }
+fn any_handled_by_hand(tickets: &[TicketConf]) -> bool
+    ensures { result ≡ list_any is_handled_by_hand tickets.now }
 {
-    tickets.iter().any(|ticket| ticket.handler.is_some())
+    tickets
+        .iter()
+        .any(|ticket| ticket.manual && ticket.handler.is_some())
 }
 
 // The first key that asks for a part which is not built yet.
 fn unbuilt(tickets: &[TicketConf]) -> Option<KeyNo>
     ensures { result ≡ unbuilt tickets.now }
 {
-    if any_handler(tickets) {
+    if any_handled_by_hand(tickets) {
         return Some(ConfKey::BeforeAcquireHandler.number());
     }
     None

@@ -110,6 +110,7 @@ fn script(rt: &impl Abort, alloc: Global, fails: &str) -> Script {
         reading: 1_700_000_000_123,
         fail_send: has_word(fails, "send"),
         fail_keep: false,
+        fail_start: false,
         fail_out: false,
     };
     steps.push(step).expect(rt, "memory");
@@ -182,6 +183,7 @@ fn kind(entry: &Entry) -> char {
         Entry::Lock { .. } => 'l',
         Entry::Kept { .. } => 'k',
         Entry::Keep { .. } => 'w',
+        Entry::Start { .. } => 'j',
         Entry::Out { .. } => 'p',
         Entry::Err { .. } => 'e',
     }
@@ -334,6 +336,7 @@ fn failing_script(rt: &impl Abort, alloc: Global) -> Script {
         reading: 1_700_000_000_500,
         fail_send: false,
         fail_keep: false,
+        fail_start: false,
         fail_out: false,
     };
     script.steps.push(step).expect(rt, "memory");

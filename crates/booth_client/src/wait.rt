@@ -35,6 +35,7 @@ fn brought(
 {
     match answer {
         Ok(Arrival::Datagram(_)) => reply_in(asking, start, datagram.bytes()),
+        Ok(Arrival::Handler { .. }) => None,
         Ok(Arrival::Quiet) => None,
         Ok(Arrival::Stop) => None,
         Err(_) => None,

@@ -140,7 +140,7 @@ pub record ReadsQuietly (found : Option (List ℕ)) (result : Result (List ℕ) 
   pub text : IfOk result (λ text. text ≡ unwrap_or found [])
   pub memory : IfErr result (λ fault. fault ≡ NoMemory)
 
--- ---- locks and keeps
+-- ---- locks, keeps and starts
 
 -- whether another holds each lock
 abbrev pub taken_in : MemoryHost → Bool
@@ -149,6 +149,14 @@ taken_in host = host.script.taken
 abbrev pub keep_flag : Option Step → Bool
 keep_flag None = false
 keep_flag (Some step) = step.fail_keep
+
+abbrev pub start_flag : Option Step → Bool
+start_flag None = false
+start_flag (Some step) = step.fail_start
+
+-- whether the start of a handler fails now
+abbrev pub starts_fail : MemoryHost → Bool
+starts_fail host = start_flag (running host)
 
 -- whether a keep fails now
 abbrev pub keeps_fail : MemoryHost → Bool

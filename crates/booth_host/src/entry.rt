@@ -2,7 +2,7 @@
 ghost use Rattle.std.specs.Prelude.{◌≡◌, IfOk};
 ghost use Rattle.booth_host.specs.declared.entry.Entry.{Entry};
 
-use crate::{Arrival, Failed, Place, ReadFault};
+use crate::{Arrival, Failed, Job, Place, ReadFault};
 use booth_base::{Address, ByteText, Name, Peer};
 use booth_rec::Record;
 use std::alloc::{AllocError, Global};
@@ -48,6 +48,15 @@ pub enum Entry {
     Keep {
         ticket: ByteText,
         record: Record,
+        answer: Result<(), Failed>,
+    },
+    /// The handler of a job was to be started.
+    Start {
+        number: u64,
+        ticket: ByteText,
+        handler: ByteText,
+        local: Address,
+        expires: u64,
         answer: Result<(), Failed>,
     },
     Out {
@@ -182,6 +191,26 @@ pub(crate) fn keep_entry(
     Ok(Entry::Keep {
         ticket,
         record: *rec,
+        answer,
+    })
+}
+
+pub(crate) fn start_entry(
+    alloc: Global,
+    job: &Job,
+    answer: Result<(), Failed>,
+) -> Result<Entry, AllocError>
+    ensures { IfOk result (λ entry.
+        entry ≡ Entry.Start job.now.number job.now.ticket job.now.handler job.now.local job.now.expires answer) }
+{
+    let ticket = ByteText::new(alloc, job.ticket.bytes())?;
+    let handler = ByteText::new(alloc, job.handler.as_str().as_bytes())?;
+    Ok(Entry::Start {
+        number: job.number,
+        ticket,
+        handler,
+        local: job.local,
+        expires: job.expires,
         answer,
     })
 }

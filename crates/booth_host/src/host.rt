@@ -29,6 +29,8 @@ pub enum ReadFault {
 pub enum Arrival {
     /// A datagram from this peer.
     Datagram(Peer),
+    /// The handler of the job of this number ended with this status.
+    Handler { job: u64, status: i32 },
     /// Nothing, in the time that was given.
     Quiet,
     /// The end was asked for.
@@ -46,6 +48,20 @@ pub struct Place {
     pub records: PathText,
     /// The file of the configuration.
     pub conf_path: PathText,
+}
+
+/// What a ticket's handler is to be run for.
+#[derive(Drop)]
+pub struct Job {
+    /// The number by which its result is told.
+    pub number: u64,
+    pub ticket: Name,
+    /// The handler's path, or a directory's of several programs, and then its arguments, between blanks.
+    pub handler: PathText,
+    /// The address of this member.
+    pub local: Address,
+    /// When the ticket's lease ends, in seconds since 1970, or 0 where it has none.
+    pub expires: u64,
 }
 
 /// All devices of a program.
@@ -88,6 +104,12 @@ pub trait Host {
     /// Keeps this record of this ticket. Where it fails, the record before or this one may be kept.
     fn keep(&mut self, ticket: &Name, rec: &Record) -> Result<(), Failed>
         ensures past { GrewBy (past self.old) (past self.new) (Entry.Keep ticket.now rec.now result ∷ []) }
+        ensures cause { HasCause (faults self.old) (faults self.new) result };
+
+    /// Starts the handler of a job. An arrival tells later how it ended.
+    fn start(&mut self, job: &Job) -> Result<(), Failed>
+        ensures past { GrewBy (past self.old) (past self.new)
+            (Entry.Start job.now.number job.now.ticket job.now.handler job.now.local job.now.expires result ∷ []) }
         ensures cause { HasCause (faults self.old) (faults self.new) result };
 
     /// The bytes of a file.

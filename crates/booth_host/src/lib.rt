@@ -12,7 +12,7 @@ mod tests;
 
 pub use datagram::{DATAGRAM_BYTES, Datagram};
 pub use entry::Entry;
-pub use host::{Arrival, Failed, Host, Place, ReadFault};
+pub use host::{Arrival, Failed, Host, Job, Place, ReadFault};
 pub use memory::{Files, MemoryHost, Records, Script, Step};
 pub use quiet::QuietHost;
 pub use real::RealHost;

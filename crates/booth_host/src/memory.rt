@@ -6,9 +6,9 @@ ghost use Rattle.booth_host.specs.declared.entry.Entry.{Entry};
 
 use crate::entry::{
     err_entry, keep_entry, kept_entry, lock_entry, next_entry, open_entry, out_entry,
-    read_file_entry, send_entry,
+    read_file_entry, send_entry, start_entry,
 };
-use crate::{Arrival, Datagram, Entry, Failed, Host, Place, ReadFault};
+use crate::{Arrival, Datagram, Entry, Failed, Host, Job, Place, ReadFault};
 use booth_base::{ByteText, Name, PathText, Peer};
 use booth_rec::Record;
 use std::alloc::{AllocError, Global};
@@ -23,6 +23,7 @@ pub struct Step {
     pub reading: u64,
     pub fail_send: bool,
     pub fail_keep: bool,
+    pub fail_start: bool,
     pub fail_out: bool,
 }
 
@@ -302,7 +303,7 @@ impl MemoryHost {
 }
 
 impl Host for MemoryHost {
-    ghost use Rattle.booth_host.specs.Memory.{memory_past, reading_of, sends_fail, keeps_fail, outs_fail, coming, file_of, IsBrought, Stays, StaysButRecords, Begins, ReadsFile, taken_in};
+    ghost use Rattle.booth_host.specs.Memory.{memory_past, reading_of, sends_fail, keeps_fail, starts_fail, outs_fail, coming, file_of, IsBrought, Stays, StaysButRecords, Begins, ReadsFile, taken_in};
     ghost use Rattle.booth_host.specs.Records.{records_of, record_of, kept_after};
 
     ghost past = { memory_past };
@@ -401,6 +402,23 @@ impl Host for MemoryHost {
         let answer = self.fail_if(fails);
         self.put_if_ok(answer, ticket, rec);
         let entry = keep_entry(self.alloc, ticket, rec, answer);
+        self.note(entry);
+        answer
+    }
+
+    fn start(&mut self, job: &Job) -> Result<(), Failed>
+        ensures past { GrewBy (memory_past self.old) (memory_past self.new)
+            (Entry.Start job.now.number job.now.ticket job.now.handler job.now.local job.now.expires result ∷ []) }
+        ensures cause { HasCause self.old.faults self.new.faults result }
+        ensures fails { is_err result ≡ starts_fail self.old }
+        ensures stays { Stays self.old self.new }
+    {
+        let fails = match self.step() {
+            Some(step) => step.fail_start,
+            None => false,
+        };
+        let answer = self.fail_if(fails);
+        let entry = start_entry(self.alloc, job, answer);
         self.note(entry);
         answer
     }

@@ -6,11 +6,11 @@ ghost use Rattle.booth_host.specs.declared.entry.Entry.{Entry};
 
 use crate::entry::{
     err_entry, keep_entry, kept_entry, lock_entry, next_entry, open_entry, out_entry,
-    read_file_entry, send_entry,
+    read_file_entry, send_entry, start_entry,
 };
 use crate::{
-    Arrival, Datagram, Entry, Failed, Files, Host, MemoryHost, Place, ReadFault, Records, Script,
-    Step,
+    Arrival, Datagram, Entry, Failed, Files, Host, Job, MemoryHost, Place, ReadFault, Records,
+    Script, Step,
 };
 use booth_base::{ByteText, Name, Peer};
 use booth_rec::Record;
@@ -166,6 +166,17 @@ impl Host for QuietHost {
     {
         self.host.put(ticket, rec);
         let entry = keep_entry(self.host.alloc, ticket, rec, Ok(()));
+        self.host.note(entry);
+        Ok(())
+    }
+
+    fn start(&mut self, job: &Job) -> Result<(), Failed>
+        ensures past { GrewBy (quiet_past self.old) (quiet_past self.new)
+            (Entry.Start job.now.number job.now.ticket job.now.handler job.now.local job.now.expires result ∷ []) }
+        ensures cause { HasCause 0 0 result }
+        ensures stays { Stays self.old.host self.new.host }
+    {
+        let entry = start_entry(self.host.alloc, job, Ok(()));
         self.host.note(entry);
         Ok(())
     }

@@ -1,14 +1,15 @@
-//! The real host: a UDP socket, the system clock, files and the standard streams.
+//! The real host: a UDP socket, the system clock, files, child programs and the standard streams.
 //!
 //! It tells nothing of its calls, and it never answers `Stop`: a signal ends the process instead.
 ghost use Rattle.std.specs.Prelude.{◌≡◌, ◌≤◌, None, vec_len};
 ghost use Rattle.booth_host.specs.Causes.{Rose, HasCause};
 ghost use Rattle.booth_host.specs.declared.datagram.TheConstants.{DATAGRAM_BYTES};
 
-use crate::{Arrival, DATAGRAM_BYTES, Datagram, Failed, Host, Place, ReadFault};
-use booth_base::{ByteText, Name, Peer};
+use crate::{Arrival, DATAGRAM_BYTES, Datagram, Failed, Host, Job, Place, ReadFault};
+use booth_base::{ByteText, Name, PathText, Peer};
 use booth_rec::Record;
 use files::contents;
+use jobs::{Ended, Jobs, SIGNALLED};
 use lock::take_lock;
 use records::Records;
 use socket::Socket;
@@ -17,10 +18,14 @@ use std::fs::File;
 use std::io::ErrorKind;
 use std::time::{Duration, SystemTime};
 use std::{io, thread};
-use streams::write_to;
+use streams::{Standing, hold_streams, write_to};
 
 mod files;
+#[cfg(test)]
+mod job_tests;
+mod jobs;
 mod lock;
+mod programs;
 mod record_disk;
 mod records;
 mod socket;
@@ -36,8 +41,13 @@ pub struct RealHost {
     /// The directory of the kept records, once a place with one was opened.
     records: Option<Records>,
     buffer: Vec<u8>,
+    /// The path of the configuration, once a place was opened.
+    conf_path: Option<PathText>,
+    jobs: Jobs,
     /// The file whose lock this host holds.
     locked: Option<File>,
+    /// What stands in the places of standard streams that were closed.
+    standing: Standing,
     faults: u64,
     ghost size: { vec_len buffer ≡ DATAGRAM_BYTES },
 }
@@ -57,12 +67,17 @@ fn unopened() -> io::Error {
 impl RealHost {
     /// The devices of the system, before anything is opened.
     pub fn new(rt: HostRuntime, alloc: Global) -> Result<RealHost, AllocError> {
+        let standing = hold_streams(&rt);
+        let jobs = Jobs::new(alloc);
         Ok(RealHost {
             rt,
             socket: None,
             records: None,
             buffer: vec![in alloc; 0; DATAGRAM_BYTES]?,
+            conf_path: None,
+            jobs,
             locked: None,
+            standing,
             faults: 0,
         })
     }
@@ -92,12 +107,33 @@ impl RealHost {
     {
         self.socket = None;
         self.records = None;
+        self.conf_path = None;
         let socket = Socket::open(&self.rt, place)?;
         if !place.records.as_str().is_empty() {
             self.records = Some(Records::open(&self.rt, &place.records)?);
         }
         self.socket = Some(socket);
+        self.conf_path = Some(place.conf_path.copy());
         Ok(())
+    }
+
+    fn start_job(&mut self, job: &Job) -> io::Result<()>
+        ensures { self.new.faults ≡ self.old.faults }
+    {
+        match &self.conf_path {
+            Some(conf_path) => self.jobs.start(&self.rt, job, conf_path),
+            None => Err(unopened()),
+        }
+    }
+
+    // How a job ended, where one did. Where the system does not tell, or a program could not be started behind another, it
+    // counts as one that a signal ended.
+    fn ended_job(&mut self) -> Option<Arrival>
+        ensures later { self.old.faults ≤ self.new.faults }
+    {
+        let Ended { job, status } = self.jobs.poll(&self.rt)?;
+        let status = self.checked(status).unwrap_or(SIGNALLED);
+        Some(Arrival::Handler { job, status })
     }
 
     fn receive(&mut self, wait_ms: u64, into: &mut Datagram) -> io::Result<Arrival>
@@ -149,7 +185,12 @@ impl Host for RealHost {
         self.checked(answer)
     }
 
+    /// A job that is over comes before a datagram, and is not waited for.
     fn next(&mut self, wait_ms: u64, into: &mut Datagram) -> Result<Arrival, Failed> {
+        if let Some(arrival) = self.ended_job() {
+            into.set(&[]);
+            return Ok(arrival);
+        }
         let answer = self.receive(wait_ms, into);
         if answer.is_err() {
             // A failure may come at once, and a caller that goes on must not take the whole processor.
@@ -181,6 +222,13 @@ impl Host for RealHost {
 
     fn keep(&mut self, ticket: &Name, rec: &Record) -> Result<(), Failed> {
         let answer = self.write_record(ticket, rec);
+        self.checked(answer)
+    }
+
+    /// A program of the same ticket that runs on is ended first. It fails where no place is open, where the handler cannot be
+    /// started, and where a program that was ended before is not yet over.
+    fn start(&mut self, job: &Job) -> Result<(), Failed> {
+        let answer = self.start_job(job);
         self.checked(answer)
     }
 

@@ -19,6 +19,7 @@ fn step(alloc: Global, arrival: Result<Arrival, Failed>, bytes: &[u8]) -> Result
         reading: 7,
         fail_send: false,
         fail_keep: false,
+        fail_start: false,
         fail_out: false,
     })
 }

@@ -13,10 +13,11 @@ use Rattle.booth_auth.specs.Sealed.{sealed}
 use Rattle.booth_host.specs.declared.entry.Entry.{Entry}
 use Rattle.booth_host.specs.declared.entry.Entry.TheVariants as calls
 use Rattle.booth_host.specs.declared.host.Failed.{Failed}
+use Rattle.booth_host.specs.declared.host.Job.{Job}
 use Rattle.booth_host.specs.Past.{GrewBy, GrewSome}
 use Rattle.booth_host.proofs.PastLemmas.{no_entry, some_of, then_some}
 use Rattle.booth_ticket.specs.declared.hands.To.{To}
-use Rattle.booth_ticket.specs.Acts.{Ask as TicketAsk, Keep as KeepsRecord, Say, Act, IsAct, Dids, DidSome}
+use Rattle.booth_ticket.specs.Acts.{Ask as TicketAsk, Keep as KeepsRecord, Start as StartsJob, Say, Act, IsAct, Dids, DidSome}
 use Rattle.booth_ticket.specs.declared.waiters.Waiter.{Waiter}
 use Rattle.booth_ticket.specs.Ticket.{TicketState, TicketLeft}
 use Rattle.booth_ticket.specs.Waiting.{spare_in, waiting_at}
@@ -25,9 +26,10 @@ use Rattle.booth_node.specs.declared.node_config.NodeConfig.{NodeConfig}
 use Rattle.booth_node.specs.declared.state.Common.{Common}
 use Rattle.booth_attr.specs.Attributes.{Attributes}
 use Rattle.booth_node.specs.AttributeRequests.{is_ready}
-use Rattle.booth_node.specs.Acting.{Scene, IsKept, IsSaid, IsAskDone, ActsAs}
+use Rattle.booth_node.specs.Acting.{Scene, IsKept, IsStarted, IsSaid, IsAskDone, ActsAs}
 use Rattle.booth_node.specs.Counting.{accepted, with_send}
-use Rattle.booth_node.specs.Reaction.{Ask, Keep, IsDone, peer_of, sent_as, sends, lifted, befalls, acts_as, acts}
+use Rattle.booth_node.specs.Jobs.{job_at, job_of, with_start}
+use Rattle.booth_node.specs.Reaction.{Ask, Keep, Start, IsDone, peer_of, sent_as, sends, lifted, befalls, acts_as, acts}
 use Rattle.booth_node.specs.State.{State, with_ticket}
 
 -- what no act changes
@@ -77,6 +79,21 @@ module _ {S : Type 0} (key : Option (List ℕ)) where
         (same, refl, kept.is),
         subst (λ (c : Common). Leads (IsDone key) (g c ok) ys t)
             kept.common h,
+      ))
+      later
+
+  one_started : (job : Job) (ok : Bool) (g : Common → Bool → Deeds Ask S) (t : Deeds Ask S) (number expires : ℕ)
+      (x y : Scene) (z : Option (List Entry)) → job_of x.node x.name number expires ≡ job
+      → IsStarted number expires ok x y → Goes (g y.common ok) t y.past z
+      → Goes (Does (Start job) (g (with_start x.common))) t x.past z
+  one_started job ok g t number expires x y z same started later =
+      then_some (λ es. Leads (IsDone key) (g y.common ok) es t)
+      (λ es. Leads (IsDone key) (Does (Start job) (g (with_start x.common))) es t)
+      started.past
+      (λ ys h. (
+        ok,
+        (same, started.is),
+        subst (λ (c : Common). Leads (IsDone key) (g c ok) ys t) started.common h,
       ))
       later
 
@@ -146,6 +163,25 @@ module _ {X : Type 0} (did : X → Act → X → Type 0) (scene : X → Scene)
         past = one_kept x.node.key x.name tried ok (λ c b. lifted x.node x.moment x.name c (g b) rest)
             (lifted x.node x.moment x.name (scene b).common t' rest) x y (scene b).past refl kept later.past;
       }
+  lifts (Does (StartsJob number expires) g) t' a b (act ∷ xs) chain leads =
+      let x : Scene = scene a in
+      let y : Scene = scene chain.0 in
+      let one : ActsAs act x y = step a chain.0 act chain.1 in
+      let ok : Bool = leads.0 in
+      let started : IsStarted number expires ok x y = subst (λ (c : Act). IsAskDone c.ask c.ok x y) leads.1 one.done in
+      let more : Lifted (g ok) t' rest y (scene b) = lifts (g ok) t' chain.0 b xs chain.2 leads.2 in
+      let later : Later (g ok) t' rest x y (scene b)
+      = seen_from (g ok) t' rest x y (scene b) one.node one.moment one.name more in
+      record {
+        node = more.node ∙ one.node;
+        moment = more.moment ∙ one.moment;
+        name = more.name ∙ one.name;
+        faults = le_trans one.faults more.faults;
+        past = one_started x.node.key (job_of x.node x.name number expires) ok
+            (λ c b. lifted x.node x.moment x.name c (g b) rest)
+            (lifted x.node x.moment x.name (scene b).common t' rest) number expires x y (scene b).past refl started
+            later.past;
+      }
   lifts (Does (Say to head part) g) t' a b (act ∷ xs) chain leads =
       let x : Scene = scene a in
       let y : Scene = scene chain.0 in
@@ -186,14 +222,15 @@ some_lifts {X} {S} {did} {t} {t'} {a} {b} some scene step rest =
 -- one ticket's deeds among the others
 pub acted : (node : NodeConfig) (moment place : ℕ) (event : Event) (state : State)
     (before : TicketState) (after : TicketLeft) (waiters : List (List Waiter)) (common : Common)
-    (name : List ℕ) (a b : Option (List Entry))
+    (name : List ℕ) (job : Option ℕ) (a b : Option (List Entry))
     → slice_get state.tickets place ≡ Some before → name ≡ before.setup.ticket
+    → job ≡ job_at node place state.common
     → waiters ≡ set state.waiters place after.waiters
     → ((rest : Common → TicketLeft → Deeds Ask State) →
     GrewSome (λ es. Leads (IsDone node.key)
     (lifted node moment name state.common
     (befalls before (waiting_at state.waiters place) (spare_in state.waiters)
-    (is_ready node state.attributes place) event moment) rest) es
+    (is_ready node state.attributes place) job event moment) rest) es
     (rest common after)) a b)
     → GrewSome (λ es. Leads (IsDone node.key) (acts node moment state place event) es
     (Ends (record {
@@ -203,7 +240,7 @@ pub acted : (node : NodeConfig) (moment place : ℕ) (event : Event) (state : St
       common = common;
       last_reading = state.last_reading;
     }))) a b
-acted node moment place event state before after waiters common name a b there named same past =
+acted node moment place event state before after waiters common name job a b there named numbered same past =
     subst (λ (ws : List (List Waiter)). GrewSome
     (λ es. Leads (IsDone node.key) (acts node moment state place event) es
     (Ends (record {
@@ -219,10 +256,17 @@ acted node moment place event state before after waiters common name a b there n
     (subst (λ (n : List ℕ). GrewSome (λ es. Leads (IsDone node.key)
     (lifted node moment n state.common
     (befalls before (waiting_at state.waiters place) (spare_in state.waiters)
-    (is_ready node state.attributes place) event moment)
+    (is_ready node state.attributes place) (job_at node place state.common) event
+    moment)
     (λ c left. Ends (with_ticket state place c left))) es
     (Ends (with_ticket state place common after))) a b) named
-    (past (λ c left. Ends (with_ticket state place c left)))))
+    (subst (λ (j : Option ℕ). GrewSome (λ es. Leads (IsDone node.key)
+    (lifted node moment name state.common
+    (befalls before (waiting_at state.waiters place) (spare_in state.waiters)
+    (is_ready node state.attributes place) j event moment)
+    (λ c left. Ends (with_ticket state place c left))) es
+    (Ends (with_ticket state place common after))) a b) numbered
+    (past (λ c left. Ends (with_ticket state place c left))))))
 
 -- a send that the hands made
 pub said_to : (x y : Scene) (to : To) (head : Head) (part : TicketPart) (peer : Peer) (frame : List ℕ)

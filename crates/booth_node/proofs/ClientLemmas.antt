@@ -25,10 +25,12 @@ use Rattle.booth_ticket.specs.declared.request.Request.{Request}
 use Rattle.booth_ticket.specs.declared.waiters.Waiter.{Waiter}
 use Rattle.booth_ticket.specs.Acts.{Act}
 use Rattle.booth_ticket.specs.Requests.{reply_cmd}
+use Rattle.booth_ticket.specs.declared.handling.Service.{Service}
+use Rattle.booth_ticket.specs.Handling.{service_of}
 use Rattle.booth_ticket.specs.Ticket.{TicketState}
 use Rattle.booth_ticket.specs.Waiting.{spare_in, waiting_at}
 use Rattle.booth_node.specs.declared.event.Event.{Event}
-use Rattle.booth_node.specs.declared.event.Event.TheVariants.{Due, Heard, Asked}
+use Rattle.booth_node.specs.declared.event.Event.TheVariants.{Due, Heard, Asked, Over}
 use Rattle.booth_node.specs.declared.node.Turn.{Turn}
 use Rattle.booth_node.specs.declared.node.Turn.TheVariants.{Went, Stopped}
 use Rattle.booth_node.specs.declared.node_config.NodeConfig.{NodeConfig}
@@ -37,13 +39,14 @@ use Rattle.booth_node.specs.Calls.{IsAmong, ReachesWaiters}
 use Rattle.booth_node.specs.Counting.{accepted, dropped}
 use Rattle.booth_node.specs.Laws.{IsSettled, NobodyIsForgotten, NothingRests, OpensWithItsTickets, KeepsItsTickets, DropsAlone, CountsEachFault, drops_by, drops_after, IsReplyTo, ClientsAreAnswered, asked_by, request_let_in, request_of, OthersAreNotAnswered}
 use Rattle.booth_node.specs.Opening.{AreSetUp, start_reading}
-use Rattle.booth_node.specs.Reaction.{Action, Drops, Hears, Asks, Attends, Answers, Rests, Send, IsDone, action, after_attending, acts, acts_as, arrived, demanded, due_places, dues, each_due, met, react, sent_as, turn_end}
+use Rattle.booth_node.specs.Jobs.{job_at}
+use Rattle.booth_node.specs.Reaction.{Action, Drops, Hears, Asks, Attends, Answers, Rests, Send, IsDone, action, after_attending, acts, acts_as, all_places, arrived, demanded, due_places, dues, each_due, each_over, met, react, sent_as, turn_end}
 use Rattle.booth_node.specs.State.{State}
 use Rattle.booth_node.proofs.ActionLemmas.{ticket_below}
 use Rattle.booth_node.proofs.ComesLemmas.{Comes, IsAnsweredAtOnce, IsAsked, IsAttended, IsHeard, comes}
 use Rattle.booth_node.proofs.DueLemmas.{Each, all_of_each}
 use Rattle.booth_node.proofs.PathLemmas.{Seen, Split, at_end, is_send, seen_parts, split}
-use Rattle.booth_node.proofs.StayLemmas.{AllFewer, AllRemember, Stays, acted_at, acted_remember, acted_set_up, acted_undropped, acts_stay, all_among, as_many, dues_stay, each_fewer, remember_on, set_up_at, started_set_up, stays_here}
+use Rattle.booth_node.proofs.StayLemmas.{AllFewer, AllRemember, Stays, acted_at, acted_remember, acted_set_up, acted_undropped, acts_stay, all_among, as_many, dues_stay, each_fewer, each_over_stays, remember_on, set_up_at, started_set_up, stays_here}
 use Rattle.booth_node.proofs.TalkLemmas.{Replies, asked_replied, each_joined, heard_among, reply_act}
 
 abbrev pub at_moment : State → ℕ → State
@@ -97,6 +100,8 @@ module _ (node : NodeConfig) (moment : ℕ) where
       → AreSetUp node after
   arrived_set_up state (Ok (arrivals.Datagram from)) bytes es after set_up leads =
       met_set_up state from (action node moment state.tickets state.common from bytes) es after set_up leads
+  arrived_set_up state (Ok (arrivals.Handler job status)) bytes es after set_up leads =
+      (each_over_stays node moment job (service_of status) (all_places state) state after es set_up leads).set_up
   arrived_set_up state (Ok arrivals.Quiet) bytes es after set_up leads =
       (stays_here node state after es set_up leads).set_up
   arrived_set_up state (Ok arrivals.Stop) bytes es after set_up leads =
@@ -194,6 +199,19 @@ module _ (node : NodeConfig) (moment : ℕ) where
       each_undropped places parts.mid after parts.later parts.to_end
       ∙ acts_undropped state place Due parts.first parts.mid parts.to_mid
 
+  each_over_undropped : (job : ℕ) (service : Service) (places : List ℕ) (state after : State) (es : List Entry)
+      → Leads (IsDone node.key) (each_over node moment job service places state) es (Ends after)
+      → after.common.drops ≡ state.common.drops
+  each_over_undropped job service [] state after es leads = ap (λ (s : State). s.common.drops)
+      (at_end (IsDone node.key) state after es leads).1
+  each_over_undropped job service (place ∷ places) state after es leads =
+      let parts : Split (IsDone node.key) (acts node moment state place (Over job service))
+      (each_over node moment job service places) es after =
+      split (IsDone node.key) (acts node moment state place (Over job service))
+      (each_over node moment job service places) es after leads in
+      each_over_undropped job service places parts.mid after parts.later parts.to_end
+      ∙ acts_undropped state place (Over job service) parts.first parts.mid parts.to_mid
+
   dues_undropped : (turn : Turn) (state after : State) (es : List Entry)
       → Leads (IsDone node.key) (dues node moment turn state) es (Ends after)
       → after.common.drops ≡ state.common.drops
@@ -259,6 +277,8 @@ module _ (node : NodeConfig) (moment : ℕ) where
           after
           (comes node moment state.tickets state.common from bytes letter is) leads
           ∙ ap (λ (v : Result PlainMessage DropFault). drops_by state.common v) (sym is)
+  arrived_drops state (Ok (arrivals.Handler job status)) bytes es after leads =
+      each_over_undropped job (service_of status) (all_places state) state after es leads
   arrived_drops state (Ok arrivals.Quiet) bytes es after leads =
       ap (λ (s : State). s.common.drops) (at_end (IsDone node.key) state after es leads).1
   arrived_drops state (Ok arrivals.Stop) bytes es after leads =
@@ -315,8 +335,9 @@ module _ (node : NodeConfig) (moment : ℕ) (state : State) (from : Peer) (lette
       let acted = acted_at node moment state place (Asked request) ticket es after there leads in
       let waiters : List Waiter = waiting_at state.waiters place in
       let says : Replies ticket.setup waiters acted.left.waiters request (reply_cmd request.wish) acted.did =
-      asked_replied ticket acted.left waiters (spare_in state.waiters) (is_ready node state.attributes place)
-      moment acted.did request acted.leads in
+      asked_replied ticket acted.left waiters (spare_in state.waiters)
+      (is_ready node state.attributes place) (job_at node place state.common) moment acted.did
+      request acted.leads in
       let last : Act = reply_act ticket.setup request (reply_cmd request.wish) says.result says.part says.ok in
       let own : ticket.setup.me ≡ node.me = ap (λ (s : Setup). s.me)
       (set_up_at node state place ticket set_up there).2 in
@@ -439,8 +460,8 @@ module _ (node : NodeConfig) (moment : ℕ) (state : State) (set_up : AreSetUp n
   unasked_stays from letter a es after none (IsHeard to member place part is content known named) leads =
       quiet_by (accepted state member moment) es after refl
       (acts_stay node moment (accepted state member moment) place (Heard member letter.head part) es after
-      (λ ticket left waiters spare ready did leads.
-      heard_among ticket left waiters spare ready moment did member letter.head part leads)
+      (λ ticket left waiters spare ready job did leads.
+      heard_among ticket left waiters spare ready job moment did member letter.head part leads)
       set_up
       (subst (λ (x : Action). Leads (IsDone node.key) (met node moment state from x) es (Ends after)) is
       leads))
@@ -466,6 +487,9 @@ module _ (node : NodeConfig) (moment : ℕ) (state : State) (set_up : AreSetUp n
           unasked_stays from letter (action node moment state.tickets state.common from bytes) es after
           (ap (λ (v : Result PlainMessage DropFault). request_let_in v) (sym is) ∙ none)
           (comes node moment state.tickets state.common from bytes letter is) leads
+  arrived_unasked (Ok (arrivals.Handler job status)) bytes es after none leads =
+      quiet_by state es after refl
+      (each_over_stays node moment job (service_of status) (all_places state) state after es set_up leads)
   arrived_unasked (Ok arrivals.Quiet) bytes es after none leads =
       quiet_by state es after refl (stays_here node state after es set_up leads)
   arrived_unasked (Ok arrivals.Stop) bytes es after none leads =
@@ -506,7 +530,7 @@ module _ (node : NodeConfig) (moment : ℕ) (state : State) (set_up : AreSetUp n
           let acted = acted_at node moment state place (Asked request) ticket es after is leads in
           acted_remember node moment state place (Asked request) ticket es after set_up is acted
           (asked_replied ticket acted.left (waiting_at state.waiters place) (spare_in state.waiters)
-          (is_ready node state.attributes place) moment acted.did request acted.leads).remembers
+          (is_ready node state.attributes place) (job_at node place state.common) moment acted.did request acted.leads).remembers
 
   met_remember : (from : Peer) (a : Action) (es : List Entry) (after : State)
       → Leads (IsDone node.key) (met node moment state from a) es (Ends after) → Kept es after
@@ -514,8 +538,7 @@ module _ (node : NodeConfig) (moment : ℕ) (state : State) (set_up : AreSetUp n
       (stays_here node (dropped state fault) after es set_up leads).remember
   met_remember from (Hears member ticket head part) es after leads =
       (acts_stay node moment (accepted state member moment) ticket (Heard member head part) es after
-      (λ t left waiters spare ready did l.
-      heard_among t left waiters spare ready moment did member head part l) set_up
+      (λ t left waiters spare ready job did l. heard_among t left waiters spare ready job moment did member head part l) set_up
       leads).remember
   met_remember from (Asks ticket request) es after leads = asks_remember ticket request es after leads
   met_remember from (Attends ticket request) [] after leads = absurd cc
@@ -532,6 +555,8 @@ module _ (node : NodeConfig) (moment : ℕ) (state : State) (set_up : AreSetUp n
       → Leads (IsDone node.key) (arrived node moment state arrival bytes) es (Ends after) → Kept es after
   arrived_remember (Ok (arrivals.Datagram from)) bytes es after leads =
       met_remember from (action node moment state.tickets state.common from bytes) es after leads
+  arrived_remember (Ok (arrivals.Handler job status)) bytes es after leads =
+      (each_over_stays node moment job (service_of status) (all_places state) state after es set_up leads).remember
   arrived_remember (Ok arrivals.Quiet) bytes es after leads =
       (stays_here node state after es set_up leads).remember
   arrived_remember (Ok arrivals.Stop) bytes es after leads =

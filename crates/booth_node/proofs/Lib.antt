@@ -2,6 +2,7 @@ pub mod PlaceLemmas
 pub mod ActLemmas
 pub mod EachLemmas
 pub mod ActionLemmas
+pub mod JobLemmas
 pub mod LogLemmas
 pub mod PeerLemmas
 pub mod ReceiveLemmas

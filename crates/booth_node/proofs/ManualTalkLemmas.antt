@@ -17,7 +17,7 @@ use Rattle.booth_manual.specs.Outcome.{Keep as Tries, Outcome}
 use Rattle.booth_ticket.specs.declared.hands.To.TheVariants.{Client, Member}
 use Rattle.booth_ticket.specs.declared.request.Request.{Request}
 use Rattle.booth_ticket.specs.declared.waiters.Waiter.{Waiter}
-use Rattle.booth_ticket.specs.Acts.{Ask, Keep, Say, Act, IsAct}
+use Rattle.booth_ticket.specs.Acts.{Ask, Keep, Start, Say, Act, IsAct}
 use Rattle.booth_ticket.specs.Manual.{ManualKnown, greeting, manual_due, manual_heard}
 use Rattle.booth_ticket.specs.ManualRequests.{done_by_hand, manual_asked, manual_reply, manual_reply_part, refused_by_hand, result_of_keep, tried, tries_for}
 use Rattle.booth_ticket.specs.Requests.{reply_cmd}
@@ -30,6 +30,7 @@ use Rattle.booth_node.proofs.PathLemmas.{Split, at_end, split}
 -- what is asked reaches members alone
 abbrev pub ToMembers : Setup → Ask → Type 0
 ToMembers setup (Keep tried) = Unit {0}
+ToMembers setup (Start job expires) = Unit {0}
 ToMembers setup (Say (Member place) head part) = IsOwn setup head part
 ToMembers setup (Say (Client peer) head part) = ⊥
 
@@ -214,6 +215,13 @@ module _ (setup : Setup) (waiters : List Waiter) (left : TicketLeft) (acts : Lis
   due_by_hand known leads =
       let it = handled setup waiters (manual_due setup known) acts left leads in
       (due_members setup known it.0 acts it.1, stays_by_hand it.0 it.2)
+
+  -- a job is over
+  pub over_by_hand : (known : ManualKnown) → Leads IsAct (by_hand setup waiters (Ends known)) acts (Ends left)
+      → AllToMembers setup acts × StaysByHand
+  over_by_hand known leads =
+      let over = at_end IsAct (left_by_hand setup waiters known) left acts leads in
+      (subst (λ (l : List Act). AllToMembers setup l) (sym over.0) tt, stays_by_hand known over.1)
 
   pub asked_by_hand : (known : ManualKnown) (spare : ℕ) (ready : Bool) (request : Request)
       → Leads IsAct (by_hand setup waiters (manual_asked setup known spare ready request)) acts (Ends left)

@@ -1,6 +1,6 @@
 -- What is done where it may be: a round is answered, a grant asks all, a majority gains.
 use Rattle.std.proofs.Common.{◌≡◌, ◌<◌, ◌≤◌, ◌⊎◌, inl, inr, ℕ, zero, suc, ◌+◌, Bool, true, false, List, [], ◌∷◌, ◌++◌, length, slice_get, get_or, refl, sym, ap, ◌∙◌, subst, arith, append-nil}
-use Rattle.std.specs.Prelude.{Option, Some, None, IsSome, Result, Ok, is_ok, position, not, ◌==◌}
+use Rattle.std.specs.Prelude.{Option, Some, None, IsSome, Result, Ok, is_ok, option_map, position, not, ◌==◌}
 use Rattle.std.specs.List.{filter, range_with_len}
 use Rattle.std.proofs.lemmas.Option.{slice_get_cases, slice_get_within}
 use Rattle.booth_base.specs.declared.address.Peer.{Peer}
@@ -28,7 +28,7 @@ use Rattle.booth_ticket.specs.declared.hands.To.TheVariants.{Client, Member}
 use Rattle.booth_ticket.specs.declared.request.Request.{Request}
 use Rattle.booth_ticket.specs.declared.request.Wish.TheVariants.{Grant}
 use Rattle.booth_ticket.specs.declared.waiters.Waiter.{Waiter}
-use Rattle.booth_ticket.specs.Acts.{Ask as TicketAsk, Keep as KeepsRecord, Say, Act, IsAct, kept, said, said_to_each}
+use Rattle.booth_ticket.specs.Acts.{Ask as TicketAsk, Keep as KeepsRecord, Start as StartsJob, Say, Act, IsAct, kept, said, said_to_each}
 use Rattle.booth_ticket.specs.Automatic.{Left, hear_message}
 use Rattle.booth_ticket.specs.Laws.{BeginsWith, IsAnswer, IsDoneBy, IsRound, answer_to, told_granted}
 use Rattle.booth_ticket.specs.Requests.{wish}
@@ -46,6 +46,7 @@ use Rattle.booth_node.specs.Completeness.{GrantsAskAll, MajoritiesGain, RoundsAr
 use Rattle.booth_node.specs.Opening.{AreSetUp}
 use Rattle.booth_conf.specs.declared.tickets.GrantKind.TheVariants.{Manual}
 use Rattle.booth_node.specs.AttributeRequests.{is_ready}
+use Rattle.booth_node.specs.Jobs.{job_at}
 use Rattle.booth_node.specs.Reaction.{Action, Hears, Asks, IsDone, action, acts, answers as answers_with, asks, befalls, demanded, dues, met, peer_at, peer_of, requested, routed}
 use Rattle.booth_node.specs.Replies.{reply_to, request_of, wish_of}
 use Rattle.booth_node.specs.State.{State}
@@ -92,6 +93,7 @@ each_filtered P test (x ∷ xs) each = by_test (test x) refl (each_filtered P te
 -- acts that all say something to someone who listens
 abbrev pub IsSaying : NodeConfig → TicketAsk → Bool → Type 0
 IsSaying node (KeepsRecord tried) ok = ⊥
+IsSaying node (StartsJob number expires) ok = ⊥
 IsSaying node (Say to head part) ok = (ok ≡ true) × IsSome (peer_of node.config to)
 
 abbrev pub Says : NodeConfig → List Act → Type 0
@@ -127,6 +129,7 @@ peers_of_says node (act ∷ acts) says = (one act.ask act.ok says.0, peers_of_sa
   where
     one : (ask : TicketAsk) (ok : Bool) → IsSaying node ask ok → HasPeer node ask
     one (KeepsRecord tried) ok is = absurd is
+    one (StartsJob number expires) ok is = absurd is
     one (Say to head part) ok is = is.1
 
 -- ---- one path of a tree, by the answers of its keeps
@@ -147,6 +150,7 @@ module _ (node : NodeConfig) (moment : ℕ) (name : List ℕ) (left : TicketLeft
       → IsSaying node ask mine
       → ActFirst node moment name ask theirs es More → (theirs ≡ mine) × (rest : List Entry) × More rest
   same_answer (KeepsRecord tried) mine theirs es More is first = absurd is
+  same_answer (StartsJob number expires) mine theirs es More is first = absurd is
   same_answer (Say to head part) mine theirs es More is first =
       let next_calls = said_next (peer_of node.config to) _ es More first.1 in
       (first.0 ∙ sym is.0, next_calls.0, next_calls.1)
@@ -216,7 +220,8 @@ pub lifted_done : (node : NodeConfig) (old new state : State) (moment place : �
     → Type 0) (entries first later : List Entry)
     (mid : State)
     → befalls (record { setup = setup; known = Automatic view }) (waiting_at state.waiters place)
-    (spare_in state.waiters) (is_ready node state.attributes place) event moment ≡ by_rules setup deeds
+    (spare_in state.waiters) (is_ready node state.attributes place)
+    (job_at node place state.common) event moment ≡ by_rules setup deeds
     → slice_get state.tickets place ≡ Some (record { setup = setup; known = Automatic view })
     → place < length state.waiters
     → Says node says → IsDoneBy deeds (kept tried true ∷ says) Holds → KeepsFirst entries
@@ -378,7 +383,7 @@ module _ (node : NodeConfig) (old : State) (place : ℕ) (setup : Setup) (view :
       (slice_get_within old.tickets place (record { setup = setup; known = Automatic view }) there)
 
 pub grants : GrantsAskAll
-grants node old new moment from letter entries place part setup view set_up turn about cmd none few well =
+grants node old new moment from letter entries place part setup view set_up turn about cmd unhandled none few well =
     let state : State = at_moment old moment in
     let request : Request = grant_of from letter in
     let ready : Bool = is_ready node old.attributes place Manual in
@@ -397,9 +402,12 @@ grants node old new moment from letter entries place part setup view set_up turn
     let many : setup.members ≡ length node.config.members = all_members node old place setup view set_up
     about.there in
     lifted_done node old new state moment place (Asked request) setup view
-    (wish setup view (waiting_at old.waiters place) (spare_in old.waiters) ready request Grant moment) _ _ _
-    entries
-    parts.first parts.later parts.mid refl about.there (listed node old place setup view set_up about.there)
+    (wish setup view (waiting_at old.waiters place) (spare_in old.waiters) ready None request Grant moment) _ _ _ entries
+    parts.first parts.later parts.mid
+    (ap (λ (job : Option ℕ). by_rules setup
+    (wish setup view (waiting_at old.waiters place) (spare_in old.waiters) ready job request Grant moment))
+    (ap (λ (handler : Option (List ℕ)). option_map (λ words. old.common.next_job) handler) unhandled))
+    about.there (listed node old place setup view set_up about.there)
     (says_joined node (said_to_each (others setup) _ _) (said (Client from) _ _ ∷ [])
     (says_others node setup _ _ many) ((refl, refl), tt))
     (asks_everyone setup view (waiting_at old.waiters place) (spare_in old.waiters) ready request moment none

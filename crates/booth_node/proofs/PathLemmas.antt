@@ -11,15 +11,17 @@ use Rattle.booth_auth.specs.Sealed.{sealed}
 use Rattle.booth_host.specs.declared.entry.Entry.{Entry}
 use Rattle.booth_host.specs.declared.entry.Entry.TheVariants as calls
 use Rattle.booth_host.specs.declared.host.Failed.{Failed}
+use Rattle.booth_host.specs.declared.host.Job.{Job}
 use Rattle.booth_ticket.specs.declared.hands.To.{To}
 use Rattle.booth_ticket.specs.declared.hands.To.TheVariants as whom
-use Rattle.booth_ticket.specs.Acts.{Ask as TicketAsk, Keep as KeepsRecord, Say, Act, IsAct}
+use Rattle.booth_ticket.specs.Acts.{Ask as TicketAsk, Keep as KeepsRecord, Start as StartsJob, Say, Act, IsAct}
 use Rattle.booth_ticket.specs.Ticket.{TicketLeft}
 use Rattle.booth_node.specs.declared.node_config.NodeConfig.{NodeConfig}
 use Rattle.booth_node.specs.declared.state.Common.{Common}
 use Rattle.booth_node.specs.Calls.{AreCallsOf, IsCallOf}
 use Rattle.booth_node.specs.Counting.{with_send}
-use Rattle.booth_node.specs.Reaction.{Send, Keep, IsDone, lifted, peer_of, sends, sent_as}
+use Rattle.booth_node.specs.Jobs.{job_of, start_call, with_start}
+use Rattle.booth_node.specs.Reaction.{Send, Keep, Start, IsDone, lifted, peer_of, sends, sent_as}
 
 -- ---- trees
 
@@ -75,8 +77,25 @@ is_keep key name tried ok (calls.Now reading) done = absurd done
 is_keep key name tried ok (calls.ReadFile path answer) done = absurd done
 is_keep key name tried ok (calls.Lock path answer) done = absurd done
 is_keep key name tried ok (calls.Kept ticket answer) done = absurd done
+is_keep key name tried ok (calls.Start number ticket handler local expires answer) done = absurd done
 is_keep key name tried ok (calls.Out bytes answer) done = absurd done
 is_keep key name tried ok (calls.Err bytes answer) done = absurd done
+
+is_start : (key : Option (List ℕ)) (job : Job) (ok : Bool) (e : Entry)
+    → IsDone key (Start job) ok e
+    → (answer : Result (Unit {0}) Failed) × (e ≡ start_call job answer) × (is_ok answer ≡ ok)
+is_start key job ok (calls.Start number ticket handler local expires answer) done =
+    (answer, ap (λ (j : Job). start_call j answer) done.0, sym done.1)
+is_start key job ok (calls.Keep ticket rec answer) done = absurd done
+is_start key job ok (calls.Send to bytes answer) done = absurd done
+is_start key job ok (calls.Open local port records conf_path answer) done = absurd done
+is_start key job ok (calls.Next wait answer bytes) done = absurd done
+is_start key job ok (calls.Now reading) done = absurd done
+is_start key job ok (calls.ReadFile path answer) done = absurd done
+is_start key job ok (calls.Lock path answer) done = absurd done
+is_start key job ok (calls.Kept ticket answer) done = absurd done
+is_start key job ok (calls.Out bytes answer) done = absurd done
+is_start key job ok (calls.Err bytes answer) done = absurd done
 
 pub is_send : (key : Option (List ℕ)) (peer : Peer) (letter : PlainMessage) (ok : Bool) (e : Entry)
     → IsDone key (Send peer letter) ok e
@@ -93,6 +112,7 @@ is_send key peer letter ok (calls.Now reading) done = absurd done
 is_send key peer letter ok (calls.ReadFile path answer) done = absurd done
 is_send key peer letter ok (calls.Lock path answer) done = absurd done
 is_send key peer letter ok (calls.Kept ticket answer) done = absurd done
+is_send key peer letter ok (calls.Start number ticket handler local expires answer) done = absurd done
 is_send key peer letter ok (calls.Out bytes answer) done = absurd done
 is_send key peer letter ok (calls.Err bytes answer) done = absurd done
 
@@ -109,6 +129,10 @@ abbrev pub ActFirst :
     NodeConfig → ℕ → List ℕ → TicketAsk → Bool → List Entry → (List Entry → Type 0) → Type 0
 ActFirst node moment name (KeepsRecord tried) ok es More =
     (answer : Result (Unit {0}) Failed) × (rest : List Entry) × (es ≡ calls.Keep name tried answer ∷ rest)
+    × (is_ok answer ≡ ok) × More rest
+ActFirst node moment name (StartsJob number expires) ok es More =
+    (answer : Result (Unit {0}) Failed) × (rest : List Entry)
+    × (es ≡ start_call (job_of node name number expires) answer ∷ rest)
     × (is_ok answer ≡ ok) × More rest
 ActFirst node moment name (Say to head part) ok es More =
     (ok ≡ true) × SaidFirst (peer_of node.config to) (sealed node.key (sent_as node moment head part)) es More
@@ -205,6 +229,12 @@ module _ {S : Type 0} (node : NodeConfig) (moment : ℕ) (name : List ℕ) (g : 
       acted_on common (KeepsRecord tried) f leads.0 (e ∷ es) es common refl
       (λ More more. (kept.0, es, ap (λ (x : Entry). x ∷ es) kept.1, kept.2, more))
       (path_of (f leads.0) common es leads.2)
+  path_of (Does (StartsJob number expires) f) common [] leads = absurd cc
+  path_of (Does (StartsJob number expires) f) common (e ∷ es) leads =
+      let started = is_start node.key (job_of node name number expires) leads.0 e leads.1 in
+      acted_on common (StartsJob number expires) f leads.0 (e ∷ es) es (with_start common) refl
+      (λ More more. (started.0, es, ap (λ (x : Entry). x ∷ es) started.1, started.2, more))
+      (path_of (f leads.0) (with_start common) es leads.2)
   path_of (Does (Say to head part) f) common es leads =
       said_on to head part f common (λ c rest more. path_of (f true) c rest more) (peer_of node.config to)
       refl es leads
@@ -214,6 +244,7 @@ module _ {S : Type 0} (node : NodeConfig) (moment : ℕ) (name : List ℕ) (g : 
 -- whom it is said to has a place to listen at
 abbrev pub HasPeer : NodeConfig → TicketAsk → Type 0
 HasPeer node (KeepsRecord tried) = Unit {0}
+HasPeer node (StartsJob number expires) = Unit {0}
 HasPeer node (Say to head part) = IsSome (peer_of node.config to)
 
 abbrev pub HavePeers : NodeConfig → List Act → Type 0
@@ -226,6 +257,8 @@ module _ (node : NodeConfig) (moment : ℕ) (name : List ℕ) where
       → (e : Entry) × (rest : List Entry) × (es ≡ e ∷ rest) × IsCallOf node moment name ask ok e × More rest
   first_call (KeepsRecord tried) ok es More has first =
       (calls.Keep name tried first.0, first.1, first.2, (refl, refl, first.3), first.4)
+  first_call (StartsJob number expires) ok es More has first =
+      (start_call (job_of node name number expires) first.0, first.1, first.2, (refl, first.3), first.4)
   first_call (Say to head part) ok es More has first = by_peer (peer_of node.config to) refl has first.1
     where
       bytes : List ℕ
@@ -281,6 +314,15 @@ module _ (node : NodeConfig) (moment : ℕ) (name : List ℕ) where
         g.1,
         kept.2 ∙ ap (λ (l : List Entry). calls.Keep name tried kept.0 ∷ l) g.2,
         (kept.0, g.0, refl, kept.3, g.3),
+        g.4,
+      )
+  first_parts (StartsJob number expires) ok es More Mine Others goes started =
+      let call : Entry = start_call (job_of node name number expires) started.0 in
+      let g = goes started.1 started.4 in (
+        call ∷ g.0,
+        g.1,
+        started.2 ∙ ap (λ (l : List Entry). call ∷ l) g.2,
+        (started.0, g.0, refl, started.3, g.3),
         g.4,
       )
   first_parts (Say to head part) ok es More Mine Others goes said =

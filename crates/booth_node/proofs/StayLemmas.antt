@@ -17,24 +17,26 @@ use Rattle.booth_host.specs.declared.entry.Entry.{Entry}
 use Rattle.booth_host.specs.declared.entry.Entry.TheVariants as calls
 use Rattle.booth_raft.specs.Speech.{IsOwn}
 use Rattle.booth_ticket.specs.declared.hands.To.TheVariants.{Client, Member}
-use Rattle.booth_ticket.specs.Acts.{Ask as TicketAsk, Keep as KeepsRecord, Say, Act, IsAct}
+use Rattle.booth_ticket.specs.declared.handling.Service.{Service}
+use Rattle.booth_ticket.specs.Acts.{Ask as TicketAsk, Keep as KeepsRecord, Start as StartsJob, Say, Act, IsAct}
 use Rattle.booth_ticket.specs.declared.waiters.Waiter.{Waiter}
 use Rattle.booth_ticket.specs.Ticket.{TicketState, TicketLeft}
 use Rattle.booth_ticket.specs.Waiting.{spare_in, waiting_at}
 use Rattle.booth_node.specs.declared.event.Event.{Event}
-use Rattle.booth_node.specs.declared.event.Event.TheVariants.{Due}
+use Rattle.booth_node.specs.declared.event.Event.TheVariants.{Due, Over}
 use Rattle.booth_node.specs.declared.node.Turn.{Turn}
 use Rattle.booth_node.specs.declared.node.Turn.TheVariants.{Went, Stopped}
 use Rattle.booth_node.specs.declared.node_config.NodeConfig.{NodeConfig}
 use Rattle.booth_node.specs.declared.state.Common.{Common}
 use Rattle.booth_node.specs.Calls.{IsAmong, IsToldIn, ReachesWaiters}
+use Rattle.booth_node.specs.Jobs.{job_at}
 use Rattle.booth_node.specs.Opening.{AreSetUp, setup_of, setups_from, started_from}
 use Rattle.booth_node.specs.AttributeRequests.{is_ready}
-use Rattle.booth_node.specs.Reaction.{IsDone, acts, acts_as, befalls, dues, due_places, each_due, peer_of, sent_as}
+use Rattle.booth_node.specs.Reaction.{IsDone, acts, acts_as, befalls, dues, due_places, each_due, each_over, peer_of, sent_as}
 use Rattle.booth_node.specs.State.{State, with_ticket}
 use Rattle.booth_node.proofs.DueLemmas.{Each}
 use Rattle.booth_node.proofs.PathLemmas.{ActFirst, SaidFirst, Seen, Split, at_end, path_of, seen_parts, split}
-use Rattle.booth_node.proofs.TalkLemmas.{AllAmong, Among, Fewer, IsTold, Remembers, Tells, due_among, each_joined, setup_stays}
+use Rattle.booth_node.proofs.TalkLemmas.{AllAmong, Among, Fewer, IsTold, Remembers, Tells, due_among, each_joined, over_among, setup_stays}
 
 -- ---- setups
 
@@ -143,6 +145,8 @@ module _ (node : NodeConfig) (moment : ℕ) (name : List ℕ) (setup : Setup) (o
       → ((rest : List Entry) → More rest → Reaches rest)
       → Reaches es
   one_among (KeepsRecord tried) ok es More among first later =
+      subst (λ (l : List Entry). Reaches l) (sym first.2) (tt, later first.1 first.4)
+  one_among (StartsJob number expires) ok es More among first later =
       subst (λ (l : List Entry). Reaches l) (sym first.2) (tt, later first.1 first.4)
   one_among (Say (Member place) head part) ok es More among first later = to_member place head part ok es
       More among first.1 later
@@ -273,6 +277,7 @@ fewer_at (ws ∷ lists) (suc place) stay fewer (suc p) w h = fewer_at lists plac
 reaches_fewer : (node : NodeConfig) (before after : List (List Waiter)) → AllFewer before after → (e : Entry)
     → ReachesWaiters node after e → ReachesWaiters node before e
 reaches_fewer node before after fewer (calls.Keep ticket rec answer) r = tt
+reaches_fewer node before after fewer (calls.Start number ticket handler local expires answer) r = tt
 reaches_fewer node before after fewer (calls.Send peer bytes answer) (inl between) = inl between
 reaches_fewer node before after fewer (calls.Send peer bytes answer) (inr tells_one) =
     inr (record {
@@ -333,7 +338,8 @@ pub record Acted (node : NodeConfig) (moment : ℕ) (state : State) (place : ℕ
   pub common : Common
   pub leads : Leads IsAct
       (befalls ticket (waiting_at state.waiters place) (spare_in state.waiters)
-      (is_ready node state.attributes place) event moment) did (Ends left)
+      (is_ready node state.attributes place) (job_at node place state.common) event
+      moment) did (Ends left)
   pub seen : Seen node moment ticket.setup.ticket did es
   pub undropped : common.drops ≡ state.common.drops
   pub is : after ≡ with_ticket state place common left
@@ -347,7 +353,8 @@ acted_at node moment state place event ticket es after there leads =
     let p =
     path_of node moment ticket.setup.ticket (λ common left. with_ticket state place common left) after
     (befalls ticket (waiting_at state.waiters place) (spare_in state.waiters)
-    (is_ready node state.attributes place) event moment) state.common es
+    (is_ready node state.attributes place) (job_at node place state.common) event
+    moment) state.common es
     (subst (λ (o : Option TicketState). Leads (IsDone node.key) (acts_as node moment state place event o) es
     (Ends after)) there leads) in
     record {
@@ -368,7 +375,7 @@ acted_set_up node moment state place event ticket es after set_up there acted =
     subst (λ (s : State). AreSetUp node s) (sym acted.is)
     (set_up_kept node state place ticket acted.left acted.common set_up there
     (setup_stays ticket acted.left (waiting_at state.waiters place) (spare_in state.waiters)
-    (is_ready node state.attributes place) moment acted.did event acted.leads))
+    (is_ready node state.attributes place) (job_at node place state.common) moment acted.did event acted.leads))
 
 pub acted_undropped : (node : NodeConfig) (moment : ℕ) (state : State) (place : ℕ) (event : Event)
     (ticket : TicketState)
@@ -401,9 +408,9 @@ acted_remember node moment state place event ticket es after set_up is acted rem
 -- what befalls a ticket reaches members and those that wait for it alone
 abbrev pub TalksAmong : Event → ℕ → Type 0
 TalksAmong event moment =
-    (ticket : TicketState) (left : TicketLeft) (waiters : List Waiter) (spare : ℕ)
-    (ready : GrantKind → Bool) (did : List Act)
-    → Leads IsAct (befalls ticket waiters spare ready event moment) did (Ends left)
+    (ticket : TicketState) (left : TicketLeft) (waiters : List Waiter) (spare : ℕ) (ready : GrantKind → Bool)
+    (job : Option ℕ) (did : List Act)
+    → Leads IsAct (befalls ticket waiters spare ready job event moment) did (Ends left)
     → Tells ticket.setup waiters left.waiters did
 
 pub acts_stay : (node : NodeConfig) (moment : ℕ) (state : State) (place : ℕ) (event : Event)
@@ -423,7 +430,7 @@ acts_stay node moment state place event es after talks set_up leads = by_ticket
         let own = set_up_at node state place ticket set_up is in
         let told =
         talks ticket acted.left (waiting_at state.waiters place) (spare_in state.waiters)
-        (is_ready node state.attributes place) acted.did acted.leads in
+        (is_ready node state.attributes place) (job_at node place state.common) acted.did acted.leads in
         record {
           set_up = acted_set_up node moment state place event ticket es after set_up is acted;
           undropped = acted_undropped node moment state place event ticket es after acted;
@@ -433,6 +440,26 @@ acts_stay node moment state place event es after talks set_up leads = by_ticket
               (fewer_at state.waiters place acted.left.waiters told.fewer);
           remember = acted_remember node moment state place event ticket es after set_up is acted told.remembers;
         }
+
+-- ---- the end of a job
+
+pub each_over_stays : (node : NodeConfig) (moment job : ℕ) (service : Service) (places : List ℕ) (state after : State)
+    (es : List Entry) → AreSetUp node state
+    → Leads (IsDone node.key) (each_over node moment job service places state) es (Ends after)
+    → Stays node state after es
+each_over_stays node moment job service [] state after es set_up leads = stays_here node state after es set_up leads
+each_over_stays node moment job service (place ∷ places) state after es set_up leads =
+    let parts : Split (IsDone node.key) (acts node moment state place (Over job service))
+    (each_over node moment job service places) es after =
+    split (IsDone node.key) (acts node moment state place (Over job service)) (each_over node moment job service places)
+    es after leads in
+    let one =
+    acts_stay node moment state place (Over job service) parts.first parts.mid
+    (λ ticket left waiters spare ready next_job did leads.
+    over_among ticket left waiters spare ready next_job moment did job service leads) set_up
+    parts.to_mid in
+    stays_on node state parts.mid after parts.first parts.later es parts.whole one
+    (each_over_stays node moment job service places parts.mid after parts.later one.set_up parts.to_end)
 
 -- ---- the deadlines
 
@@ -446,8 +473,7 @@ each_due_stays node moment (place ∷ places) state after es set_up leads =
     split (IsDone node.key) (acts node moment state place Due) (each_due node moment places) es after leads in
     let one =
     acts_stay node moment state place Due parts.first parts.mid
-    (λ ticket left waiters spare ready did leads. due_among ticket left waiters spare ready moment did leads)
-    set_up
+    (λ ticket left waiters spare ready job did leads. due_among ticket left waiters spare ready job moment did leads) set_up
     parts.to_mid in
     stays_on node state parts.mid after parts.first parts.later es parts.whole one
     (each_due_stays node moment places parts.mid after parts.later one.set_up parts.to_end)

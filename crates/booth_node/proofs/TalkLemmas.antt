@@ -1,46 +1,49 @@
 -- Whom the acts of a ticket reach: members and the clients that wait for it, but for the reply to who asked, which comes
 -- last.
-use Rattle.std.proofs.Common.{◌≡◌, ◌⊎◌, inl, inr, ℕ, Bool, true, false, List, [], ◌∷◌, ◌++◌, refl, sym, ap, ◌∙◌, subst, append_assoc, append-nil, if◌then◌else◌}
-use Rattle.std.specs.Prelude.{Option, Some, None}
+use Rattle.std.proofs.Common.{◌≡◌, ◌⊎◌, inl, inr, ℕ, ◌/◌, ◌&&◌, Bool, true, false, List, [], ◌∷◌, ◌++◌, refl, sym, ap, ◌∙◌, subst, append_assoc, append-nil, if◌then◌else◌}
+use Rattle.std.specs.Prelude.{Option, Some, None, nat_le}
 use Rattle.std.specs.List.{filter}
 use Rattle.std.specs.Option.{is_none}
 use Rattle.booth_base.specs.declared.address.Peer.{Peer}
-use Rattle.booth_base.specs.Tree.{Deeds, Ends, Leads}
+use Rattle.booth_base.specs.Tree.{Deeds, Ends, Does, Leads}
 use Rattle.booth_conf.specs.declared.tickets.GrantKind.{GrantKind}
 use Rattle.booth_conf.specs.declared.tickets.GrantKind.TheVariants.{Auto, Manual}
 use Rattle.booth_rec.specs.declared.record.Record.{Record}
 use Rattle.booth_wire.specs.declared.command.Cmd.{Cmd}
 use Rattle.booth_wire.specs.declared.command.Cmd.TheVariants.{RGnt, RRvk}
-use Rattle.booth_wire.specs.declared.codes.reasons.TheConstants.{ADMN, TLST}
+use Rattle.booth_wire.specs.declared.codes.reasons.TheConstants.{ADMN, LOCF, TLST}
 use Rattle.booth_wire.specs.declared.message.Head.{Head}
 use Rattle.booth_wire.specs.declared.message.TicketPart.{TicketPart}
 use Rattle.booth_wire.specs.declared.message.Setup.{Setup}
 use Rattle.booth_wire.specs.declared.message.Say.{Say as Words}
 use Rattle.booth_wire.specs.declared.message.Say.TheVariants as words
-use Rattle.booth_raft.specs.declared.deed.Note.TheVariants.{Asked as WasAsked, Unready}
+use Rattle.booth_raft.specs.declared.deed.Note.TheVariants.{Asked as WasAsked, AskFailed as AcquisitionFailed, JobOver as JobIsOver, Unready}
 use Rattle.booth_raft.specs.declared.deed.Told.{Told}
 use Rattle.booth_raft.specs.declared.deed.Told.TheVariants as tells
 use Rattle.booth_raft.specs.declared.deed.Want.{Want}
 use Rattle.booth_raft.specs.declared.deed.Want.TheVariants as wants
 use Rattle.booth_raft.specs.declared.view.View.{View}
-use Rattle.booth_raft.specs.AskAndRenew.{acquisition_failed, are_terms_spent, ask, finish}
+use Rattle.booth_raft.specs.AskAndRenew.{acquisition_failed, are_terms_spent, ask, finish, renew}
 use Rattle.booth_raft.specs.Deadlines.{due_now, greeted, hello}
-use Rattle.booth_raft.specs.GainReleaseLost.{release}
-use Rattle.booth_raft.specs.Members.{is_working}
+use Rattle.booth_raft.specs.GainReleaseLost.{lost, own_end, release}
+use Rattle.booth_raft.specs.Members.{is_promised_elsewhere, is_working}
 use Rattle.booth_raft.specs.Messages.{head_of, state_part}
 use Rattle.booth_raft.specs.Notes.{handler_failed, noted}
 use Rattle.booth_raft.specs.OtherMessages.{hear}
 use Rattle.booth_raft.specs.Outcome.{Outcome, quiet, telling}
 use Rattle.booth_raft.specs.Speech.{IsOwn, IsSpeech, Speaks}
-use Rattle.booth_raft.proofs.FactsLemmas.{on_cond}
+use Rattle.booth_raft.proofs.FactsLemmas.{on_cond, on_role}
 use Rattle.booth_raft.proofs.SpeechLemmas.{rules_speak}
 use Rattle.booth_ticket.specs.declared.hands.To.TheVariants.{Client, Member}
 use Rattle.booth_ticket.specs.declared.request.Request.{Request}
 use Rattle.booth_ticket.specs.declared.request.Wish.{Wish}
 use Rattle.booth_ticket.specs.declared.request.Wish.TheVariants.{Grant, Revoke}
 use Rattle.booth_ticket.specs.declared.waiters.Waiter.{Waiter}
-use Rattle.booth_ticket.specs.Acts.{Ask, Keep, Say, Act, IsAct}
-use Rattle.booth_ticket.specs.Automatic.{Left, acquire, take_over, ends, follow, hear_message, role_due, rule_due, tick}
+use Rattle.booth_ticket.specs.declared.handling.Service.{Service}
+use Rattle.booth_ticket.specs.declared.handling.Service.TheVariants.{CanRun, CannotRun}
+use Rattle.booth_ticket.specs.Acts.{Ask, Keep, Start, Say, Act, IsAct}
+use Rattle.booth_ticket.specs.Automatic.{Left, end_job, ends, follow, hear_message, role_due, rule_due, take_over, tick}
+use Rattle.booth_ticket.specs.Handling.{acquire, acquires, checks, goes_on, is_job, job_over, leads_on, renews_by, works, works_on}
 use Rattle.booth_ticket.specs.Keeping.{carry_out, keep_of, keep_once, say_last}
 use Rattle.booth_ticket.specs.Requests.{grant, grant_result, refused_grant, refused_revoke, replies, reply, reply_cmd, revoke, revoke_result, wish}
 use Rattle.booth_ticket.specs.ManualRequests.{manual_reply_part}
@@ -48,11 +51,11 @@ use Rattle.booth_ticket.specs.Saying.{others, places_in, say, say_back, say_each
 use Rattle.booth_ticket.specs.Ticket.{TicketState, TicketLeft, Known, Automatic, Manual as IsManual, by_rules, left_as}
 use Rattle.booth_ticket.specs.Waiting.{joined, joins, result_for, staying, tell_each, tell_one, waiter_of}
 use Rattle.booth_node.specs.declared.event.Event.{Event}
-use Rattle.booth_node.specs.declared.event.Event.TheVariants.{Due, Heard, Asked}
+use Rattle.booth_node.specs.declared.event.Event.TheVariants.{Due, Heard, Asked, Over}
 use Rattle.booth_node.specs.Calls.{IsAmong, IsOutcome}
 use Rattle.booth_node.specs.Reaction.{befalls}
 use Rattle.booth_node.proofs.DueLemmas.{Each}
-use Rattle.booth_node.proofs.ManualTalkLemmas.{AllToMembers, ToMembers, asked_by_hand, due_by_hand, heard_by_hand}
+use Rattle.booth_node.proofs.ManualTalkLemmas.{AllToMembers, ToMembers, asked_by_hand, due_by_hand, heard_by_hand, over_by_hand}
 use Rattle.booth_node.proofs.PathLemmas.{Split, at_end, split}
 
 -- one of these clients that wait is told what became of its grant
@@ -94,6 +97,7 @@ Remembers setup waiters stay acts =
 -- what is asked reaches members and those that wait alone
 abbrev pub Among : Setup → List Waiter → Ask → Type 0
 Among setup waiters (Keep tried) = Unit {0}
+Among setup waiters (Start job expires) = Unit {0}
 Among setup waiters (Say (Member place) head part) = IsOwn setup head part
 Among setup waiters (Say (Client peer) head part) = TellsOne setup waiters peer head
 
@@ -358,41 +362,130 @@ module _ (setup : Setup) (waiters : List Waiter) (left : Left) where
       (rules_speak.heard setup view from head part now head.cmd) leads in
       ended now done.0 acts done.1
 
-  acquires : (view : View) (reason now : ℕ) → Speaks setup (acquire setup view reason now)
-  acquires view reason now =
+  acquires_speak : (view : View) (reason now : ℕ) → Speaks setup (acquire setup view reason now)
+  acquires_speak view reason now =
       on_cond (Speaks setup) (are_terms_spent view)
       (telling (acquisition_failed setup view now) tells.AskFailed)
       (ask view reason now) tt (rules_speak.asked setup view reason now)
 
-  takes_over : (view : View) (ready : Bool) (now : ℕ) → Speaks setup (take_over setup view ready now)
-  takes_over view ready now =
-      on_cond (Speaks setup) ready (acquire setup view TLST now) (quiet (noted setup view now Unready))
-      (acquires view TLST now) tt
+  works_speak : (view : View) (job reason now : ℕ) (ok : Bool) → Speaks setup (works setup view job reason now ok)
+  works_speak view job reason now true = tt
+  works_speak view job reason now false = tt
 
-  follows : (outcome : Outcome) (want : Want) (ready : Bool) (now : ℕ) → Speaks setup outcome
-      → Speaks setup (follow setup outcome want ready now)
-  follows outcome wants.Nothing ready now speaks = speaks
-  follows outcome wants.Renew ready now speaks = rules_speak.renewed setup outcome.view now
-  follows outcome wants.Acquire ready now speaks = takes_over outcome.view ready now
+  checks_speak : (view : View) (job now : ℕ) (ok : Bool) → Speaks setup (checks setup view job now ok)
+  checks_speak view job now true = tt
+  checks_speak view job now false = rules_speak.released setup view LOCF now
 
-  role_speaks : (view : View) (ready : Bool) (now : ℕ) → Speaks setup (role_due setup view ready now)
-  role_speaks view ready now =
-      on_cond (Speaks setup) (is_working view.role) (quiet (handler_failed setup view now))
-      (rule_due setup view ready now) tt
-      (follows (due_now setup view now) (due_now setup view now).deed.want ready now
-      (rules_speak.due setup view now))
+  -- a handler's start, and the outcome of its answer
+  started_talks : (job expires : ℕ) (outcome : Bool → Outcome) (rest : Outcome → Deeds Ask Left) (acts : List Act)
+      → ((ok : Bool) → Speaks setup (outcome ok))
+      → Leads IsAct (Does (Start job expires) (λ ok. rest (outcome ok))) acts (Ends left)
+      → (first : Outcome) × Speaks setup first × Talks setup waiters acts (rest first) left
+  started_talks job expires outcome rest [] speaks leads = absurd cc
+  started_talks job expires outcome rest (act ∷ acts) speaks leads =
+      let first : Outcome = outcome leads.0 in (
+        first,
+        speaks leads.0,
+        talks_more (rest first) act acts (same_ask (Start job expires) (Start job expires) leads.0 act leads.1 tt)
+            (talks_none (rest first) acts leads.2),
+      )
 
-  due_talks : (view : View) (ready : Bool) (now : ℕ) (acts : List Act)
-      → Leads IsAct (tick setup view waiters ready now) acts (Ends left)
-      → Tells setup waiters left.waiters acts
-  due_talks view ready now acts leads =
-      let o : Outcome = role_due setup (greeted view) ready now in
-      let role : Deeds Ask Left = carry_out setup None now o (ends setup now waiters) in
+  pub acquires_talk : (view : View) (job : Option ℕ) (reason now : ℕ) (rest : Outcome → Deeds Ask Left) (acts : List Act)
+      → Leads IsAct (acquires setup view job reason now rest) acts (Ends left)
+      → (first : Outcome) × Speaks setup first × Talks setup waiters acts (rest first) left
+  acquires_talk view None reason now rest acts leads =
+      let first : Outcome = acquire setup view reason now in
+      (first, acquires_speak view reason now, talks_none (rest first) acts leads)
+  acquires_talk view (Some job) reason now rest acts leads =
+      started_talks job 0 (works setup view job reason now) rest acts (works_speak view job reason now) leads
+
+  renews_talk : (view : View) (job : Option ℕ) (now : ℕ) (rest : Outcome → Deeds Ask Left) (acts : List Act)
+      → Leads IsAct (renews_by setup view job now rest) acts (Ends left)
+      → (first : Outcome) × Speaks setup first × Talks setup waiters acts (rest first) left
+  renews_talk view None now rest acts leads =
+      let first : Outcome = renew setup view now in
+      (first, rules_speak.renewed setup view now, talks_none (rest first) acts leads)
+  renews_talk view (Some job) now rest acts leads =
+      started_talks job (own_end view / 1000) (checks setup view job now) rest acts (checks_speak view job now) leads
+
+  takes_over_talk : (view : View) (ready : Bool) (job : Option ℕ) (now : ℕ) (rest : Outcome → Deeds Ask Left)
+      (acts : List Act) → Leads IsAct (take_over setup view ready job now rest) acts (Ends left)
+      → (first : Outcome) × Speaks setup first × Talks setup waiters acts (rest first) left
+  takes_over_talk view true job now rest acts leads = acquires_talk view job TLST now rest acts leads
+  takes_over_talk view false job now rest acts leads =
+      let first : Outcome = quiet (noted setup view now Unready) in (first, tt, talks_none (rest first) acts leads)
+
+  follows_talk : (outcome : Outcome) (want : Want) (ready : Bool) (job : Option ℕ) (now : ℕ) (rest : Outcome → Deeds Ask Left)
+      (acts : List Act) → Speaks setup outcome
+      → Leads IsAct (follow setup outcome want ready job now rest) acts (Ends left)
+      → (first : Outcome) × Speaks setup first × Talks setup waiters acts (rest first) left
+  follows_talk outcome wants.Nothing ready job now rest acts speaks leads =
+      (outcome, speaks, talks_none (rest outcome) acts leads)
+  follows_talk outcome wants.Renew ready job now rest acts speaks leads =
+      renews_talk outcome.view (if setup.site then job else None) now rest acts leads
+  follows_talk outcome wants.Acquire ready job now rest acts speaks leads =
+      takes_over_talk outcome.view ready job now rest acts leads
+
+  role_talks : (view : View) (ready : Bool) (job : Option ℕ) (now : ℕ) (rest : Outcome → Deeds Ask Left) (acts : List Act)
+      → Leads IsAct (role_due setup view ready job now rest) acts (Ends left)
+      → (first : Outcome) × Speaks setup first × Talks setup waiters acts (rest first) left
+  role_talks view ready job now rest acts leads = by_test (is_working view.role) leads
+    where
+      failed : Outcome
+      failed = telling (handler_failed setup view now) tells.HandlerFailed
+
+      by_test : (b : Bool)
+          → Leads IsAct (if b then rest failed else rule_due setup view ready job now rest) acts (Ends left)
+          → (first : Outcome) × Speaks setup first × Talks setup waiters acts (rest first) left
+      by_test true given = (failed, tt, talks_none (rest failed) acts given)
+      by_test false given =
+          follows_talk (due_now setup view now) (due_now setup view now).deed.want ready job now rest acts
+          (rules_speak.due setup view now) given
+
+  due_talks : (view : View) (ready : Bool) (job : Option ℕ) (now : ℕ) (acts : List Act)
+      → Leads IsAct (tick setup view waiters ready job now) acts (Ends left) → Tells setup waiters left.waiters acts
+  due_talks view ready job now acts leads =
+      let goes : Outcome → Deeds Ask Left = λ o. carry_out setup None now o (ends setup now waiters) in
+      let role : Deeds Ask Left = role_due setup (greeted view) ready job now goes in
       let greeting = said None (hello setup view now) role acts (rules_speak.greeted setup view now) leads in
+      let chosen = role_talks (greeted view) ready job now goes greeting.later greeting.leads in
       let done =
-      carried None now o (ends setup now waiters) greeting.later (role_speaks (greeted view) ready now)
-      greeting.leads in
-      ended now done.0 acts (talks_on role (ends setup now waiters done.0) acts greeting done.1)
+      carried None now chosen.0 (ends setup now waiters) chosen.2.later chosen.1 chosen.2.leads in
+      ended now done.0 acts
+      (talks_on role (ends setup now waiters done.0) acts greeting
+      (talks_on (goes chosen.0) (ends setup now waiters done.0) greeting.later chosen.2 done.1))
+
+  -- ---- the end of a job
+
+  works_on_speak : (view : View) (service : Service) (now : ℕ) → Speaks setup (works_on setup view service now)
+  works_on_speak view CanRun now =
+      on_cond (Speaks setup) (is_promised_elsewhere view.promise setup.me now)
+      (telling (noted setup view now AcquisitionFailed) tells.AskFailed)
+      (acquire setup view view.reason now) tt (acquires_speak view view.reason now)
+  works_on_speak view CannotRun now = tt
+
+  leads_on_speak : (view : View) (service : Service) (now : ℕ) → Speaks setup (leads_on setup view service now)
+  leads_on_speak view CanRun now =
+      on_cond (Speaks setup) (nat_le (own_end view) now) (telling (lost setup view now) tells.Lost)
+      (renew setup view now) tt (rules_speak.renewed setup view now)
+  leads_on_speak view CannotRun now =
+      on_cond (Speaks setup) (nat_le (own_end view) now) (telling (lost setup view now) tells.Lost)
+      (release view LOCF now) tt (rules_speak.released setup view LOCF now)
+
+  pub job_speaks : (view : View) (job : ℕ) (service : Service) (now : ℕ) → Speaks setup (job_over setup view job service now)
+  job_speaks view job service now =
+      on_cond (Speaks setup) (setup.site && is_job view.job job) (goes_on setup view service now) (quiet view)
+      (on_role (Speaks setup) view.role (quiet view) (works_on setup view service now) (quiet view)
+      (leads_on setup (noted setup view now JobIsOver) service now) tt (works_on_speak view service now) tt
+      (leads_on_speak (noted setup view now JobIsOver) service now)) tt
+
+  over_talks : (view : View) (job : ℕ) (service : Service) (now : ℕ) (acts : List Act)
+      → Leads IsAct (end_job setup view waiters job service now) acts (Ends left)
+      → Tells setup waiters left.waiters acts
+  over_talks view job service now acts leads =
+      let o : Outcome = job_over setup view job service now in
+      let done = carried None now o (ends setup now waiters) acts (job_speaks view job service now) leads in
+      ended now done.0 acts done.1
 
 -- ---- a client's request
 
@@ -477,19 +570,20 @@ module _ (setup : Setup) (waiters : List Waiter) (left : Left) (request : Reques
       behind w (inl h) = inl h
       behind w (inr told) = inr (told_behind setup w talks.first talks.later acts talks.whole told)
 
-  granted : (view : View) (refused : Option ℕ) (acts : List Act)
-      → Leads IsAct (grant setup view request.options refused now (replies setup waiters request cmd now))
+  granted : (view : View) (refused : Option ℕ) (job : Option ℕ) (acts : List Act)
+      → Leads IsAct (grant setup view request.options refused job now (replies setup waiters request cmd now))
       acts (Ends left)
       → Replies setup waiters left.waiters request cmd acts
-  granted view (Some result) acts leads =
+  granted view (Some result) job acts leads =
       told_and_replied result (quiet view) acts (talks_none setup waiters left _ acts leads)
-  granted view None acts leads =
-      let o : Outcome = acquire setup (noted setup view now WasAsked) ADMN now in
-      let done =
-      carried setup waiters left None now o
-      (λ last. replies setup waiters request cmd now (grant_result request.options last.deed.told) last) acts
-      (acquires setup waiters left (noted setup view now WasAsked) ADMN now) leads in
-      told_and_replied (grant_result request.options done.0.deed.told) done.0 acts done.1
+  granted view None job acts leads =
+      let tell_all : Outcome → Deeds Ask Left =
+      λ last. replies setup waiters request cmd now (grant_result request.options last.deed.told) last in
+      let goes : Outcome → Deeds Ask Left = λ o. carry_out setup None now o tell_all in
+      let chosen = acquires_talk setup waiters left (noted setup view now WasAsked) job ADMN now goes acts leads in
+      let done = carried setup waiters left None now chosen.0 tell_all chosen.2.later chosen.1 chosen.2.leads in
+      told_and_replied (grant_result request.options done.0.deed.told) done.0 acts
+      (talks_on setup waiters left (goes chosen.0) (tell_all done.0) acts chosen.2 done.1)
 
   revoked : (view : View) (refused : Option ℕ) (acts : List Act)
       → Leads IsAct (revoke setup view refused now (replies setup waiters request cmd now)) acts (Ends left)
@@ -504,17 +598,17 @@ module _ (setup : Setup) (waiters : List Waiter) (left : Left) (request : Reques
       (rules_speak.released setup view ADMN now) leads in
       told_and_replied (revoke_result done.0.deed.told) done.0 acts done.1
 
-module _ (setup : Setup) (waiters : List Waiter) (spare : ℕ) (ready : Bool) (left : Left) (request : Request)
-    (now : ℕ) where
-  pub asked_replies : (view : View) (wished : Wish) (acts : List Act)
-      → Leads IsAct (wish setup view waiters spare ready request wished now) acts (Ends left)
-      → Replies setup waiters left.waiters request (reply_cmd wished) acts
-  asked_replies view Grant acts leads =
-      granted setup waiters left request RGnt now view
-      (refused_grant setup view spare ready request.options now) acts leads
-  asked_replies view Revoke acts leads =
-      revoked setup waiters left request RRvk now view (refused_revoke setup view request.options now) acts
-      leads
+module _ (setup : Setup) (waiters : List Waiter) (spare : ℕ) (ready : Bool) (job : Option ℕ) (left : Left) (request : Request) (now : ℕ)
+  where
+    pub asked_replies : (view : View) (wished : Wish) (acts : List Act)
+        → Leads IsAct (wish setup view waiters spare ready job request wished now) acts (Ends left)
+        → Replies setup waiters left.waiters request (reply_cmd wished) acts
+    asked_replies view Grant acts leads =
+        granted setup waiters left request RGnt now view (refused_grant setup view spare ready request.options now) job
+        acts leads
+    asked_replies view Revoke acts leads =
+        revoked setup waiters left request RRvk now view (refused_revoke setup view request.options now) acts
+        leads
 
 -- ---- what befalls a ticket
 
@@ -527,6 +621,7 @@ members_among setup waiters (act ∷ acts) members =
   where
     one : (ask : Ask) → ToMembers setup ask → Among setup waiters ask
     one (Keep tried) member = tt
+    one (Start job expires) member = tt
     one (Say (Member place) head part) member = member
     one (Say (Client peer) head part) member = absurd member
 
@@ -560,11 +655,11 @@ ruled setup deeds acts left leads =
     )
 
 module _ (ticket : TicketState) (left : TicketLeft) (waiters : List Waiter) (spare : ℕ) (ready : GrantKind → Bool)
-    (now : ℕ) (acts : List Act) where
+    (job : Option ℕ) (now : ℕ) (acts : List Act) where
   -- this befell the ticket, by what its rules know of it
   abbrev Befell : Known → Event → Type 0
   Befell known event =
-      Leads IsAct (befalls (record { setup = ticket.setup; known = known }) waiters spare ready event now) acts
+      Leads IsAct (befalls (record { setup = ticket.setup; known = known }) waiters spare ready job event now) acts
       (Ends left)
 
   told_so : (end : Left) → left ≡ left_as ticket.setup end → Tells ticket.setup waiters end.waiters acts
@@ -573,43 +668,62 @@ module _ (ticket : TicketState) (left : TicketLeft) (waiters : List Waiter) (spa
       subst (λ (l : TicketLeft). Tells ticket.setup waiters l.waiters acts) (sym is) tells_all
 
   -- what befalls a ticket leaves its setup
-  pub setup_stays : (event : Event) → Leads IsAct (befalls ticket waiters spare ready event now) acts (Ends left)
+  pub setup_stays : (event : Event) → Leads IsAct (befalls ticket waiters spare ready job event now) acts (Ends left)
       → left.ticket.setup ≡ ticket.setup
   setup_stays event leads = by_kind ticket.known event leads
     where
       by_kind : (known : Known) (event : Event) → Befell known event → left.ticket.setup ≡ ticket.setup
       by_kind (Automatic view) Due leads =
           ap (λ (l : TicketLeft). l.ticket.setup)
-          (ruled ticket.setup (tick ticket.setup view waiters (ready Auto) now) acts left leads).2
+          (ruled ticket.setup (tick ticket.setup view waiters (ready Auto) job now) acts left leads).2
       by_kind (Automatic view) (Heard from head part) leads =
           ap (λ (l : TicketLeft). l.ticket.setup)
           (ruled ticket.setup (hear_message ticket.setup view waiters from head part now) acts left leads).2
       by_kind (Automatic view) (Asked request) leads =
           ap (λ (l : TicketLeft). l.ticket.setup)
-          (ruled ticket.setup (wish ticket.setup view waiters spare (ready Manual) request request.wish now) acts
-          left leads).2
+          (ruled ticket.setup (wish ticket.setup view waiters spare (ready Manual) job request request.wish now) acts left
+          leads).2
+      by_kind (Automatic view) (Over number service) leads =
+          ap (λ (l : TicketLeft). l.ticket.setup)
+          (ruled ticket.setup (end_job ticket.setup view waiters number service now) acts left leads).2
       by_kind (IsManual known) Due leads =
           (due_by_hand ticket.setup waiters left acts known leads).1.setup_stays
       by_kind (IsManual known) (Heard from head part) leads =
           (heard_by_hand ticket.setup waiters left acts known from head part leads).1.setup_stays
       by_kind (IsManual known) (Asked request) leads =
           (asked_by_hand ticket.setup waiters left acts known spare (ready Manual) request leads).1.setup_stays
+      by_kind (IsManual known) (Over number service) leads =
+          (over_by_hand ticket.setup waiters left acts known leads).1.setup_stays
 
   -- a deadline and a member's message reach members and those that wait alone
-  pub due_among : Leads IsAct (befalls ticket waiters spare ready Due now) acts (Ends left)
+  pub due_among : Leads IsAct (befalls ticket waiters spare ready job Due now) acts (Ends left)
       → Tells ticket.setup waiters left.waiters acts
   due_among leads = by_kind ticket.known leads
     where
       by_kind : (known : Known) → Befell known Due → Tells ticket.setup waiters left.waiters acts
       by_kind (Automatic view) leads =
-          let r = ruled ticket.setup (tick ticket.setup view waiters (ready Auto) now) acts left leads in
-          told_so r.0 r.2 (due_talks ticket.setup waiters r.0 view (ready Auto) now acts r.1)
+          let r = ruled ticket.setup (tick ticket.setup view waiters (ready Auto) job now) acts left leads in
+          told_so r.0 r.2 (due_talks ticket.setup waiters r.0 view (ready Auto) job now acts r.1)
       by_kind (IsManual known) leads =
           let it = due_by_hand ticket.setup waiters left acts known leads in
           members_told ticket.setup waiters left.waiters acts it.0 it.1.waiters_stay
 
+  -- and so does the end of a job
+  pub over_among : (number : ℕ) (service : Service)
+      → Leads IsAct (befalls ticket waiters spare ready job (Over number service) now) acts (Ends left)
+      → Tells ticket.setup waiters left.waiters acts
+  over_among number service leads = by_kind ticket.known leads
+    where
+      by_kind : (known : Known) → Befell known (Over number service) → Tells ticket.setup waiters left.waiters acts
+      by_kind (Automatic view) leads =
+          let r = ruled ticket.setup (end_job ticket.setup view waiters number service now) acts left leads in
+          told_so r.0 r.2 (over_talks ticket.setup waiters r.0 view number service now acts r.1)
+      by_kind (IsManual known) leads =
+          let it = over_by_hand ticket.setup waiters left acts known leads in
+          members_told ticket.setup waiters left.waiters acts it.0 it.1.waiters_stay
+
   pub heard_among : (from : ℕ) (head : Head) (part : TicketPart)
-      → Leads IsAct (befalls ticket waiters spare ready (Heard from head part) now) acts (Ends left)
+      → Leads IsAct (befalls ticket waiters spare ready job (Heard from head part) now) acts (Ends left)
       → Tells ticket.setup waiters left.waiters acts
   heard_among from head part leads = by_kind ticket.known leads
     where
@@ -624,7 +738,7 @@ module _ (ticket : TicketState) (left : TicketLeft) (waiters : List Waiter) (spa
           members_told ticket.setup waiters left.waiters acts it.0 it.1.waiters_stay
 
   pub asked_replied : (request : Request)
-      → Leads IsAct (befalls ticket waiters spare ready (Asked request) now) acts (Ends left)
+      → Leads IsAct (befalls ticket waiters spare ready job (Asked request) now) acts (Ends left)
       → Replies ticket.setup waiters left.waiters request (reply_cmd request.wish) acts
   asked_replied request leads = by_kind ticket.known leads
     where
@@ -632,11 +746,11 @@ module _ (ticket : TicketState) (left : TicketLeft) (waiters : List Waiter) (spa
           → Replies ticket.setup waiters left.waiters request (reply_cmd request.wish) acts
       by_kind (Automatic view) leads =
           let r =
-          ruled ticket.setup (wish ticket.setup view waiters spare (ready Manual) request request.wish now) acts
+          ruled ticket.setup (wish ticket.setup view waiters spare (ready Manual) job request request.wish now) acts
           left leads in
           subst (λ (l : TicketLeft). Replies ticket.setup waiters l.waiters request (reply_cmd request.wish)
           acts) (sym r.2)
-          (asked_replies ticket.setup waiters spare (ready Manual) r.0 request now view request.wish acts r.1)
+          (asked_replies ticket.setup waiters spare (ready Manual) job r.0 request now view request.wish acts r.1)
       by_kind (IsManual known) leads =
           let it = asked_by_hand ticket.setup waiters left acts known spare (ready Manual) request leads in
           record {

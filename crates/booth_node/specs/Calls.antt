@@ -17,22 +17,27 @@ use Rattle.booth_host.specs.declared.entry.Entry.{Entry}
 use Rattle.booth_host.specs.declared.entry.Entry.TheVariants as calls
 use Rattle.booth_ticket.specs.declared.hands.To.TheVariants.{Member}
 use Rattle.booth_ticket.specs.declared.waiters.Waiter.{Waiter}
-use Rattle.booth_ticket.specs.Acts.{Act, Ask as TicketAsk, Keep as KeepsRecord, Say}
+use Rattle.booth_ticket.specs.Acts.{Act, Ask as TicketAsk, Keep as KeepsRecord, Start as StartsJob, Say}
 use Rattle.booth_ticket.specs.Automatic.{Left}
 use Rattle.booth_ticket.specs.Ticket.{Automatic}
 use Rattle.booth_ticket.specs.Waiting.{waiting_at}
 use Rattle.booth_node.specs.declared.node.Turn.TheVariants.{Went}
 use Rattle.booth_node.specs.declared.node_config.NodeConfig.{NodeConfig}
+use Rattle.booth_node.specs.Jobs.{job_of}
 use Rattle.booth_node.specs.Reaction.{IsDone, dues, peer_of, react, sent_as}
 use Rattle.booth_node.specs.State.{State}
 
 -- ---- calls that are a ticket's acts
 
--- the call is that of what a ticket asks, with this answer: a keep under the ticket's name, or a send of the
--- message, as it is sealed at this moment, to whom it goes
+-- the call is that of what a ticket asks, with this answer: a keep under the ticket's name, a start of its handler, or
+-- a send of the message, as it is sealed at this moment, to whom it goes
 abbrev pub IsCallOf : NodeConfig → ℕ → List ℕ → TicketAsk → Bool → Entry → Type 0
 IsCallOf node moment name (KeepsRecord tried) ok (calls.Keep ticket rec answer) =
     (ticket ≡ name) × (rec ≡ tried) × (is_ok answer ≡ ok)
+IsCallOf node moment name (StartsJob number expires) ok (calls.Start job ticket handler local until answer) =
+    (record { number = job; ticket = ticket; handler = handler; local = local; expires = until }
+    ≡ job_of node name number expires)
+    × (is_ok answer ≡ ok)
 IsCallOf node moment name (Say to head part) ok (calls.Send peer bytes answer) =
     (peer_of node.config to ≡ Some peer) × (bytes ≡ sealed node.key (sent_as node moment head part))
 IsCallOf node moment name ask ok call = ⊥
@@ -99,10 +104,11 @@ pub record IsToldIn (node : NodeConfig) (waiter : Waiter) (entries : List Entry)
   pub whole : entries ≡ before ++ calls.Send waiter.from (sealed node.key letter) answer ∷ after
   pub outcome : IsOutcome node.me waiter letter.head
 
--- a record is kept, or something is said between members or to one of these clients that wait: no other client is
--- reached
+-- a record is kept, a handler is started, or something is said between members or to one of these clients that wait: no other
+-- client is reached
 abbrev pub ReachesWaiters : NodeConfig → List (List Waiter) → Entry → Type 0
 ReachesWaiters node waiters (calls.Keep ticket rec answer) = Unit {0}
+ReachesWaiters node waiters (calls.Start number ticket handler local expires answer) = Unit {0}
 ReachesWaiters node waiters (calls.Send peer bytes answer) =
     IsBetweenMembers node peer bytes ⊎ TellsWaiter node waiters peer bytes
 ReachesWaiters node waiters call = ⊥

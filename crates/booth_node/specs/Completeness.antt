@@ -26,6 +26,7 @@ use Rattle.booth_ticket.specs.Waiting.{joined, spare_in, waiting_at}
 use Rattle.booth_node.specs.declared.node_config.NodeConfig.{NodeConfig}
 use Rattle.booth_node.specs.AttributeRequests.{is_ready}
 use Rattle.booth_node.specs.Calls.{ArrivalDoes, IsCallOf, KeepsFirst, LetsIn}
+use Rattle.booth_node.specs.Jobs.{handler_at}
 use Rattle.booth_node.specs.Opening.{AreSetUp}
 use Rattle.booth_node.specs.State.{State}
 
@@ -60,16 +61,16 @@ abbrev pub grant_of : Peer → PlainMessage → Request
 grant_of from letter =
     record { wish = Grant; from = from; number = letter.head.request; options = letter.head.options }
 
--- A grant that meets no refusal, so that its prerequisites hold, asks every other member for its vote in that turn, and
--- tells the client that it was begun, where the keep of the new term answers Ok and this member is no majority by
--- itself. The client then waits, where it asked to.
+-- A grant of a ticket without a handler that meets no refusal, so that its prerequisites hold, asks every other member for its
+-- vote in that turn, and tells the client that it was begun, where the keep of the new term answers Ok and this member is no
+-- majority by itself. The client then waits, where it asked to.
 abbrev pub GrantsAskAll : Type 0
 GrantsAskAll =
     (node : NodeConfig) (old new : State) (moment : ℕ) (from : Peer) (letter : PlainMessage)
     (entries : List Entry) (place : ℕ) (part : TicketPart) (setup : Setup) (view : View)
     → AreSetUp node old → LetsIn node old moment from letter entries new
     → IsAbout node old letter place part setup view
-    → letter.head.cmd ≡ CGnt
+    → letter.head.cmd ≡ CGnt → handler_at node place ≡ None
     → refused_grant setup view (spare_in old.waiters) (is_ready node old.attributes place Manual)
     letter.head.options moment ≡ None
     → is_majority setup (own_answer setup view moment) ≡ false → KeepsFirst entries

@@ -63,6 +63,6 @@ abbrev pub with_send : Common → To → Bool → Common
 with_send common (Member place) ok = with_counters common place (tried (counters_at common place) ok)
 with_send common (Client peer) ok = common
 
--- nothing was counted
+-- nothing was counted, and no job was started
 abbrev pub nothing_counted : Common
-nothing_counted = record { drops = replicate 8 0; members = replicate MEMBERS no_counts }
+nothing_counted = record { drops = replicate 8 0; members = replicate MEMBERS no_counts; next_job = 1 }

@@ -6,6 +6,7 @@ pub mod State
 pub mod Ours
 pub mod Counting
 pub mod Opening
+pub mod Jobs
 pub mod Replies
 pub mod AttributeRequests
 pub mod Reaction

@@ -1,5 +1,6 @@
 -- What a node does with an arrival and with its deadlines: the deeds of one turn, as a tree.
-use Rattle.std.specs.Prelude.{◌≡◌, ◌-◌, ◌^◌, ℕ, min, max, Bool, true, List, [], ◌∷◌, map, position, slice_get, Option, Some, None, Result, Ok, Err, is_ok}
+use Rattle.std.specs.Prelude.{◌≡◌, ◌-◌, ◌^◌, ℕ, min, max, Bool, true, List, [], ◌∷◌, length, map, position, slice_get, Option, Some, None, Result, Ok, Err, is_ok}
+use Rattle.std.specs.List.{range_with_len}
 use Rattle.booth_base.specs.declared.address.Peer.{Peer}
 use Rattle.booth_base.specs.Tree.{Deeds, Ends, Does, Leads, next}
 use Rattle.booth_conf.specs.Config.{ConfigSays, has_id}
@@ -19,6 +20,7 @@ use Rattle.booth_auth.specs.declared.admission.DropFault.{DropFault}
 use Rattle.booth_auth.specs.Verdict.{verdict}
 use Rattle.booth_auth.specs.Sealed.{stamped, sealed}
 use Rattle.booth_host.specs.declared.host.Failed.{Failed}
+use Rattle.booth_host.specs.declared.host.Job.{Job}
 use Rattle.booth_host.specs.declared.host.Arrival.{Arrival}
 use Rattle.booth_host.specs.declared.host.Arrival.TheVariants as arrivals
 use Rattle.booth_host.specs.declared.entry.Entry.{Entry}
@@ -28,27 +30,32 @@ use Rattle.booth_ticket.specs.declared.hands.To.{To}
 use Rattle.booth_ticket.specs.declared.hands.To.TheVariants as whom
 use Rattle.booth_ticket.specs.declared.request.Request.{Request}
 use Rattle.booth_ticket.specs.declared.waiters.Waiter.{Waiter}
-use Rattle.booth_ticket.specs.Acts.{Ask as TicketAsk, Keep as KeepsRecord, Say}
-use Rattle.booth_ticket.specs.Ticket.{TicketState, TicketLeft, deadline, ticket_asked, ticket_due, ticket_heard}
+use Rattle.booth_ticket.specs.declared.handling.Service.{Service}
+use Rattle.booth_ticket.specs.Handling.{service_of}
+use Rattle.booth_ticket.specs.Acts.{Ask as TicketAsk, Keep as KeepsRecord, Start as StartsJob, Say}
+use Rattle.booth_ticket.specs.Ticket.{TicketState, TicketLeft, deadline, ticket_asked, ticket_due, ticket_heard, ticket_over}
 use Rattle.booth_ticket.specs.Waiting.{spare_in, waiting_at}
 use Rattle.booth_node.specs.declared.attributes.AttrRequest.{AttrRequest}
 use Rattle.booth_node.specs.declared.event.Event.{Event}
-use Rattle.booth_node.specs.declared.event.Event.TheVariants.{Due, Heard, Asked}
+use Rattle.booth_node.specs.declared.event.Event.TheVariants.{Due, Heard, Asked, Over}
 use Rattle.booth_node.specs.declared.node.Turn.{Turn}
 use Rattle.booth_node.specs.declared.node.Turn.TheVariants.{Went, Stopped}
 use Rattle.booth_node.specs.declared.node_config.NodeConfig.{NodeConfig}
 use Rattle.booth_node.specs.declared.state.Common.{Common}
 use Rattle.booth_node.specs.Counting.{dropped, accepted, with_send}
+use Rattle.booth_node.specs.Jobs.{job_at, job_of, with_start}
 use Rattle.booth_node.specs.Replies.{reply_to, request_in}
 use Rattle.booth_node.specs.AttributeRequests.{after_wish, attended_place, attr_letter, attr_request_in, is_ready}
 use Rattle.booth_node.specs.State.{State, with_ticket}
 
 -- ---- what is asked of the host
 
--- A message is as it is sent, with its time; a record is kept under its ticket's name.
+-- A message is as it is sent, with its time; a record is kept under its ticket's name; a job is that of a ticket's
+-- handler.
 pub data Ask : Type 0 where
   Send : Peer → PlainMessage → Ask
   Keep : List ℕ → Record → Ask
+  Start : Job → Ask
 
 -- This entry is what was asked, with this answer: the bytes of a send are the message, sealed with the key where there
 -- is one.
@@ -57,6 +64,9 @@ IsDone key (Send peer letter) ok (calls.Send to bytes answer) =
     (to ≡ peer) × (bytes ≡ sealed key letter) × Fits letter × (ok ≡ is_ok answer)
 IsDone key (Keep name tried) ok (calls.Keep ticket rec answer) =
     (ticket ≡ name) × (rec ≡ tried) × (ok ≡ is_ok answer)
+IsDone key (Start job) ok (calls.Start number ticket handler local expires answer) =
+    (record { number = number; ticket = ticket; handler = handler; local = local; expires = expires } ≡ job)
+    × (ok ≡ is_ok answer)
 IsDone key ask ok entry = ⊥
 
 -- ---- one ticket's deeds, among the others
@@ -81,36 +91,41 @@ abbrev pub sends : {S : Type 0} → Option Peer → PlainMessage → Common → 
 sends None letter common to rest = rest common
 sends (Some peer) letter common to rest = Does (Send peer letter) (λ ok. rest (with_send common to ok))
 
--- The deeds of a ticket as the node's. The ticket goes on by the answers of its keeps, and hears nothing of its sends,
--- which are counted.
+-- The deeds of a ticket as the node's. The ticket goes on by the answers of its keeps and of its starts, each of which uses
+-- up a number, and hears nothing of its sends, which are counted.
 abbrev pub lifted :
     {S : Type 0} → NodeConfig → ℕ → List ℕ → Common → Deeds TicketAsk TicketLeft
     → (Common → TicketLeft → Deeds Ask S) → Deeds Ask S
 lifted node moment name common (Ends left) rest = rest common left
 lifted node moment name common (Does (KeepsRecord tried) goes_on) rest =
     Does (Keep name tried) (λ ok. lifted node moment name common (goes_on ok) rest)
+lifted node moment name common (Does (StartsJob number expires) goes_on) rest =
+    Does (Start (job_of node name number expires))
+    (λ ok. lifted node moment name (with_start common) (goes_on ok) rest)
 lifted node moment name common (Does (Say to head part) goes_on) rest =
     sends (peer_of node.config to) (sent_as node moment head part) common to
     (λ counted. lifted node moment name counted (goes_on true) rest)
 
 -- What befalls a ticket at this moment, for which these clients wait, and for all tickets so many more may; its
--- prerequisites of a kind hold or do not. At a deadline those of a grant by itself are asked for, and at a client's
--- request those of a grant by hand.
-abbrev pub befalls : TicketState → List Waiter → ℕ → (GrantKind → Bool) → Event → ℕ
+-- prerequisites of a kind hold or do not, and it may start its handler as this job, where it has one. At a deadline the
+-- prerequisites of a grant by itself are asked for, and at a client's request those of a grant by hand.
+abbrev pub befalls : TicketState → List Waiter → ℕ → (GrantKind → Bool) → Option ℕ → Event → ℕ
     → Deeds TicketAsk TicketLeft
-befalls ticket waiters spare ready Due moment =
-    ticket_due ticket.setup ticket.known waiters (ready kinds.Auto) moment
-befalls ticket waiters spare ready (Heard from head part) moment =
+befalls ticket waiters spare ready job Due moment =
+    ticket_due ticket.setup ticket.known waiters (ready kinds.Auto) job moment
+befalls ticket waiters spare ready job (Heard from head part) moment =
     ticket_heard ticket.setup ticket.known waiters from head part moment
-befalls ticket waiters spare ready (Asked request) moment =
-    ticket_asked ticket.setup ticket.known waiters spare (ready kinds.Manual) request moment
+befalls ticket waiters spare ready job (Asked request) moment =
+    ticket_asked ticket.setup ticket.known waiters spare (ready kinds.Manual) job request moment
+befalls ticket waiters spare ready job (Over number service) moment =
+    ticket_over ticket.setup ticket.known waiters number service moment
 
 abbrev pub acts_as : NodeConfig → ℕ → State → ℕ → Event → Option TicketState → Deeds Ask State
 acts_as node moment state place event None = Ends state
 acts_as node moment state place event (Some ticket) =
     lifted node moment ticket.setup.ticket state.common
     (befalls ticket (waiting_at state.waiters place) (spare_in state.waiters)
-    (is_ready node state.attributes place) event moment)
+    (is_ready node state.attributes place) (job_at node place state.common) event moment)
     (λ common left. Ends (with_ticket state place common left))
 
 -- what the ticket at a place does
@@ -209,10 +224,22 @@ met node moment state from (Attends ticket request) =
 met node moment state from (Answers letter) = Does (Send from letter) (λ ok. Ends state)
 met node moment state from Rests = Ends state
 
+-- the end of a job is told to the tickets at these places, one after the other
+abbrev pub each_over : NodeConfig → ℕ → ℕ → Service → List ℕ → State → Deeds Ask State
+each_over node moment job service [] state = Ends state
+each_over node moment job service (place ∷ places) state =
+    next (acts node moment state place (Over job service)) (each_over node moment job service places)
+
+-- the places of all tickets, in the order of the configuration
+abbrev pub all_places : State → List ℕ
+all_places state = range_with_len 0 (length state.tickets)
+
 -- the row of an arrival; a failed next counts as Quiet
 abbrev pub arrived : NodeConfig → ℕ → State → Result Arrival Failed → List ℕ → Deeds Ask State
 arrived node moment state (Ok (arrivals.Datagram from)) bytes =
     met node moment state from (action node moment state.tickets state.common from bytes)
+arrived node moment state (Ok (arrivals.Handler job status)) bytes =
+    each_over node moment job (service_of status) (all_places state) state
 arrived node moment state answer bytes = Ends state
 
 abbrev pub turn_end : Result Arrival Failed → Turn

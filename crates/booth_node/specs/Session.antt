@@ -7,11 +7,12 @@ use Rattle.booth_wire.specs.Spelling.{Fits}
 use Rattle.booth_auth.specs.Sealed.{sealed}
 use Rattle.booth_host.specs.declared.host.Failed.{Failed}
 use Rattle.booth_host.specs.declared.host.Arrival.{Arrival}
+use Rattle.booth_host.specs.declared.host.Job.{Job}
 use Rattle.booth_host.specs.declared.entry.Entry.{Entry}
 use Rattle.booth_host.specs.declared.entry.Entry.TheVariants as calls
 use Rattle.booth_node.specs.declared.node_config.NodeConfig.{NodeConfig}
 use Rattle.booth_node.specs.Opening.{opened}
-use Rattle.booth_node.specs.Reaction.{Ask, Send, Keep, IsDone, used, react}
+use Rattle.booth_node.specs.Reaction.{Ask, Send, Keep, Start, IsDone, used, react}
 use Rattle.booth_node.specs.State.{State}
 
 -- ---- entries
@@ -22,6 +23,7 @@ pub data CutCall : Type 0 where
   CutNow : CutCall
   CutSend : (to : Peer) (bytes : List ℕ) → CutCall
   CutKeep : (ticket : List ℕ) (tried : Record) → CutCall
+  CutStart : (job : Job) → CutCall
 
 -- What a member does: it starts, with one reading and the record of each ticket in file order, as they were read; it
 -- makes a call, with its answer; or it makes a call that is cut, which is its session's last.
@@ -39,10 +41,11 @@ pub data Stand : Type 0 where
   Doing : (node : NodeConfig) (deeds : Deeds Ask State) → Stand
   Hearing : (node : NodeConfig) (old : State) (answer : Result Arrival Failed) (bytes : List ℕ) → Stand
 
--- whether a call did what was asked; sends and keeps alone say so
+-- whether a call did what was asked; sends, keeps and starts alone say so
 abbrev pub did : Entry → Bool
 did (calls.Send to bytes answer) = is_ok answer
 did (calls.Keep ticket rec answer) = is_ok answer
+did (calls.Start number ticket handler local expires answer) = is_ok answer
 did call = true
 
 -- a next with a wait of 100 ms begins a turn, then the clock is read, and then each deed of the reaction is done
@@ -63,6 +66,7 @@ after_call stand call = stand
 abbrev pub IsNextDeed : NodeConfig → Ask → CutCall → Type 0
 IsNextDeed node (Send peer letter) (CutSend to bytes) = (to ≡ peer) × (bytes ≡ sealed node.key letter) × Fits letter
 IsNextDeed node (Keep name tried) (CutKeep ticket rec) = (ticket ≡ name) × (rec ≡ tried)
+IsNextDeed node (Start asked) (CutStart job) = job ≡ asked
 IsNextDeed node ask call = ⊥
 
 abbrev pub MayBeCut : Stand → CutCall → Type 0

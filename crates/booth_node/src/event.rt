@@ -1,5 +1,5 @@
 //! What befalls a ticket in a turn.
-use booth_ticket::Request;
+use booth_ticket::{Request, Service};
 use booth_wire::{Head, TicketPart};
 
 /// What befalls a ticket in a turn.
@@ -15,4 +15,9 @@ pub(crate) enum Event {
     },
     /// A client asked something of it.
     Asked(Request),
+    /// A job of a handler is over.
+    Over {
+        job: u64,
+        service: Service,
+    },
 }

@@ -19,6 +19,7 @@ ghost use Rattle.booth_node.specs.State.{State};
 
 use crate::attributes::is_ready;
 use crate::event::Event;
+use crate::jobs::{job_at, job_of};
 use crate::{Common, NodeConfig};
 use booth_attr::Attrs;
 use booth_auth::seal;
@@ -185,6 +186,13 @@ impl<'a, H: Host> Hands for NodeHands<'a, H> {
         answer.is_ok()
     }
 
+    fn start(&mut self, job: u64, expires: u64) -> bool {
+        let job = job_of(self.node, self.name, job, expires);
+        let answer = self.host.start(&job);
+        *self.common = self.common.with_start();
+        answer.is_ok()
+    }
+
     fn say(&mut self, to: To, head: &Head, part: &TicketPart) {
         self.say_anew(to, head, part);
     }
@@ -200,10 +208,12 @@ impl<'a, H: Host> Hands for NodeHands<'a, H> {
     }
 }
 
-/// What befalls the ticket at the place `list`, by these hands. Its clients wait there, and its attributes are there.
+/// What befalls the ticket at the place `list`, by these hands. Its clients wait there, its attributes are there, and its
+/// handler may be started as this job, where it has one.
 fn befall<H: Host>(
     ticket: &mut Ticket,
     event: &Event,
+    job: Option<u64>,
     list: u32,
     waiters: &mut Waiters,
     attrs: &Attrs,
@@ -220,7 +230,7 @@ fn befall<H: Host>(
         → GrewSome (λ es. Leads (IsDone hands.old.node.now.key)
         (lifted hands.old.node.now hands.old.now hands.old.name.now hands.old.common.now
         (befalls ticket.old (waiting_at waiters.old list) (spare_in waiters.old)
-        (is_ready hands.old.node.now attrs.now list) event.now hands.old.now) rest)
+        (is_ready hands.old.node.now attrs.now list) job event.now hands.old.now) rest)
         es (rest hands.new.common.now
         (record { ticket = ticket.new; waiters = waiting_at waiters.new list })))
         (H.past hands.old.host.now) (H.past hands.new.host.now) }
@@ -232,14 +242,17 @@ fn befall<H: Host>(
     match event {
         Event::Due => {
             let ready = is_ready(hands.node, attrs, list, GrantKind::Auto);
-            ticket.tick(now, ready, list, waiters, hands)
+            ticket.tick(now, ready, job, list, waiters, hands)
         }
         Event::Heard { from, head, part } => {
             ticket.hear(now, *from, head, part, list, waiters, hands)
         }
         Event::Asked(request) => {
             let ready = is_ready(hands.node, attrs, list, GrantKind::Manual);
-            ticket.client(now, request, ready, list, waiters, hands)
+            ticket.client(now, request, ready, job, list, waiters, hands)
+        }
+        Event::Over { job, service } => {
+            ticket.handler_done(now, *job, *service, list, waiters, hands)
         }
     }
 }
@@ -284,9 +297,11 @@ pub(crate) fn act_at<H: Host>(
     ensures others { IsSetAt tickets.old.items place tickets.new.items }
     ensures lists { length waiters.new ≡ length waiters.old }
 {
+    let job = job_at(hands.node, place as usize, hands.common);
     befall(
         &mut tickets[place as usize],
         event,
+        job,
         place,
         waiters,
         attrs,

@@ -6,6 +6,7 @@ mod attributes;
 mod deadlines;
 mod event;
 mod hands;
+mod jobs;
 pub mod laws;
 mod lists;
 mod node;

@@ -5,10 +5,11 @@ ghost use Rattle.booth_node.specs.Opening.{opened};
 ghost use Rattle.booth_host.specs.Past.{GrewSome};
 ghost use Rattle.booth_base.specs.Tree.{Deeds, Leads};
 ghost use Rattle.booth_node.specs.Counting.{counters_at};
-ghost use Rattle.booth_node.specs.Reaction.{IsDone, action, met, arrived, turn_end, used, dues, each_due, due_places, deadline_of, IsTurn};
+ghost use Rattle.booth_node.specs.Reaction.{IsDone, action, all_places, met, arrived, turn_end, used, dues, each_due, each_over, due_places, deadline_of, IsTurn};
 ghost use Rattle.booth_node.specs.State.{State};
 
 use crate::deadlines::{drain, expire_each, look_again};
+use crate::jobs::end_each;
 use crate::opening::{start_tickets, start_wheel};
 use crate::reply_buffer::ReplyBuffer;
 use crate::state::READINGS_END;
@@ -21,7 +22,7 @@ use booth_chain::Wheel;
 use booth_conf::Config;
 use booth_host::{Arrival, Datagram, Failed, Host};
 use booth_rec::Record;
-use booth_ticket::Waiters;
+use booth_ticket::{Service, Waiters};
 use std::alloc::{AllocError, Global};
 
 /// How long a turn waits for an arrival, in milliseconds.
@@ -122,6 +123,43 @@ impl Node {
         self.last_reading = self.last_reading.max(reading.min(READINGS_END - 1));
     }
 
+    // Does what the datagram of this peer demands at this turn's moment.
+    fn receive<H: Host>(&mut self, from: Peer, host: &mut H)
+        ensures past { GrewSome (λ es. Leads {S = State} (IsDone (node_config self.old).key)
+            (met (node_config self.old) (state_of self.old).last_reading (state_of self.old) from
+            (action (node_config self.old) (state_of self.old).last_reading (state_of self.old).tickets
+            (state_of self.old).common from self.old.datagram))
+            es (Deeds.Ends (state_of self.new))) (H.past host.old) (H.past host.new) }
+        ensures later { H.faults host.old ≤ H.faults host.new }
+        ensures node { node_config self.new ≡ node_config self.old }
+        ensures reading { (state_of self.new).last_reading ≡ (state_of self.old).last_reading }
+    {
+        let place = self
+            .table
+            .receive(from, self.datagram.bytes(), self.last_reading, host);
+        look_again(&self.table, &mut self.wheel, place);
+    }
+
+    // A job of a handler is over at this turn's moment.
+    fn end_jobs<H: Host>(&mut self, job: u64, service: Service, host: &mut H)
+        ensures past { GrewSome (λ es. Leads {S = State} (IsDone (node_config self.old).key)
+            (each_over (node_config self.old) (state_of self.old).last_reading job service
+            (all_places (state_of self.old)) (state_of self.old))
+            es (Deeds.Ends (state_of self.new))) (H.past host.old) (H.past host.new) }
+        ensures later { H.faults host.old ≤ H.faults host.new }
+        ensures node { node_config self.new ≡ node_config self.old }
+        ensures reading { (state_of self.new).last_reading ≡ (state_of self.old).last_reading }
+    {
+        end_each(
+            &mut self.table,
+            &mut self.wheel,
+            job,
+            service,
+            self.last_reading,
+            host,
+        );
+    }
+
     // Does what an arrival demands at this turn's moment.
     fn arrive<H: Host>(&mut self, arrival: &Result<Arrival, Failed>, host: &mut H)
         ensures past { GrewSome (λ es. Leads {S = State} (IsDone (node_config self.old).key)
@@ -132,13 +170,17 @@ impl Node {
         ensures node { node_config self.new ≡ node_config self.old }
         ensures reading { (state_of self.new).last_reading ≡ (state_of self.old).last_reading }
     {
-        let Ok(Arrival::Datagram(from)) = arrival else {
-            return;
-        };
-        let place = self
-            .table
-            .receive(*from, self.datagram.bytes(), self.last_reading, host);
-        look_again(&self.table, &mut self.wheel, place);
+        match arrival {
+            Ok(Arrival::Datagram(from)) => self.receive(*from, host),
+            Ok(Arrival::Handler { job, status }) => self.end_jobs(
+                *job,
+                Service::of_status(*status),
+                host,
+            ),
+            Ok(Arrival::Quiet) => {}
+            Ok(Arrival::Stop) => {}
+            Err(Failed) => {}
+        }
     }
 
     // What the tickets do whose deadlines have come at this turn's moment.
@@ -186,6 +228,8 @@ fn end_of(answer: &Result<Arrival, Failed>) -> Turn
 {
     match answer {
         Ok(Arrival::Stop) => Turn::Stopped,
-        Ok(Arrival::Datagram(_)) | Ok(Arrival::Quiet) | Err(_) => Turn::Went,
+        Ok(Arrival::Datagram(_)) => Turn::Went,
+        Ok(Arrival::Handler { .. }) => Turn::Went,
+        Ok(Arrival::Quiet) | Err(_) => Turn::Went,
     }
 }

@@ -20,7 +20,8 @@ use booth_ticket::Ticket;
 use booth_wire::Setup;
 use std::alloc::{AllocError, Global};
 
-fn own_place(node: &NodeConfig) -> usize
+/// The member's place in the configuration.
+pub(crate) fn own_place(node: &NodeConfig) -> usize
     ensures place { result ≡ own_place node.now }
     ensures few { result < MEMBERS }
 {

@@ -1,5 +1,6 @@
-//! What a node counts.
+//! What a node counts, and the number of its next job.
 ghost use Rattle.std.specs.Prelude.{◌≡◌, ◌<◌};
+ghost use Rattle.booth_node.specs.Jobs.{with_start};
 ghost use Rattle.booth_node.specs.Counting.{place_of, with_drop, no_counts, counters_at, with_counters, counted, tried, with_send, nothing_counted};
 
 use booth_auth::DropFault;
@@ -29,6 +30,8 @@ pub struct Common {
     pub drops: [u64; 8],
     /// The counters of the members, in the order of the configuration. After the last member they are 0.
     pub members: [Counters; MEMBERS],
+    /// The number of the next job of a handler. Jobs count from 1 in each daemon.
+    pub next_job: u64,
 }
 
 /// The place of a fault among the eight drop counters.
@@ -87,14 +90,28 @@ impl Counters {
 }
 
 impl Common {
-    /// Nothing was counted.
+    /// Nothing was counted, and no job was started.
     pub(crate) fn nothing_counted() -> Common
         ensures { result ≡ nothing_counted }
     {
         Common {
             drops: [0; 8],
             members: [Counters::NONE; MEMBERS],
+            next_job: 1,
         }
+    }
+
+    /// The number of the next job was used up. After the greatest number comes 1 again.
+    pub(crate) fn with_start(&self) -> Common
+        ensures { result ≡ with_start self.now }
+    {
+        let mut common = *self;
+        common.next_job = if self.next_job == u64::MAX {
+            1
+        } else {
+            self.next_job + 1
+        };
+        common
     }
 
     /// One more datagram was dropped for this fault.

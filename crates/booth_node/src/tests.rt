@@ -4,6 +4,7 @@ mod cluster;
 mod counters;
 mod failed_keeps;
 mod frames;
+mod handlers;
 mod lines;
 mod manual;
 mod many_tickets;

@@ -25,7 +25,7 @@ use booth_attr::Attrs;
 use booth_auth::DropFault;
 use booth_base::Peer;
 use booth_host::Host;
-use booth_ticket::{Request, Ticket, Waiters};
+use booth_ticket::{Request, Service, Ticket, Waiters};
 use booth_wire::{Head, TicketPart};
 
 /// The tickets in the order of the configuration, the clients that wait for each, the attributes of each, what is
@@ -316,6 +316,43 @@ impl TicketTable {
         ensures others { IsSetAt self.old.tickets.items place self.new.tickets.items }
     {
         self.act(place, &Event::Due, now, host);
+    }
+
+    /// A job of a handler is over, and the ticket at a place is told.
+    pub fn end_job<H: Host>(
+        &mut self,
+        place: usize,
+        job: u64,
+        service: Service,
+        now: u64,
+        host: &mut H,
+    )
+        requires early { now < 2 ^ 62 }
+        requires there { place < length self.old.tickets.items }
+        ensures past { GrewSome (λ es. Leads {S = State} (IsDone self.old.node.key)
+            (acts self.old.node now
+            (record {
+              tickets = self.old.tickets.items;
+              waiters = self.old.waiters;
+              attributes = self.old.attrs;
+              common = self.old.common;
+              last_reading = now;
+            })
+            place (Event.Over job service))
+            es (Deeds.Ends
+            (record {
+              tickets = self.new.tickets.items;
+              waiters = self.new.waiters;
+              attributes = self.new.attrs;
+              common = self.new.common;
+              last_reading = now;
+            })))
+            (H.past host.old) (H.past host.new) }
+        ensures later { H.faults host.old ≤ H.faults host.new }
+        ensures node { self.new.node ≡ self.old.node }
+        ensures others { IsSetAt self.old.tickets.items place self.new.tickets.items }
+    {
+        self.act(place, &Event::Over { job, service }, now, host);
     }
 
     /// When the ticket at a place is next to be looked at.

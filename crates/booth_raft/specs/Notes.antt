@@ -1,5 +1,5 @@
 -- What is noted of handlers and clients' requests.
-use Rattle.std.specs.Prelude.{◌≡◌, ℕ, ◌+◌, ◌*◌, min, ◌||◌, Some, None, is_some, IsTrue, if◌then◌else◌}
+use Rattle.std.specs.Prelude.{ℕ, ◌+◌, ◌*◌, min, ◌||◌, Some, None, is_some, IsTrue, if◌then◌else◌}
 use Rattle.booth_wire.specs.declared.message.Setup.{Setup}
 use Rattle.booth_raft.specs.declared.deed.Note.{Note}
 use Rattle.booth_raft.specs.declared.deed.Note.TheVariants as notes
@@ -12,7 +12,7 @@ use Rattle.booth_raft.specs.Members.{is_follower, is_leader, is_working}
 -- in which roles each note may be made
 abbrev pub MayNote : View → Note → Type 0
 MayNote view notes.Asked = IsTrue (is_follower view.role)
-MayNote view (notes.JobStarted job reason) = IsTrue (is_follower view.role || is_leader view.role) × (view.job ≡ None)
+MayNote view (notes.JobStarted job reason) = IsTrue (is_follower view.role || is_leader view.role)
 MayNote view notes.JobOver = IsTrue (is_some view.job)
 MayNote view notes.AskFailed = IsTrue (is_follower view.role || is_working view.role)
 MayNote view notes.HandlerFailed = IsTrue (is_follower view.role || is_working view.role)

@@ -2,6 +2,8 @@
 ghost use Rattle.std.specs.Prelude.{◌≡◌, ◌<◌, ◌^◌};
 ghost use Rattle.std.specs.Option.{ForSome};
 ghost use Rattle.booth_raft.specs.Deadlines.{candidate_due, due_now, follower_due, greeted, hello, is_tried, leader_due, leader_works, repeats, resends_or_renews, waits_or_acquires};
+ghost use Rattle.booth_raft.specs.GainReleaseLost.{lost};
+ghost use Rattle.booth_raft.specs.Outcome.{telling};
 ghost use Rattle.booth_raft.specs.Sound.{IsSound};
 
 use crate::deed::{Deed, Told, Want};
@@ -84,6 +86,17 @@ fn leader_works(setup: &Setup, view: &mut View, now: u64) -> Deed
     resends_or_renews(setup, view, now)
 }
 
+// The lease ran out, and those that wait are told.
+pub(crate) fn lose(setup: &Setup, view: &mut View, now: u64) -> Deed
+    requires sound { IsSound setup.now }
+    requires early { now < 2 ^ 62 }
+    ensures view { view.new ≡ (telling (lost setup.now view.old now) Told.Lost).view }
+    ensures deed { result ≡ (telling (lost setup.now view.old now) Told.Lost).deed }
+{
+    lost(setup, view, now);
+    Deed::telling(Told::Lost)
+}
+
 fn leader_due(setup: &Setup, view: &mut View, now: u64) -> Deed
     requires sound { IsSound setup.now }
     requires early { now < 2 ^ 62 }
@@ -92,8 +105,7 @@ fn leader_due(setup: &Setup, view: &mut View, now: u64) -> Deed
     ensures deed { result ≡ (leader_due setup.now view.old now).deed }
 {
     if now >= own_end(view) {
-        lost(setup, view, now);
-        return Deed::telling(Told::Lost);
+        return lose(setup, view, now);
     }
     leader_works(setup, view, now)
 }

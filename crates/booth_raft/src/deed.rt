@@ -28,6 +28,8 @@ pub enum Told {
     ReleaseFailed,
     /// The lease ran out.
     Lost,
+    /// The handler failed or could not be started. No rule of leases says this; who runs handlers does.
+    HandlerFailed,
 }
 
 /// What a rule gives to be done: first the keep, then what is said, then what is told.

@@ -3,8 +3,8 @@ ghost use Rattle.std.specs.Prelude.{◌≡◌, ◌≢◌, ◌<◌, ◌≤◌, �
 ghost use Rattle.std.specs.Option.{option_copied};
 
 use crate::ask_and_renew::{are_terms_spent, ask, finish, renew};
-use crate::deadlines::{due_now, hello};
-use crate::deed::{Deed, Note};
+use crate::deadlines::{due_now, hello, lose};
+use crate::deed::{Deed, Note, Told};
 use crate::gain_release_lost::release;
 use crate::notes::noted;
 use crate::other_messages::hear;
@@ -42,13 +42,14 @@ impl Core {
     ghost use Rattle.booth_raft.specs.AskAndRenew.{ask, finish, renew};
     ghost use Rattle.booth_raft.specs.Deadlines.{due_now, greeted, hello};
     ghost use Rattle.booth_raft.specs.Facts.{KeepWaits, ViewFacts};
-    ghost use Rattle.booth_raft.specs.GainReleaseLost.{release};
+    ghost use Rattle.booth_raft.specs.GainReleaseLost.{lost, release};
     ghost use Rattle.booth_raft.specs.Members.{is_leader, is_working};
     ghost use Rattle.booth_raft.specs.Notes.{MayNote, noted};
     ghost use Rattle.booth_raft.specs.OtherMessages.{hear};
+    ghost use Rattle.booth_raft.specs.Outcome.{telling};
     ghost use Rattle.booth_raft.specs.Sound.{IsSound};
     ghost use Rattle.booth_raft.specs.StartAndLearn.{started};
-    ghost use Rattle.booth_raft.specs.State.{IsDue, IsWaiting, MayRelease, State, with_view};
+    ghost use Rattle.booth_raft.specs.State.{IsDue, IsOver, IsWaiting, MayRelease, State, with_view};
 
     /// A member starts, from the record that it kept.
     pub fn start(setup: &Setup, kept: Option<&Record>, now: u64) -> Core
@@ -149,6 +150,19 @@ impl Core {
         ensures waits { KeepWaits result.keep self.new.view.waiting now }
     {
         due_now(&self.setup, &mut self.view, now)
+    }
+
+    /// The lease of a leader ran out: what its deadline does then, whenever that is.
+    pub fn lose(&mut self, now: u64) -> Deed
+        requires early { now < 2 ^ 62 }
+        requires idle { self.old.view.waiting ≡ None }
+        requires over { IsOver self.old.view now }
+        ensures view { self.new ≡ with_view self.old
+            (telling (lost self.old.setup self.old.view now) Told.Lost).view }
+        ensures deed { result ≡ (telling (lost self.old.setup self.old.view now) Told.Lost).deed }
+        ensures waits { KeepWaits result.keep self.new.view.waiting now }
+    {
+        lose(&self.setup, &mut self.view, now)
     }
 
     /// What became of a handler or of a client's request is noted.

@@ -1,6 +1,6 @@
 -- A call of a ticket: its outcome is done, those that wait are told, and perhaps a client is answered.
 use Rattle.std.proofs.Common.{◌≡◌, ℕ, Bool, List, [], ◌∷◌, sym, ap, ◌∙◌, subst}
-use Rattle.std.specs.Prelude.{Option, Some}
+use Rattle.std.specs.Prelude.{Option, Some, None}
 use Rattle.booth_base.specs.Tree.{Deeds, Ends, Leads}
 use Rattle.booth_base.proofs.TreeLemmas.{leads_on, next_leads}
 use Rattle.booth_wire.specs.declared.command.Cmd.{Cmd}
@@ -68,6 +68,21 @@ module _ {X : Type 0} {did : X → Act → X → Type 0} where
       (p (f rest)) (q rest))
       first later
 
+  -- what leads to an outcome, and then its deeds
+  pub then_carried : {a b c : X} (setup setup' : Setup) (now : ℕ)
+      (f : (Outcome → Deeds Ask Left) → Deeds Ask Left) (o last : Outcome) → setup' ≡ setup
+      → DidSome did (FromTo f o) a b
+      → DidSome did (FromTo {S = Left} (carry_out setup' None now o) last) b c
+      → DidSome did (FromTo (λ rest. f (λ outcome. carry_out setup None now outcome rest)) last) a c
+  then_carried {b = b} {c = c} setup setup' now f o last same first later =
+      did_joined (FromTo f o) (FromTo {S = Left} (carry_out setup None now o) last)
+      (FromTo (λ rest. f (λ outcome. carry_out setup None now outcome rest)) last)
+      (λ xs ys p q rest. leads_on IsAct (f (λ outcome. carry_out setup None now outcome rest))
+      (carry_out setup None now o rest) (rest last) xs ys
+      (p (λ outcome. carry_out setup None now outcome rest)) (q rest))
+      first
+      (subst (λ (s : Setup). DidSome did (FromTo {S = Left} (carry_out s None now o) last) b c) same later)
+
   -- those that wait are told, and nothing follows
   pub then_told : {a b c : X} (setup : Setup) (now : ℕ) (waiters : List Waiter)
       (f : (Outcome → Deeds Ask Left) → Deeds Ask Left) (last : Outcome)
@@ -127,22 +142,22 @@ module _ {X : Type 0} {did : X → Act → X → Type 0} where
 
   -- the same, each part with the setup and the room that the code found
   pub followed : {a b c d : X} (setup setup' : Setup) (view : View) (waiters stay left : List Waiter)
-      (spare spare' : ℕ) (ready : Bool) (request : Request) (wanted : Wish) (now answer : ℕ) (last : Outcome)
+      (spare spare' : ℕ) (ready : Bool) (job : Option ℕ) (request : Request) (wanted : Wish) (now answer : ℕ) (last : Outcome)
       → setup' ≡ setup → spare' ≡ spare
-      → DidSome did (Answers (done_for setup view spare' ready request.options wanted now) answer last) a b
+      → DidSome did (Answers (done_for setup view spare' ready job request.options wanted now) answer last) a b
       → DidSome did (First {S = Left} (tell_each setup' last.view now last.deed.told waiters)) b c
       → DidSome did (Replies setup' request (reply_cmd wanted) answer last.view now) c d
       → stay ≡ staying last.deed.told waiters → left ≡ joined request answer stay
-      → DidSome did (Whole (wish setup view waiters spare ready request wanted now)
+      → DidSome did (Whole (wish setup view waiters spare ready job request wanted now)
       (record { view = last.view; waiters = left })) a d
-  followed {a} {b} {c} {d} setup setup' view waiters stay left spare spare' ready request wanted now answer last
+  followed {a} {b} {c} {d} setup setup' view waiters stay left spare spare' ready job request wanted now answer last
       same_setup same_spare first told later stay_is left_is =
-      subst (λ (ws : List Waiter). DidSome did (Whole (wish setup view waiters spare ready request wanted now)
+      subst (λ (ws : List Waiter). DidSome did (Whole (wish setup view waiters spare ready job request wanted now)
       (record { view = last.view; waiters = ws })) a d)
       (sym (left_is ∙ ap (joined request answer) stay_is))
       (then_replied setup waiters request (reply_cmd wanted) now answer
-      (done_for setup view spare ready request.options wanted now) last
-      (subst (λ (n : ℕ). DidSome did (Answers (done_for setup view n ready request.options wanted now) answer last)
+      (done_for setup view spare ready job request.options wanted now) last
+      (subst (λ (n : ℕ). DidSome did (Answers (done_for setup view n ready job request.options wanted now) answer last)
       a b) same_spare first)
       (subst (λ (s : Setup). DidSome did
       (First {S = Left} (tell_each s last.view now last.deed.told waiters)) b c) same_setup told)

@@ -278,7 +278,7 @@ asks_everyone setup view waiters spare ready request now none few =
     (follows view.role (is_promised_elsewhere view.promise setup.me now) free.0) few in
     subst
     (λ (refused : Option ℕ).
-    IsDoneBy (grant setup view request.options refused now (replies setup waiters request RGnt now))
+    IsDoneBy (grant setup view request.options refused None now (replies setup waiters request RGnt now))
     (asking_acts setup view request now) Holds)
     (sym none)
     (when_false

@@ -7,6 +7,7 @@ pub mod SayLemmas
 pub mod KeepLemmas
 pub mod TellLemmas
 pub mod FollowLemmas
+pub mod HandlingLemmas
 pub mod RoomLemmas
 pub mod CallLemmas
 pub mod LawLemmas

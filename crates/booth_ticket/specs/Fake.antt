@@ -1,22 +1,25 @@
 -- What hands in memory answer, and what they tell of it.
 use Rattle.std.specs.Prelude.{◌≡◌, ◌++◌, ◌||◌, not, true, Bool, [], ◌∷◌, IsTrue}
-use Rattle.booth_ticket.specs.Acts.{Ask, Act, Keep, Say}
+use Rattle.booth_ticket.specs.Acts.{Ask, Act, Keep, Start, Say}
 use Rattle.booth_ticket.specs.declared.fake.FakeHands.{FakeHands}
 use Rattle.booth_ticket.specs.declared.fake.Noted.{Noted}
 use Rattle.booth_ticket.specs.declared.fake.Noted.TheVariants as noted
 
--- a keep answers Ok exactly where keeps do not fail
+-- a keep and a start answer Ok exactly where they do not fail
 abbrev pub answer_of : FakeHands → Ask → Bool
 answer_of hands (Keep rec) = not hands.fails
+answer_of hands (Start job expires) = not hands.fails_to_start
 answer_of hands (Say to head part) = true
 
 -- after a keep all others fail, where hands are to break
 abbrev pub fails_after : FakeHands → Ask → Bool
 fails_after hands (Keep rec) = hands.fails || hands.breaks
+fails_after hands (Start job expires) = hands.fails
 fails_after hands (Say to head part) = hands.fails
 
 abbrev pub note_of : Ask → Bool → Noted
 note_of (Keep rec) ok = noted.Kept rec ok
+note_of (Start job expires) ok = noted.Started job expires ok
 note_of (Say to head part) ok = noted.Said to head part
 
 -- told after only where told before, and grown by this note
@@ -28,6 +31,7 @@ pub record DoesAct (old : FakeHands) (act : Act) (new : FakeHands) : Type 0 wher
   pub answer : act.ok ≡ answer_of old act.ask
   pub fails : new.fails ≡ fails_after old act.ask
   pub breaks : new.breaks ≡ old.breaks
+  pub starts : new.fails_to_start ≡ old.fails_to_start
   pub notes : Notes old (note_of act.ask act.ok) new
 
 abbrev pub notes_act : FakeHands → Act → FakeHands → Type 0

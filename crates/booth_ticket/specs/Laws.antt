@@ -66,7 +66,7 @@ AnswersWhereItMay =
 
 -- ---- a grant
 
--- what a grant does that asks all: the new term is kept, each other member is asked for its vote,
+-- what a grant of a ticket without a handler does that asks all: the new term is kept, each other member is asked for its vote,
 -- and the client is told that it was begun
 abbrev pub asking_acts : Setup → View → Request → ℕ → List Act
 asking_acts setup view request now =
@@ -84,14 +84,14 @@ pub record AsksVotes (kept : Record) (waiters : List Waiter) (left : Left) : Typ
   pub kept_record : left.view.kept ≡ kept
   pub waiting : left.waiters ≡ waiters
 
--- A grant that meets no refusal asks every other member, where the new term is kept and this member
--- is no majority by itself; and its client waits, where it asked to.
+-- A grant of a ticket without a handler that meets no refusal asks every other member, where the new term is kept and
+-- this member is no majority by itself; and its client waits, where it asked to.
 abbrev pub GrantAsksAll : Type 0
 GrantAsksAll =
     (setup : Setup) (view : View) (waiters : List Waiter) (spare : ℕ) (ready : Bool) (request : Request)
     (now : ℕ) → refused_grant setup view spare ready request.options now ≡ None
     → is_majority setup (own_answer setup view now) ≡ false
-    → IsDoneBy (wish setup view waiters spare ready request Grant now)
+    → IsDoneBy (wish setup view waiters spare ready None request Grant now)
     (asking_acts setup view request now)
     (AsksVotes (plain (next_term view) view.kept.lease) (joined request ASYN waiters))
 

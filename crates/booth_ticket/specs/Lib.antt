@@ -4,6 +4,7 @@ pub mod Saying
 pub mod Keeping
 pub mod Waiting
 pub mod Pooled
+pub mod Handling
 pub mod Requests
 pub mod Automatic
 pub mod Manual

@@ -10,11 +10,12 @@ use Rattle.booth_raft.specs.declared.view.View.{View}
 use Rattle.booth_raft.specs.StartAndLearn.{started}
 use Rattle.booth_base.specs.declared.address.MemberId.{MemberId}
 use Rattle.booth_manual.specs.declared.view.ManualView.{ManualView}
+use Rattle.booth_ticket.specs.declared.handling.Service.{Service}
 use Rattle.booth_ticket.specs.declared.ticket.Owner.{Owner}
 use Rattle.booth_ticket.specs.declared.request.Request.{Request}
 use Rattle.booth_ticket.specs.declared.waiters.Waiter.{Waiter}
 use Rattle.booth_ticket.specs.Acts.{Ask}
-use Rattle.booth_ticket.specs.Automatic.{Left, hear_message, tick}
+use Rattle.booth_ticket.specs.Automatic.{Left, end_job, hear_message, tick}
 use Rattle.booth_ticket.specs.Manual.{ManualKnown, manual_started, manual_heard, manual_due}
 use Rattle.booth_ticket.specs.ManualRequests.{manual_asked}
 use Rattle.booth_ticket.specs.Requests.{wish}
@@ -67,19 +68,27 @@ ticket_heard setup (Automatic view) waiters from head part now =
 ticket_heard setup (Manual known) waiters from head part now =
     by_hand setup waiters (manual_heard setup known from head part)
 
--- a client's request is followed; so many more clients may wait, and the prerequisites of a grant that
--- is asked for hold or do not
-abbrev pub ticket_asked : Setup → Known → List Waiter → ℕ → Bool → Request → ℕ → Deeds Ask TicketLeft
-ticket_asked setup (Automatic view) waiters spare ready request now =
-    by_rules setup (wish setup view waiters spare ready request request.wish now)
-ticket_asked setup (Manual known) waiters spare ready request now =
+-- a client's request is followed; so many more clients may wait, the prerequisites of a grant that is asked
+-- for hold or do not, and a handler is started as this job, where there is one; a manual ticket starts none
+abbrev pub ticket_asked : Setup → Known → List Waiter → ℕ → Bool → Option ℕ → Request → ℕ
+    → Deeds Ask TicketLeft
+ticket_asked setup (Automatic view) waiters spare ready job request now =
+    by_rules setup (wish setup view waiters spare ready job request request.wish now)
+ticket_asked setup (Manual known) waiters spare ready job request now =
     by_hand setup waiters (manual_asked setup known spare ready request)
 
--- the deadline has come, and the prerequisites of a takeover hold or do not
-abbrev pub ticket_due : Setup → Known → List Waiter → Bool → ℕ → Deeds Ask TicketLeft
-ticket_due setup (Automatic view) waiters ready now =
-    by_rules setup (tick setup view waiters ready now)
-ticket_due setup (Manual known) waiters ready now = by_hand setup waiters (manual_due setup known)
+-- the deadline has come; the prerequisites of a takeover hold or do not, and a handler is started as this job,
+-- where there is one
+abbrev pub ticket_due : Setup → Known → List Waiter → Bool → Option ℕ → ℕ → Deeds Ask TicketLeft
+ticket_due setup (Automatic view) waiters ready job now =
+    by_rules setup (tick setup view waiters ready job now)
+ticket_due setup (Manual known) waiters ready job now = by_hand setup waiters (manual_due setup known)
+
+-- the job of a handler is over; no manual ticket has one
+abbrev pub ticket_over : Setup → Known → List Waiter → ℕ → Service → ℕ → Deeds Ask TicketLeft
+ticket_over setup (Automatic view) waiters job service now =
+    by_rules setup (end_job setup view waiters job service now)
+ticket_over setup (Manual known) waiters job service now = by_hand setup waiters (Ends known)
 
 -- when the ticket is next to be looked at
 abbrev pub deadline : Known → Option ℕ

@@ -5,7 +5,7 @@ use Rattle.std.specs.Option.{is_none}
 use Rattle.booth_base.specs.Tree.{Deeds, Does}
 use Rattle.booth_wire.specs.declared.command.Cmd.TheVariants.{RGnt}
 use Rattle.booth_wire.specs.declared.message.Setup.{Setup}
-use Rattle.booth_wire.specs.declared.codes.results.TheConstants.{SUCCESS, ASYN, FAIL, PEND}
+use Rattle.booth_wire.specs.declared.codes.results.TheConstants.{SUCCESS, ASYN, FAIL, PEND, XPRG}
 use Rattle.booth_wire.specs.declared.codes.options.TheConstants.{WAIT, COMMIT}
 use Rattle.booth_raft.specs.declared.deed.Told.{Told}
 use Rattle.booth_raft.specs.declared.deed.Told.TheVariants as tells
@@ -61,6 +61,7 @@ result_for tells.Nothing waiter = None
 result_for (tells.Gained true) waiter = Some SUCCESS
 result_for (tells.Gained false) waiter = if waiter.commit then None else Some PEND
 result_for tells.ReleaseFailed waiter = None
+result_for tells.HandlerFailed waiter = Some XPRG
 result_for told waiter = Some FAIL
 
 -- those that wait on, in their order

@@ -9,10 +9,11 @@ ghost use Rattle.booth_raft.specs.Speech.{IsSpeech};
 ghost use Rattle.booth_raft.specs.State.{IsDue};
 ghost use Rattle.booth_ticket.specs.Acts.{Ask, DidSome, IsAct};
 ghost use Rattle.booth_ticket.specs.Automatic as Calls;
-ghost use Rattle.booth_ticket.specs.Automatic.{Left, acquire, take_over, follow, MayFollow, rule_due, role_due, comes_due};
+ghost use Rattle.booth_ticket.specs.Automatic.{Left, take_over, follow, MayFollow, rule_due, role_due, comes_due};
 ghost use Rattle.booth_ticket.specs.Keeping.{carry_out};
 ghost use Rattle.booth_ticket.specs.Waiting.{waiting_at};
 
+use crate::handling::{acquire_by, renew_by, telling};
 use crate::hands::Hands;
 use crate::keeping::carry_out;
 use crate::saying::say;
@@ -20,7 +21,7 @@ use crate::telling::tell;
 use crate::waiters::Waiters;
 use booth_raft::{Core, Deed, Note, Role, Told, Want};
 use booth_wire::reasons::TLST;
-use booth_wire::{Head, Say, TicketPart};
+use booth_wire::{Head, TicketPart};
 
 /// The message of the member at the place `from` is heard. The last deed says what clients are told.
 pub(crate) fn hear_message<W: Hands>(
@@ -46,48 +47,22 @@ pub(crate) fn hear_message<W: Hands>(
     carry_out(core, Some(from), now, deed, hands)
 }
 
-/// A deed in which clients alone are told.
-pub(crate) fn telling(told: Told) -> Deed
-    ensures { result ≡ record { keep = None; say = Say.Nothing; want = Want.Nothing; told = told } }
-{
-    Deed {
-        keep: None,
-        say: Say::Nothing,
-        want: Want::Nothing,
-        told,
-    }
-}
-
-/// A new term is asked for. Where the terms are spent, the acquisition fails.
-pub(crate) fn acquire(core: &mut Core, reason: u32, now: u64) -> Deed
-    requires early { now < 2 ^ 62 }
-    requires idle { core.old.view.waiting ≡ None }
-    requires site { IsTrue core.old.setup.site }
-    requires follows { IsTrue (is_follower core.old.view.role) }
-    ensures view { core.new.view ≡ (acquire core.old.setup core.old.view reason now).view }
-    ensures deed { result ≡ (acquire core.old.setup core.old.view reason now).deed }
-    ensures setup { core.new.setup ≡ core.old.setup }
-    ensures waits { KeepWaits result.keep core.new.view.waiting now }
-    ensures speech { IsSpeech core.new.setup result.say }
-{
-    match core.ask(now, reason) {
-        Ok(deed) => deed,
-        Err(_) => {
-            core.note(now, Note::AskFailed);
-            telling(Told::AskFailed)
-        }
-    }
-}
-
 // The ticket is acquired where its prerequisites hold. Where they do not, it is looked at again a
 // renewal's time later.
-fn take_over(core: &mut Core, ready: bool, now: u64) -> Deed
+fn take_over<W: Hands>(
+    core: &mut Core,
+    ready: bool,
+    job: Option<u64>,
+    now: u64,
+    hands: &mut W,
+) -> Deed
     requires early { now < 2 ^ 62 }
     requires idle { core.old.view.waiting ≡ None }
     requires site { IsTrue core.old.setup.site }
     requires follows { IsTrue (is_follower core.old.view.role) }
-    ensures view { core.new.view ≡ (take_over core.old.setup core.old.view ready now).view }
-    ensures deed { result ≡ (take_over core.old.setup core.old.view ready now).deed }
+    ensures did { DidSome W.did (λ acts. (rest : Outcome → Deeds Ask Left) → Leads IsAct
+        (take_over core.old.setup core.old.view ready job now rest) acts
+        (rest (record { view = core.new.view; deed = result }))) hands.old hands.new }
     ensures setup { core.new.setup ≡ core.old.setup }
     ensures waits { KeepWaits result.keep core.new.view.waiting now }
     ensures speech { IsSpeech core.new.setup result.say }
@@ -96,81 +71,107 @@ fn take_over(core: &mut Core, ready: bool, now: u64) -> Deed
         core.note(now, Note::Unready);
         return telling(Told::Nothing);
     }
-    acquire(core, TLST, now)
+    acquire_by(core, job, TLST, now, hands)
 }
 
 // What the rule of a deadline wants to follow.
-fn follow(core: &mut Core, deed: Deed, ready: bool, now: u64) -> Deed
+fn follow<W: Hands>(
+    core: &mut Core,
+    deed: Deed,
+    ready: bool,
+    job: Option<u64>,
+    now: u64,
+    hands: &mut W,
+) -> Deed
     requires early { now < 2 ^ 62 }
     requires waits { KeepWaits deed.keep core.old.view.waiting now }
     requires wants { MayFollow core.old.setup core.old.view deed.want }
     requires speech { IsSpeech core.old.setup deed.say }
-    ensures view { core.new.view
-        ≡ (follow core.old.setup (record { view = core.old.view; deed = deed }) deed.want ready now).view }
-    ensures deed { result
-        ≡ (follow core.old.setup (record { view = core.old.view; deed = deed }) deed.want ready now).deed }
+    ensures did { DidSome W.did (λ acts. (rest : Outcome → Deeds Ask Left) → Leads IsAct
+        (follow core.old.setup (record { view = core.old.view; deed = deed }) deed.want ready job now
+        rest) acts (rest (record { view = core.new.view; deed = result }))) hands.old hands.new }
     ensures setup { core.new.setup ≡ core.old.setup }
     ensures waits { KeepWaits result.keep core.new.view.waiting now }
     ensures speech { IsSpeech core.new.setup result.say }
 {
     match deed.want {
         Want::Nothing => deed,
-        Want::Renew => core.renew(now),
-        Want::Acquire => take_over(core, ready, now),
+        Want::Renew => renew_by(core, job, now, hands),
+        Want::Acquire => take_over(core, ready, job, now, hands),
     }
 }
 
 // The rule of the role, and what it wants to follow.
-fn rule_due(core: &mut Core, ready: bool, now: u64) -> Deed
+fn rule_due<W: Hands>(
+    core: &mut Core,
+    ready: bool,
+    job: Option<u64>,
+    now: u64,
+    hands: &mut W,
+) -> Deed
     requires early { now < 2 ^ 62 }
     requires idle { core.old.view.waiting ≡ None }
     requires due { IsDue core.old.view now }
     requires greeted { core.old.view.hello ≡ false }
     requires role { is_working core.old.view.role ≡ false }
-    ensures view { core.new.view ≡ (rule_due core.old.setup core.old.view ready now).view }
-    ensures deed { result ≡ (rule_due core.old.setup core.old.view ready now).deed }
+    ensures did { DidSome W.did (λ acts. (rest : Outcome → Deeds Ask Left) → Leads IsAct
+        (rule_due core.old.setup core.old.view ready job now rest) acts
+        (rest (record { view = core.new.view; deed = result }))) hands.old hands.new }
     ensures setup { core.new.setup ≡ core.old.setup }
     ensures waits { KeepWaits result.keep core.new.view.waiting now }
     ensures speech { IsSpeech core.new.setup result.say }
 {
     let deed = core.tick(now);
-    follow(core, deed, ready, now)
+    follow(core, deed, ready, job, now, hands)
 }
 
 // The rule of the role at its deadline: a handler that still works has failed.
-fn role_due(core: &mut Core, ready: bool, now: u64) -> Deed
+fn role_due<W: Hands>(
+    core: &mut Core,
+    ready: bool,
+    job: Option<u64>,
+    now: u64,
+    hands: &mut W,
+) -> Deed
     requires early { now < 2 ^ 62 }
     requires idle { core.old.view.waiting ≡ None }
     requires due { IsDue core.old.view now }
     requires greeted { core.old.view.hello ≡ false }
-    ensures view { core.new.view ≡ (role_due core.old.setup core.old.view ready now).view }
-    ensures deed { result ≡ (role_due core.old.setup core.old.view ready now).deed }
+    ensures did { DidSome W.did (λ acts. (rest : Outcome → Deeds Ask Left) → Leads IsAct
+        (role_due core.old.setup core.old.view ready job now rest) acts
+        (rest (record { view = core.new.view; deed = result }))) hands.old hands.new }
     ensures setup { core.new.setup ≡ core.old.setup }
     ensures waits { KeepWaits result.keep core.new.view.waiting now }
     ensures speech { IsSpeech core.new.setup result.say }
 {
     if core.view().role == Role::Working {
         core.note(now, Note::HandlerFailed);
-        return telling(Told::Nothing);
+        return telling(Told::HandlerFailed);
     }
-    rule_due(core, ready, now)
+    rule_due(core, ready, job, now, hands)
 }
 
-/// The deadline has come; `ready` where the prerequisites of a takeover hold. The last deed says what
-/// clients are told.
-pub(crate) fn tick<W: Hands>(core: &mut Core, ready: bool, now: u64, hands: &mut W) -> Deed
+/// The deadline has come; `ready` where the prerequisites of a takeover hold. A handler is started as this
+/// job, where there is one. The last deed says what clients are told.
+pub(crate) fn tick<W: Hands>(
+    core: &mut Core,
+    ready: bool,
+    job: Option<u64>,
+    now: u64,
+    hands: &mut W,
+) -> Deed
     requires early { now < 2 ^ 62 }
     requires idle { core.old.view.waiting ≡ None }
     requires due { IsDue core.old.view now }
     ensures did { DidSome W.did (λ acts. (rest : Outcome → Deeds Ask Left) → Leads IsAct
-        (comes_due core.old.setup core.old.view ready now rest) acts
+        (comes_due core.old.setup core.old.view ready job now rest) acts
         (rest (record { view = core.new.view; deed = result }))) hands.old hands.new }
     ensures setup { core.new.setup ≡ core.old.setup }
     ensures idle { core.new.view.waiting ≡ None }
 {
     let words = core.hello(now);
     say(core.setup(), None, &words, hands);
-    let deed = role_due(core, ready, now);
+    let deed = role_due(core, ready, job, now, hands);
     carry_out(core, None, now, deed, hands)
 }
 
@@ -204,11 +205,12 @@ pub(crate) fn hear<W: Hands>(
 }
 
 /// The deadline has come, and those that wait are told; `ready` says whether the prerequisites of a takeover
-/// hold.
+/// hold, and a handler is started as this job, where there is one.
 pub(crate) fn come_due<W: Hands>(
     core: &mut Core,
     now: u64,
     ready: bool,
+    job: Option<u64>,
     list: u32,
     waiters: &mut Waiters,
     hands: &mut W,
@@ -218,13 +220,13 @@ pub(crate) fn come_due<W: Hands>(
     requires due { IsDue core.old.view now }
     requires exists { list < length waiters.old }
     ensures did { DidSome W.did (λ acts. Leads IsAct
-        (Calls.tick core.old.setup core.old.view (waiting_at waiters.old list) ready now) acts
+        (Calls.tick core.old.setup core.old.view (waiting_at waiters.old list) ready job now) acts
         (Deeds.Ends (record { view = core.new.view; waiters = waiting_at waiters.new list })))
         hands.old hands.new }
     ensures others { waiters.new ≡ slice_set waiters.old list (waiting_at waiters.new list) }
     ensures setup { core.new.setup ≡ core.old.setup }
     ensures idle { core.new.view.waiting ≡ None }
 {
-    let last = tick(core, ready, now, hands);
+    let last = tick(core, ready, job, now, hands);
     tell(core, last.told, now, list, waiters, hands);
 }

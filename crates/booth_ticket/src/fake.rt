@@ -13,6 +13,11 @@ pub enum Noted {
         rec: Record,
         ok: bool,
     },
+    Started {
+        job: u64,
+        expires: u64,
+        ok: bool,
+    },
     Said {
         to: To,
         head: Head,
@@ -30,6 +35,8 @@ pub struct FakeHands {
     pub fails: bool,
     /// Whether keeps fail from the next but one on.
     pub breaks: bool,
+    /// Whether starts of a handler fail.
+    pub fails_to_start: bool,
 }
 
 impl FakeHands {
@@ -41,12 +48,14 @@ impl FakeHands {
         ensures tells { result.tells ≡ true }
         ensures fails { result.fails ≡ false }
         ensures breaks { result.breaks ≡ false }
+        ensures starts { result.fails_to_start ≡ false }
     {
         FakeHands {
             acts: Vec::new(alloc),
             tells: true,
             fails: false,
             breaks: false,
+            fails_to_start: false,
         }
     }
 
@@ -54,6 +63,7 @@ impl FakeHands {
         ensures told { Notes self.old act self.new }
         ensures fails { self.new.fails ≡ self.old.fails }
         ensures breaks { self.new.breaks ≡ self.old.breaks }
+        ensures starts { self.new.fails_to_start ≡ self.old.fails_to_start }
     {
         if self.acts.push(act).is_err() {
             self.tells = false;
@@ -70,6 +80,12 @@ impl Hands for FakeHands {
         let ok = !self.fails;
         self.note(Noted::Kept { rec: *rec, ok });
         self.fails = self.fails || self.breaks;
+        ok
+    }
+
+    fn start(&mut self, job: u64, expires: u64) -> bool {
+        let ok = !self.fails_to_start;
+        self.note(Noted::Started { job, expires, ok });
         ok
     }
 

@@ -2,7 +2,7 @@
 ghost use Rattle.std.specs.Prelude.{◌≡◌};
 ghost use Rattle.booth_wire.specs.Command.{kind_of};
 ghost use Rattle.booth_wire.specs.declared.command.Kind.{Kind};
-ghost use Rattle.booth_ticket.specs.Acts.{Act, Dids, kept, said, said_to_each};
+ghost use Rattle.booth_ticket.specs.Acts.{Act, Dids, kept, started, said, said_to_each};
 
 use booth_base::Peer;
 use booth_rec::Record;
@@ -24,6 +24,11 @@ pub trait Hands {
     /// Keeps the record of the ticket: true where it is kept.
     fn keep(&mut self, rec: &Record) -> bool
         ensures did { did self.old (kept rec.now result) self.new };
+
+    /// Starts the ticket's handler as the job of this number: true where it runs. `expires` is the end of the lease in whole
+    /// seconds since 1970, or 0.
+    fn start(&mut self, job: u64, expires: u64) -> bool
+        ensures did { did self.old (started job expires result) self.new };
 
     /// Says a message about the ticket. Whether it comes through is not told.
     fn say(&mut self, to: To, head: &Head, part: &TicketPart)

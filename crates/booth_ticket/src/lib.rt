@@ -3,6 +3,7 @@
 
 mod automatic;
 mod fake;
+mod handling;
 mod hands;
 mod keeping;
 pub mod laws;
@@ -18,6 +19,7 @@ mod ticket;
 mod waiters;
 
 pub use fake::{FakeHands, Noted};
+pub use handling::Service;
 pub use hands::{Hands, To};
 pub use request::{Request, Wish};
 pub use ticket::{Owner, Ticket};

@@ -9,7 +9,7 @@ ghost use Rattle.booth_ticket.specs.Automatic.{Left};
 ghost use Rattle.booth_ticket.specs.Requests.{is_holder, is_shown_elsewhere, holder_result, refused_grant, grant_result, grant, refused_revoke, revoke_result, revoke, done_for, wish};
 ghost use Rattle.booth_ticket.specs.Waiting.{waiting_at, spare_in, waits, joins};
 
-use crate::automatic::{acquire, telling};
+use crate::handling::{acquire_by, telling};
 use crate::hands::Hands;
 use crate::keeping::carry_out;
 use crate::request::{Request, Wish};
@@ -22,7 +22,7 @@ use booth_raft::{
 use booth_wire::Setup;
 use booth_wire::options::WAIT;
 use booth_wire::reasons::ADMN;
-use booth_wire::results::{APRQ, ASYN, BUSY, FAIL, IARG, OVER, PEND, REDR, SUCCESS, TIDL};
+use booth_wire::results::{APRQ, ASYN, BUSY, FAIL, IARG, OVER, PEND, REDR, SUCCESS, TIDL, XPRG};
 
 // This site leads, and its lease is not over.
 fn is_holder(setup: &Setup, view: &View, now: u64) -> bool
@@ -96,6 +96,7 @@ fn grant_result(options: u32, told: Told) -> u32
         Told::Gained { sure: true } => SUCCESS,
         Told::Gained { sure: false } => if commits(options) { ASYN } else { PEND },
         Told::Nothing => ASYN,
+        Told::HandlerFailed => XPRG,
         Told::RoundFailed | Told::AskFailed | Told::Released | Told::ReleaseFailed | Told::Lost =>
             FAIL,
     }
@@ -109,20 +110,26 @@ pub(crate) struct Done {
 }
 
 // The ticket is acquired for a client.
-fn acquire_for<W: Hands>(core: &mut Core, options: u32, now: u64, hands: &mut W) -> Done
+fn acquire_for<W: Hands>(
+    core: &mut Core,
+    options: u32,
+    job: Option<u64>,
+    now: u64,
+    hands: &mut W,
+) -> Done
     requires early { now < 2 ^ 62 }
     requires idle { core.old.view.waiting ≡ None }
     requires site { IsTrue core.old.setup.site }
     requires follows { IsTrue (is_follower core.old.view.role) }
     ensures did { DidSome W.did (λ acts. (rest : ℕ → Outcome → Deeds Ask Left) → Leads IsAct
-        (grant core.old.setup core.old.view options None now rest) acts
+        (grant core.old.setup core.old.view options None job now rest) acts
         (rest result.answer (record { view = core.new.view; deed = result.last })))
         hands.old hands.new }
     ensures setup { core.new.setup ≡ core.old.setup }
     ensures idle { core.new.view.waiting ≡ None }
 {
     core.note(now, Note::Asked);
-    let deed = acquire(core, ADMN, now);
+    let deed = acquire_by(core, job, ADMN, now, hands);
     let last = carry_out(core, None, now, deed, hands);
     Done {
         answer: grant_result(options, last.told),
@@ -135,6 +142,7 @@ fn grant<W: Hands>(
     core: &mut Core,
     spare: u32,
     ready: bool,
+    job: Option<u64>,
     options: u32,
     now: u64,
     hands: &mut W,
@@ -143,7 +151,7 @@ fn grant<W: Hands>(
     requires idle { core.old.view.waiting ≡ None }
     ensures did { DidSome W.did (λ acts. (rest : ℕ → Outcome → Deeds Ask Left) → Leads IsAct
         (grant core.old.setup core.old.view options
-        (refused_grant core.old.setup core.old.view spare ready options now) now rest) acts
+        (refused_grant core.old.setup core.old.view spare ready options now) job now rest) acts
         (rest result.answer (record { view = core.new.view; deed = result.last })))
         hands.old hands.new }
     ensures room { IsTrue (waits options && result.answer == ASYN) → 0 < spare }
@@ -155,7 +163,7 @@ fn grant<W: Hands>(
             answer,
             last: telling(Told::Nothing),
         },
-        None => acquire_for(core, options, now, hands),
+        None => acquire_for(core, options, job, now, hands),
     }
 }
 
@@ -185,7 +193,7 @@ fn revoke_result(told: Told) -> u32
     match told {
         Told::Released => SUCCESS,
         Told::Nothing | Told::Gained { .. } | Told::RoundFailed => FAIL,
-        Told::AskFailed | Told::ReleaseFailed | Told::Lost => FAIL,
+        Told::AskFailed | Told::ReleaseFailed | Told::Lost | Told::HandlerFailed => FAIL,
     }
 }
 
@@ -238,13 +246,14 @@ fn do_for<W: Hands>(
     request: &Request,
     spare: u32,
     ready: bool,
+    job: Option<u64>,
     now: u64,
     hands: &mut W,
 ) -> Done
     requires early { now < 2 ^ 62 }
     requires idle { core.old.view.waiting ≡ None }
     ensures did { DidSome W.did (λ acts. (rest : ℕ → Outcome → Deeds Ask Left) → Leads IsAct
-        (done_for core.old.setup core.old.view spare ready request.now.options request.now.wish now
+        (done_for core.old.setup core.old.view spare ready job request.now.options request.now.wish now
         rest) acts (rest result.answer (record { view = core.new.view; deed = result.last })))
         hands.old hands.new }
     ensures room { IsTrue (joins request.now result.answer) → 0 < spare }
@@ -252,17 +261,19 @@ fn do_for<W: Hands>(
     ensures idle { core.new.view.waiting ≡ None }
 {
     match request.wish {
-        Wish::Grant => grant(core, spare, ready, request.options, now, hands),
+        Wish::Grant => grant(core, spare, ready, job, request.options, now, hands),
         Wish::Revoke => revoke(core, request.options, now, hands),
     }
 }
 
 /// A client's request is followed: what it wishes is done, those that wait are told, and then it is
-/// answered. `ready` where the prerequisites of a grant hold.
+/// answered. `ready` where the prerequisites of a grant hold; a handler is started as this job, where
+/// there is one.
 pub(crate) fn follow_request<W: Hands>(
     core: &mut Core,
     request: &Request,
     ready: bool,
+    job: Option<u64>,
     now: u64,
     list: u32,
     waiters: &mut Waiters,
@@ -272,7 +283,7 @@ pub(crate) fn follow_request<W: Hands>(
     requires idle { core.old.view.waiting ≡ None }
     requires exists { list < length waiters.old }
     ensures did { DidSome W.did (λ acts. Leads IsAct
-        (wish core.old.setup core.old.view (waiting_at waiters.old list) (spare_in waiters.old) ready
+        (wish core.old.setup core.old.view (waiting_at waiters.old list) (spare_in waiters.old) ready job
         request.now request.now.wish now) acts
         (Deeds.Ends (record { view = core.new.view; waiters = waiting_at waiters.new list })))
         hands.old hands.new }
@@ -280,7 +291,7 @@ pub(crate) fn follow_request<W: Hands>(
     ensures setup { core.new.setup ≡ core.old.setup }
     ensures idle { core.new.view.waiting ≡ None }
 {
-    let done = do_for(core, request, waiters.spare(), ready, now, hands);
+    let done = do_for(core, request, waiters.spare(), ready, job, now, hands);
     tell(core, done.last.told, now, list, waiters, hands);
     reply(core, request, done.answer, now, hands);
     join(request, done.answer, list, waiters);

@@ -15,7 +15,7 @@ use crate::request::{Request, Wish};
 use crate::waiters::{Waiter, Waiters};
 use booth_raft::{Core, Told, View, owner_now, seconds_left, shown_end};
 use booth_wire::options::{COMMIT, WAIT};
-use booth_wire::results::{ASYN, FAIL, PEND, SUCCESS};
+use booth_wire::results::{ASYN, FAIL, PEND, SUCCESS, XPRG};
 use booth_wire::{Cmd, Head, Setup, TicketPart};
 
 /// Whether a client wants to hear of a grant only once that is kept.
@@ -68,6 +68,7 @@ fn result_for(told: Told, waiter: &Waiter) -> Option<u32>
         Told::Nothing | Told::ReleaseFailed => None,
         Told::Gained { sure: true } => Some(SUCCESS),
         Told::Gained { sure: false } => (!waiter.commit).then_some(PEND),
+        Told::HandlerFailed => Some(XPRG),
         Told::RoundFailed | Told::AskFailed | Told::Released | Told::Lost => Some(FAIL),
     }
 }

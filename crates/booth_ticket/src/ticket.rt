@@ -2,11 +2,12 @@
 ghost use Rattle.std.specs.Prelude.{◌≡◌, ◌≢◌, ◌<◌, ◌^◌, length, slice_set};
 ghost use Rattle.booth_ticket.specs.Ticket.{manual_owner, shown_owner};
 
+use crate::handling::Service;
 use crate::hands::Hands;
 use crate::manual::ManualTicket;
 use crate::request::Request;
 use crate::waiters::Waiters;
-use crate::{automatic, requests};
+use crate::{automatic, handling, requests};
 use booth_base::MemberId;
 use booth_raft::{Core, Shown};
 use booth_rec::Record;
@@ -84,7 +85,7 @@ impl Ticket {
     ghost use Rattle.booth_rec.specs.Record.{record_or_none};
     ghost use Rattle.std.specs.Prelude.{option_copied};
     ghost use Rattle.booth_ticket.specs.Acts.{DidSome, IsAct};
-    ghost use Rattle.booth_ticket.specs.Ticket.{opened, opened_by_hand, ticket_heard, ticket_asked, ticket_due, deadline, owner, IsDue};
+    ghost use Rattle.booth_ticket.specs.Ticket.{opened, opened_by_hand, ticket_heard, ticket_asked, ticket_due, ticket_over, deadline, owner, IsDue};
     ghost use Rattle.booth_ticket.specs.Waiting.{waiting_at, spare_in};
 
     /// An automatic ticket starts, from the record that was kept.
@@ -151,12 +152,14 @@ impl Ticket {
     }
 
     /// A client's request is followed; `ready` says whether the prerequisites of a grant hold that is
-    /// asked for. The reply is the last deed.
+    /// asked for. Where the ticket has a handler, `job` is the number of the job that may be started. The
+    /// reply is the last deed.
     pub fn client<W: Hands>(
         &mut self,
         now: u64,
         request: &Request,
         ready: bool,
+        job: Option<u64>,
         list: u32,
         waiters: &mut Waiters,
         hands: &mut W,
@@ -165,7 +168,7 @@ impl Ticket {
         requires exists { list < length waiters.old }
         ensures did { DidSome W.did (λ acts. Leads IsAct
             (ticket_asked self.old.setup self.old.known (waiting_at waiters.old list)
-            (spare_in waiters.old) ready request.now now) acts
+            (spare_in waiters.old) ready job request.now now) acts
             (Deeds.Ends (record { ticket = self.new; waiters = waiting_at waiters.new list })))
             hands.old hands.new }
         ensures setup { self.new.setup ≡ self.old.setup }
@@ -173,17 +176,46 @@ impl Ticket {
     {
         match &mut self.kind {
             Kind::Automatic(core) => {
-                requests::follow_request(core, request, ready, now, list, waiters, hands)
+                requests::follow_request(core, request, ready, job, now, list, waiters, hands)
             }
             Kind::Manual(ticket) => ticket.client(request, waiters.spare(), ready, hands),
         }
     }
 
-    /// The deadline has come; `ready` says whether the prerequisites of a takeover hold.
+    /// The job of a handler is over. A job of another ticket, or an earlier one, changes nothing.
+    pub fn handler_done<W: Hands>(
+        &mut self,
+        now: u64,
+        job: u64,
+        service: Service,
+        list: u32,
+        waiters: &mut Waiters,
+        hands: &mut W,
+    )
+        requires early { now < 2 ^ 62 }
+        requires exists { list < length waiters.old }
+        ensures did { DidSome W.did (λ acts. Leads IsAct
+            (ticket_over self.old.setup self.old.known (waiting_at waiters.old list) job service now)
+            acts (Deeds.Ends (record { ticket = self.new; waiters = waiting_at waiters.new list })))
+            hands.old hands.new }
+        ensures setup { self.new.setup ≡ self.old.setup }
+        ensures others { waiters.new ≡ slice_set waiters.old list (waiting_at waiters.new list) }
+    {
+        match &mut self.kind {
+            Kind::Automatic(core) => {
+                handling::handler_done(core, now, job, service, list, waiters, hands)
+            }
+            Kind::Manual(_) => {}
+        }
+    }
+
+    /// The deadline has come; `ready` says whether the prerequisites of a takeover hold. Where the ticket has
+    /// a handler, `job` is the number of the job that may be started.
     pub fn tick<W: Hands>(
         &mut self,
         now: u64,
         ready: bool,
+        job: Option<u64>,
         list: u32,
         waiters: &mut Waiters,
         hands: &mut W,
@@ -192,14 +224,16 @@ impl Ticket {
         requires due { IsDue self.old.known now }
         requires exists { list < length waiters.old }
         ensures did { DidSome W.did (λ acts. Leads IsAct
-            (ticket_due self.old.setup self.old.known (waiting_at waiters.old list) ready now) acts
+            (ticket_due self.old.setup self.old.known (waiting_at waiters.old list) ready job now) acts
             (Deeds.Ends (record { ticket = self.new; waiters = waiting_at waiters.new list })))
             hands.old hands.new }
         ensures setup { self.new.setup ≡ self.old.setup }
         ensures others { waiters.new ≡ slice_set waiters.old list (waiting_at waiters.new list) }
     {
         match &mut self.kind {
-            Kind::Automatic(core) => automatic::come_due(core, now, ready, list, waiters, hands),
+            Kind::Automatic(core) => {
+                automatic::come_due(core, now, ready, job, list, waiters, hands)
+            }
             Kind::Manual(ticket) => ticket.tick(hands),
         }
     }

@@ -1,5 +1,5 @@
 -- What a sound configuration gives a ticket of a world.
-use Rattle.std.proofs.Common.{◌≡◌, ◌≢◌, ◌⊎◌, ⊎_elim, inl, inr, ℕ, zero, suc, ◌+◌, ◌-◌, ◌<◌, ◌≤◌, Bool, true, false, ◌||◌, ◌&&◌, not, List, [], ◌∷◌, ◌++◌, length, drop, get_or, refl, sym, ap, ◌∙◌, subst, arith, if◌then◌else◌}
+use Rattle.std.proofs.Common.{◌≡◌, ◌≢◌, ◌⊎◌, ⊎_elim, inl, inr, ℕ, zero, suc, ◌+◌, ◌-◌, ◌^◌, ◌<◌, ◌≤◌, Bool, true, false, ◌||◌, ◌&&◌, not, List, [], ◌∷◌, ◌++◌, length, drop, get_or, refl, sym, ap, ◌∙◌, subst, arith, if◌then◌else◌}
 use Rattle.std.specs.Prelude.{Option, Some, None, is_some, IsSomeAnd, position, slice_get, ◌==◌, option_map, nat_lt}
 use Rattle.std.specs.List.{list_any, filter_map, enumerate_from, position_or_len}
 use Rattle.std.proofs.lemmas.Bool.Decides.{nat_tests}
@@ -252,6 +252,8 @@ module _ (w : World) (sound : IsSoundConfig w.config) where
   pub setting_of : (place : ℕ) (ticket : TicketConf) → slice_get w.config.tickets place ≡ Some ticket → ticket.manual ≡ false
       → Setting w place ticket
   setting_of place ticket is automatic = record {
+    most = 2 ^ 64;
+    enough = omega arith;
     there = is;
     automatic = automatic;
     ids = ids_apart;

@@ -1,4 +1,4 @@
--- When a ticket's tree of deeds does what a host's tree does: its keeps, and what it says to members before each.
+-- When a ticket's tree of deeds does what a host's tree does: its keeps and starts, and what it says to members before each.
 use Rattle.std.proofs.Common.{◌≡◌, ◌≢◌, inl, inr, ℕ, zero, suc, ◌+◌, ◌-◌, ◌<◌, Bool, true, false, List, [], ◌∷◌, refl, sym, ap, ◌∙◌, subst, arith}
 use Rattle.std.specs.Prelude.{Option, Some, None, ◌==◌, not, if◌then◌else◌}
 use Rattle.std.specs.List.{filter, range_with_len}
@@ -19,13 +19,13 @@ use Rattle.booth_raft.specs.AskAndRenew.{finish}
 use Rattle.booth_raft.specs.Outcome.{Outcome}
 use Rattle.booth_ticket.specs.declared.hands.To.{To}
 use Rattle.booth_ticket.specs.declared.hands.To.TheVariants.{Member, Client}
-use Rattle.booth_ticket.specs.Acts.{Ask, Keep, Say}
+use Rattle.booth_ticket.specs.Acts.{Ask, Keep, Start, Say}
 use Rattle.booth_ticket.specs.Keeping.{keep_of, keep_once, say_last, carry_out}
 use Rattle.booth_ticket.specs.Saying.{others, places_in, say_each, say}
 use Rattle.booth_world.specs.Facts.{Has, count_below}
 use Rattle.booth_world.specs.Rules.{MemberLetter}
-use Rattle.booth_world.specs.Turns.{Keeps, TurnTree, sends, bits_set, says_of, keeps_of, says_last, deeds_of}
-use Rattle.booth_world.proofs.Mirrors.{skip, sent_by, SentMore, grows, sent_more, IsNoLess, IsKept, no_less_on}
+use Rattle.booth_world.specs.Turns.{Keeps, AsksElse, TurnTree, sends, bits_set, says_of, keeps_of, says_last, deeds_of}
+use Rattle.booth_world.proofs.Mirrors.{skip, sent_by, later, SentMore, grows, sent_more, IsNoLess, IsKept, no_less_on}
 
 -- ---- lists of places
 
@@ -68,6 +68,9 @@ module _ (s : Setup) where
   Echoes P sent (Does (Say to head part) go) tree = Reaches (sent_by tree sent) to head part × Echoes P sent (go true) tree
   Echoes P sent (Does (Keep tried) go) tree =
       (rest : Bool → TurnTree) × (skip tree ≡ Does (Keeps tried) rest) × ((ok : Bool) → Echoes P (sent_by tree sent) (go ok) (rest ok))
+  Echoes P sent (Does (Start job expires) go) tree =
+      (rest : Bool → TurnTree) × (skip tree ≡ Does AsksElse rest)
+      × ((ok : Bool) → (answers : List Bool) × Echoes P (sent_by tree sent) (go ok) (later answers (rest ok)))
 
   pub echoes_kept : {V : Type 0} (P : List MemberLetter → V → TurnTree → Type 0) (deeds : Deeds Ask V) → IsKept P
       → (sent sent' : List MemberLetter) (tree tree' : TurnTree) → IsNoLess sent tree sent' tree' → Echoes P sent deeds tree → Echoes P sent' deeds tree'
@@ -80,6 +83,16 @@ module _ (s : Setup) where
     λ ok. echoes_kept P (go ok) kept (sent_by tree sent) (sent_by tree' sent') (m.0 ok) (m.0 ok)
         (no_less_on sent sent' tree tree' (m.0 ok) x) (m.2 ok),
   )
+  echoes_kept P (Does (Start job expires) go) kept sent sent' tree tree' x m = (
+    m.0,
+    sym x.same ∙ m.1,
+    λ ok. (
+      (m.2 ok).0,
+      echoes_kept P (go ok) kept (sent_by tree sent) (sent_by tree' sent')
+          (later (m.2 ok).0 (m.0 ok)) (later (m.2 ok).0 (m.0 ok))
+          (no_less_on sent sent' tree tree' (later (m.2 ok).0 (m.0 ok)) x) (m.2 ok).1,
+    ),
+  )
 
   -- what is left, made into something else
   pub echoes_as : {V W : Type 0} (P : List MemberLetter → V → TurnTree → Type 0) (Q : List MemberLetter → W → TurnTree → Type 0) (f : V → W)
@@ -90,6 +103,11 @@ module _ (s : Setup) where
   echoes_as P Q f sent (Does (Say to head part) go) tree gives m = (m.0, echoes_as P Q f sent (go true) tree gives m.1)
   echoes_as P Q f sent (Does (Keep tried) go) tree gives m =
       (m.0, m.1, λ ok. echoes_as P Q f (sent_by tree sent) (go ok) (m.0 ok) gives (m.2 ok))
+  echoes_as P Q f sent (Does (Start job expires) go) tree gives m = (
+    m.0,
+    m.1,
+    λ ok. ((m.2 ok).0, echoes_as P Q f (sent_by tree sent) (go ok) (later (m.2 ok).0 (m.0 ok)) gives (m.2 ok).1),
+  )
 
   -- ---- what is said
 

@@ -49,14 +49,14 @@ module _ (c : Cluster) (cast : Cast) where
   }
 
   module _ (m : ℕ) (below : m < c.members) where
-    -- the asks of a tree before its next keep, all answered
+    -- the asks of a tree before its next keep or start, all answered
     abbrev pub says : TurnTree → List HostEntry
     says (Ends view) = []
     says (Does (Keeps kept) go) = []
     says (Does (Sends letter) go) = DoesAsk m (Sends letter) true ∷ says (go true)
-    says (Does AsksElse go) = DoesAsk m AsksElse true ∷ says (go true)
+    says (Does AsksElse go) = []
 
-    -- they lead to the next keep, or the end, with all said
+    -- they lead to the next keep or start, or the end, with all said
     pub record AreSaid (hosts : Hosts) (tree : TurnTree) : Type 0 where
       pub hosted_all : AreHosted c cast hosts (says tree)
       pub own : IsOf m hosts (hosts_after c cast hosts (says tree))
@@ -67,8 +67,9 @@ module _ (c : Cluster) (cast : Cast) where
       pub unreleased : (z : Release) → IsHostReleaseIn c cast hosts (says tree) z → ⊥
       pub unread : (k time : ℕ) → ReadsIn (says tree) k time → ⊥
 
-    at_ask : (hosts : Hosts) (ask : TicketAsk) (go : Bool → TurnTree) → (hosts.place m).tree ≡ Some (Does ask go) → MayHost c cast hosts (DoesAsk m ask true)
-    at_ask hosts ask go is = (below, subst (λ (o : Option TurnTree). IsSomeAnd o (IsNextAsk ask)) (sym is) refl)
+    pub at_ask : (hosts : Hosts) (ask : TicketAsk) (ok : Bool) (go : Bool → TurnTree) → (hosts.place m).tree ≡ Some (Does ask go)
+        → MayHost c cast hosts (DoesAsk m ask ok)
+    at_ask hosts ask ok go is = (below, subst (λ (o : Option TurnTree). IsSomeAnd o (IsNextAsk ask)) (sym is) refl)
 
     pub all_said : (hosts : Hosts) (tree : TurnTree) → (hosts.place m).tree ≡ Some tree → AreSaid hosts tree
     all_said hosts (Ends view) is =
@@ -81,7 +82,7 @@ module _ (c : Cluster) (cast : Cast) where
         ap (λ (p : HostPlace). p.tree) (put_same hosts.place m _) ∙ ap (λ (o : Option TurnTree). went_on true o) is in
         let rest : AreSaid next_hosts (go true) = all_said next_hosts (go true) there in
         record {
-          hosted_all = (at_ask hosts (Sends letter) go is, rest.hosted_all);
+          hosted_all = (at_ask hosts (Sends letter) true go is, rest.hosted_all);
           own = of_both m hosts next_hosts (hosts_after c cast next_hosts (says (go true)))
               (record { same_now = refl; others = λ k ne. put_other hosts.place m k _ ne; still_sent = λ l h. inr h }) rest.own;
           tree_now = rest.tree_now;
@@ -92,18 +93,4 @@ module _ (c : Cluster) (cast : Cast) where
           unread = λ k t r. ⊎_elim (λ (x : ⊥). x) (rest.unread k t) r;
         }
     all_said hosts (Does AsksElse go) is =
-        let next_hosts : Hosts = hosted c cast hosts (DoesAsk m AsksElse true) in
-        let there : (next_hosts.place m).tree ≡ Some (go true) =
-        ap (λ (p : HostPlace). p.tree) (put_same hosts.place m _) ∙ ap (λ (o : Option TurnTree). went_on true o) is in
-        let rest : AreSaid next_hosts (go true) = all_said next_hosts (go true) there in
-        record {
-          hosted_all = (at_ask hosts AsksElse go is, rest.hosted_all);
-          own = of_both m hosts next_hosts (hosts_after c cast next_hosts (says (go true)))
-              (record { same_now = refl; others = λ k ne. put_other hosts.place m k _ ne; still_sent = λ l h. h }) rest.own;
-          tree_now = rest.tree_now;
-          same_reading = rest.same_reading ∙ ap (λ (p : HostPlace). p.reading) (put_same hosts.place m _);
-          same_may = rest.same_may ∙ ap (λ (p : HostPlace). p.may) (put_same hosts.place m _);
-          all_sent = rest.all_sent;
-          unreleased = λ z r. ⊎_elim (λ (x : ⊥). x) (rest.unreleased z) r;
-          unread = λ k t r. ⊎_elim (λ (x : ⊥). x) (rest.unread k t) r;
-        }
+        record { hosted_all = tt; own = of_none m hosts; tree_now = is; same_reading = refl; same_may = refl; all_sent = refl; unreleased = λ z r. r; unread = λ k t r. r }

@@ -8,7 +8,7 @@ use Rattle.booth_node.specs.declared.node.Turn.{Turn}
 use Rattle.booth_node.specs.declared.node.Turn.TheVariants.{Went}
 use Rattle.booth_node.specs.declared.node_config.NodeConfig.{NodeConfig}
 use Rattle.booth_node.specs.Log.{AreTurns, joined_turns}
-use Rattle.booth_node.specs.Reaction.{Ask, Send, Keep, IsDone, used, react, IsTurn}
+use Rattle.booth_node.specs.Reaction.{Ask, Send, Keep, Start, IsDone, used, react, IsTurn}
 use Rattle.booth_node.specs.Session.{SessionEntry, Makes, Stand, Doing, did, MayMake, after_entry, AreSessions, after_entries}
 use Rattle.booth_node.specs.State.{State}
 use Rattle.booth_world.specs.Worlds.{made, LogsAreSessions}
@@ -27,8 +27,10 @@ path_join stand mid last (x ∷ xs) ys p q =
 says_so : (key : Option (List ℕ)) (ask : Ask) (ok : Bool) (call : Entry) → IsDone key ask ok call → ok ≡ did call
 says_so key (Send peer letter) ok (calls.Send to bytes answer) d = d.3
 says_so key (Keep name tried) ok (calls.Keep ticket rec answer) d = d.2
+says_so key (Start job) ok (calls.Start number ticket handler local expires answer) d = d.1
 says_so key (Send peer letter) ok call d = absurd d
 says_so key (Keep name tried) ok call d = absurd d
+says_so key (Start job) ok call d = absurd d
 
 deeds_path : (node : NodeConfig) (deeds left : Deeds Ask State) (entries : List Entry) → Leads (IsDone node.key) deeds entries left
     → IsPath (Doing node deeds) (made entries) (Doing node left)

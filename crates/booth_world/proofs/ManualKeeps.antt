@@ -30,7 +30,9 @@ use Rattle.booth_ticket.specs.declared.request.Request.{Request}
 use Rattle.booth_ticket.specs.declared.request.Wish.{Wish}
 use Rattle.booth_ticket.specs.declared.request.Wish.TheVariants.{Grant, Revoke}
 use Rattle.booth_ticket.specs.declared.waiters.Waiter.{Waiter}
-use Rattle.booth_ticket.specs.Acts.{Ask as TicketAsk, Keep as KeepsRecord, Say}
+use Rattle.booth_ticket.specs.Acts.{Ask as TicketAsk, Keep as KeepsRecord, Start as StartsJob, Say}
+use Rattle.booth_ticket.specs.declared.handling.Service.{Service}
+use Rattle.booth_ticket.specs.Handling.{service_of}
 use Rattle.booth_ticket.specs.Manual.{ManualKnown, greeting, manual_due, manual_heard}
 use Rattle.booth_ticket.specs.ManualRequests.{done_by_hand, manual_asked, manual_reply, refused_by_hand, result_of_keep, tried, tries_for}
 use Rattle.booth_ticket.specs.Saying.{others, places_in, say, say_back, say_each}
@@ -40,13 +42,14 @@ use Rattle.booth_node.specs.declared.node.Turn.{Turn}
 use Rattle.booth_node.specs.declared.node.Turn.TheVariants.{Went, Stopped}
 use Rattle.booth_node.specs.declared.node_config.NodeConfig.{NodeConfig}
 use Rattle.booth_node.specs.declared.state.Common.{Common}
-use Rattle.booth_node.specs.Befalling.{Befalling, comes_due, is_told, is_asked}
+use Rattle.booth_node.specs.Befalling.{Befalling, comes_due, ends_job, is_told, is_asked}
 use Rattle.booth_node.specs.AttributeRequests.{is_ready}
 use Rattle.booth_node.specs.Counting.{accepted, dropped, with_send}
-use Rattle.booth_node.specs.Reaction.{Action, Drops, Hears, Asks, Attends, Answers, Rests, Ask, Send, Keep, action, acts, acts_as, arrived, befalls, due_places, dues, each_due, lifted, met, peer_of, react, sends, sent_as, turn_end}
+use Rattle.booth_node.specs.Jobs.{job_at, job_of, with_start}
+use Rattle.booth_node.specs.Reaction.{Action, Drops, Hears, Asks, Attends, Answers, Rests, Ask, Send, Keep, Start, action, acts, acts_as, all_places, arrived, befalls, due_places, dues, each_due, each_over, lifted, met, peer_of, react, sends, sent_as, turn_end}
 use Rattle.booth_node.specs.State.{State, with_ticket}
 use Rattle.booth_world.proofs.Lists.{none_is, some_same}
-use Rattle.booth_world.proofs.NodeTrees.{Minds, HasSetup, minds_asked, minds_due, minds_heard}
+use Rattle.booth_world.proofs.NodeTrees.{Minds, HasSetup, minds_asked, minds_due, minds_heard, minds_over}
 
 -- ---- one ticket's deeds
 
@@ -57,6 +60,7 @@ High P term (Ends left) = P term left
 High P term (Does (Say to head part) go) = High P term (go true)
 High P term (Does (KeepsRecord record_kept) go) =
     (term ≤ record_kept.term) × High P record_kept.term (go true) × High P term (go false)
+High P term (Does (StartsJob job expires) go) = (ok : Bool) → High P term (go ok)
 
 high_as : {V W : Type 0} (P : ℕ → V → Type 0) (Q : ℕ → W → Type 0) (f : V → W) (term : ℕ) (deeds : Deeds TicketAsk V)
     → ((least : ℕ) (left : V) → P least left → Q least (f left)) → High P term deeds
@@ -65,6 +69,7 @@ high_as P Q f term (Ends left) gives h = gives term left h
 high_as P Q f term (Does (Say to head part) go) gives h = high_as P Q f term (go true) gives h
 high_as P Q f term (Does (KeepsRecord kept) go) gives h =
     (h.0, high_as P Q f kept.term (go true) gives h.1, high_as P Q f term (go false) gives h.2)
+high_as P Q f term (Does (StartsJob job expires) go) gives h = λ ok. high_as P Q f term (go ok) gives (h ok)
 
 module _ {V : Type 0} (P : ℕ → V → Type 0) (s : Setup) (term : ℕ) where
   high_each : (places : List ℕ) (head : Head) (part : TicketPart) (rest : Deeds TicketAsk V) → High P term rest
@@ -175,24 +180,28 @@ as_left s waiters term deeds high = high_as IsHighKnown IsHighLeft (left_by_hand
 -- what befalls a ticket, of a term at least this one
 abbrev BefallsHigh : ℕ → Befalling → Type 0
 BefallsHigh moment event =
-    (s : Setup) (known : Known) (waiters : List Waiter) (spare term : ℕ) (ready : GrantKind → Bool) → IsHigh term known
-    → High IsHighLeft term (befalls (record { setup = s; known = known }) waiters spare ready event moment)
+    (s : Setup) (known : Known) (waiters : List Waiter) (spare term : ℕ) (ready : GrantKind → Bool) (job : Option ℕ) → IsHigh term known
+    → High IsHighLeft term (befalls (record { setup = s; known = known }) waiters spare ready job event moment)
 
 due_high : (moment : ℕ) → BefallsHigh moment comes_due
-due_high moment s (Automatic view) waiters spare term ready h = absurd h
-due_high moment s (Manual known) waiters spare term ready h = as_left s waiters term (manual_due s known) (due_keeps s term known h)
+due_high moment s (Automatic view) waiters spare term ready job h = absurd h
+due_high moment s (Manual known) waiters spare term ready job h = as_left s waiters term (manual_due s known) (due_keeps s term known h)
 
 told_high : (moment from : ℕ) (head : Head) (part : TicketPart) → BefallsHigh moment (is_told from head part)
-told_high moment from head part s (Automatic view) waiters spare term ready h = absurd h
-told_high moment from head part s (Manual known) waiters spare term ready h =
+told_high moment from head part s (Automatic view) waiters spare term ready job h = absurd h
+told_high moment from head part s (Manual known) waiters spare term ready job h =
     as_left s waiters term (manual_heard s known from head part) (heard_keeps s term known from head part h)
 
 asked_high : (moment : ℕ) (request : Request) → BefallsHigh moment (is_asked request)
-asked_high moment request s (Automatic view) waiters spare term ready h = absurd h
-asked_high moment request s (Manual known) waiters spare term ready h =
+asked_high moment request s (Automatic view) waiters spare term ready job h = absurd h
+asked_high moment request s (Manual known) waiters spare term ready job h =
     as_left s waiters term (manual_asked s known spare (ready kinds.Manual) request)
     (done_keeps s term request known.greets_at known.view
     (refused_by_hand s known.view spare (ready kinds.Manual) request.options request.wish) request.wish h)
+
+over_high : (moment number : ℕ) (service : Service) → BefallsHigh moment (ends_job number service)
+over_high moment number service s (Automatic view) waiters spare term ready job h = absurd h
+over_high moment number service s (Manual known) waiters spare term ready job h = as_left s waiters term (Ends known) h
 
 -- ---- the node's deeds
 
@@ -211,6 +220,7 @@ module _ (name : List ℕ) (place : ℕ) where
   KeepsHigh term (Does (Keep ticket_name kept) go) =
       ((ticket_name ≢ name) × ((ok : Bool) → KeepsHigh term (go ok)))
       ⊎ ((term ≤ kept.term) × KeepsHigh kept.term (go true) × KeepsHigh term (go false))
+  KeepsHigh term (Does (Start job) go) = (ok : Bool) → KeepsHigh term (go ok)
 
   placed_lower : (term higher : ℕ) (tickets : List TicketState) → term ≤ higher → IsPlaced higher tickets → IsPlaced term tickets
   placed_lower term higher tickets less at = record {
@@ -226,6 +236,7 @@ module _ (name : List ℕ) (place : ℕ) where
   keeps_lower term higher (Does (Keep ticket_name kept) go) less (inl h) = inl (h.0, λ ok. keeps_lower term higher (go ok) less (h.1 ok))
   keeps_lower term higher (Does (Keep ticket_name kept) go) less (inr h) =
       inr (omega (arith, less, h.0), h.1, keeps_lower term higher (go false) less h.2)
+  keeps_lower term higher (Does (Start job) go) less h = λ ok. keeps_lower term higher (go ok) less (h ok)
 
   keeps_next : (f : State → Deeds Ask State) (term : ℕ) (deeds : Deeds Ask State)
       → ((least : ℕ) (state : State) → IsPlaced least state.tickets → KeepsHigh least (f state))
@@ -235,6 +246,7 @@ module _ (name : List ℕ) (place : ℕ) where
   keeps_next f term (Does (Keep ticket_name kept) go) on (inl h) = inl (h.0, λ ok. keeps_next f term (go ok) on (h.1 ok))
   keeps_next f term (Does (Keep ticket_name kept) go) on (inr h) =
       inr (h.0, keeps_next f kept.term (go true) on h.1, keeps_next f term (go false) on h.2)
+  keeps_next f term (Does (Start job) go) on h = λ ok. keeps_next f term (go ok) on (h ok)
 
   module _ (node : NodeConfig) (moment : ℕ) where
     own_keeps : (ticket_name : List ℕ) (term : ℕ) (common : Common) (deeds : Deeds TicketAsk TicketLeft) (rest : Common → TicketLeft → Deeds Ask State)
@@ -244,6 +256,8 @@ module _ (name : List ℕ) (place : ℕ) where
     own_keeps ticket_name term common (Ends left) rest h on = on term common left h
     own_keeps ticket_name term common (Does (KeepsRecord kept) go) rest h on =
         inr (h.0, own_keeps ticket_name kept.term common (go true) rest h.1 on, own_keeps ticket_name term common (go false) rest h.2 on)
+    own_keeps ticket_name term common (Does (StartsJob job expires) go) rest h on =
+        λ ok. own_keeps ticket_name term (with_start common) (go ok) rest (h ok) on
     own_keeps ticket_name term common (Does (Say to head part) go) rest h on =
         by_peer (peer_of node.config to) (λ counted. own_keeps ticket_name term counted (go true) rest h on)
       where
@@ -259,6 +273,8 @@ module _ (name : List ℕ) (place : ℕ) where
     other_keeps ticket_name other term common P (Ends left) rest m on = on common left m
     other_keeps ticket_name other term common P (Does (KeepsRecord kept) go) rest m on =
         inl (other, λ ok. other_keeps ticket_name other term common P (go ok) rest (m ok) on)
+    other_keeps ticket_name other term common P (Does (StartsJob job expires) go) rest m on =
+        λ ok. other_keeps ticket_name other term (with_start common) P (go ok) rest (m ok) on
     other_keeps ticket_name other term common P (Does (Say to head part) go) rest m on =
         by_peer (peer_of node.config to) (λ counted. other_keeps ticket_name other term counted P (go true) rest m.1 on)
       where
@@ -301,8 +317,8 @@ module _ (name : List ℕ) (place : ℕ) where
 
     abbrev MindsEvent : Befalling → Type 0
     MindsEvent event =
-        (t : TicketState) (waiters : List Waiter) (spare : ℕ) (ready : GrantKind → Bool)
-        → Minds (HasSetup t.setup moment) t.setup.ticket (befalls t waiters spare ready event moment)
+        (t : TicketState) (waiters : List Waiter) (spare : ℕ) (ready : GrantKind → Bool) (job : Option ℕ)
+        → Minds (HasSetup t.setup moment) t.setup.ticket (befalls t waiters spare ready job event moment)
 
     acts_keep : (state : State) (at_place term : ℕ) (event : Befalling) → BefallsHigh moment event → MindsEvent event
         → IsPlaced term state.tickets → KeepsHigh term (acts node moment state at_place event)
@@ -312,10 +328,11 @@ module _ (name : List ℕ) (place : ℕ) where
         own =
             subst (λ (o : Option TicketState). KeepsHigh term (acts_as node moment state place event o)) (sym at.own)
             (own_keeps at.ticket.setup.ticket term state.common
-            (befalls at.ticket (waiting_at state.waiters place) (spare_in state.waiters) (is_ready node state.attributes place) event moment)
+            (befalls at.ticket (waiting_at state.waiters place) (spare_in state.waiters) (is_ready node state.attributes place)
+            (job_at node place state.common) event moment)
             (λ common left. Ends (with_ticket state place common left))
             (own_high at.ticket.setup at.ticket.known (waiting_at state.waiters place) (spare_in state.waiters) term
-            (is_ready node state.attributes place) at.high)
+            (is_ready node state.attributes place) (job_at node place state.common) at.high)
             (λ least counted left high. own_left state term least counted left at high))
 
         other : at_place ≢ place → (o : Option TicketState) → slice_get state.tickets at_place ≡ o
@@ -323,9 +340,11 @@ module _ (name : List ℕ) (place : ℕ) where
         other ne None is = at
         other ne (Some t) is =
             other_keeps t.setup.ticket (at.others at_place t is ne) term state.common (HasSetup t.setup moment)
-            (befalls t (waiting_at state.waiters at_place) (spare_in state.waiters) (is_ready node state.attributes at_place) event moment)
+            (befalls t (waiting_at state.waiters at_place) (spare_in state.waiters) (is_ready node state.attributes at_place)
+            (job_at node at_place state.common) event moment)
             (λ common left. Ends (with_ticket state at_place common left))
-            (minds t (waiting_at state.waiters at_place) (spare_in state.waiters) (is_ready node state.attributes at_place))
+            (minds t (waiting_at state.waiters at_place) (spare_in state.waiters) (is_ready node state.attributes at_place)
+            (job_at node at_place state.common))
             (λ counted left same. other_left state at_place term t counted left at is ne same)
 
         by_place : (at_place ≡ place) ⊎ (at_place ≢ place) → KeepsHigh term (acts node moment state at_place event)
@@ -334,25 +353,37 @@ module _ (name : List ℕ) (place : ℕ) where
 
     due_acts : (state : State) (at_place term : ℕ) → IsPlaced term state.tickets → KeepsHigh term (acts node moment state at_place comes_due)
     due_acts state at_place term at =
-        acts_keep state at_place term comes_due (due_high moment) (λ t waiters spare ready. minds_due t.setup moment t.known waiters (ready kinds.Auto)) at
+        acts_keep state at_place term comes_due (due_high moment) (λ t waiters spare ready job. minds_due t.setup moment t.known waiters (ready kinds.Auto) job) at
 
     met_keeps : (state : State) (from : Peer) (a : Action) (term : ℕ) → IsPlaced term state.tickets
         → KeepsHigh term (met node moment state from a)
     met_keeps state from (Drops fault) term at = at
     met_keeps state from (Hears member ticket head part) term at =
         acts_keep (accepted state member moment) ticket term (is_told member head part) (told_high moment member head part)
-        (λ t waiters spare ready. minds_heard t.setup moment t.known waiters member head part) at
+        (λ t waiters spare ready job. minds_heard t.setup moment t.known waiters member head part) at
     met_keeps state from (Asks ticket request) term at =
         acts_keep state ticket term (is_asked request) (asked_high moment request)
-        (λ t waiters spare ready. minds_asked t.setup moment t.known waiters spare (ready kinds.Manual) request) at
+        (λ t waiters spare ready job. minds_asked t.setup moment t.known waiters spare (ready kinds.Manual) job request) at
     met_keeps state from (Attends ticket request) term at = λ ok. at
     met_keeps state from (Answers letter) term at = λ ok. at
     met_keeps state from Rests term at = at
+
+    -- a job is over, and each ticket is told
+    over_keeps : (number : ℕ) (service : Service) (places : List ℕ) (term : ℕ) (state : State) → IsPlaced term state.tickets
+        → KeepsHigh term (each_over node moment number service places state)
+    over_keeps number service [] term state at = at
+    over_keeps number service (p ∷ places) term state at =
+        keeps_next (each_over node moment number service places) term (acts node moment state p (ends_job number service))
+        (λ least left placed. over_keeps number service places least left placed)
+        (acts_keep state p term (ends_job number service) (over_high moment number service)
+        (λ t waiters spare ready job. minds_over t.setup moment t.known waiters number service) at)
 
     arrived_keeps : (state : State) (arrival : Result Arrival Failed) (bytes : List ℕ) (term : ℕ) → IsPlaced term state.tickets
         → KeepsHigh term (arrived node moment state arrival bytes)
     arrived_keeps state (Ok (arrivals.Datagram from)) bytes term at =
         met_keeps state from (action node moment state.tickets state.common from bytes) term at
+    arrived_keeps state (Ok (arrivals.Handler job status)) bytes term at =
+        over_keeps job (service_of status) (all_places state) term state at
     arrived_keeps state (Ok arrivals.Quiet) bytes term at = at
     arrived_keeps state (Ok arrivals.Stop) bytes term at = at
     arrived_keeps state (Err failed) bytes term at = at

@@ -14,9 +14,9 @@ use Rattle.booth_node.specs.declared.node_config.NodeConfig.{NodeConfig}
 use Rattle.booth_node.specs.State.{State}
 use Rattle.booth_node.specs.Held.{Moment, may_at}
 use Rattle.booth_node.specs.Opening.{known_at_start, opened, opened_by, setup_of, start_reading}
-use Rattle.booth_node.specs.Reaction.{Ask, Send, Keep, react, used}
+use Rattle.booth_node.specs.Reaction.{Ask, Send, Keep, Start, react, used}
 use Rattle.booth_node.specs.Records.{Has, TicketPlace, record_at, may_after, may_after_all, may_after_keep, with_next}
-use Rattle.booth_node.specs.Session.{CutCall, MayMake, MayBeCut, CutKeep, CutNext, CutNow, CutSend, SessionEntry, Starts, Makes, IsCut, Stand, Down, Doing, Hearing, MayDo, AreSessions, after_call, after_entry, after_entries}
+use Rattle.booth_node.specs.Session.{CutCall, MayMake, MayBeCut, CutKeep, CutNext, CutNow, CutSend, CutStart, SessionEntry, Starts, Makes, IsCut, Stand, Down, Doing, Hearing, MayDo, AreSessions, after_call, after_entry, after_entries}
 use Rattle.booth_node.specs.World.{HasConfiguration, ReadsKept, WorldEntry, World, members_of, entries_of, node_at, stand_after, ticket_at, IsWorld}
 use Rattle.booth_world.specs.Worlds.{IsLater}
 use Rattle.booth_world.proofs.ManualKeeps.{IsHigh, IsPlaced, KeepsHigh, keeps_lower, turn_keeps}
@@ -164,6 +164,9 @@ module _ (ticket : TicketPlace) where
   makes term (Doing node (Does (Keep name tried) go)) (calls.Keep ticket_name rec answer) may x d =
       keeps term node name tried go ticket_name rec (is_ok answer) may x d.0 d.1
   makes term (Doing node (Does (Keep name tried) go)) call may x d = absurd d
+  makes term (Doing node (Does (Start job) go)) (calls.Start number named handler local expires answer) may x d =
+      stays term (Doing node (Does (Start job) go)) (Doing node (go (is_ok answer))) may x (x.high (is_ok answer))
+  makes term (Doing node (Does (Start job) go)) call may x d = absurd d
   makes term (Hearing node old answer bytes) (calls.Now reading) may x d =
       stays term (Hearing node old answer bytes) (Doing node (react node old (used old.last_reading reading) answer bytes)) may x
       (turn_keeps ticket.name ticket.place node (used old.last_reading reading) old answer bytes term x.high)
@@ -174,9 +177,11 @@ module _ (ticket : TicketPlace) where
   cuts term stand CutNext may x d = stays term stand Down may x tt
   cuts term stand CutNow may x d = stays term stand Down may x tt
   cuts term stand (CutSend to bytes) may x d = stays term stand Down may x tt
+  cuts term stand (CutStart job) may x d = stays term stand Down may x tt
   cuts term Down (CutKeep ticket_name rec) may x d = absurd d
   cuts term (Doing node (Ends old)) (CutKeep ticket_name rec) may x d = absurd d
   cuts term (Doing node (Does (Send peer letter) go)) (CutKeep ticket_name rec) may x d = absurd d
+  cuts term (Doing node (Does (Start job) go)) (CutKeep ticket_name rec) may x d = absurd d
   cuts term (Doing node (Does (Keep name tried) go)) (CutKeep ticket_name rec) may x d =
       cuts_keep term node name tried go ticket_name rec may x d.0 d.1
   cuts term (Hearing node old answer bytes) (CutKeep ticket_name rec) may x d = absurd d
@@ -203,12 +208,14 @@ module _ (ticket : TicketPlace) where
   next_above term (Doing node (Does (Keep name tried) go)) may (Makes (calls.Keep ticket_name rec answer)) xs k x d h =
       next_keep term node name tried go ticket_name rec may k x d.0 d.1 h
   next_above term (Doing node (Does (Send peer letter) go)) may (Makes (calls.Keep ticket_name rec answer)) xs k x d h = absurd d
+  next_above term (Doing node (Does (Start job) go)) may (Makes (calls.Keep ticket_name rec answer)) xs k x d h = absurd d
   next_above term (Doing node (Ends old)) may (Makes (calls.Keep ticket_name rec answer)) xs k x d h = absurd d
   next_above term Down may (Makes (calls.Keep ticket_name rec answer)) xs k x d h = absurd d
   next_above term (Hearing node old got into) may (Makes (calls.Keep ticket_name rec answer)) xs k x d h = absurd d
   next_above term (Doing node (Does (Keep name tried) go)) may (IsCut (CutKeep ticket_name rec)) xs k x d h =
       next_keep term node name tried go ticket_name rec may k x d.0 d.1 h
   next_above term (Doing node (Does (Send peer letter) go)) may (IsCut (CutKeep ticket_name rec)) xs k x d h = absurd d
+  next_above term (Doing node (Does (Start job) go)) may (IsCut (CutKeep ticket_name rec)) xs k x d h = absurd d
   next_above term (Doing node (Ends old)) may (IsCut (CutKeep ticket_name rec)) xs k x d h = absurd d
   next_above term Down may (IsCut (CutKeep ticket_name rec)) xs k x d h = absurd d
   next_above term (Hearing node old got into) may (IsCut (CutKeep ticket_name rec)) xs k x d h = absurd d

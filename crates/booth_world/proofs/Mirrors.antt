@@ -1,5 +1,5 @@
 -- When a tree of the node's deeds does for one ticket what a host's tree does.
-use Rattle.std.proofs.Common.{◌≡◌, ◌≢◌, ◌⊎◌, inl, inr, ℕ, Bool, true, List, ◌∷◌, refl, sym, ◌∙◌}
+use Rattle.std.proofs.Common.{◌≡◌, ◌≢◌, ◌⊎◌, inl, inr, ℕ, Bool, true, List, [], ◌∷◌, refl, sym, ◌∙◌}
 use Rattle.booth_base.specs.Tree.{Deeds, Ends, Does, next}
 use Rattle.booth_wire.specs.declared.command.Direction.TheVariants.{BetweenMembers}
 use Rattle.booth_wire.specs.declared.message.Head.{Head}
@@ -8,24 +8,30 @@ use Rattle.booth_wire.specs.declared.message.Setup.{Setup}
 use Rattle.booth_wire.specs.Command.{direction_of}
 use Rattle.booth_wire.specs.PlainMessage.{PlainMessage, Ticket}
 use Rattle.booth_auth.specs.Sealed.{stamped_head}
-use Rattle.booth_node.specs.Reaction.{Ask, Send, Keep}
+use Rattle.booth_node.specs.Reaction.{Ask, Send, Keep, Start}
 use Rattle.booth_world.specs.Facts.{Has}
 use Rattle.booth_world.specs.Rules.{MemberLetter}
 use Rattle.booth_world.specs.Turns.{Keeps, Sends, AsksElse, TurnTree}
 
--- ---- a host's tree, with all behind it that is said before the next keep
+-- ---- a host's tree, with all behind it that is said before the next keep or start
 
 abbrev pub skip : TurnTree → TurnTree
 skip (Ends view) = Ends view
 skip (Does (Keeps kept) go) = Does (Keeps kept) go
 skip (Does (Sends letter) go) = skip (go true)
-skip (Does AsksElse go) = skip (go true)
+skip (Does AsksElse go) = Does AsksElse go
 
 abbrev pub sent_by : TurnTree → List MemberLetter → List MemberLetter
 sent_by (Ends view) sent = sent
 sent_by (Does (Keeps kept) go) sent = sent
 sent_by (Does (Sends letter) go) sent = sent_by (go true) (letter ∷ sent)
-sent_by (Does AsksElse go) sent = sent_by (go true) sent
+sent_by (Does AsksElse go) sent = sent
+
+-- a host's tree, where what it asks for first, beside keeps and sends, is answered so
+abbrev pub later : List Bool → TurnTree → TurnTree
+later [] tree = tree
+later (ok ∷ answers) (Does AsksElse go) = later answers (go ok)
+later (ok ∷ answers) tree = tree
 
 abbrev pub SentMore : List MemberLetter → List MemberLetter → Type 0
 SentMore sent sent' = (l : MemberLetter) → Has sent l → Has sent' l
@@ -34,7 +40,7 @@ pub grows : (tree : TurnTree) (sent : List MemberLetter) → SentMore sent (sent
 grows (Ends view) sent l h = h
 grows (Does (Keeps kept) go) sent l h = h
 grows (Does (Sends letter) go) sent l h = grows (go true) (letter ∷ sent) l (inr h)
-grows (Does AsksElse go) sent l h = grows (go true) sent l h
+grows (Does AsksElse go) sent l h = h
 
 pub sent_more : (tree : TurnTree) (sent sent' : List MemberLetter) → SentMore sent sent' → SentMore (sent_by tree sent) (sent_by tree sent')
 sent_more (Ends view) sent sent' more l h = more l h
@@ -44,9 +50,9 @@ sent_more (Does (Sends letter) go) sent sent' more l h = sent_more (go true) (le
     longer : SentMore (letter ∷ sent) (letter ∷ sent')
     longer k (inl e) = inl e
     longer k (inr h) = inr (more k h)
-sent_more (Does AsksElse go) sent sent' more l h = sent_more (go true) sent sent' more l h
+sent_more (Does AsksElse go) sent sent' more l h = more l h
 
--- another host's tree, with the same next keep, that has said no less
+-- another host's tree, with the same next keep or start, that has said no less
 pub record IsNoLess (sent : List MemberLetter) (tree : TurnTree) (sent' : List MemberLetter) (tree' : TurnTree) : Type 0 where
   pub same : skip tree ≡ skip tree'
   pub more : SentMore (sent_by tree sent) (sent_by tree' sent')
@@ -79,8 +85,9 @@ module _ (auth : Bool) (s : Setup) where
     spoken = λ part between is named. let q = x.spoken part between is named in (q.0, q.1, q.2, more _ q.3);
   }
 
-  -- The node's deeds keep of this ticket what the host's tree keeps, and say what it says before that; deeds of other
-  -- tickets stand between. Where they end, this is so of what is left and of the place in the host's tree.
+  -- The node's deeds keep of this ticket what the host's tree keeps, start its handler where the host's tree asks for
+  -- something else, which may go on to ask for more, and say what it says before that; deeds of other tickets stand between.
+  -- Where they end, this is so of what is left and of the place in the host's tree.
   abbrev pub Mirrors : {S : Type 0} → (List MemberLetter → S → TurnTree → Type 0) → List MemberLetter → Deeds Ask S → TurnTree → Type 0
   Mirrors Q sent (Ends state) tree = Q sent state tree
   Mirrors Q sent (Does (Send peer letter) go) tree =
@@ -89,6 +96,10 @@ module _ (auth : Bool) (s : Setup) where
       ((name ≢ s.ticket) × ((ok : Bool) → Mirrors Q sent (go ok) tree))
       ⊎ ((name ≡ s.ticket) × (rest : Bool → TurnTree) × (skip tree ≡ Does (Keeps tried) rest)
       × ((ok : Bool) → Mirrors Q (sent_by tree sent) (go ok) (rest ok)))
+  Mirrors Q sent (Does (Start job) go) tree =
+      ((ok : Bool) → Mirrors Q sent (go ok) tree)
+      ⊎ ((rest : Bool → TurnTree) × (skip tree ≡ Does AsksElse rest)
+      × ((ok : Bool) → (answers : List Bool) × Mirrors Q (sent_by tree sent) (go ok) (later answers (rest ok))))
 
   pub mirrors_kept : {S : Type 0} (Q : List MemberLetter → S → TurnTree → Type 0) (deeds : Deeds Ask S) → IsKept Q
       → (sent sent' : List MemberLetter) (tree tree' : TurnTree) → IsNoLess sent tree sent' tree' → Mirrors Q sent deeds tree → Mirrors Q sent' deeds tree'
@@ -105,6 +116,19 @@ module _ (auth : Bool) (s : Setup) where
         λ ok. mirrors_kept Q (go ok) kept (sent_by tree sent) (sent_by tree' sent') (m.1 ok) (m.1 ok)
             (no_less_on sent sent' tree tree' (m.1 ok) x) (m.3 ok),
       )
+  mirrors_kept Q (Does (Start job) go) kept sent sent' tree tree' x (inl m) =
+      inl (λ ok. mirrors_kept Q (go ok) kept sent sent' tree tree' x (m ok))
+  mirrors_kept Q (Does (Start job) go) kept sent sent' tree tree' x (inr m) =
+      inr (
+        m.0,
+        sym x.same ∙ m.1,
+        λ ok. (
+          (m.2 ok).0,
+          mirrors_kept Q (go ok) kept (sent_by tree sent) (sent_by tree' sent')
+              (later (m.2 ok).0 (m.0 ok)) (later (m.2 ok).0 (m.0 ok))
+              (no_less_on sent sent' tree tree' (later (m.2 ok).0 (m.0 ok)) x) (m.2 ok).1,
+        ),
+      )
 
   -- one after the other
   pub mirrors_next : {S T : Type 0} (P : List MemberLetter → S → TurnTree → Type 0) (Q : List MemberLetter → T → TurnTree → Type 0)
@@ -116,3 +140,10 @@ module _ (auth : Bool) (s : Setup) where
   mirrors_next P Q f sent (Does (Keep name tried) go) tree on (inl m) = inl (m.0, λ ok. mirrors_next P Q f sent (go ok) tree on (m.1 ok))
   mirrors_next P Q f sent (Does (Keep name tried) go) tree on (inr m) =
       inr (m.0, m.1, m.2, λ ok. mirrors_next P Q f (sent_by tree sent) (go ok) (m.1 ok) on (m.3 ok))
+  mirrors_next P Q f sent (Does (Start job) go) tree on (inl m) = inl (λ ok. mirrors_next P Q f sent (go ok) tree on (m ok))
+  mirrors_next P Q f sent (Does (Start job) go) tree on (inr m) =
+      inr (
+        m.0,
+        m.1,
+        λ ok. ((m.2 ok).0, mirrors_next P Q f (sent_by tree sent) (go ok) (later (m.2 ok).0 (m.0 ok)) on (m.2 ok).1),
+      )

@@ -1,7 +1,9 @@
 -- What an arrival is for one ticket: a member's message that is heard, a client's request, or nothing; and so the whole turn.
-use Rattle.std.proofs.Common.{◌≡◌, ◌≢◌, ◌⊎◌, inl, inr, ℕ, ◌<◌, Bool, List, length, refl, sym, subst}
+use Rattle.std.proofs.Common.{◌≡◌, ◌≢◌, ◌⊎◌, inl, inr, ℕ, zero, suc, ◌+◌, ◌^◌, ◌<◌, ◌≤◌, Bool, List, ◌∷◌, length, refl, sym, ap, ◌∙◌, subst, arith}
 use Rattle.std.specs.Prelude.{Option, Some, None, is_some, position, Result, Ok, Err}
+use Rattle.std.specs.List.{range_with_len}
 use Rattle.std.specs.Option.{ForSome}
+use Rattle.std.proofs.lemmas.Option.{slice_get_within}
 use Rattle.booth_base.specs.declared.address.Peer.{Peer}
 use Rattle.booth_base.specs.Tree.{Deeds, next}
 use Rattle.booth_chain.proofs.NodesLemmas.{same_or_not}
@@ -23,20 +25,23 @@ use Rattle.booth_host.specs.declared.host.Arrival.{Arrival}
 use Rattle.booth_host.specs.declared.host.Arrival.TheVariants as arrivals
 use Rattle.booth_raft.specs.declared.view.View.{View}
 use Rattle.booth_ticket.specs.declared.request.Request.{Request}
-use Rattle.booth_ticket.specs.Automatic.{Left, hear_message}
+use Rattle.booth_ticket.specs.declared.handling.Service.{Service}
+use Rattle.booth_ticket.specs.Automatic.{Left, end_job, hear_message}
+use Rattle.booth_ticket.specs.Handling.{service_of}
 use Rattle.booth_ticket.specs.Requests.{wish}
 use Rattle.booth_ticket.specs.Ticket.{TicketState}
 use Rattle.booth_ticket.specs.Waiting.{spare_in, waiting_at}
 use Rattle.booth_node.specs.declared.node.Turn.{Turn}
 use Rattle.booth_node.specs.declared.node_config.NodeConfig.{NodeConfig}
 use Rattle.booth_node.specs.declared.state.Common.{Common}
-use Rattle.booth_node.specs.Befalling.{AttributeAsking, is_told, is_asked}
+use Rattle.booth_node.specs.Befalling.{AttributeAsking, ends_job, is_told, is_asked}
 use Rattle.booth_node.specs.Counting.{dropped, accepted}
 use Rattle.booth_auth.specs.Verdict.{verdict}
 use Rattle.booth_conf.specs.declared.tickets.GrantKind.TheVariants.{Auto, Manual}
 use Rattle.booth_node.specs.AttributeRequests.{attr_request_in, is_ready}
 use Rattle.booth_node.proofs.ActionLemmas.{attr_to_client}
-use Rattle.booth_node.specs.Reaction.{Ask, Action, Drops, Hears, Asks, Attends, Answers, Rests, answers, asks, attends, attended, requested, hears, said, routed, demanded, action, after_attending, met, turn_end, dues, acts, react}
+use Rattle.booth_node.specs.Jobs.{handler_at, job_at}
+use Rattle.booth_node.specs.Reaction.{Ask, Action, Drops, Hears, Asks, Attends, Answers, Rests, answers, asks, attends, attended, requested, hears, said, routed, demanded, action, after_attending, met, turn_end, dues, acts, all_places, each_over, react}
 use Rattle.booth_node.specs.Replies.{Reply, answered, reply_to, request_in}
 use Rattle.booth_node.specs.State.{State, with_ticket}
 use Rattle.booth_world.specs.Rules.{MemberLetter, Hears as HearsLetter}
@@ -44,9 +49,9 @@ use Rattle.booth_world.specs.Turns.{TurnTree, Plan, plan_tree, call_tree, turn_t
 use Rattle.booth_world.proofs.Lists.{none_is, some_same}
 use Rattle.booth_world.proofs.Mirrors.{IsKept, Mirrors, mirrors_kept, mirrors_next}
 use Rattle.booth_world.proofs.Echoes.{echoes_as}
-use Rattle.booth_world.proofs.Plans.{always, ask_plan, ask_may, heard, asked}
-use Rattle.booth_world.proofs.NodeTrees.{left_as, minds_heard, minds_asked}
-use Rattle.booth_world.proofs.NodeTurns.{IsPlacedAt, IsOver, Over, over_kept, own_set, own_acts, other_acts, ready_in, after_plan, after_may, dues_over}
+use Rattle.booth_world.proofs.Plans.{always, ask_plan, ask_may, over_plan, over_may, heard, asked, job_ended}
+use Rattle.booth_world.proofs.NodeTrees.{IsFew, left_as, minds_heard, minds_asked, minds_over}
+use Rattle.booth_world.proofs.NodeTurns.{IsPlacedAt, IsOver, Over, over_kept, own_set, own_acts, other_acts, ready_in, after_plan, after_may, dues_over, below_most}
 
 -- ---- what an action stands for
 
@@ -159,7 +164,7 @@ one_letter : (Good : MemberLetter → Type 0) (letter : MemberLetter) → Good l
 one_letter Good letter good = λ other e. subst Good (some_same letter other e) good
 
 module _ (s : Setup) (place : ℕ) (node : NodeConfig) (moment : ℕ) (all : s.members ≡ length node.config.members) (own : s.place < s.members)
-    (Good : MemberLetter → Type 0) where
+    (most : ℕ) (enough : 2 ^ 64 ≤ most) (Good : MemberLetter → Type 0) where
   -- The deeds are those of a turn of the host: with the message that is heard, and a plan whose calls may be made.
   pub record IsTurnOf (view : View) (deeds : Deeds Ask State) : Type 0 where
     pub came : Option MemberLetter
@@ -178,41 +183,41 @@ module _ (s : Setup) (place : ℕ) (node : NodeConfig) (moment : ℕ) (all : s.m
     Then sent state tree = Over s place node moment all sent (dues node moment turn state) tree
 
     abbrev ready_at : State → Bool
-    ready_at state = ready_in s place node moment all own state
+    ready_at state = ready_in s place node moment all own most enough state
 
     abbrev ready_by : State → Bool
     ready_by state = is_ready node state.attributes place Manual
 
     abbrev then_plan : State → View → Plan
-    then_plan state view = after_plan s place node moment all own (ready_at state) turn view
+    then_plan state view = after_plan s place node moment all own most enough (ready_at state) turn view
 
     then_dues : (state : State) (view : View) (sent : List MemberLetter) → IsPlacedAt s place view state.tickets → state.last_reading ≡ moment
-        → Then sent state (plan_tree s moment view (then_plan state view))
-    then_dues state view sent at last_is = dues_over s place node moment all own turn state view sent at last_is
+        → IsFew state.common → Then sent state (plan_tree s moment view (then_plan state view))
+    then_dues state view sent at last_is few = dues_over s place node moment all own most enough turn state view sent at last_is few
 
     nothing : (state : State) (view : View) → IsPlacedAt s place view state.tickets → state.last_reading ≡ moment
-        → IsTurnOf view (dues node moment turn state)
-    nothing state view at last_is = record {
+        → IsFew state.common → IsTurnOf view (dues node moment turn state)
+    nothing state view at last_is few = record {
       came = None;
       plan = then_plan state;
-      may = after_may s place node moment all own (ready_at state) turn view;
+      may = after_may s place node moment all own most enough (ready_at state) turn view;
       good = no_letter Good;
-      over = λ sent. then_dues state view sent at last_is;
+      over = λ sent. then_dues state view sent at last_is few;
     }
 
     -- what the ticket leaves goes on with the deadlines
     abbrev LeftThen : State → List MemberLetter → Left → TurnTree → Type 0
-    LeftThen state sent left tree = (counted : Common) → Then sent (with_ticket state place counted (left_as s moment left)) tree
+    LeftThen state sent left tree = (counted : Common) → IsFew counted → Then sent (with_ticket state place counted (left_as s moment left)) tree
 
     left_kept : (state : State) → IsKept (LeftThen state)
     left_kept state left sent sent' tree tree' x m =
-        λ counted. mirrors_kept (is_some node.key) s (IsOver s place node moment all) (dues node moment turn (with_ticket state place counted (left_as s moment left)))
-        (over_kept s place node moment all) sent sent' tree tree' x (m counted)
+        λ counted few_now. mirrors_kept (is_some node.key) s (IsOver s place node moment all) (dues node moment turn (with_ticket state place counted (left_as s moment left)))
+        (over_kept s place node moment all) sent sent' tree tree' x (m counted few_now)
 
     left_dues : (state : State) (view : View) → IsPlacedAt s place view state.tickets → state.last_reading ≡ moment
         → (left : Left) (sent : List MemberLetter) → LeftThen state sent left (plan_tree s moment left.view (then_plan state left.view))
     left_dues state view at last_is left sent =
-        λ counted. then_dues (with_ticket state place counted (left_as s moment left)) left.view sent (own_set s place view left.view state.tickets at) last_is
+        λ counted few_now. then_dues (with_ticket state place counted (left_as s moment left)) left.view sent (own_set s place view left.view state.tickets at) last_is few_now
 
     joined : (deeds : Deeds Ask State) (sent : List MemberLetter) (tree : TurnTree)
         → Mirrors (is_some node.key) s Then sent deeds tree → Over s place node moment all sent (next deeds (dues node moment turn)) tree
@@ -220,114 +225,237 @@ module _ (s : Setup) (place : ℕ) (node : NodeConfig) (moment : ℕ) (all : s.m
         mirrors_next (is_some node.key) s Then (IsOver s place node moment all) (dues node moment turn) sent deeds tree (λ sent' state' tree' x. x) m
 
     hears_own : (state : State) (view : View) (member : ℕ) (head : Head) (part : TicketPart) → IsPlacedAt s place view state.tickets
-        → state.last_reading ≡ moment → Unstamped member head part
+        → state.last_reading ≡ moment → IsFew state.common → Unstamped member head part
         → IsTurnOf view (next (acts node moment state place (is_told member head part)) (dues node moment turn))
-    hears_own state view member head part at last_is plain = record {
+    hears_own state view member head part at last_is few plain = record {
       came = Some (record { sender = member; head = plain.0; part = part });
       plan = then_plan state;
       may = always (λ left. MayPlan s moment left (then_plan state left))
           (call_tree s moment view (HearsLetter (record { sender = member; head = plain.0; part = part })))
-          (after_may s place node moment all own (ready_at state) turn);
+          (after_may s place node moment all own most enough (ready_at state) turn);
       good = one_letter Good _ plain.4;
       over = λ sent. joined (acts node moment state place (is_told member head part)) sent (heard_tree plain.0)
           (subst (λ (h : Head). Mirrors (is_some node.key) s Then sent (acts node moment state place (is_told member h part)) (heard_tree plain.0))
           (sym plain.3)
-          (own_acts s place node moment all Then state view (is_told member (stamped_head plain.1 plain.2 plain.0) part) sent (heard_tree plain.0) at.own
-          (echoes_as s (LeftThen state) (λ sent' left tree'. (counted : Common) → Then sent' (with_ticket state place counted left) tree') (left_as s moment)
+          (own_acts s place node moment all Then state view (is_told member (stamped_head plain.1 plain.2 plain.0) part) sent (heard_tree plain.0) few at.own
+          (echoes_as s (LeftThen state) (λ sent' left tree'. (counted : Common) → IsFew counted → Then sent' (with_ticket state place counted left) tree') (left_as s moment)
           sent (hear_message s view (waiting_at state.waiters place) member plain.0 part moment) (heard_tree plain.0) (λ sent' left tree' m. m)
-          (heard s moment own (LeftThen state) (left_kept state) (then_plan state) (left_dues state view at last_is) view (waiting_at state.waiters place) member plain.0 part sent))));
+          (heard s moment most own (LeftThen state) (left_kept state) (then_plan state) (left_dues state view at last_is) (handler_at node place)
+          state.common.next_job (below_most s place node moment all own most enough state.common few) view (waiting_at state.waiters place) member plain.0 part sent))));
     }
       where
         heard_tree : Head → TurnTree
         heard_tree h = turn_tree s moment view (Some (record { sender = member; head = h; part = part })) (then_plan state)
 
     asks_own : (state : State) (view : View) (request : Request) → IsPlacedAt s place view state.tickets → state.last_reading ≡ moment
-        → IsTurnOf view (next (acts node moment state place (is_asked request)) (dues node moment turn))
-    asks_own state view request at last_is = record {
+        → IsFew state.common → IsTurnOf view (next (acts node moment state place (is_asked request)) (dues node moment turn))
+    asks_own state view request at last_is few = record {
       came = None;
-      plan = ask_plan s moment (spare_in state.waiters) (ready_by state) request (then_plan state);
-      may = ask_may s moment (spare_in state.waiters) (ready_by state) request (then_plan state)
-          (after_may s place node moment all own (ready_at state) turn) view;
+      plan = asks_so;
+      may = ask_may s moment most (spare_in state.waiters) (ready_by state) (handler_at node place) request (then_plan state)
+          (after_may s place node moment all own most enough (ready_at state) turn) view;
       good = no_letter Good;
-      over = λ sent. joined (acts node moment state place (is_asked request)) sent (plan_tree s moment view (ask_plan s moment (spare_in state.waiters) (ready_by state) request (then_plan state) view))
-          (own_acts s place node moment all Then state view (is_asked request) sent (plan_tree s moment view (ask_plan s moment (spare_in state.waiters) (ready_by state) request (then_plan state) view)) at.own
-          (echoes_as s (LeftThen state) (λ sent' left tree'. (counted : Common) → Then sent' (with_ticket state place counted left) tree') (left_as s moment)
-          sent (wish s view (waiting_at state.waiters place) (spare_in state.waiters) (ready_by state) request request.wish moment) (plan_tree s moment view (ask_plan s moment (spare_in state.waiters) (ready_by state) request (then_plan state) view)) (λ sent' left tree' m. m)
-          (asked s moment own (LeftThen state) (left_kept state) (then_plan state) (left_dues state view at last_is) view (waiting_at state.waiters place)
+      over = λ sent. joined (acts node moment state place (is_asked request)) sent (plan_tree s moment view (asks_so view))
+          (own_acts s place node moment all Then state view (is_asked request) sent (plan_tree s moment view (asks_so view)) few at.own
+          (echoes_as s (LeftThen state) (λ sent' left tree'. (counted : Common) → IsFew counted → Then sent' (with_ticket state place counted left) tree')
+          (left_as s moment) sent
+          (wish s view (waiting_at state.waiters place) (spare_in state.waiters) (ready_by state) (job_at node place state.common) request request.wish moment)
+          (plan_tree s moment view (asks_so view)) (λ sent' left tree' m. m)
+          (asked s moment most own (LeftThen state) (left_kept state) (then_plan state) (left_dues state view at last_is) (handler_at node place)
+          state.common.next_job (below_most s place node moment all own most enough state.common few) view (waiting_at state.waiters place)
           (spare_in state.waiters) (ready_by state) request sent)));
     }
+      where
+        asks_so : View → Plan
+        asks_so = ask_plan s moment most (spare_in state.waiters) (ready_by state) (handler_at node place) request (then_plan state)
 
     hears_other : (state : State) (view : View) (member other : ℕ) (head : Head) (part : TicketPart) → other ≢ place → IsPlacedAt s place view state.tickets
-        → state.last_reading ≡ moment → IsTurnOf view (next (acts node moment state other (is_told member head part)) (dues node moment turn))
-    hears_other state view member other head part ne at last_is = record {
+        → state.last_reading ≡ moment → IsFew state.common → IsTurnOf view (next (acts node moment state other (is_told member head part)) (dues node moment turn))
+    hears_other state view member other head part ne at last_is few = record {
       came = None;
       plan = then_plan state;
-      may = after_may s place node moment all own (ready_at state) turn view;
+      may = after_may s place node moment all own most enough (ready_at state) turn view;
       good = no_letter Good;
       over = λ sent. joined (acts node moment state other (is_told member head part)) sent (plan_tree s moment view (then_plan state view))
-          (other_acts s place node moment all Then state view other (is_told member head part) sent (plan_tree s moment view (then_plan state view)) at ne
-          (λ t waiters spare ready. minds_heard t.setup moment t.known waiters member head part)
-          (λ tickets waiters counted placed_now. then_dues (record state { tickets = tickets; waiters = waiters; common = counted }) view sent placed_now last_is));
+          (other_acts s place node moment all Then state view other (is_told member head part) sent (plan_tree s moment view (then_plan state view)) at ne few
+          (λ t waiters spare ready job. minds_heard t.setup moment t.known waiters member head part)
+          (λ tickets waiters counted few_now placed_now. then_dues (record state { tickets = tickets; waiters = waiters; common = counted }) view sent placed_now last_is few_now));
     }
 
     asks_other : (state : State) (view : View) (other : ℕ) (request : Request) → other ≢ place → IsPlacedAt s place view state.tickets
-        → state.last_reading ≡ moment → IsTurnOf view (next (acts node moment state other (is_asked request)) (dues node moment turn))
-    asks_other state view other request ne at last_is = record {
+        → state.last_reading ≡ moment → IsFew state.common → IsTurnOf view (next (acts node moment state other (is_asked request)) (dues node moment turn))
+    asks_other state view other request ne at last_is few = record {
       came = None;
       plan = then_plan state;
-      may = after_may s place node moment all own (ready_at state) turn view;
+      may = after_may s place node moment all own most enough (ready_at state) turn view;
       good = no_letter Good;
       over = λ sent. joined (acts node moment state other (is_asked request)) sent (plan_tree s moment view (then_plan state view))
-          (other_acts s place node moment all Then state view other (is_asked request) sent (plan_tree s moment view (then_plan state view)) at ne
-          (λ t waiters spare ready. minds_asked t.setup moment t.known waiters spare (ready Manual) request)
-          (λ tickets waiters counted placed_now. then_dues (record state { tickets = tickets; waiters = waiters; common = counted }) view sent placed_now last_is));
+          (other_acts s place node moment all Then state view other (is_asked request) sent (plan_tree s moment view (then_plan state view)) at ne few
+          (λ t waiters spare ready job. minds_asked t.setup moment t.known waiters spare (ready Manual) job request)
+          (λ tickets waiters counted few_now placed_now. then_dues (record state { tickets = tickets; waiters = waiters; common = counted }) view sent placed_now last_is few_now));
     }
 
     meets : (r : Result PlainMessage DropFault) (state : State) (view : View) (from : Peer) (act : Action) → IsPlacedAt s place view state.tickets
-        → state.last_reading ≡ moment → Comes node r act
+        → state.last_reading ≡ moment → IsFew state.common → Comes node r act
         → ((member : ℕ) (head : Head) (part : TicketPart) → IsLetIn node r member place head part → Unstamped member head part)
         → IsTurnOf view (next (met node moment state from act) (dues node moment turn))
-    meets r state view from (Drops fault) at last_is c unstamp = nothing (dropped state fault) view at last_is
-    meets r state view from (Hears member ticket head part) at last_is c unstamp = by_place (same_or_not ticket place)
+    meets r state view from (Drops fault) at last_is few c unstamp = nothing (dropped state fault) view at last_is few
+    meets r state view from (Hears member ticket head part) at last_is few c unstamp = by_place (same_or_not ticket place)
       where
         by_place : (ticket ≡ place) ⊎ (ticket ≢ place)
             → IsTurnOf view (next (acts node moment (accepted state member moment) ticket (is_told member head part)) (dues node moment turn))
         by_place (inl e) =
             subst (λ (p : ℕ). IsTurnOf view (next (acts node moment (accepted state member moment) p (is_told member head part)) (dues node moment turn))) (sym e)
-            (hears_own (accepted state member moment) view member head part at last_is
+            (hears_own (accepted state member moment) view member head part at last_is few
             (unstamp member head part (subst (λ (p : ℕ). IsLetIn node r member p head part) e c)))
-        by_place (inr ne) = hears_other (accepted state member moment) view member ticket head part ne at last_is
-    meets r state view from (Asks ticket request) at last_is c unstamp = by_place (same_or_not ticket place)
+        by_place (inr ne) = hears_other (accepted state member moment) view member ticket head part ne at last_is few
+    meets r state view from (Asks ticket request) at last_is few c unstamp = by_place (same_or_not ticket place)
       where
         by_place : (ticket ≡ place) ⊎ (ticket ≢ place)
             → IsTurnOf view (next (acts node moment state ticket (is_asked request)) (dues node moment turn))
         by_place (inl e) =
             subst (λ (p : ℕ). IsTurnOf view (next (acts node moment state p (is_asked request)) (dues node moment turn))) (sym e)
-            (asks_own state view request at last_is)
-        by_place (inr ne) = asks_other state view ticket request ne at last_is
-    meets r state view from (Attends ticket request) at last_is c unstamp =
+            (asks_own state view request at last_is few)
+        by_place (inr ne) = asks_other state view ticket request ne at last_is few
+    meets r state view from (Attends ticket request) at last_is few c unstamp =
         let after : State = after_attending state ticket request in
         record {
           came = None;
           plan = then_plan after;
-          may = after_may s place node moment all own (ready_at after) turn view;
+          may = after_may s place node moment all own most enough (ready_at after) turn view;
           good = no_letter Good;
           over = λ sent. (
             record { truly = refl; spoken = λ part between is named. absurd (attr_to_client _ between) },
-            λ ok. then_dues after view sent at last_is,
+            λ ok. then_dues after view sent at last_is few,
           );
         }
-    meets r state view from (Answers letter) at last_is c unstamp = record {
+    meets r state view from (Answers letter) at last_is few c unstamp = record {
       came = None;
       plan = then_plan state;
-      may = after_may s place node moment all own (ready_at state) turn view;
+      may = after_may s place node moment all own most enough (ready_at state) turn view;
       good = no_letter Good;
       over = λ sent. (
         record { truly = c.0; spoken = λ part between is named. absurd (c.1 between) },
-        λ ok. then_dues state view sent at last_is,
+        λ ok. then_dues state view sent at last_is few,
       );
     }
-    meets r state view from Rests at last_is c unstamp = nothing state view at last_is
+    meets r state view from Rests at last_is few c unstamp = nothing state view at last_is few
+
+    -- ---- a job is over
+
+    module _ (job : ℕ) (service : Service) where
+      abbrev Told : List MemberLetter → Deeds Ask State → TurnTree → Type 0
+      Told sent deeds tree = Mirrors (is_some node.key) s Then sent deeds tree
+
+      abbrev after_tree : View → Bool → TurnTree
+      after_tree view ready = plan_tree s moment view (after_plan s place node moment all own most enough ready turn view)
+
+      abbrev tells_plan : Bool → View → Plan
+      tells_plan ready view = over_plan s moment job service (after_plan s place node moment all own most enough ready turn) view
+
+      -- the ticket stands so, and this is what its host does
+      pub record StandsSo (tree : TurnTree) (view : View) (ready : Bool) (sent : List MemberLetter) (state : State) (now : TurnTree) : Type 0 where
+        pub same : now ≡ tree
+        pub placed_at : IsPlacedAt s place view state.tickets
+        pub moment_is : state.last_reading ≡ moment
+        pub few : IsFew state.common
+        pub ready_is : ready_at state ≡ ready
+
+      -- the tickets that come behind this one
+      others_over : (n from : ℕ) (state : State) (view : View) (ready : Bool) (sent : List MemberLetter) → place < from
+          → IsPlacedAt s place view state.tickets → state.last_reading ≡ moment → IsFew state.common → ready_at state ≡ ready
+          → Told sent (each_over node moment job service (range_with_len from n) state) (after_tree view ready)
+      others_over zero from state view ready sent behind at last_is few ready_is =
+          subst (λ (b : Bool). Then sent state (after_tree view b)) ready_is (then_dues state view sent at last_is few)
+      others_over (suc n) from state view ready sent behind at last_is few ready_is =
+          mirrors_next (is_some node.key) s (StandsSo (after_tree view ready) view ready) Then
+          (each_over node moment job service (range_with_len (from + 1) n)) sent (acts node moment state from (ends_job job service)) (after_tree view ready)
+          (λ sent' state' tree' m. subst (λ (t : TurnTree). Told sent' (each_over node moment job service (range_with_len (from + 1) n) state') t) (sym m.same)
+          (others_over n (from + 1) state' view ready sent' (omega (arith, behind)) m.placed_at m.moment_is m.few m.ready_is))
+          (other_acts s place node moment all (StandsSo (after_tree view ready) view ready) state view from (ends_job job service) sent (after_tree view ready) at
+          (λ e. absurd (omega (arith, behind, e))) few
+          (λ t waiters spare ready_of next_job. minds_over t.setup moment t.known waiters job service)
+          (λ tickets waiters counted few_now placed_now.
+          record { same = refl; placed_at = placed_now; moment_is = last_is; few = few_now; ready_is = ready_is }))
+
+      -- what this ticket leaves goes on with those behind it, and then with the deadlines
+      abbrev LeftOver : ℕ → State → List MemberLetter → Left → TurnTree → Type 0
+      LeftOver n state sent left tree =
+          (counted : Common) → IsFew counted
+          → Told sent (each_over node moment job service (range_with_len (place + 1) n) (with_ticket state place counted (left_as s moment left))) tree
+
+      then_kept : IsKept Then
+      then_kept state sent sent' tree tree' x m =
+          mirrors_kept (is_some node.key) s (IsOver s place node moment all) (dues node moment turn state) (over_kept s place node moment all) sent sent' tree
+          tree' x m
+
+      over_left : (n : ℕ) (state : State) → IsKept (LeftOver n state)
+      over_left n state left sent sent' tree tree' x m =
+          λ counted few_now. mirrors_kept (is_some node.key) s Then
+          (each_over node moment job service (range_with_len (place + 1) n) (with_ticket state place counted (left_as s moment left))) then_kept sent sent' tree
+          tree' x (m counted few_now)
+
+      own_over : (n : ℕ) (state : State) (view : View) (sent : List MemberLetter) → IsPlacedAt s place view state.tickets → state.last_reading ≡ moment
+          → IsFew state.common
+          → Told sent (next (acts node moment state place (ends_job job service)) (each_over node moment job service (range_with_len (place + 1) n)))
+          (plan_tree s moment view (tells_plan (ready_at state) view))
+      own_over n state view sent at last_is few =
+          mirrors_next (is_some node.key) s Next Then (each_over node moment job service (range_with_len (place + 1) n)) sent
+          (acts node moment state place (ends_job job service)) tree (λ sent' state' tree' m. m)
+          (own_acts s place node moment all Next state view (ends_job job service) sent tree few at.own
+          (echoes_as s (LeftOver n state) (λ sent' left tree'. (counted : Common) → IsFew counted → Next sent' (with_ticket state place counted left) tree')
+          (left_as s moment) sent (end_job s view (waiting_at state.waiters place) job service moment) tree (λ sent' left tree' m. m)
+          (job_ended s moment most own (LeftOver n state) (over_left n state) (then_plan state)
+          (λ left sent' counted few_now.
+          others_over n (place + 1) (with_ticket state place counted (left_as s moment left)) left.view (ready_at state) sent' (omega arith)
+          (own_set s place view left.view state.tickets at) last_is few_now refl)
+          (handler_at node place) state.common.next_job (below_most s place node moment all own most enough state.common few) view
+          (waiting_at state.waiters place) job service sent)))
+        where
+          tree : TurnTree
+          tree = plan_tree s moment view (tells_plan (ready_at state) view)
+
+          Next : List MemberLetter → State → TurnTree → Type 0
+          Next sent' state' tree' = Told sent' (each_over node moment job service (range_with_len (place + 1) n) state') tree'
+
+      -- all tickets from this place on, this one among them
+      all_over : (n from : ℕ) (state : State) (view : View) (ready : Bool) (sent : List MemberLetter) → from ≤ place → place < from + n
+          → IsPlacedAt s place view state.tickets → state.last_reading ≡ moment → IsFew state.common → ready_at state ≡ ready
+          → Told sent (each_over node moment job service (range_with_len from n) state) (plan_tree s moment view (tells_plan ready view))
+      all_over zero from state view ready sent before within at last_is few ready_is = absurd (omega (arith, before, within))
+      all_over (suc n) from state view ready sent before within at last_is few ready_is = by_place (same_or_not from place)
+        where
+          tree : TurnTree
+          tree = plan_tree s moment view (tells_plan ready view)
+
+          by_place : (from ≡ place) ⊎ (from ≢ place) → Told sent (each_over node moment job service (range_with_len from (suc n)) state) tree
+          by_place (inl e) =
+              subst (λ (p : ℕ). Told sent (next (acts node moment state p (ends_job job service)) (each_over node moment job service (range_with_len (p + 1) n))) tree)
+              (sym e)
+              (subst (λ (b : Bool). Told sent
+              (next (acts node moment state place (ends_job job service)) (each_over node moment job service (range_with_len (place + 1) n)))
+              (plan_tree s moment view (tells_plan b view))) ready_is (own_over n state view sent at last_is few))
+          by_place (inr ne) =
+              mirrors_next (is_some node.key) s (StandsSo tree view ready) Then (each_over node moment job service (range_with_len (from + 1) n)) sent
+              (acts node moment state from (ends_job job service)) tree
+              (λ sent' state' tree' m.
+              subst (λ (t : TurnTree). Told sent' (each_over node moment job service (range_with_len (from + 1) n) state') t) (sym m.same)
+              (all_over n (from + 1) state' view ready sent' (omega (arith, before, ne)) (omega (arith, within)) m.placed_at m.moment_is m.few m.ready_is))
+              (other_acts s place node moment all (StandsSo tree view ready) state view from (ends_job job service) sent tree at ne few
+              (λ t waiters spare ready_of next_job. minds_over t.setup moment t.known waiters job service)
+              (λ tickets waiters counted few_now placed_now.
+              record { same = refl; placed_at = placed_now; moment_is = last_is; few = few_now; ready_is = ready_is }))
+
+      ends_so : (state : State) (view : View) → IsPlacedAt s place view state.tickets → state.last_reading ≡ moment → IsFew state.common
+          → IsTurnOf view (next (each_over node moment job service (all_places state) state) (dues node moment turn))
+      ends_so state view at last_is few = record {
+        came = None;
+        plan = tells_plan (ready_at state);
+        may = over_may s moment most job service (then_plan state) (after_may s place node moment all own most enough (ready_at state) turn) view;
+        good = no_letter Good;
+        over = λ sent. joined (each_over node moment job service (all_places state) state) sent (plan_tree s moment view (tells_plan (ready_at state) view))
+            (all_over (length state.tickets) 0 state view (ready_at state) sent (omega arith) (slice_get_within state.tickets place _ at.own) at last_is few refl);
+      }
 
   -- every message of this ticket that may be let in is one that may come, but for its stamp
   abbrev pub HearsGood : Result Arrival Failed → List ℕ → Type 0
@@ -337,12 +465,13 @@ module _ (s : Setup) (place : ℕ) (node : NodeConfig) (moment : ℕ) (all : s.m
   HearsGood answer bytes = Unit {0}
 
   pub reacts : (old : State) (view : View) (answer : Result Arrival Failed) (bytes : List ℕ) → IsPlacedAt s place view old.tickets
-      → HearsGood answer bytes → IsTurnOf view (react node old moment answer bytes)
-  reacts old view (Ok (arrivals.Datagram from)) bytes at good =
+      → IsFew old.common → HearsGood answer bytes → IsTurnOf view (react node old moment answer bytes)
+  reacts old view (Ok (arrivals.Datagram from)) bytes at few good =
       meets (turn_end (Ok (arrivals.Datagram from))) (verdict node.config node.key node.me moment bytes) (record old { last_reading = moment }) view from
-      (action node moment old.tickets old.common from bytes) at refl
+      (action node moment old.tickets old.common from bytes) at refl few
       (comes node moment old.tickets old.common (verdict node.config node.key node.me moment bytes) from (verdict node.config node.key node.me moment bytes) refl)
       good
-  reacts old view (Ok arrivals.Quiet) bytes at good = nothing (turn_end (Ok arrivals.Quiet)) (record old { last_reading = moment }) view at refl
-  reacts old view (Ok arrivals.Stop) bytes at good = nothing (turn_end (Ok arrivals.Stop)) (record old { last_reading = moment }) view at refl
-  reacts old view (Err failed) bytes at good = nothing (turn_end (Err failed)) (record old { last_reading = moment }) view at refl
+  reacts old view (Ok (arrivals.Handler job status)) bytes at few good = ends_so (turn_end (Ok (arrivals.Handler job status))) job (service_of status) (record old { last_reading = moment }) view at refl few
+  reacts old view (Ok arrivals.Quiet) bytes at few good = nothing (turn_end (Ok arrivals.Quiet)) (record old { last_reading = moment }) view at refl few
+  reacts old view (Ok arrivals.Stop) bytes at few good = nothing (turn_end (Ok arrivals.Stop)) (record old { last_reading = moment }) view at refl few
+  reacts old view (Err failed) bytes at few good = nothing (turn_end (Err failed)) (record old { last_reading = moment }) view at refl few

@@ -1,13 +1,14 @@
 -- A ticket's tree of deeds in the node's: its own, and another ticket's, which passes by.
-use Rattle.std.proofs.Common.{◌≡◌, ◌≢◌, inl, inr, ℕ, ◌<◌, Bool, true, List, [], ◌∷◌, length, refl, sym, ap, ◌∙◌, subst}
-use Rattle.std.specs.Prelude.{Option, Some, None, is_some, slice_get}
+use Rattle.std.proofs.Common.{◌≡◌, ◌≢◌, inl, inr, ℕ, ◌+◌, ◌-◌, ◌^◌, ◌<◌, Bool, true, false, List, [], ◌∷◌, length, refl, sym, ap, ◌∙◌, subst, arith}
+use Rattle.std.specs.Prelude.{◌&&◌, ◌==◌, nat_le, Option, Some, None, is_some, slice_get, if◌then◌else◌}
+use Rattle.std.proofs.lemmas.Bool.Decides.{nat_tests}
 use Rattle.std.proofs.lemmas.Option.{slice_get_within}
 use Rattle.booth_base.specs.declared.address.Peer.{Peer}
 use Rattle.booth_base.specs.Tree.{Deeds, Ends, Does, next}
 use Rattle.booth_conf.specs.Config.{ConfigSays}
 use Rattle.booth_conf.specs.declared.members.Member.{Member as MemberConf}
 use Rattle.booth_rec.specs.declared.record.Record.{Record}
-use Rattle.booth_wire.specs.declared.codes.reasons.TheConstants.{ADMN}
+use Rattle.booth_wire.specs.declared.codes.reasons.TheConstants.{ADMN, TLST, LOCF, RACQ}
 use Rattle.booth_wire.specs.declared.command.Cmd.{Cmd}
 use Rattle.booth_wire.specs.declared.command.Cmd.TheVariants.{RGnt, RRvk}
 use Rattle.booth_wire.specs.declared.command.Direction.TheVariants.{BetweenMembers, ToClient}
@@ -22,17 +23,18 @@ use Rattle.booth_auth.specs.Sealed.{stamped_head}
 use Rattle.booth_raft.specs.declared.deed.Want.{Want}
 use Rattle.booth_raft.specs.declared.deed.Want.TheVariants as wants
 use Rattle.booth_raft.specs.declared.view.View.{View}
-use Rattle.booth_raft.specs.AskAndRenew.{are_terms_spent, finish}
+use Rattle.booth_raft.specs.AskAndRenew.{acquisition_failed, are_terms_spent, finish, renew}
 use Rattle.booth_raft.specs.Deadlines.{due_now, greeted, hello}
-use Rattle.booth_raft.specs.GainReleaseLost.{release}
-use Rattle.booth_raft.specs.Members.{is_working}
-use Rattle.booth_raft.specs.Notes.{noted}
+use Rattle.booth_raft.specs.GainReleaseLost.{lost, own_end, release}
+use Rattle.booth_raft.specs.Members.{is_promised_elsewhere, is_working}
+use Rattle.booth_raft.specs.Notes.{handler_failed, noted}
 use Rattle.booth_raft.specs.declared.deed.Note.TheVariants as notes
 use Rattle.booth_raft.specs.OtherMessages.{hear}
 use Rattle.booth_raft.specs.declared.deed.Told.{Told}
-use Rattle.booth_raft.specs.Outcome.{Outcome, quiet}
+use Rattle.booth_raft.specs.declared.deed.Told.TheVariants as tells
+use Rattle.booth_raft.specs.Outcome.{Outcome, quiet, telling}
 use Rattle.booth_raft.specs.Speech.{IsSpeech, Speaks}
-use Rattle.booth_raft.proofs.FactsLemmas.{on_cond}
+use Rattle.booth_raft.proofs.FactsLemmas.{on_cond, on_role}
 use Rattle.booth_raft.proofs.SpeechLemmas.{rules_speak}
 use Rattle.booth_manual.specs.declared.view.ManualView.{ManualView}
 use Rattle.booth_manual.specs.GrantAndRevoke.{finish as finish_by_hand}
@@ -43,8 +45,11 @@ use Rattle.booth_ticket.specs.declared.hands.To.TheVariants.{Member, Client}
 use Rattle.booth_ticket.specs.declared.request.Request.{Request}
 use Rattle.booth_ticket.specs.declared.request.Wish.{Wish}
 use Rattle.booth_ticket.specs.declared.request.Wish.TheVariants.{Grant, Revoke}
-use Rattle.booth_ticket.specs.Acts.{Ask as TicketAsk, Keep as KeepsRecord, Say}
-use Rattle.booth_ticket.specs.Automatic.{Left, ends, hear_message, acquire, take_over, follow, role_due, tick}
+use Rattle.booth_ticket.specs.declared.handling.Service.{Service}
+use Rattle.booth_ticket.specs.declared.handling.Service.TheVariants.{CanRun, CannotRun}
+use Rattle.booth_ticket.specs.Acts.{Ask as TicketAsk, Keep as KeepsRecord, Start as StartsJob, Say}
+use Rattle.booth_ticket.specs.Automatic.{Left, end_job, ends, hear_message, take_over, follow, role_due, rule_due, tick}
+use Rattle.booth_ticket.specs.Handling.{acquire, acquires, checks, goes_on, is_job, job_over, leads_on as leads_with, renews, renews_by, works, works_on}
 use Rattle.booth_ticket.specs.Keeping.{keep_of, keep_once, say_last, carry_out}
 use Rattle.booth_ticket.specs.Requests.{refused_grant, grant, grant_result, refused_revoke, revoke, revoke_result, replies, reply, reply_cmd, wish}
 use Rattle.booth_ticket.specs.Manual.{ManualKnown, greeting, manual_due, manual_heard}
@@ -53,16 +58,17 @@ use Rattle.booth_ticket.specs.Saying.{others, places_in, say_each, say}
 use Rattle.booth_ticket.specs.declared.waiters.Waiter.{Waiter}
 use Rattle.booth_ticket.proofs.ManualSpeechLemmas.{greeting_speaks, hearing_speaks, keep_speaks}
 use Rattle.booth_ticket.specs.Waiting.{result_for, staying, tell_each, tell_one}
-use Rattle.booth_ticket.specs.Ticket.{TicketLeft, Known, Automatic, Manual, by_hand, left_by_hand, ticket_due, ticket_heard, ticket_asked}
+use Rattle.booth_ticket.specs.Ticket.{TicketLeft, Known, Automatic, Manual, by_hand, left_by_hand, ticket_due, ticket_heard, ticket_asked, ticket_over}
 use Rattle.booth_node.specs.declared.node_config.NodeConfig.{NodeConfig}
 use Rattle.booth_node.specs.declared.state.Common.{Common}
 use Rattle.booth_node.specs.Counting.{with_send}
+use Rattle.booth_node.specs.Jobs.{job_of, number_after, with_start}
 use Rattle.booth_node.specs.Reaction.{Ask, peer_at, peer_of, sent_as, sends, lifted}
 use Rattle.booth_world.specs.Facts.{Has}
 use Rattle.booth_world.specs.Rules.{MemberLetter}
 use Rattle.booth_world.specs.Turns.{TurnTree}
 use Rattle.booth_world.proofs.Lists.{none_is}
-use Rattle.booth_world.proofs.Mirrors.{sent_by, IsSpoken, Mirrors}
+use Rattle.booth_world.proofs.Mirrors.{later, sent_by, IsSpoken, Mirrors}
 use Rattle.booth_world.proofs.Echoes.{Echoes, Reaches}
 
 -- a stamp changes nothing of what the rules hear
@@ -92,12 +98,14 @@ abbrev pub Minds : {V : Type 0} → (V → Type 0) → List ℕ → Deeds Ticket
 Minds P name (Ends left) = P left
 Minds P name (Does (Say to head part) go) = IsAbout name to head part × Minds P name (go true)
 Minds P name (Does (KeepsRecord tried) go) = (ok : Bool) → Minds P name (go ok)
+Minds P name (Does (StartsJob job expires) go) = (ok : Bool) → Minds P name (go ok)
 
 pub minds_as : {V W : Type 0} (P : V → Type 0) (Q : W → Type 0) (f : V → W) (name : List ℕ) (deeds : Deeds TicketAsk V)
     → ((left : V) → P left → Q (f left)) → Minds P name deeds → Minds Q name (next deeds (λ left. Ends (f left)))
 minds_as P Q f name (Ends left) gives m = gives left m
 minds_as P Q f name (Does (Say to head part) go) gives m = (m.0, minds_as P Q f name (go true) gives m.1)
 minds_as P Q f name (Does (KeepsRecord tried) go) gives m = λ ok. minds_as P Q f name (go ok) gives (m ok)
+minds_as P Q f name (Does (StartsJob job expires) go) gives m = λ ok. minds_as P Q f name (go ok) gives (m ok)
 
 module _ (s : Setup) {V : Type 0} (P : V → Type 0) where
   minds_each : (places : List ℕ) (head : Head) (part : TicketPart) (rest : Deeds TicketAsk V) → part.ticket ≡ s.ticket
@@ -147,26 +155,82 @@ module _ (s : Setup) (now : ℕ) where
   speaks_acquired : (view : View) (reason : ℕ) → Speaks s (acquire s view reason now)
   speaks_acquired view reason = on_cond (Speaks s) (are_terms_spent view) _ _ tt (rules_speak.asked s view reason now)
 
-  speaks_taken_over : (view : View) (ready : Bool) → Speaks s (take_over s view ready now)
-  speaks_taken_over view ready = on_cond (Speaks s) ready _ _ (speaks_acquired view _) tt
-
-  speaks_follow : (outcome : Outcome) (want : Want) (ready : Bool) → Speaks s outcome → Speaks s (follow s outcome want ready now)
-  speaks_follow outcome wants.Nothing ready speaks = speaks
-  speaks_follow outcome wants.Renew ready speaks = rules_speak.renewed s outcome.view now
-  speaks_follow outcome wants.Acquire ready speaks = speaks_taken_over outcome.view ready
-
   minds_ends : (waiters : List Waiter) (o : Outcome) → Minds Any s.ticket (ends s now waiters o)
   minds_ends waiters o =
       minds_told s Any o.view now o.deed.told waiters (Ends (record { view = o.view; waiters = staying o.deed.told waiters })) tt
 
-  pub minds_tick : (view : View) (waiters : List Waiter) (ready : Bool) → Minds Any s.ticket (tick s view waiters ready now)
-  minds_tick view waiters ready =
-      minds_say s Any None (hello s view now) (carry_out s None now (role_due s (greeted view) ready now) (ends s now waiters))
+  -- an outcome is carried out, and those that wait are told
+  minds_outcome : (waiters : List Waiter) (o : Outcome) → Speaks s o → Minds Any s.ticket (carry_out s None now o (ends s now waiters))
+  minds_outcome waiters o speaks = minds_carried s Any None now o (ends s now waiters) speaks (minds_ends waiters)
+
+  speaks_works : (view : View) (job reason : ℕ) (ok : Bool) → Speaks s (works s view job reason now ok)
+  speaks_works view job reason true = tt
+  speaks_works view job reason false = tt
+
+  speaks_checks : (view : View) (job : ℕ) (ok : Bool) → Speaks s (checks s view job now ok)
+  speaks_checks view job true = tt
+  speaks_checks view job false = rules_speak.released s view LOCF now
+
+  -- what each outcome leads to minds the ticket
+  abbrev MindsAll : (Outcome → Deeds TicketAsk Left) → Type 0
+  MindsAll rest = (o : Outcome) → Speaks s o → Minds Any s.ticket (rest o)
+
+  minds_acquires : (view : View) (job : Option ℕ) (reason : ℕ) (rest : Outcome → Deeds TicketAsk Left) → MindsAll rest
+      → Minds Any s.ticket (acquires s view job reason now rest)
+  minds_acquires view None reason rest on = on (acquire s view reason now) (speaks_acquired view reason)
+  minds_acquires view (Some job) reason rest on = λ ok. on (works s view job reason now ok) (speaks_works view job reason ok)
+
+  minds_renews : (view : View) (job : Option ℕ) (rest : Outcome → Deeds TicketAsk Left) → MindsAll rest
+      → Minds Any s.ticket (renews_by s view job now rest)
+  minds_renews view None rest on = on (renew s view now) (rules_speak.renewed s view now)
+  minds_renews view (Some job) rest on = λ ok. on (checks s view job now ok) (speaks_checks view job ok)
+
+  minds_take_over : (view : View) (ready : Bool) (job : Option ℕ) (rest : Outcome → Deeds TicketAsk Left) → MindsAll rest
+      → Minds Any s.ticket (take_over s view ready job now rest)
+  minds_take_over view true job rest on = minds_acquires view job TLST rest on
+  minds_take_over view false job rest on = on (quiet (noted s view now notes.Unready)) tt
+
+  minds_follow : (outcome : Outcome) (want : Want) (ready : Bool) (job : Option ℕ) (rest : Outcome → Deeds TicketAsk Left) → Speaks s outcome
+      → MindsAll rest → Minds Any s.ticket (follow s outcome want ready job now rest)
+  minds_follow outcome wants.Nothing ready job rest speaks on = on outcome speaks
+  minds_follow outcome wants.Renew ready job rest speaks on = minds_renews outcome.view (if s.site then job else None) rest on
+  minds_follow outcome wants.Acquire ready job rest speaks on = minds_take_over outcome.view ready job rest on
+
+  minds_role : (view : View) (ready : Bool) (job : Option ℕ) (rest : Outcome → Deeds TicketAsk Left) → MindsAll rest
+      → Minds Any s.ticket (role_due s view ready job now rest)
+  minds_role view ready job rest on =
+      on_cond (Minds Any s.ticket) (is_working view.role) (rest (telling (handler_failed s view now) tells.HandlerFailed))
+      (rule_due s view ready job now rest) (on (telling (handler_failed s view now) tells.HandlerFailed) tt)
+      (minds_follow (due_now s view now) (due_now s view now).deed.want ready job rest (rules_speak.due s view now) on)
+
+  pub minds_tick : (view : View) (waiters : List Waiter) (ready : Bool) (job : Option ℕ) → Minds Any s.ticket (tick s view waiters ready job now)
+  minds_tick view waiters ready job =
+      minds_say s Any None (hello s view now) (role_due s (greeted view) ready job now (λ o. carry_out s None now o (ends s now waiters)))
       (rules_speak.greeted s view now)
-      (minds_carried s Any None now (role_due s (greeted view) ready now) (ends s now waiters)
-      (on_cond (Speaks s) (is_working (greeted view).role) _ _ tt
-      (speaks_follow (due_now s (greeted view) now) (due_now s (greeted view) now).deed.want ready (rules_speak.due s (greeted view) now)))
-      (minds_ends waiters))
+      (minds_role (greeted view) ready job (λ o. carry_out s None now o (ends s now waiters)) (minds_outcome waiters))
+
+  -- the end of a job
+  speaks_works_on : (view : View) (service : Service) → Speaks s (works_on s view service now)
+  speaks_works_on view CanRun =
+      on_cond (Speaks s) (is_promised_elsewhere view.promise s.me now) (telling (noted s view now notes.AskFailed) tells.AskFailed)
+      (acquire s view view.reason now) tt (speaks_acquired view view.reason)
+  speaks_works_on view CannotRun = tt
+
+  speaks_leads : (view : View) (service : Service) → Speaks s (leads_with s view service now)
+  speaks_leads view CanRun =
+      on_cond (Speaks s) (nat_le (own_end view) now) (telling (lost s view now) tells.Lost) (renew s view now) tt (rules_speak.renewed s view now)
+  speaks_leads view CannotRun =
+      on_cond (Speaks s) (nat_le (own_end view) now) (telling (lost s view now) tells.Lost) (release view LOCF now) tt
+      (rules_speak.released s view LOCF now)
+
+  speaks_over : (view : View) (job : ℕ) (service : Service) → Speaks s (job_over s view job service now)
+  speaks_over view job service =
+      on_cond (Speaks s) (s.site && is_job view.job job) (goes_on s view service now) (quiet view)
+      (on_role (Speaks s) view.role (quiet view) (works_on s view service now) (quiet view) (leads_with s (noted s view now notes.JobOver) service now)
+      tt (speaks_works_on view service) tt (speaks_leads (noted s view now notes.JobOver) service)) tt
+
+  pub minds_end_job : (view : View) (waiters : List Waiter) (job : ℕ) (service : Service) → Minds Any s.ticket (end_job s view waiters job service now)
+  minds_end_job view waiters job service = minds_outcome waiters (job_over s view job service now) (speaks_over view job service)
 
   pub minds_hear : (view : View) (waiters : List Waiter) (from : ℕ) (head : Head) (part : TicketPart)
       → Minds Any s.ticket (hear_message s view waiters from head part now)
@@ -179,14 +243,15 @@ module _ (s : Setup) (now : ℕ) where
   minds_replies waiters request cmd result o client =
       minds_told s Any o.view now o.deed.told waiters (reply s request cmd result o.view now (staying o.deed.told waiters)) (client, tt)
 
-  minds_grant : (view : View) (waiters : List Waiter) (request : Request) (refused : Option ℕ)
-      → Minds Any s.ticket (grant s view request.options refused now (replies s waiters request RGnt now))
-  minds_grant view waiters request (Some result) = minds_replies waiters request RGnt result (quiet view) refl
-  minds_grant view waiters request None =
-      minds_carried s Any None now (acquire s (noted s view now notes.Asked) ADMN now)
-      (λ o. replies s waiters request RGnt now (grant_result request.options o.deed.told) o)
-      (speaks_acquired (noted s view now notes.Asked) ADMN)
-      (λ o. minds_replies waiters request RGnt (grant_result request.options o.deed.told) o refl)
+  minds_grant : (view : View) (waiters : List Waiter) (request : Request) (job : Option ℕ) (refused : Option ℕ)
+      → Minds Any s.ticket (grant s view request.options refused job now (replies s waiters request RGnt now))
+  minds_grant view waiters request job (Some result) = minds_replies waiters request RGnt result (quiet view) refl
+  minds_grant view waiters request job None =
+      minds_acquires (noted s view now notes.Asked) job ADMN
+      (λ first. carry_out s None now first (λ o. replies s waiters request RGnt now (grant_result request.options o.deed.told) o))
+      (λ first speaks. minds_carried s Any None now first
+      (λ o. replies s waiters request RGnt now (grant_result request.options o.deed.told) o) speaks
+      (λ o. minds_replies waiters request RGnt (grant_result request.options o.deed.told) o refl))
 
   minds_revoke : (view : View) (waiters : List Waiter) (request : Request) (refused : Option ℕ)
       → Minds Any s.ticket (revoke s view refused now (replies s waiters request RRvk now))
@@ -195,10 +260,10 @@ module _ (s : Setup) (now : ℕ) where
       minds_carried s Any None now (release view ADMN now) (λ o. replies s waiters request RRvk now (revoke_result o.deed.told) o)
       (rules_speak.released s view ADMN now) (λ o. minds_replies waiters request RRvk (revoke_result o.deed.told) o refl)
 
-  pub minds_wish : (view : View) (waiters : List Waiter) (spare : ℕ) (ready : Bool) (request : Request) (w : Wish)
-      → Minds Any s.ticket (wish s view waiters spare ready request w now)
-  minds_wish view waiters spare ready request Grant = minds_grant view waiters request (refused_grant s view spare ready request.options now)
-  minds_wish view waiters spare ready request Revoke = minds_revoke view waiters request (refused_revoke s view request.options now)
+  pub minds_wish : (view : View) (waiters : List Waiter) (spare : ℕ) (ready : Bool) (job : Option ℕ) (request : Request) (w : Wish)
+      → Minds Any s.ticket (wish s view waiters spare ready job request w now)
+  minds_wish view waiters spare ready job request Grant = minds_grant view waiters request job (refused_grant s view spare ready request.options now)
+  minds_wish view waiters spare ready job request Revoke = minds_revoke view waiters request (refused_revoke s view request.options now)
 
   -- what is left has the same setup
   abbrev pub HasSetup : TicketLeft → Type 0
@@ -229,12 +294,17 @@ module _ (s : Setup) (now : ℕ) where
   to_client Grant = refl
   to_client Revoke = refl
 
-  pub minds_due : (known : Known) (waiters : List Waiter) (ready : Bool) → Minds HasSetup s.ticket (ticket_due s known waiters ready now)
-  minds_due (Automatic view) waiters ready =
-      minds_as Any HasSetup left_as s.ticket (tick s view waiters ready now) (λ left any. refl) (minds_tick view waiters ready)
-  minds_due (Manual known) waiters ready =
+  pub minds_due : (known : Known) (waiters : List Waiter) (ready : Bool) (job : Option ℕ) → Minds HasSetup s.ticket (ticket_due s known waiters ready job now)
+  minds_due (Automatic view) waiters ready job =
+      minds_as Any HasSetup left_as s.ticket (tick s view waiters ready job now) (λ left any. refl) (minds_tick view waiters ready job)
+  minds_due (Manual known) waiters ready job =
       minds_by_hand waiters (manual_due s known)
       (minds_say s AnyKnown None (greeting s known) (Ends (record known { greets_at = None })) (greeting_speaks s known) tt)
+
+  pub minds_over : (known : Known) (waiters : List Waiter) (job : ℕ) (service : Service) → Minds HasSetup s.ticket (ticket_over s known waiters job service now)
+  minds_over (Automatic view) waiters job service =
+      minds_as Any HasSetup left_as s.ticket (end_job s view waiters job service now) (λ left any. refl) (minds_end_job view waiters job service)
+  minds_over (Manual known) waiters job service = minds_by_hand waiters (Ends known) tt
 
   pub minds_heard : (known : Known) (waiters : List Waiter) (from : ℕ) (head : Head) (part : TicketPart)
       → Minds HasSetup s.ticket (ticket_heard s known waiters from head part now)
@@ -245,17 +315,32 @@ module _ (s : Setup) (now : ℕ) where
       (minds_say s AnyKnown (Some from) (hear_by_hand s known.view head part head.cmd).say
       (Ends (record known { view = (hear_by_hand s known.view head part head.cmd).view })) (hearing_speaks s known.view head part head.cmd) tt)
 
-  pub minds_asked : (known : Known) (waiters : List Waiter) (spare : ℕ) (ready : Bool) (request : Request)
-      → Minds HasSetup s.ticket (ticket_asked s known waiters spare ready request now)
-  minds_asked (Automatic view) waiters spare ready request =
-      minds_as Any HasSetup left_as s.ticket (wish s view waiters spare ready request request.wish now) (λ left any. refl)
-      (minds_wish view waiters spare ready request request.wish)
-  minds_asked (Manual known) waiters spare ready request =
+  pub minds_asked : (known : Known) (waiters : List Waiter) (spare : ℕ) (ready : Bool) (job : Option ℕ) (request : Request)
+      → Minds HasSetup s.ticket (ticket_asked s known waiters spare ready job request now)
+  minds_asked (Automatic view) waiters spare ready job request =
+      minds_as Any HasSetup left_as s.ticket (wish s view waiters spare ready job request request.wish now) (λ left any. refl)
+      (minds_wish view waiters spare ready job request request.wish)
+  minds_asked (Manual known) waiters spare ready job request =
       minds_by_hand waiters (manual_asked s known spare ready request)
       (minds_done known.view (refused_by_hand s known.view spare ready request.options request.wish) request.wish
       (manual_reply s request known.greets_at) (λ result view. (to_client request.wish, tt)))
 
 -- ---- a ticket's deeds as the node's
+
+-- the next job's number is one of 64 bits
+abbrev pub IsFew : Common → Type 0
+IsFew common = common.next_job < 2 ^ 64
+
+few_sent : (common : Common) (to : To) (ok : Bool) → IsFew common → IsFew (with_send common to ok)
+few_sent common (Member place) ok few = few
+few_sent common (Client peer) ok few = few
+
+few_after : (n : ℕ) → n < 2 ^ 64 → number_after n < 2 ^ 64
+few_after n few = by_test (n == 2 ^ 64 - 1) refl
+  where
+    by_test : (b : Bool) → (n == 2 ^ 64 - 1) ≡ b → (if b then 1 else n + 1) < 2 ^ 64
+    by_test true is = omega arith
+    by_test false is = let other : n ≢ 2 ^ 64 - 1 = grind (arith, nat_tests) in omega (arith, other, few)
 
 module _ (s : Setup) (node : NodeConfig) (moment : ℕ) {S : Type 0} (Q : List MemberLetter → S → TurnTree → Type 0) where
   abbrev Mirror : List MemberLetter → Deeds Ask S → TurnTree → Type 0
@@ -288,15 +373,25 @@ module _ (s : Setup) (node : NodeConfig) (moment : ℕ) {S : Type 0} (Q : List M
         absurd (other (sym about ∙ ap (λ (q : TicketPart). q.ticket) (same_part part p is) ∙ named));
   }
 
-  pub own_lifted : s.members ≡ length node.config.members → (common : Common) (sent : List MemberLetter) (deeds : Deeds TicketAsk TicketLeft) (tree : TurnTree)
-      (rest : Common → TicketLeft → Deeds Ask S)
-      → Echoes s (λ sent' left tree'. (counted : Common) → Mirror sent' (rest counted left) tree') sent deeds tree
+  pub own_lifted : s.members ≡ length node.config.members → (common : Common) → IsFew common → (sent : List MemberLetter)
+      (deeds : Deeds TicketAsk TicketLeft) (tree : TurnTree) (rest : Common → TicketLeft → Deeds Ask S)
+      → Echoes s (λ sent' left tree'. (counted : Common) → IsFew counted → Mirror sent' (rest counted left) tree') sent deeds tree
       → Mirror sent (lifted node moment s.ticket common deeds rest) tree
-  own_lifted all common sent (Ends left) tree rest m = m common
-  own_lifted all common sent (Does (KeepsRecord tried) go) tree rest m =
-      inr (refl, m.0, m.1, λ ok. own_lifted all common (sent_by tree sent) (go ok) (m.0 ok) rest (m.2 ok))
-  own_lifted all common sent (Does (Say to head part) go) tree rest m =
-      by_peer (peer_of node.config to) refl (λ counted. own_lifted all counted sent (go true) tree rest m.1)
+  own_lifted all common few sent (Ends left) tree rest m = m common few
+  own_lifted all common few sent (Does (KeepsRecord tried) go) tree rest m =
+      inr (refl, m.0, m.1, λ ok. own_lifted all common few (sent_by tree sent) (go ok) (m.0 ok) rest (m.2 ok))
+  own_lifted all common few sent (Does (StartsJob job expires) go) tree rest m =
+      inr (
+        m.0,
+        m.1,
+        λ ok. (
+          (m.2 ok).0,
+          own_lifted all (with_start common) (few_after common.next_job few) (sent_by tree sent) (go ok)
+              (later (m.2 ok).0 (m.0 ok)) rest (m.2 ok).1,
+        ),
+      )
+  own_lifted all common few sent (Does (Say to head part) go) tree rest m =
+      by_peer (peer_of node.config to) refl (λ counted few_now. own_lifted all counted few_now sent (go true) tree rest m.1)
     where
       spoken_to : (t : To) (peer : Peer) → peer_of node.config t ≡ Some peer → Reaches s (sent_by tree sent) t head part
           → IsSpoken (is_some node.key) s (sent_by tree sent) (sent_as node moment head part)
@@ -306,27 +401,29 @@ module _ (s : Setup) (node : NodeConfig) (moment : ℕ) {S : Type 0} (Q : List M
       spoken_to (Client from) peer is reaches = said_client (sent_by tree sent) head part reaches
 
       by_peer : (o : Option Peer) → peer_of node.config to ≡ o
-          → ((counted : Common) → Mirror sent (lifted node moment s.ticket counted (go true) rest) tree)
+          → ((counted : Common) → IsFew counted → Mirror sent (lifted node moment s.ticket counted (go true) rest) tree)
           → Mirror sent (sends o (sent_as node moment head part) common to (λ counted. lifted node moment s.ticket counted (go true) rest)) tree
-      by_peer None is on = on common
-      by_peer (Some peer) is on = (spoken_to to peer is m.0, λ ok. on (with_send common to ok))
+      by_peer None is on = on common few
+      by_peer (Some peer) is on = (spoken_to to peer is m.0, λ ok. on (with_send common to ok) (few_sent common to ok few))
 
-  pub other_lifted : (name : List ℕ) → name ≢ s.ticket → (common : Common) (sent : List MemberLetter) (P : TicketLeft → Type 0)
+  pub other_lifted : (name : List ℕ) → name ≢ s.ticket → (common : Common) → IsFew common → (sent : List MemberLetter) (P : TicketLeft → Type 0)
       (deeds : Deeds TicketAsk TicketLeft) (tree : TurnTree) (rest : Common → TicketLeft → Deeds Ask S)
       → Minds P name deeds
-      → ((counted : Common) (left : TicketLeft) → P left → Mirror sent (rest counted left) tree)
+      → ((counted : Common) (left : TicketLeft) → IsFew counted → P left → Mirror sent (rest counted left) tree)
       → Mirror sent (lifted node moment name common deeds rest) tree
-  other_lifted name other common sent P (Ends left) tree rest m on = on common left m
-  other_lifted name other common sent P (Does (KeepsRecord tried) go) tree rest m on =
-      inl (other, λ ok. other_lifted name other common sent P (go ok) tree rest (m ok) on)
-  other_lifted name other common sent P (Does (Say to head part) go) tree rest m on =
-      by_peer (peer_of node.config to) (λ counted. other_lifted name other counted sent P (go true) tree rest m.1 on)
+  other_lifted name other common few sent P (Ends left) tree rest m on = on common left few m
+  other_lifted name other common few sent P (Does (KeepsRecord tried) go) tree rest m on =
+      inl (other, λ ok. other_lifted name other common few sent P (go ok) tree rest (m ok) on)
+  other_lifted name other common few sent P (Does (StartsJob job expires) go) tree rest m on =
+      inl (λ ok. other_lifted name other (with_start common) (few_after common.next_job few) sent P (go ok) tree rest (m ok) on)
+  other_lifted name other common few sent P (Does (Say to head part) go) tree rest m on =
+      by_peer (peer_of node.config to) (λ counted few_now. other_lifted name other counted few_now sent P (go true) tree rest m.1 on)
     where
       spoken_to : (t : To) → IsAbout name t head part → IsSpoken (is_some node.key) s (sent_by tree sent) (sent_as node moment head part)
       spoken_to (Member place) about = said_other (sent_by tree sent) head part name other about
       spoken_to (Client from) client = said_client (sent_by tree sent) head part client
 
-      by_peer : (o : Option Peer) → ((counted : Common) → Mirror sent (lifted node moment name counted (go true) rest) tree)
+      by_peer : (o : Option Peer) → ((counted : Common) → IsFew counted → Mirror sent (lifted node moment name counted (go true) rest) tree)
           → Mirror sent (sends o (sent_as node moment head part) common to (λ counted. lifted node moment name counted (go true) rest)) tree
-      by_peer None on_rest = on_rest common
-      by_peer (Some peer) on_rest = (spoken_to to m.0, λ ok. on_rest (with_send common to ok))
+      by_peer None on_rest = on_rest common few
+      by_peer (Some peer) on_rest = (spoken_to to m.0, λ ok. on_rest (with_send common to ok) (few_sent common to ok few))

@@ -1,5 +1,5 @@
 -- A turn of the node, for one ticket of it: an arrival, and then the deadlines, as a plan.
-use Rattle.std.proofs.Common.{◌≡◌, ◌≢◌, ◌⊎◌, inl, inr, ℕ, zero, suc, ◌+◌, ◌<◌, ◌≤◌, Bool, true, false, List, [], ◌∷◌, length, map, set, get_or, slice_get, refl, sym, ap, ◌∙◌, subst, arith, if◌then◌else◌}
+use Rattle.std.proofs.Common.{◌≡◌, ◌≢◌, ◌⊎◌, inl, inr, ℕ, zero, suc, ◌+◌, ◌^◌, ◌<◌, ◌≤◌, Bool, true, false, List, [], ◌∷◌, length, map, set, get_or, slice_get, refl, sym, ap, ◌∙◌, subst, arith, if◌then◌else◌}
 use Rattle.std.specs.Prelude.{Option, Some, None, is_some, nat_le, IsSomeAnd}
 use Rattle.std.proofs.lemmas.Bool.Decides.{nat_tests}
 use Rattle.std.proofs.lemmas.Option.{slice_get_within}
@@ -20,6 +20,7 @@ use Rattle.booth_node.specs.Befalling.{Befalling, comes_due}
 use Rattle.booth_conf.specs.declared.tickets.GrantKind.{GrantKind}
 use Rattle.booth_conf.specs.declared.tickets.GrantKind.TheVariants.{Auto}
 use Rattle.booth_node.specs.AttributeRequests.{is_ready}
+use Rattle.booth_node.specs.Jobs.{handler_at, job_at}
 use Rattle.booth_node.specs.Reaction.{Ask, befalls, acts_as, acts, deadline_of, due_places, each_due, dues}
 use Rattle.booth_node.specs.State.{State, with_ticket}
 use Rattle.booth_node.proofs.DueLemmas.{Each, Once, DueAt, all_due, all_once}
@@ -30,7 +31,7 @@ use Rattle.booth_world.proofs.Lists.{none_is, some_same}
 use Rattle.booth_world.proofs.Mirrors.{skip, IsKept, Mirrors, mirrors_next}
 use Rattle.booth_world.proofs.Echoes.{Echoes, echoes_as}
 use Rattle.booth_world.proofs.Plans.{due_plan, due_may, ticked}
-use Rattle.booth_world.proofs.NodeTrees.{Minds, HasSetup, left_as, minds_due, own_lifted, other_lifted}
+use Rattle.booth_world.proofs.NodeTrees.{IsFew, Minds, HasSetup, left_as, minds_due, own_lifted, other_lifted}
 
 -- ---- one ticket among others
 
@@ -153,49 +154,51 @@ module _ (s : Setup) (place : ℕ) (node : NodeConfig) (moment : ℕ) (all : s.m
     pub ended : skip tree ≡ Ends view
     pub at : IsPlacedAt s place view state.tickets
     pub moment_is : state.last_reading ≡ moment
+    pub few : IsFew state.common
 
   abbrev pub Over : List MemberLetter → Deeds Ask State → TurnTree → Type 0
   Over sent deeds tree = Mirrors (is_some node.key) s IsOver sent deeds tree
 
   pub over_kept : IsKept IsOver
-  over_kept state sent sent' tree tree' x m = record { view = m.view; ended = sym x.same ∙ m.ended; at = m.at; moment_is = m.moment_is }
+  over_kept state sent sent' tree tree' x m = record { view = m.view; ended = sym x.same ∙ m.ended; at = m.at; moment_is = m.moment_is; few = m.few }
 
   module _ (Q : List MemberLetter → State → TurnTree → Type 0) where
     abbrev Here : List MemberLetter → Deeds Ask State → TurnTree → Type 0
     Here sent deeds tree = Mirrors (is_some node.key) s Q sent deeds tree
 
     -- the ticket's own deeds
-    pub own_acts : (state : State) (view : View) (event : Befalling) (sent : List MemberLetter) (tree : TurnTree)
+    pub own_acts : (state : State) (view : View) (event : Befalling) (sent : List MemberLetter) (tree : TurnTree) → IsFew state.common
         → slice_get state.tickets place ≡ Some (record { setup = s; known = Automatic view })
-        → Echoes s (λ sent' left tree'. (counted : Common) → Q sent' (with_ticket state place counted left) tree') sent
+        → Echoes s (λ sent' left tree'. (counted : Common) → IsFew counted → Q sent' (with_ticket state place counted left) tree') sent
         (befalls (record { setup = s; known = Automatic view }) (waiting_at state.waiters place) (spare_in state.waiters)
-        (is_ready node state.attributes place) event moment) tree
+        (is_ready node state.attributes place) (job_at node place state.common) event moment) tree
         → Here sent (acts node moment state place event) tree
-    own_acts state view event sent tree is m =
+    own_acts state view event sent tree few is m =
         subst (λ (o : Option TicketState). Here sent (acts_as node moment state place event o) tree) (sym is)
-        (own_lifted s node moment Q all state.common sent
+        (own_lifted s node moment Q all state.common few sent
         (befalls (record { setup = s; known = Automatic view }) (waiting_at state.waiters place) (spare_in state.waiters)
-        (is_ready node state.attributes place) event moment) tree
+        (is_ready node state.attributes place) (job_at node place state.common) event moment) tree
         (λ common left. Ends (with_ticket state place common left)) m)
 
     -- those of another ticket
     pub other_acts : (state : State) (view : View) (other : ℕ) (event : Befalling) (sent : List MemberLetter) (tree : TurnTree)
-        → IsPlacedAt s place view state.tickets → other ≢ place
-        → ((t : TicketState) (waiters : List Waiter) (spare : ℕ) (ready : GrantKind → Bool)
-        → Minds (HasSetup t.setup moment) t.setup.ticket (befalls t waiters spare ready event moment))
-        → ((tickets : List TicketState) (waiters : List (List Waiter)) (counted : Common) → IsPlacedAt s place view tickets
+        → IsPlacedAt s place view state.tickets → other ≢ place → IsFew state.common
+        → ((t : TicketState) (waiters : List Waiter) (spare : ℕ) (ready : GrantKind → Bool) (job : Option ℕ)
+        → Minds (HasSetup t.setup moment) t.setup.ticket (befalls t waiters spare ready job event moment))
+        → ((tickets : List TicketState) (waiters : List (List Waiter)) (counted : Common) → IsFew counted → IsPlacedAt s place view tickets
         → Q sent (record state { tickets = tickets; waiters = waiters; common = counted }) tree)
         → Here sent (acts node moment state other event) tree
-    other_acts state view other event sent tree at ne minds on = by_ticket (slice_get state.tickets other) refl
+    other_acts state view other event sent tree at ne few minds on = by_ticket (slice_get state.tickets other) refl
       where
         by_ticket : (o : Option TicketState) → slice_get state.tickets other ≡ o → Here sent (acts_as node moment state other event o) tree
-        by_ticket None is = on state.tickets state.waiters state.common at
+        by_ticket None is = on state.tickets state.waiters state.common few at
         by_ticket (Some t) is =
-            other_lifted s node moment Q t.setup.ticket (at.others other t is ne) state.common sent (HasSetup t.setup moment)
-            (befalls t (waiting_at state.waiters other) (spare_in state.waiters) (is_ready node state.attributes other) event moment) tree
+            other_lifted s node moment Q t.setup.ticket (at.others other t is ne) state.common few sent (HasSetup t.setup moment)
+            (befalls t (waiting_at state.waiters other) (spare_in state.waiters) (is_ready node state.attributes other)
+            (job_at node other state.common) event moment) tree
             (λ common left. Ends (with_ticket state other common left))
-            (minds t (waiting_at state.waiters other) (spare_in state.waiters) (is_ready node state.attributes other))
-            (λ counted left same. on (set state.tickets other left.ticket) (set state.waiters other left.waiters) counted
+            (minds t (waiting_at state.waiters other) (spare_in state.waiters) (is_ready node state.attributes other) (job_at node other state.common))
+            (λ counted left few_now same. on (set state.tickets other left.ticket) (set state.waiters other left.waiters) counted few_now
             (other_set s place other view state.tickets t left.ticket at is ne same))
 
   -- ---- the deadlines
@@ -203,7 +206,10 @@ module _ (s : Setup) (place : ℕ) (node : NodeConfig) (moment : ℕ) (all : s.m
   abbrev pub rests : View → Plan
   rests view = Rests
 
-  module _ (own : s.place < s.members) where
+  module _ (own : s.place < s.members) (most : ℕ) (enough : 2 ^ 64 ≤ most) where
+    below_most : (common : Common) → IsFew common → common.next_job < most
+    below_most common few = omega (arith, few, enough)
+
     abbrev Done : List MemberLetter → Left → TurnTree → Type 0
     Done sent left tree = skip tree ≡ Ends left.view
 
@@ -216,43 +222,47 @@ module _ (s : Setup) (place : ℕ) (node : NodeConfig) (moment : ℕ) (all : s.m
     passing (p ∷ places) state sent tree none over =
         mirrors_next (is_some node.key) s IsOver IsOver (each_due node moment places) sent (acts node moment state p comes_due) tree
         (λ sent' state' tree' m. passing places state' sent' tree' (λ h. none (inr h)) m)
-        (other_acts IsOver state over.view p comes_due sent tree over.at (λ e. none (inl e))
-        (λ t waiters spare ready. minds_due t.setup moment t.known waiters (ready Auto))
-        (λ tickets waiters counted at. record { view = over.view; ended = over.ended; at = at; moment_is = over.moment_is }))
+        (other_acts IsOver state over.view p comes_due sent tree over.at (λ e. none (inl e)) over.few
+        (λ t waiters spare ready job. minds_due t.setup moment t.known waiters (ready Auto) job)
+        (λ tickets waiters counted few_now at. record { view = over.view; ended = over.ended; at = at; moment_is = over.moment_is; few = few_now }))
 
     -- the prerequisites of a takeover hold
     abbrev pub ready_in : State → Bool
     ready_in state = is_ready node state.attributes place Auto
 
     abbrev pub due_tree : View → Bool → TurnTree
-    due_tree view ready = plan_tree s moment view (due_plan s moment ready rests)
+    due_tree view ready = plan_tree s moment view (due_plan s moment most ready (handler_at node place) rests)
 
     -- where its deadline is still to come in the turn
     pub record IsAhead (view : View) (ready : Bool) (sent : List MemberLetter) (state : State) (tree : TurnTree) : Type 0 where
       pub ahead : tree ≡ due_tree view ready
       pub placed_at : IsPlacedAt s place view state.tickets
       pub moment_is : state.last_reading ≡ moment
+      pub few : IsFew state.common
       pub ready_is : ready_in state ≡ ready
 
     own_due : (state : State) (view : View) (sent : List MemberLetter) → IsPlacedAt s place view state.tickets → state.last_reading ≡ moment
-        → Over sent (acts node moment state place comes_due) (due_tree view (ready_in state))
-    own_due state view sent at last_is =
-        own_acts IsOver state view comes_due sent (due_tree view (ready_in state)) at.own
-        (echoes_as s Done (λ sent' left tree'. (counted : Common) → IsOver sent' (with_ticket state place counted left) tree')
-        (left_as s moment) sent (tick s view (waiting_at state.waiters place) (ready_in state) moment) (due_tree view (ready_in state))
-        (λ sent' left tree' m counted. record { view = left.view; ended = m; at = own_set s place view left.view state.tickets at; moment_is = last_is })
-        (ticked s moment own Done done_kept rests (λ left sent'. refl) view (waiting_at state.waiters place) (ready_in state) sent))
+        → IsFew state.common → Over sent (acts node moment state place comes_due) (due_tree view (ready_in state))
+    own_due state view sent at last_is few =
+        own_acts IsOver state view comes_due sent (due_tree view (ready_in state)) few at.own
+        (echoes_as s Done (λ sent' left tree'. (counted : Common) → IsFew counted → IsOver sent' (with_ticket state place counted left) tree')
+        (left_as s moment) sent (tick s view (waiting_at state.waiters place) (ready_in state) (job_at node place state.common) moment)
+        (due_tree view (ready_in state))
+        (λ sent' left tree' m counted few_now.
+        record { view = left.view; ended = m; at = own_set s place view left.view state.tickets at; moment_is = last_is; few = few_now })
+        (ticked s moment most own Done done_kept rests (λ left sent'. refl) (handler_at node place) state.common.next_job (below_most state.common few)
+        view (waiting_at state.waiters place) (ready_in state) sent))
 
     meeting : (places : List ℕ) (state : State) (view : View) (ready : Bool) (sent : List MemberLetter) → Has places place → Once places
-        → IsPlacedAt s place view state.tickets → state.last_reading ≡ moment → ready_in state ≡ ready
+        → IsPlacedAt s place view state.tickets → state.last_reading ≡ moment → IsFew state.common → ready_in state ≡ ready
         → Over sent (each_due node moment places state) (due_tree view ready)
-    meeting [] state view ready sent h once at last_is ready_is = absurd h
-    meeting (p ∷ places) state view ready sent h once at last_is ready_is =
+    meeting [] state view ready sent h once at last_is few ready_is = absurd h
+    meeting (p ∷ places) state view ready sent h once at last_is few ready_is =
         by_place (same_or_not p place) (λ state' sent' g. meeting places state' view ready sent' g once.1)
       where
         by_place : (p ≡ place) ⊎ (p ≢ place)
             → ((state' : State) (sent' : List MemberLetter) → Has places place → IsPlacedAt s place view state'.tickets → state'.last_reading ≡ moment
-            → ready_in state' ≡ ready → Over sent' (each_due node moment places state') (due_tree view ready))
+            → IsFew state'.common → ready_in state' ≡ ready → Over sent' (each_due node moment places state') (due_tree view ready))
             → Over sent (next (acts node moment state p comes_due) (each_due node moment places)) (due_tree view ready)
         by_place (inl e) rest =
             subst (λ (q : ℕ). Over sent (next (acts node moment state q comes_due) (each_due node moment places)) (due_tree view ready)) (sym e)
@@ -260,15 +270,16 @@ module _ (s : Setup) (place : ℕ) (node : NodeConfig) (moment : ℕ) (all : s.m
             (due_tree view ready)
             (λ sent' state' tree' m. passing places state' sent' tree'
             (λ g. each_has (λ y. p ≢ y) places place once.0 g e) m)
-            (subst (λ (b : Bool). Over sent (acts node moment state place comes_due) (due_tree view b)) ready_is (own_due state view sent at last_is)))
+            (subst (λ (b : Bool). Over sent (acts node moment state place comes_due) (due_tree view b)) ready_is (own_due state view sent at last_is few)))
         by_place (inr ne) rest =
             mirrors_next (is_some node.key) s (IsAhead view ready) IsOver (each_due node moment places) sent (acts node moment state p comes_due)
             (due_tree view ready)
             (λ sent' state' tree' m. subst (λ (t : TurnTree). Over sent' (each_due node moment places state') t) (sym m.ahead)
-            (rest state' sent' (still ne h) m.placed_at m.moment_is m.ready_is))
-            (other_acts (IsAhead view ready) state view p comes_due sent (due_tree view ready) at ne
-            (λ t waiters spare ready. minds_due t.setup moment t.known waiters (ready Auto))
-            (λ tickets waiters counted placed_now. record { ahead = refl; placed_at = placed_now; moment_is = last_is; ready_is = ready_is }))
+            (rest state' sent' (still ne h) m.placed_at m.moment_is m.few m.ready_is))
+            (other_acts (IsAhead view ready) state view p comes_due sent (due_tree view ready) at ne few
+            (λ t waiters spare ready job. minds_due t.setup moment t.known waiters (ready Auto) job)
+            (λ tickets waiters counted few_now placed_now.
+            record { ahead = refl; placed_at = placed_now; moment_is = last_is; few = few_now; ready_is = ready_is }))
           where
             still : p ≢ place → Has (p ∷ places) place → Has places place
             still away (inl e) = absurd (away e)
@@ -276,27 +287,27 @@ module _ (s : Setup) (place : ℕ) (node : NodeConfig) (moment : ℕ) (all : s.m
 
     -- what follows the arrival
     abbrev pub after_plan : Bool → Turn → View → Plan
-    after_plan ready Went view = if is_due view.due moment then due_plan s moment ready rests else Rests
+    after_plan ready Went view = if is_due view.due moment then due_plan s moment most ready (handler_at node place) rests else Rests
     after_plan ready Stopped view = Rests
 
     pub after_may : (ready : Bool) (turn : Turn) (view : View) → MayPlan s moment view (after_plan ready turn view)
     after_may ready Went view = by_test (is_due view.due moment)
       where
-        by_test : (b : Bool) → MayPlan s moment view (if b then due_plan s moment ready rests else Rests)
-        by_test true = due_may s moment ready rests view (λ left. tt)
+        by_test : (b : Bool) → MayPlan s moment view (if b then due_plan s moment most ready (handler_at node place) rests else Rests)
+        by_test true = due_may s moment most ready (handler_at node place) rests view (λ left. tt)
         by_test false = tt
     after_may ready Stopped view = tt
 
     pub dues_over : (turn : Turn) (state : State) (view : View) (sent : List MemberLetter) → IsPlacedAt s place view state.tickets
-        → state.last_reading ≡ moment → Over sent (dues node moment turn state) (plan_tree s moment view (after_plan (ready_in state) turn view))
-    dues_over Stopped state view sent at last_is = record { view = view; ended = refl; at = at; moment_is = last_is }
-    dues_over Went state view sent at last_is = by_test (is_due view.due moment) refl
+        → state.last_reading ≡ moment → IsFew state.common → Over sent (dues node moment turn state) (plan_tree s moment view (after_plan (ready_in state) turn view))
+    dues_over Stopped state view sent at last_is few = record { view = view; ended = refl; at = at; moment_is = last_is; few = few }
+    dues_over Went state view sent at last_is few = by_test (is_due view.due moment) refl
       where
         by_test : (b : Bool) → is_due view.due moment ≡ b
-            → Over sent (each_due node moment (due_places moment state.tickets) state) (plan_tree s moment view (if b then due_plan s moment (ready_in state) rests else Rests))
+            → Over sent (each_due node moment (due_places moment state.tickets) state) (plan_tree s moment view (if b then due_plan s moment most (ready_in state) (handler_at node place) rests else Rests))
         by_test true due =
             meeting (due_places moment state.tickets) state view (ready_in state) sent (in_dues moment place state.tickets _ at.own due)
-            (all_once moment state.tickets) at last_is refl
+            (all_once moment state.tickets) at last_is few refl
         by_test false due =
             passing (due_places moment state.tickets) state sent (Ends view) (not_in_dues moment place state.tickets _ at.own due)
-            (record { view = view; ended = refl; at = at; moment_is = last_is })
+            (record { view = view; ended = refl; at = at; moment_is = last_is; few = few })

@@ -16,9 +16,10 @@ use Rattle.booth_ticket.specs.Ticket.{TicketState}
 use Rattle.booth_node.specs.declared.node_config.NodeConfig.{NodeConfig}
 use Rattle.booth_node.specs.Clock.{HasClocks, reads}
 use Rattle.booth_node.specs.Opening.{setup_of, started_from, start_reading, known_at_start, opened, opened_by}
-use Rattle.booth_node.specs.Reaction.{Ask, Send, Keep, used, react}
+use Rattle.booth_host.specs.declared.host.Job.{Job}
+use Rattle.booth_node.specs.Reaction.{Ask, Send, Keep, Start, used, react}
 use Rattle.booth_node.specs.Records.{may_after_keep, may_after, record_at}
-use Rattle.booth_node.specs.Session.{CutCall, CutNext, CutNow, CutSend, CutKeep, Starts, Makes, IsCut, Stand, Down, Doing, Hearing, MayMake, after_call, MayBeCut}
+use Rattle.booth_node.specs.Session.{CutCall, CutNext, CutNow, CutSend, CutKeep, CutStart, Starts, Makes, IsCut, Stand, Down, Doing, Hearing, MayMake, after_call, MayBeCut}
 use Rattle.booth_node.specs.State.{State}
 use Rattle.booth_node.specs.World.{World, members_of, node_at, clock_at, HasTrueClocks}
 use Rattle.booth_world.specs.Facts.{Has, Release}
@@ -30,7 +31,7 @@ use Rattle.booth_world.proofs.CallSteps.{put_same}
 use Rattle.booth_world.proofs.NodeTurns.{IsPlacedAt}
 use Rattle.booth_world.proofs.NodeArrivals.{IsTurnOf, HearsGood, reacts}
 use Rattle.booth_world.proofs.HostRuns.{of_both}
-use Rattle.booth_world.proofs.WorldSteps.{Trace, Frees, IsTrace, Setting, same_bytes, other_bytes, cluster, setup_at, cast, own_ticket, own_below, Doings, StandsAt, Shows, Steps, rests_so, then_says, moved_one, keeps_own}
+use Rattle.booth_world.proofs.WorldSteps.{Trace, Frees, IsTrace, Setting, same_bytes, other_bytes, cluster, setup_at, cast, own_ticket, own_below, Doings, StandsAt, Shows, Steps, rests_so, then_says, moved_one, keeps_own, starts_own}
 
 when_true : {A : Type 0} (b : Bool) (x y : A) → b ≡ true → (if b then x else y) ≡ x
 when_true true x y e = refl
@@ -137,6 +138,19 @@ module _ (w : World) (clocks : HasTrueClocks w) (place : ℕ) (ticket : TicketCo
             x.stands.0 refl x x.stands.3 x.stands.4 own.2 (own.3 (is_ok answer))
             (releases rec answer same (named ∙ own.0)))
 
+    starts_job : (node : NodeConfig) (job : Job) (go : Bool → Deeds Ask State) (ok : Bool) (may : List Record) (R : Trace → Type 0)
+        → Stood (Doing node (Does (Start job) go)) may → Stepping hosts m (Doing node (go ok)) may R
+    starts_job node job go ok may R x = by_ticket x.stands.5
+      where
+        by_ticket : Doings w place ticket setting m (hosts.place m).reading x.stands.2 (Does (Start job) go) x.stands.1
+            → Stepping hosts m (Doing node (go ok)) may R
+        by_ticket (inl other) =
+            rests_here (Doing node (Does (Start job) go)) (Doing node (go ok)) may may R x refl
+            (x.stands.0, x.stands.1, x.stands.2, x.stands.3, x.stands.4, other ok)
+        by_ticket (inr own) =
+            starts_own w place ticket setting m below hosts node (Doing node (Does (Start job) go)) (Doing node (go ok)) may R ok (own.2 ok).0 go
+            x.stands.1 x.stands.2 own.0 x.stands.0 refl x x.stands.3 x.stands.4 own.1 (own.2 ok).1
+
     -- the turn uses the reading of the clock as it is
     pub used_is : (last time reading : ℕ) → last ≡ read_by m time → time ≤ hosts.now → reading ≡ clock_at w m hosts.now
         → used last reading ≡ read_by m hosts.now
@@ -148,7 +162,7 @@ module _ (w : World) (clocks : HasTrueClocks w) (place : ℕ) (ticket : TicketCo
     -- the clock is read, and the turn begins
     begins : (node : NodeConfig) (old : State) (answer : Result Arrival Failed) (bytes : List ℕ) (may : List Record) (reading : ℕ)
         → Stood (Hearing node old answer bytes) may → reading ≡ clock_at w m hosts.now
-        → HearsGood (setup_at w place ticket setting m) place (node_at w m) (read_by m hosts.now) refl (own_below w place ticket setting m below)
+        → HearsGood (setup_at w place ticket setting m) place (node_at w m) (read_by m hosts.now) refl (own_below w place ticket setting m below) setting.most setting.enough
         (MayCome (cast w place ticket setting) hosts) answer bytes
         → Stepping hosts m (Doing node (react node old (used old.last_reading reading) answer bytes)) may (IsTrace w ticket.name m hosts.now (Makes (calls.Now reading)))
     begins node old answer bytes may reading x read_is good =
@@ -156,10 +170,10 @@ module _ (w : World) (clocks : HasTrueClocks w) (place : ℕ) (ticket : TicketCo
         let view : View = x.stands.1 in
         let moment : ℕ = read_by m hosts.now in
         let used_so : used old.last_reading reading ≡ moment = used_is old.last_reading x.time reading (x.stands.4 ∙ x.read) x.past read_is in
-        let turn : IsTurnOf (setup_at w place ticket setting m) place (node_at w m) moment refl (own_below w place ticket setting m below)
+        let turn : IsTurnOf (setup_at w place ticket setting m) place (node_at w m) moment refl (own_below w place ticket setting m below) setting.most setting.enough
         (MayCome (cast w place ticket setting) hosts) view (react (node_at w m) old moment answer bytes) =
-        reacts (setup_at w place ticket setting m) place (node_at w m) moment refl (own_below w place ticket setting m below)
-        (MayCome (cast w place ticket setting) hosts) old view answer bytes x.stands.3 good in
+        reacts (setup_at w place ticket setting m) place (node_at w m) moment refl (own_below w place ticket setting m below) setting.most setting.enough
+        (MayCome (cast w place ticket setting) hosts) old view answer bytes x.stands.3 x.stands.5 good in
         let tree : TurnTree = turn_tree (setup_at w place ticket setting m) moment view turn.came turn.plan in
         subst (λ (n : NodeConfig). Stepping hosts m (Doing n (react n old (used old.last_reading reading) answer bytes)) may R) (sym x.stands.0)
         (subst (λ (at : ℕ). Stepping hosts m (Doing (node_at w m) (react (node_at w m) old at answer bytes)) may R) (sym used_so)
@@ -193,7 +207,7 @@ module _ (w : World) (clocks : HasTrueClocks w) (place : ℕ) (ticket : TicketCo
     -- what is heard at this stand may come
     abbrev pub HearsGoodAt : Stand → Type 0
     HearsGoodAt (Hearing node old answer bytes) =
-        HearsGood (setup_at w place ticket setting m) place (node_at w m) (read_by m hosts.now) refl (own_below w place ticket setting m below)
+        HearsGood (setup_at w place ticket setting m) place (node_at w m) (read_by m hosts.now) refl (own_below w place ticket setting m below) setting.most setting.enough
         (MayCome (cast w place ticket setting) hosts) answer bytes
     HearsGoodAt stand = Unit {0}
 
@@ -206,7 +220,7 @@ module _ (w : World) (clocks : HasTrueClocks w) (place : ℕ) (ticket : TicketCo
     makes Down call may x d r g = absurd d
     makes (Doing node (Ends old)) (calls.Next wait answer bytes) may x d r g =
         rests_here (Doing node (Ends old)) (Hearing node old answer bytes) may may _ x refl
-        (x.stands.0, x.stands.5.view, x.stands.3 ∙ ap (λ (t : TurnTree). Some t) x.stands.5.ended, x.stands.5.at, x.stands.5.moment_is)
+        (x.stands.0, x.stands.5.view, x.stands.3 ∙ ap (λ (t : TurnTree). Some t) x.stands.5.ended, x.stands.5.at, x.stands.5.moment_is, x.stands.5.few)
     makes (Doing node (Ends old)) call may x d r g = absurd d
     makes (Doing node (Does (Send peer letter) go)) (calls.Send to bytes answer) may x d r g =
         rests_here (Doing node (Does (Send peer letter) go)) (Doing node (go (is_ok answer))) may may _ x refl
@@ -215,6 +229,9 @@ module _ (w : World) (clocks : HasTrueClocks w) (place : ℕ) (ticket : TicketCo
     makes (Doing node (Does (Keep name tried) go)) (calls.Keep ticket_name rec answer) may x d r g =
         keeps node name tried go may ticket_name rec answer x d.0 d.1
     makes (Doing node (Does (Keep name tried) go)) call may x d r g = absurd d
+    makes (Doing node (Does (Start job) go)) (calls.Start number named handler local expires answer) may x d r g =
+        starts_job node job go (is_ok answer) may _ x
+    makes (Doing node (Does (Start job) go)) call may x d r g = absurd d
     makes (Hearing node old answer bytes) (calls.Now reading) may x d r g = begins node old answer bytes may reading x r g
     makes (Hearing node old answer bytes) call may x d r g = absurd d
 
@@ -257,10 +274,12 @@ module _ (w : World) (clocks : HasTrueClocks w) (place : ℕ) (ticket : TicketCo
     cuts stand CutNext may x d = rests_here stand Down may may _ x refl tt
     cuts stand CutNow may x d = rests_here stand Down may may _ x refl tt
     cuts stand (CutSend to bytes) may x d = rests_here stand Down may may _ x refl tt
+    cuts stand (CutStart job) may x d = rests_here stand Down may may _ x refl tt
     cuts Down (CutKeep ticket_name rec) may x d = absurd d
     cuts (Doing node (Ends old)) (CutKeep ticket_name rec) may x d = absurd d
     cuts (Doing node (Does (Send peer letter) go)) (CutKeep ticket_name rec) may x d = absurd d
     cuts (Doing node (Does (Keep name tried) go)) (CutKeep ticket_name rec) may x d = cuts_keep node name tried go may ticket_name rec x d.0 d.1
+    cuts (Doing node (Does (Start job) go)) (CutKeep ticket_name rec) may x d = absurd d
     cuts (Hearing node old answer bytes) (CutKeep ticket_name rec) may x d = absurd d
 
   -- ---- starts
@@ -315,6 +334,7 @@ module _ (w : World) (clocks : HasTrueClocks w) (place : ℕ) (ticket : TicketCo
               at = opened_at m now reading records all is (small_at m hosts.now below within);
               moment_is = ap start_reading is ∙ clamped_start now (small_at m hosts.now below within)
                   ∙ sym (reading_is ∙ ap (λ (q : HostPlace). q.reading) (put_same hosts.place m _));
+              few = omega arith;
             },
           );
         })

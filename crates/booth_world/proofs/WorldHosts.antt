@@ -29,7 +29,7 @@ use Rattle.booth_host.specs.declared.entry.Entry.{Entry}
 use Rattle.booth_host.specs.declared.entry.Entry.TheVariants as calls
 use Rattle.booth_node.specs.declared.node_config.NodeConfig.{NodeConfig}
 use Rattle.booth_node.specs.Opening.{opened}
-use Rattle.booth_node.specs.Reaction.{Send, Keep, used}
+use Rattle.booth_node.specs.Reaction.{Send, Keep, Start, used}
 use Rattle.booth_node.specs.Records.{Has as Holds, TicketPlace, may_after, may_after_all, record_at}
 use Rattle.booth_node.specs.Session.{CutSend, SessionEntry, Starts, Makes, IsCut, Stand, Down, Doing, Hearing, MayMake, MayDo, after_call, after_entry, AreSessions, after_entries}
 use Rattle.booth_node.specs.State.{State}
@@ -163,12 +163,14 @@ module _ (w : World) (is_world : IsWorld w) (place : ℕ) (ticket : TicketConf) 
   send_said m below (Doing node (Does (Send peer letter') go)) (Makes (calls.Send to sent_bytes answer)) may now p sent x d bytes is letter read =
       sealed_said m below node letter' letter bytes (sent_by x.stands.1 x.stands.2) sent x.stands.0 x.stands.4 x.stands.5.0 (sym is ∙ d.1) d.2 read
   send_said m below (Doing node (Does (Keep name tried) go)) (Makes (calls.Send to sent_bytes answer)) may now p sent x d bytes is letter read = absurd d
+  send_said m below (Doing node (Does (Start job) go)) (Makes (calls.Send to sent_bytes answer)) may now p sent x d bytes is letter read = absurd d
   send_said m below (Doing node (Ends old)) (Makes (calls.Send to sent_bytes answer)) may now p sent x d bytes is letter read = absurd d
   send_said m below Down (Makes (calls.Send to sent_bytes answer)) may now p sent x d bytes is letter read = absurd d
   send_said m below (Hearing node old got into) (Makes (calls.Send to sent_bytes answer)) may now p sent x d bytes is letter read = absurd d
   send_said m below (Doing node (Does (Send peer letter') go)) (IsCut (CutSend to sent_bytes)) may now p sent x d bytes is letter read =
       sealed_said m below node letter' letter bytes (sent_by x.stands.1 x.stands.2) sent x.stands.0 x.stands.4 x.stands.5.0 (sym is ∙ d.1) d.2 read
   send_said m below (Doing node (Does (Keep name tried) go)) (IsCut (CutSend to sent_bytes)) may now p sent x d bytes is letter read = absurd d
+  send_said m below (Doing node (Does (Start job) go)) (IsCut (CutSend to sent_bytes)) may now p sent x d bytes is letter read = absurd d
   send_said m below (Doing node (Ends old)) (IsCut (CutSend to sent_bytes)) may now p sent x d bytes is letter read = absurd d
   send_said m below Down (IsCut (CutSend to sent_bytes)) may now p sent x d bytes is letter read = absurd d
   send_said m below (Hearing node old got into) (IsCut (CutSend to sent_bytes)) may now p sent x d bytes is letter read = absurd d
@@ -232,6 +234,7 @@ module _ (w : World) (is_world : IsWorld w) (place : ℕ) (ticket : TicketConf) 
         heard members hosts.sent refl member head part let_in in
         (q.0, q.1, q.2, q.3, (q.4, q.5))
     good_at (Hearing node old (Ok (arrivals.Datagram from)) bytes) call x d r heard = absurd d
+    good_at (Hearing node old (Ok (arrivals.Handler job status)) bytes) call x d r heard = tt
     good_at (Hearing node old (Ok arrivals.Quiet) bytes) call x d r heard = tt
     good_at (Hearing node old (Ok arrivals.Stop) bytes) call x d r heard = tt
     good_at (Hearing node old (Err failed) bytes) call x d r heard = tt

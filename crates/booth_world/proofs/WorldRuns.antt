@@ -14,7 +14,7 @@ use Rattle.booth_node.specs.State.{State}
 use Rattle.booth_world.specs.Rules.{MemberLetter}
 use Rattle.booth_node.specs.Clock.{reads}
 use Rattle.booth_node.specs.Opening.{is_site_at}
-use Rattle.booth_node.specs.Reaction.{Ask, Send, Keep}
+use Rattle.booth_node.specs.Reaction.{Ask, Send, Keep, Start}
 use Rattle.booth_node.specs.Records.{Has as Holds, may_after_keep, may_after, may_after_all, with_next}
 use Rattle.booth_node.specs.Session.{CutKeep, SessionEntry, Starts, Makes, IsCut, Stand, Down, Doing, Hearing, MayDo, AreSessions}
 use Rattle.booth_node.specs.World.{WorldEntry, World, members_of, entries_of, last_time, stand_after, IsWorld, cluster_of}
@@ -221,12 +221,14 @@ module _ (w : World) (is_world : IsWorld w) (place : ℕ) (ticket : TicketConf) 
   next_covers m (Doing node (Does (Keep name tried) go)) (Makes (calls.Keep ticket_name rec answer)) xs may now p sent k x d h =
       next_kept m node name tried go ticket_name rec k may now p sent x d.0 d.1 h
   next_covers m (Doing node (Does (Send peer letter) go)) (Makes (calls.Keep ticket_name rec answer)) xs may now p sent k x d h = absurd d
+  next_covers m (Doing node (Does (Start job) go)) (Makes (calls.Keep ticket_name rec answer)) xs may now p sent k x d h = absurd d
   next_covers m (Doing node (Ends old)) (Makes (calls.Keep ticket_name rec answer)) xs may now p sent k x d h = absurd d
   next_covers m Down (Makes (calls.Keep ticket_name rec answer)) xs may now p sent k x d h = absurd d
   next_covers m (Hearing node old got into) (Makes (calls.Keep ticket_name rec answer)) xs may now p sent k x d h = absurd d
   next_covers m (Doing node (Does (Keep name tried) go)) (IsCut (CutKeep ticket_name rec)) xs may now p sent k x d h =
       next_kept m node name tried go ticket_name rec k may now p sent x d.0 d.1 h
   next_covers m (Doing node (Does (Send peer letter) go)) (IsCut (CutKeep ticket_name rec)) xs may now p sent k x d h = absurd d
+  next_covers m (Doing node (Does (Start job) go)) (IsCut (CutKeep ticket_name rec)) xs may now p sent k x d h = absurd d
   next_covers m (Doing node (Ends old)) (IsCut (CutKeep ticket_name rec)) xs may now p sent k x d h = absurd d
   next_covers m Down (IsCut (CutKeep ticket_name rec)) xs may now p sent k x d h = absurd d
   next_covers m (Hearing node old got into) (IsCut (CutKeep ticket_name rec)) xs may now p sent k x d h = absurd d

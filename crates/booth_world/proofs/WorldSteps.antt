@@ -1,5 +1,5 @@
 -- One entry of a world, as entries of the hosts of one ticket.
-use Rattle.std.proofs.Common.{◌≡◌, ◌≢◌, ◌⊎◌, inl, inr, ⊎_elim, ℕ, ◌<◌, ◌≤◌, Bool, true, false, List, [], ◌∷◌, refl, sym, ap, ◌∙◌, subst, arith}
+use Rattle.std.proofs.Common.{◌≡◌, ◌≢◌, ◌⊎◌, inl, inr, ⊎_elim, ℕ, ◌^◌, ◌<◌, ◌≤◌, Bool, true, false, List, [], ◌∷◌, refl, sym, ap, ◌∙◌, subst, arith}
 use Rattle.std.specs.Prelude.{Option, Some, None, slice_get, position, bytes_eq, IsSomeAnd}
 use Rattle.booth_base.specs.Tree.{Deeds, Ends, Does}
 use Rattle.booth_conf.specs.Config.{has_id}
@@ -11,7 +11,7 @@ use Rattle.booth_raft.specs.Sound.{IsSound}
 use Rattle.booth_node.specs.declared.node_config.NodeConfig.{NodeConfig}
 use Rattle.booth_node.specs.Clock.{Cluster, reads}
 use Rattle.booth_node.specs.Opening.{setup_of}
-use Rattle.booth_node.specs.Reaction.{Ask, Send, Keep}
+use Rattle.booth_node.specs.Reaction.{Ask, Send, Keep, Start}
 use Rattle.booth_node.specs.Records.{TicketPlace, may_after_keep}
 use Rattle.booth_node.specs.Session.{SessionEntry, Stand, Down, Doing, Hearing}
 use Rattle.booth_node.specs.State.{State}
@@ -20,7 +20,7 @@ use Rattle.booth_world.specs.Facts.{Release}
 use Rattle.booth_world.specs.States.{put}
 use Rattle.booth_world.specs.Rules.{MemberLetter}
 use Rattle.booth_world.specs.Cores.{Cast}
-use Rattle.booth_world.specs.Turns.{Keeps, TurnTree}
+use Rattle.booth_world.specs.Turns.{Keeps, Sends, AsksElse, TurnTree}
 use Rattle.booth_world.specs.Hosts.{HostEntry, DoesAsk, HostPlace, Hosts, MayHost, IsNextAsk, went_on, may_left, hosted, AreHosted, hosts_after}
 use Rattle.booth_world.specs.HostLaws.{IsHostReleaseAt, IsHostReleaseIn}
 use Rattle.booth_world.specs.Shadows.{KeepsNext, IsNextAt, GivesTermBack, TakesReading}
@@ -28,9 +28,10 @@ use Rattle.booth_world.proofs.Lists.{some_same}
 use Rattle.booth_world.proofs.CallSteps.{put_same}
 use Rattle.booth_world.proofs.CoreReads.{ReadsAt, ReadsIn}
 use Rattle.booth_world.proofs.TurnPlaces.{put_other}
-use Rattle.booth_world.proofs.Mirrors.{skip, sent_by, SentMore, sent_more}
+use Rattle.booth_world.proofs.Mirrors.{skip, sent_by, later, SentMore, sent_more}
+use Rattle.booth_world.proofs.NodeTrees.{IsFew}
 use Rattle.booth_world.proofs.NodeTurns.{IsPlacedAt, Over}
-use Rattle.booth_world.proofs.HostRuns.{IsOf, of_none, of_both, says, AreSaid, all_said}
+use Rattle.booth_world.proofs.HostRuns.{IsOf, of_none, of_both, says, AreSaid, all_said, at_ask}
 use Rattle.std.proofs.lemmas.Slice.Eq.{bytes_eq-Decides}
 
 -- ---- what entries leave behind
@@ -48,8 +49,10 @@ IsTrace w name m now what (Reads k time) = (k ≡ m) × (time ≡ now) × TakesR
 -- ---- the ticket in its configuration
 
 -- What a sound configuration gives: the ticket stands at its place, each member's id is its own, no other ticket has the
--- name, and each member's setup is one that the rules take.
+-- name, and each member's setup is one that the rules take. Numbers of jobs are below `most`.
 pub record Setting (w : World) (place : ℕ) (ticket : TicketConf) : Type 0 where
+  pub most : ℕ
+  pub enough : 2 ^ 64 ≤ most
   pub there : slice_get w.config.tickets place ≡ Some ticket
   pub automatic : ticket.manual ≡ false
   pub ids : (m : ℕ) → m < members_of w → position (has_id (id_at w m)) w.config.members ≡ Some m
@@ -93,7 +96,7 @@ module _ (w : World) (place : ℕ) (ticket : TicketConf) (setting : Setting w pl
   abbrev pub Doings : ℕ → ℕ → List MemberLetter → Deeds Ask State → TurnTree → Type 0
   Doings m moment known deeds tree = Over (setup_at m) place (node_at w m) moment refl known deeds tree
 
-  -- The host is at the next keep of this ticket, or at the end of its turn; what comes before that is said already.
+  -- The host is at the next keep or start of this ticket, or at the end of its turn; what comes before that is said already.
   abbrev pub StandsAt : ℕ → Stand → HostPlace → List MemberLetter → Type 0
   StandsAt m Down p sent = Unit {0}
   StandsAt m (Doing node deeds) p sent =
@@ -101,7 +104,7 @@ module _ (w : World) (place : ℕ) (ticket : TicketConf) (setting : Setting w pl
       × SentMore (sent_by tree known) sent × Doings m p.reading known deeds tree
   StandsAt m (Hearing node old answer bytes) p sent =
       (node ≡ node_at w m) × (view : View) × (p.tree ≡ Some (Ends view)) × IsPlacedAt (setup_at m) place view old.tickets
-      × (old.last_reading ≡ p.reading)
+      × (old.last_reading ≡ p.reading) × IsFew old.common
 
   pub record Shows (m : ℕ) (stand : Stand) (may : List Record) (now : ℕ) (p : HostPlace) (sent : List MemberLetter) : Type 0 where
     pub same_may : p.may ≡ may
@@ -141,6 +144,12 @@ module _ (w : World) (place : ℕ) (ticket : TicketConf) (setting : Setting w pl
     where
       same_keep : (a b : Record) (f g : Bool → TurnTree) → Does (Keeps a) f ≡ Does (Keeps b) g → a ≡ b
       same_keep a b f g e = cc
+  keeps_next m moment (Does (Start job) more) tree sent kept go (inl other) is =
+      (true, keeps_next m moment (more true) tree sent kept go (other true) is)
+  keeps_next m moment (Does (Start job) more) tree sent kept go (inr own) is = absurd (no_ask kept go own.0 (sym is ∙ own.1))
+    where
+      no_ask : (kept : Record) (go rest : Bool → TurnTree) → Does (Keeps kept) go ≡ Does AsksElse rest → ⊥
+      no_ask kept go rest e = cc
 
   pub next_at : (m : ℕ) (stand : Stand) (p : HostPlace) (sent : List MemberLetter) (kept : Record) (go : Bool → TurnTree)
       → StandsAt m stand p sent → p.tree ≡ Some (Does (Keeps kept) go) → IsNextAt ticket.name stand kept ⊎ (stand ≡ Down)
@@ -249,3 +258,89 @@ module _ (w : World) (place : ℕ) (ticket : TicketConf) (setting : Setting w pl
         left_may : (b : Bool) → may_left (Keeps tried) b (hosts.place m).may ≡ may_after_keep b tried may
         left_may true = refl
         left_may false = ap (λ (rs : List Record). tried ∷ rs) x.same_may
+
+    -- ---- something else is asked for
+
+    abbrev asked_hosts : Bool → Hosts → Hosts
+    asked_hosts ok hosts = hosted cluster cast hosts (DoesAsk m AsksElse ok)
+
+    abbrev ShowsAt : Hosts → Stand → List Record → TurnTree → Type 0
+    ShowsAt hosts stand may tree =
+        (p : HostPlace) → p.tree ≡ Some (skip tree) → p.reading ≡ (hosts.place m).reading → p.may ≡ (hosts.place m).may
+        → Shows m stand may hosts.now p (sent_by tree hosts.sent)
+
+    asked_tree : (ok : Bool) (hosts : Hosts) (go : Bool → TurnTree) (tree : TurnTree) → (hosts.place m).tree ≡ Some (Does AsksElse go) → go ok ≡ tree
+        → ((asked_hosts ok hosts).place m).tree ≡ Some tree
+    asked_tree ok hosts go tree there is =
+        ap (λ (p : HostPlace). p.tree) (put_same hosts.place m _) ∙ ap (λ (o : Option TurnTree). went_on ok o) there ∙ ap (λ (t : TurnTree). Some t) is
+
+    asked_shows : (ok : Bool) (hosts : Hosts) (stand : Stand) (may : List Record) (tree : TurnTree) → ShowsAt hosts stand may tree
+        → ShowsAt (asked_hosts ok hosts) stand may tree
+    asked_shows ok hosts stand may tree shows =
+        λ p tree_is reading_is may_is. shows p tree_is (reading_is ∙ ap (λ (q : HostPlace). q.reading) (put_same hosts.place m _))
+        (may_is ∙ ap (λ (q : HostPlace). q.may) (put_same hosts.place m _))
+
+    -- it is answered, and then what follows is said
+    asked_once : (ok : Bool) (hosts : Hosts) (go : Bool → TurnTree) (stand : Stand) (may : List Record) (R : Trace → Type 0) (tree : TurnTree)
+        → (hosts.place m).tree ≡ Some (Does AsksElse go) → go ok ≡ tree → ShowsAt hosts stand may tree
+        → ((old new : HostPlace) → AtCut stand old new) → Steps hosts m stand may R
+    asked_once ok hosts go stand may R tree there is shows cut =
+        then_says hosts (DoesAsk m AsksElse ok) stand may R tree (at_ask cluster cast m below hosts AsksElse ok go there)
+        (moved_one hosts _ hosts.sent (λ l h. h)) (asked_tree ok hosts go tree there is) (asked_shows ok hosts stand may tree shows)
+        (λ z r. absurd r) (λ k t r. absurd r) (λ p. cut (hosts.place m) p)
+
+    -- it is answered, and then what else is asked for so, and then what follows is said
+    asked : (ok : Bool) (answers : List Bool) (hosts : Hosts) (go : Bool → TurnTree) (stand : Stand) (may : List Record) (R : Trace → Type 0)
+        → (hosts.place m).tree ≡ Some (Does AsksElse go) → ShowsAt hosts stand may (later answers (go ok))
+        → ((old new : HostPlace) → AtCut stand old new) → Steps hosts m stand may R
+    asked ok [] hosts go stand may R there shows cut = asked_once ok hosts go stand may R (go ok) there refl shows cut
+    asked ok (b ∷ more) hosts go stand may R there shows cut =
+        by_tree (go ok) refl shows (λ on is shows_then. asked b more (asked_hosts ok hosts) on stand may R is shows_then cut)
+      where
+        by_tree : (tree : TurnTree) → go ok ≡ tree → ShowsAt hosts stand may (later (b ∷ more) tree)
+            → ((on : Bool → TurnTree) → ((asked_hosts ok hosts).place m).tree ≡ Some (Does AsksElse on)
+            → ShowsAt (asked_hosts ok hosts) stand may (later more (on b)) → Steps (asked_hosts ok hosts) m stand may R)
+            → Steps hosts m stand may R
+        by_tree (Ends view) is shows_then on_more = asked_once ok hosts go stand may R (Ends view) there is shows_then cut
+        by_tree (Does (Keeps kept) on) is shows_then on_more = asked_once ok hosts go stand may R (Does (Keeps kept) on) there is shows_then cut
+        by_tree (Does (Sends letter) on) is shows_then on_more = asked_once ok hosts go stand may R (Does (Sends letter) on) there is shows_then cut
+        by_tree (Does AsksElse on) is shows_then on_more =
+            let rest : Steps (asked_hosts ok hosts) m stand may R =
+            on_more on (asked_tree ok hosts go (Does AsksElse on) there is) (asked_shows ok hosts stand may (later more (on b)) shows_then) in
+            record {
+              entries = DoesAsk m AsksElse ok ∷ rest.entries;
+              hosted_all = (at_ask cluster cast m below hosts AsksElse ok go there, rest.hosted_all);
+              own = of_both cluster cast m hosts (asked_hosts ok hosts) (hosts_after cluster cast (asked_hosts ok hosts) rest.entries)
+                  (moved_one hosts _ hosts.sent (λ l h. h)) rest.own;
+              here = rest.here;
+              at_cut = cut (hosts.place m) ((hosts_after cluster cast (asked_hosts ok hosts) rest.entries).place m);
+              released = λ z r. ⊎_elim (λ (x : ⊥). absurd x) (λ x. rest.released z x) r;
+              read = λ k t r. ⊎_elim (λ (x : ⊥). absurd x) (λ x. rest.read k t x) r;
+            }
+
+    -- a start of this ticket's handler is answered
+    pub starts_own : (hosts : Hosts) (node : NodeConfig) (before stand : Stand) (may : List Record) (R : Trace → Type 0) (ok : Bool)
+        (answers : List Bool) (go : Bool → Deeds Ask State) (tree : TurnTree) (known : List MemberLetter) (rest : Bool → TurnTree)
+        → node ≡ node_at w m → stand ≡ Doing node (go ok)
+        → Shows m before may hosts.now (hosts.place m) hosts.sent
+        → (hosts.place m).tree ≡ Some (skip tree) → SentMore (sent_by tree known) hosts.sent
+        → skip tree ≡ Does AsksElse rest
+        → Doings m (hosts.place m).reading (sent_by tree known) (go ok) (later answers (rest ok))
+        → Steps hosts m stand may R
+    starts_own hosts node before stand may R ok answers go tree known rest node_is stand_is x there more next_start on =
+        asked ok answers hosts rest stand may R (there ∙ ap (λ (t : TurnTree). Some t) next_start)
+        (λ p tree_is reading_is may_is. record {
+          same_may = may_is ∙ x.same_may;
+          time = x.time;
+          past = x.past;
+          read = reading_is ∙ x.read;
+          stands = subst (λ (d : Stand). StandsAt m d p (sent_by (later answers (rest ok)) hosts.sent)) (sym stand_is) (
+            node_is,
+            later answers (rest ok),
+            sent_by tree known,
+            tree_is,
+            sent_more (later answers (rest ok)) (sent_by tree known) hosts.sent more,
+            subst (λ (r : ℕ). Doings m r (sent_by tree known) (go ok) (later answers (rest ok))) (sym reading_is) on,
+          );
+        })
+        (λ old new. subst (λ (d : Stand). AtCut d old new) (sym stand_is) tt)

@@ -9,7 +9,7 @@ use Rattle.booth_wire.specs.Command.{direction_of}
 use Rattle.booth_wire.specs.PlainMessage.{PlainMessage, Ticket}
 use Rattle.booth_wire.specs.Reading.{decoded}
 use Rattle.booth_host.specs.declared.entry.Entry.TheVariants as calls
-use Rattle.booth_node.specs.Reaction.{Ask, Send, Keep}
+use Rattle.booth_node.specs.Reaction.{Ask, Send, Keep, Start}
 use Rattle.booth_node.specs.Records.{Has}
 use Rattle.booth_node.specs.Session.{SessionEntry, Starts, Makes, IsCut, Stand, Down, Doing, after_entry}
 use Rattle.booth_node.specs.State.{State}
@@ -30,6 +30,7 @@ KeepsNext name (Ends state) kept = ⊥
 KeepsNext name (Does (Send peer letter) go) kept = (ok : Bool) × KeepsNext name (go ok) kept
 KeepsNext name (Does (Keep ticket tried) go) kept =
     ((ticket ≡ name) × (tried ≡ kept)) ⊎ ((ticket ≢ name) × (ok : Bool) × KeepsNext name (go ok) kept)
+KeepsNext name (Does (Start job) go) kept = (ok : Bool) × KeepsNext name (go ok) kept
 
 -- where these entries leave a member that a cut call leaves where it stands
 abbrev pub stands_last : Stand → List SessionEntry → Stand

@@ -159,7 +159,7 @@ fn check_refusal(
 #[test]
 fn each_refusal_has_its_calls_and_its_text(rt: HostRuntime) {
     let alloc = rt.alloc();
-    let lines = "before-acquire-handler = /h";
+    let lines = "mode = manual\nbefore-acquire-handler = /h";
     let said = "boothd: not built: before-acquire-handler\n";
     check_refusal(
         &rt,

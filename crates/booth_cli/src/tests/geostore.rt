@@ -107,6 +107,7 @@ fn script_of(rt: &impl Abort, alloc: Global, comes: &str) -> Script {
         reading: START.saturating_add(5_001),
         fail_send: false,
         fail_keep: false,
+        fail_start: false,
         fail_out: false,
     };
     steps.push(step).expect(rt, "memory");

@@ -237,3 +237,29 @@ now 2000
 ";
     check_calls(&rt, alloc, WORDS, host, &[calls]);
 }
+
+// A daemon with a handler: its words, the configuration's path and its own address are what the host is asked with.
+#[test]
+fn a_handler_is_started_and_its_end_is_followed(rt: HostRuntime) {
+    let alloc = rt.alloc();
+    let comes = "\
+0 nothing
+1000000 client CGnt 7 0 0 none 0 0
+1000500 ends 1 3";
+    let file =
+        "site=\"192.168.201.100\"\nticket=\"ticket-db8\"\nbefore-acquire-handler = /bin/service db8\n";
+    let host = host_of(&rt, alloc, 0, comes, file, "");
+    let calls = "\
+next 100 quiet
+now 0
+next 100 client:4000: CGnt of - at 0 7 0 0 0 ticket-db8 none 0 0
+now 1000000
+start 1 at S1 until 0 ticket-db8 /bin/service db8
+send client:4000: RGnt of S1 at 1000000 7 0 0 Asyn ticket-db8 none 0 0
+next 100 job 1 over: 3
+now 1000500
+next 100 stop
+now 1000500
+";
+    check_calls(&rt, alloc, WORDS, host, &[OPENED, calls]);
+}

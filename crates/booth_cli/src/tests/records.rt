@@ -3,7 +3,7 @@ use super::scripts::{behind, calls_of, host_of};
 use super::{WORDS, check_kinds, check_said, strings};
 use crate::{Outcome, boothd};
 use booth_base::{ByteText, Name, Peer};
-use booth_host::{Arrival, Datagram, Failed, Host, MemoryHost, Place, ReadFault};
+use booth_host::{Arrival, Datagram, Failed, Host, Job, MemoryHost, Place, ReadFault};
 use booth_rec::Record;
 use std::alloc::Global;
 use std::process::Abort;
@@ -80,6 +80,10 @@ impl Host for Unreading {
 
     fn keep(&mut self, ticket: &Name, rec: &Record) -> Result<(), Failed> {
         self.host.keep(ticket, rec)
+    }
+
+    fn start(&mut self, job: &Job) -> Result<(), Failed> {
+        self.host.start(job)
     }
 
     fn read_file(&mut self, alloc: Global, path: &str) -> Result<ByteText, ReadFault> {

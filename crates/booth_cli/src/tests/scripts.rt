@@ -1,7 +1,7 @@
 //! Whole runs over a script, from what comes to the calls as text.
 //!
 //! What comes is a line a step: the reading, and then `nothing`, `failure`, `list` for a client's list request,
-//! `bytes` and hexadecimal words of a client, or a frame that was sent at 0: from whom, command, request, options
+//! `ends`, the number of a job and a status, `bytes` and hexadecimal words of a client, or a frame that was sent at 0: from whom, command, request, options
 //! and result. Behind them stand the leader, term and seconds of the ticket; or ` = ` and a text, in which `/` ends
 //! a line; or ` long ` and of how many letters a text is.
 use super::transcript::transcript;
@@ -133,11 +133,18 @@ fn arrival_of(rt: &impl Abort, comes: &str) -> Result<Arrival, Failed> {
     if comes == "list" || comes.starts_with("bytes ") {
         return Ok(Arrival::Datagram(CLIENT));
     }
+    if let Some(end) = comes.strip_prefix("ends ") {
+        let (job, status) = end.split_once(" ").expect(rt, end);
+        return Ok(Arrival::Handler {
+            job: moment_of(rt, job),
+            status: status.parse::<i32>().expect(rt, status),
+        });
+    }
     Ok(Arrival::Datagram(sender(rt, comes)))
 }
 
 fn bytes_that_come(rt: &impl Abort, alloc: Global, comes: &str) -> ByteText {
-    if comes == "nothing" || comes == "failure" {
+    if comes == "nothing" || comes == "failure" || comes.starts_with("ends ") {
         return byte_text(rt, alloc, "");
     }
     if comes == "list" {
@@ -158,6 +165,7 @@ pub fn step_of(rt: &impl Abort, alloc: Global, line: &str) -> Step {
         reading: moment_of(rt, reading),
         fail_send: false,
         fail_keep: false,
+        fail_start: false,
         fail_out: false,
     }
 }

@@ -214,6 +214,10 @@ fn put_next(
             put_peer(rt, alloc, line, from);
             put_frame(rt, alloc, line, bytes);
         }
+        Ok(Arrival::Handler { job, status }) => {
+            let text = format!(in alloc; " job {job} over: {status}").expect(rt, "memory");
+            put(rt, line, text.as_str());
+        }
         Ok(Arrival::Quiet) => put(rt, line, " quiet"),
         Ok(Arrival::Stop) => put(rt, line, " stop"),
         Err(Failed) => put(rt, line, " failed"),
@@ -299,6 +303,20 @@ fn put_entry(rt: &impl Abort, alloc: Global, line: &mut String, entry: &Entry) {
             put_record(rt, alloc, line, record);
             put_done(rt, line, answer);
         }
+        Entry::Start {
+            number,
+            ticket,
+            handler,
+            local,
+            expires,
+            answer,
+        } => {
+            let text = format!(in alloc; " {number} at {} until {expires}", named(local));
+            put(rt, line, text.expect(rt, "memory").as_str());
+            put_bytes(rt, line, ticket.bytes());
+            put_bytes(rt, line, handler.bytes());
+            put_done(rt, line, answer);
+        }
         Entry::Out { bytes, answer } | Entry::Err { bytes, answer } => {
             put_bytes(rt, line, bytes.bytes());
             put_done(rt, line, answer);
@@ -316,6 +334,7 @@ fn name_of(entry: &Entry) -> &'static str {
         Entry::Next { .. } => "next",
         Entry::Send { .. } => "send",
         Entry::Keep { .. } => "keep",
+        Entry::Start { .. } => "start",
         Entry::Out { .. } => "out",
         Entry::Err { .. } => "err",
     }

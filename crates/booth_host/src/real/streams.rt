@@ -1,9 +1,32 @@
 //! The standard streams.
 
+use std::fs::File;
 use std::io;
 use std::io::Write;
-use std::os::fd::AsFd;
+use std::os::fd::{AsFd, AsRawFd};
 use std::process::ChildStdin;
+
+/// What stands in the place of each standard stream that was closed.
+pub(super) type Standing = [Option<File>; 3];
+
+/// The greatest number of a standard stream.
+const LAST_STREAM: i32 = 2;
+
+// A file in the place of the first standard stream that is closed. It can only be read, so that a write fails as before.
+fn hold_stream(rt: &HostRuntime) -> Option<File> {
+    let file = File::open(rt, "/dev/null").ok()?;
+    if file.as_raw_fd() <= LAST_STREAM {
+        Some(file)
+    } else {
+        None
+    }
+}
+
+/// Fills the places of standard streams that were closed. A file of this process that got such a number would be a handler's
+/// standard error.
+pub(super) fn hold_streams(rt: &HostRuntime) -> Standing {
+    [hold_stream(rt), hold_stream(rt), hold_stream(rt)]
+}
 
 /// Writes to a standard stream. Where it is closed, or a pipe that nobody reads, the write fails.
 ///

@@ -3,8 +3,8 @@
 //! A send has its frame's numbers in the order of the bytes: sender, command, request, options, reason,
 //! result, and of a ticket then its name, leader, term and seconds; ` = ` stands before a text, in which `/`
 //! ends a line; ` @ ` before an attribute's ticket, name (`-` where it has none) and value; and `#` stands before all
-//! bytes in hexadecimal. A keep has the ticket, the term, and of a
-//! lease the term and the end. A call that ends in `failed` fails.
+//! bytes in hexadecimal. A keep has the ticket, the term, and of a lease the term and the end. A start has the job, the ticket,
+//! the member's address, the lease's end in seconds, and the handler. A call that ends in `failed` fails.
 ghost use Rattle.std.specs.Prelude.{◌<◌};
 
 use booth_base::{Address, MemberId, NO_ONE, Peer};
@@ -241,6 +241,25 @@ pub fn check_call(rt: &impl Abort, alloc: Global, now: u64, line: &str, call: &E
         } => {
             let line = without_failed(rt, line, answer.is_err());
             check_keep(rt, line, ticket.bytes(), record);
+        }
+        Entry::Start {
+            number,
+            ticket,
+            handler,
+            local,
+            expires,
+            answer,
+        } => {
+            let line = without_failed(rt, line, answer.is_err());
+            let start = line.strip_prefix("start ").expect(rt, line);
+            let (job, asked) = start.split_once(": ").expect(rt, line);
+            let text = format!(in alloc;
+                "{number} {} {} {expires}",
+                std::str::from_utf8(ticket.bytes()).expect(rt, line),
+                local.print().as_str()
+            );
+            assert!(rt; job == text.expect(rt, "memory").as_str(), "{line}");
+            assert!(rt; asked.as_bytes() == handler.bytes(), "{line}");
         }
         _ => panic!(rt; "another call: {line}"),
     }

@@ -1,7 +1,8 @@
 //! A run of a node as text: each turn is what comes, and then its calls.
 //!
 //! Blank lines part the turns. The first line of each is `at`, the clock in ms, and `quiet` or `from`, the
-//! sender and its frame, whose own clock is 0; the others are the calls after the turn's next and now.
+//! sender and its frame, whose own clock is 0, or `over`, a job and its status; the others are the calls after the turn's next
+//! and now.
 ghost use Rattle.std.specs.Prelude.{◌≡◌, IsSome, length, position};
 ghost use Rattle.booth_conf.specs.Config.{has_id};
 ghost use Rattle.booth_node.specs.View.{node_config};
@@ -26,12 +27,14 @@ pub const FILE: &str =
 pub struct Fails {
     pub sends: bool,
     pub keeps: bool,
+    pub starts: bool,
 }
 
 impl Fails {
     pub const NOTHING: Fails = Fails {
         sends: false,
         keeps: false,
+        starts: false,
     };
 }
 
@@ -74,6 +77,7 @@ pub fn host(
         reading,
         fail_send: fails.sends,
         fail_keep: fails.keeps,
+        fail_start: fails.starts,
         fail_out: false,
     };
     steps.push(step).expect(rt, "memory");
@@ -114,6 +118,28 @@ pub fn run(
     host
 }
 
+/// One turn, in which a job of a handler is over.
+fn run_over(
+    rt: &impl Abort,
+    alloc: Global,
+    node: &mut Node,
+    reading: u64,
+    over: &str,
+    fails: Fails,
+) -> MemoryHost
+    ensures { node_config node.new ≡ node_config node.old }
+{
+    let (job, status) = over.split_once(' ').expect(rt, over);
+    let arrival = Ok(Arrival::Handler {
+        job: job.parse::<u64>().expect(rt, over),
+        status: status.parse::<i32>().expect(rt, over),
+    });
+    let mut host = host(rt, alloc, arrival, b"", reading, fails);
+    let turn = node.turn(&mut host);
+    assert!(rt; turn == Turn::Went);
+    host
+}
+
 /// The calls of the host's one turn, after its next and its now.
 pub fn calls<'a>(rt: &impl Abort, host: &'a MemoryHost) -> &'a [Entry] {
     match host.past().expect(rt, "the calls") {
@@ -136,6 +162,7 @@ fn fails_of(calls: &str) -> Fails {
     Fails {
         sends: has_failed(calls, "send"),
         keeps: has_failed(calls, "keep"),
+        starts: has_failed(calls, "start"),
     }
 }
 
@@ -171,8 +198,17 @@ pub fn check_turn(rt: &impl Abort, alloc: Global, node: &mut Node, turn: &str)
 {
     let (head, calls) = turn.split_once('\n').unwrap_or((turn, ""));
     let (now, comes) = head_of(rt, head);
-    let came = came_of(rt, alloc, comes);
-    let host = run(rt, alloc, node, now, came, fails_of(calls));
+    let host = match comes.strip_prefix("over ") {
+        Some(over) => run_over(rt, alloc, node, now, over, fails_of(calls)),
+        None => run(
+            rt,
+            alloc,
+            node,
+            now,
+            came_of(rt, alloc, comes),
+            fails_of(calls),
+        ),
+    };
     check_calls(rt, alloc, now, calls, &host);
 }
 

@@ -211,7 +211,6 @@ pub fn note(rt: &impl Abort, core: &mut Core, now: u64, made: Note)
         Note::Asked | Note::Unready => assert!(rt; role == Role::Follower),
         Note::JobStarted { .. } => {
             assert!(rt; role == Role::Follower || role == Role::Leader);
-            assert!(rt; core.view().job.is_none());
         }
         Note::JobOver => assert!(rt; core.view().job.is_some()),
         Note::AskFailed | Note::HandlerFailed => {

@@ -2,7 +2,7 @@
 ghost use Rattle.std.specs.Prelude.{◌≡◌, ◌<◌, ◌^◌, length};
 ghost use Rattle.booth_raft.specs.Sound.{IsSound};
 
-use crate::{FakeHands, Noted, Request, Ticket, To, Waiters, Wish};
+use crate::{FakeHands, Noted, Request, Service, Ticket, To, Waiters, Wish};
 use booth_base::{Address, MemberId, NO_ONE, Name, Peer, Times};
 use booth_rec::{Lease, Record};
 use booth_wire::{Cmd, Head, Setup, TicketPart};
@@ -61,6 +61,10 @@ pub struct Stage {
     pub ticket: Ticket,
     /// Whether the ticket is the second one.
     pub second: bool,
+    /// The next job, where the ticket has a handler.
+    pub job: Option<u64>,
+    /// Whether its handler cannot be started.
+    pub starts_fail: bool,
     /// Whether the prerequisites hold.
     pub ready: bool,
     waiters: Waiters,
@@ -79,6 +83,8 @@ pub fn opened(
     Stage {
         ticket: Ticket::open(&setup(rt, place, members), kept.as_ref(), 0),
         second: false,
+        job: None,
+        starts_fail: false,
         ready: true,
         waiters: Waiters::new(alloc, 2).expect(rt, "memory for those that wait"),
         hands: FakeHands::new(alloc),
@@ -96,6 +102,8 @@ pub fn opened_manual(
     Stage {
         ticket: Ticket::open_manual(&setup(rt, place, members), kept.as_ref(), 0),
         second: false,
+        job: None,
+        starts_fail: false,
         ready: true,
         waiters: Waiters::new(alloc, 2).expect(rt, "memory for those that wait"),
         hands: FakeHands::new(alloc),
@@ -147,6 +155,8 @@ impl Said {
 #[derive(Clone, Copy, Debug, PartialEq, Eq)]
 pub enum Did {
     Kept(Record, bool),
+    /// The handler was started as a job, with the end of the lease in seconds, or could not be.
+    Started(u64, u64, bool),
     Said(To, Said),
 }
 
@@ -195,6 +205,7 @@ fn said_as(rt: &impl Abort, head: &Head, part: &TicketPart) -> Said {
 fn read_note(rt: &impl Abort, noted: &Noted) -> Did {
     match noted {
         Noted::Kept { rec, ok } => Did::Kept(*rec, *ok),
+        Noted::Started { job, expires, ok } => Did::Started(*job, *expires, *ok),
         Noted::Said { to, head, part } => Did::Said(*to, said_as(rt, head, part)),
     }
 }
@@ -209,6 +220,8 @@ pub enum Call {
     Revoke(u32),
     /// The message of the member at a place.
     Hear(u32, Said),
+    /// The job of this number ended with a status.
+    Over(u64, i32),
     /// The deadline has come.
     Due,
 }
@@ -247,6 +260,7 @@ impl Stage {
             now,
             &request,
             self.ready,
+            self.job,
             list,
             &mut self.waiters,
             &mut self.hands,
@@ -295,8 +309,28 @@ impl Stage {
             "due at {now}"
         );
         let list = self.list();
-        self.ticket
-            .tick(now, self.ready, list, &mut self.waiters, &mut self.hands);
+        self.ticket.tick(
+            now,
+            self.ready,
+            self.job,
+            list,
+            &mut self.waiters,
+            &mut self.hands,
+        );
+    }
+
+    fn end_job(&mut self, now: u64, job: u64, status: i32)
+        requires { now < 2 ^ 62 }
+    {
+        let list = self.list();
+        self.ticket.handler_done(
+            now,
+            job,
+            Service::of_status(status),
+            list,
+            &mut self.waiters,
+            &mut self.hands,
+        );
     }
 
     fn play(&mut self, rt: &impl Abort, now: u64, call: Call) {
@@ -306,6 +340,7 @@ impl Stage {
             Call::GrantTo(number, options) => self.ask(now, asked(Wish::Grant, number, options)),
             Call::Revoke(options) => self.ask(now, asked(Wish::Revoke, NUMBER, options)),
             Call::Hear(from, heard) => self.hear(rt, now, from, heard),
+            Call::Over(job, status) => self.end_job(now, job, status),
             Call::Due => self.tick(rt, now),
         }
     }
@@ -330,6 +365,7 @@ pub fn check_with(
     stage.hands.acts.clear();
     stage.hands.fails = matches!(keeps, Keeps::Fail);
     stage.hands.breaks = matches!(keeps, Keeps::FailAfterOne);
+    stage.hands.fails_to_start = stage.starts_fail;
     stage.play(rt, now, call);
     assert!(rt; stage.hands.tells);
     compare(rt, &stage.hands.acts, want, now, call);

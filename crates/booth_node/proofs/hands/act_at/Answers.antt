@@ -16,8 +16,8 @@ returns-clause-past g c =
     (state_of c.args.tickets.now.items c.args.waiters.now c.args.attrs.now hands.common.now hands.now)
     c.index_mut.result.now
     (record { ticket = c.befall.new.ticket; waiters = waiting_at c.befall.new.waiters c.args.place })
-    c.befall.new.waiters c.befall.new.hands.common.now hands.name.now _ _ found.0
-    found.1.1 c.befall.ensures.others c.befall.ensures.past
+    c.befall.new.waiters c.befall.new.hands.common.now hands.name.now c.job_at-job.result _ _ found.0
+    found.1.1 c.job_at-job.ensures c.befall.ensures.others c.befall.ensures.past
 
 pub returns-clause-others : goal.returns-clause-others
 returns-clause-others g c =

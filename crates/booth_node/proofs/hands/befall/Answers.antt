@@ -105,3 +105,38 @@ returns-in-Asked-clause-later g c =
       faults = g.H.Host.faults x.host.now;
       common = x.common.now;
     }) (λ x y act d. d.3) (λ n v. Ends 0)).faults
+
+pub returns-in-Over-clause-host : goal.returns-in-Over-clause-host
+returns-in-Over-clause-host g c = some_stays c.handler_done.ensures.did (λ x. x.host.ghost_name) (λ x y act d. d.0)
+
+pub returns-in-Over-clause-counts : goal.returns-in-Over-clause-counts
+returns-in-Over-clause-counts g c = some_stays c.handler_done.ensures.did (λ x. x.common.ghost_name)
+    (λ x y act d. d.1)
+
+pub returns-in-Over-clause-buffer : goal.returns-in-Over-clause-buffer
+returns-in-Over-clause-buffer g c = some_stays c.handler_done.ensures.did (λ x. x.frame.ghost_name)
+    (λ x y act d. d.2)
+
+pub returns-in-Over-clause-past : goal.returns-in-Over-clause-past
+returns-in-Over-clause-past g c rest = rw c.in-Over.is
+    (some_lifts c.handler_done.ensures.did
+    (λ x. record {
+      node = x.node.now;
+      moment = x.now;
+      name = x.name.now;
+      past = g.H.Host.past x.host.now;
+      faults = g.H.Host.faults x.host.now;
+      common = x.common.now;
+    }) (λ x y act d. d.3) rest).past
+
+pub returns-in-Over-clause-later : goal.returns-in-Over-clause-later
+returns-in-Over-clause-later g c =
+    (some_lifts {S = ℕ} c.handler_done.ensures.did
+    (λ x. record {
+      node = x.node.now;
+      moment = x.now;
+      name = x.name.now;
+      past = g.H.Host.past x.host.now;
+      faults = g.H.Host.faults x.host.now;
+      common = x.common.now;
+    }) (λ x y act d. d.3) (λ n v. Ends 0)).faults

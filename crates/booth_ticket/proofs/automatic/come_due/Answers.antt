@@ -13,7 +13,7 @@ returns-clause-did g c =
     let lists = c.args.waiters.now in
     finished_call core.setup after.setup c.args.now (waiting_at lists c.args.list)
     (waiting_at c.tell.new.waiters c.args.list)
-    (comes_due core.setup core.view c.args.ready c.args.now)
+    (comes_due core.setup core.view c.args.ready c.args.job c.args.now)
     (outcome_of after.view c.tick-last.result) c.tick-last.ensures.setup
     c.tick-last.ensures.did c.tell.ensures.did
     (waiting_set lists c.args.list _ c.tell.new.waiters c.requires.exists c.tell.ensures.left)

@@ -1,14 +1,20 @@
-use Rattle.std.proofs.Common.{ap}
-use Rattle.booth_raft.specs.AskAndRenew.{renew}
-use Rattle.booth_raft.specs.State.{State}
-use Rattle.booth_raft.proofs.SpeechLemmas.{rules_speak}
-use Rattle.booth_ticket.proofs.SpeechLemmas.{speech_as}
+use Rattle.std.proofs.Common.{refl}
+use Rattle.booth_raft.specs.declared.deed.Want.TheVariants.{Nothing, Renew, Acquire}
+use Rattle.booth_ticket.proofs.HandlingLemmas.{rested, wanted}
+use Rattle.booth_ticket.proofs.KeepLemmas.{outcome_of}
 use Rattle.booth_ticket.proofs.automatic.follow.Goals as goal
 
-pub returns-in-Renew-clause-speech : goal.returns-in-Renew-clause-speech
-returns-in-Renew-clause-speech c =
-    let setup = c.args.core.now.setup in
-    let view = c.args.core.now.view in
-    speech_as setup c.renew.new.self.setup (renew setup view c.args.now).deed c.renew.result
-    (ap (λ (s : State). s.setup) c.renew.ensures.view) c.renew.ensures.deed
-    (rules_speak.renewed setup view c.args.now)
+pub returns-in-Nothing-clause-did : goal.returns-in-Nothing-clause-did
+returns-in-Nothing-clause-did g c =
+    wanted c.args.core.now.setup c.args.core.now.view c.args.deed Nothing c.args.ready c.args.job c.args.now _ c.in-Nothing.is
+    (rested _ (outcome_of c.args.core.now.view c.args.deed) _ _ refl refl)
+
+pub returns-in-Renew-clause-did : goal.returns-in-Renew-clause-did
+returns-in-Renew-clause-did g c =
+    wanted c.args.core.now.setup c.args.core.now.view c.args.deed Renew c.args.ready c.args.job c.args.now _ c.in-Renew.is
+    c.renew_by.ensures.did
+
+pub returns-in-Acquire-clause-did : goal.returns-in-Acquire-clause-did
+returns-in-Acquire-clause-did g c =
+    wanted c.args.core.now.setup c.args.core.now.view c.args.deed Acquire c.args.ready c.args.job c.args.now _ c.in-Acquire.is
+    c.take_over.ensures.did

@@ -12,7 +12,7 @@ returns-clause-did g c =
     let last = outcome_of c.do_for-done.new.core.view c.do_for-done.result.last in
     followed c.args.core.now.setup c.do_for-done.new.core.setup c.args.core.now.view
     (waiting_at lists list) (waiting_at c.tell.new.waiters list) (waiting_at c.join.new.waiters list)
-    (spare_in lists) c.spare.result c.args.ready c.args.request.now c.args.request.now.wish c.args.now
+    (spare_in lists) c.spare.result c.args.ready c.args.job c.args.request.now c.args.request.now.wish c.args.now
     c.do_for-done.result.answer last c.do_for-done.ensures.setup c.spare.ensures
     c.do_for-done.ensures.did c.tell.ensures.did c.reply.ensures.did
     (waiting_set lists list _ c.tell.new.waiters c.requires.exists c.tell.ensures.left)

@@ -18,17 +18,17 @@ returns-clause-did g c =
       | in-Automatic w ↦
           let core = w.in-Automatic.core in
           let after = w.come_due.new.core in
-          did_by_kind (λ (s : TicketState). ticket_due s.setup s.known waiting c.args.ready c.args.now)
+          did_by_kind (λ (s : TicketState). ticket_due s.setup s.known waiting c.args.ready c.args.job c.args.now)
           c.args.list (state_of (kinds.Automatic core)) c.args.self.now (record { kind = kinds.Automatic after })
           c.match-self.self-inside w.come_due.new.waiters c.match-self.waiters
           (sym c.self.view_is ∙ ap state_of w.in-Automatic.is) w.self-inside-is w.waiters-is w.hands-is
-          (by_rules_did core.setup after.setup (tick core.setup core.view waiting c.args.ready c.args.now)
+          (by_rules_did core.setup after.setup (tick core.setup core.view waiting c.args.ready c.args.job c.args.now)
           (record { view = after.view; waiters = waiting_at w.come_due.new.waiters c.args.list })
           w.come_due.ensures.setup w.come_due.ensures.did)
       | in-Manual w ↦
           let ticket = w.in-Manual.ticket in
           let after = w.tick.new.self in
-          did_by_kind (λ (s : TicketState). ticket_due s.setup s.known waiting c.args.ready c.args.now)
+          did_by_kind (λ (s : TicketState). ticket_due s.setup s.known waiting c.args.ready c.args.job c.args.now)
           c.args.list (state_of (kinds.Manual ticket)) c.args.self.now (record { kind = kinds.Manual after })
           c.match-self.self-inside lists c.match-self.waiters
           (sym c.self.view_is ∙ ap state_of w.in-Manual.is) w.self-inside-is w.waiters-is w.hands-is

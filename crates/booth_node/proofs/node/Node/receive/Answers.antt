@@ -1,7 +1,7 @@
 use Rattle.std.proofs.Common.{◌≤◌, ℕ, sym, subst}
 use Rattle.std.specs.Prelude.{vec_capacity}
 use Rattle.booth_node.proofs.DueLemmas.{timed_again, last_again, length_again}
-use Rattle.booth_node.proofs.node.Node.arrive.Goals as goal
+use Rattle.booth_node.proofs.node.Node.receive.Goals as goal
 
 pub invariant_of-self-clause-timed : goal.invariant_of-self-clause-timed
 invariant_of-self-clause-timed g c =

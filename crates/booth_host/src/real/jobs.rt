@@ -1,0 +1,172 @@
+//! The jobs of tickets' handlers: one of a ticket at a time, whose programs run one after the other.
+//!
+//! Nothing here waits for a program.
+
+use super::programs::{FileName, is_directory, next_in_directory, start};
+use crate::Job;
+use booth_base::{Name, PathText};
+use std::alloc::Global;
+use std::io;
+use std::io::ErrorKind;
+use std::process::Child;
+
+/// The status of a program that a signal ended.
+pub(super) const SIGNALLED: i32 = 255;
+
+// A job, and what runs of it.
+#[derive(Drop)]
+struct Running {
+    job: Job,
+    /// The path of the configuration that the job was started under.
+    conf_path: PathText,
+    /// The program of the handler's directory that was started last, where it has one.
+    program: Option<FileName>,
+    /// The program that runs; none where a directory has no programs.
+    child: Option<Child>,
+}
+
+/// How a job ended.
+#[derive(Drop)]
+pub(super) struct Ended {
+    pub(super) job: u64,
+    /// The status of the last program that ran, or why there is none.
+    pub(super) status: io::Result<i32>,
+}
+
+/// The jobs that run, at most one of a ticket, and programs that were ended and not yet seen to be over.
+#[derive(Drop)]
+pub(super) struct Jobs {
+    running: Vec<Running>,
+    /// By their tickets, at most one of each.
+    killed: Vec<(Name, Child)>,
+}
+
+fn copy_of(job: &Job) -> Job {
+    Job {
+        number: job.number,
+        ticket: job.ticket.copy(),
+        handler: job.handler.copy(),
+        local: job.local,
+        expires: job.expires,
+    }
+}
+
+impl Running {
+    // Starts the first program of a job.
+    fn start(rt: &HostRuntime, job: &Job, conf_path: &PathText) -> io::Result<Running> {
+        let mut running = Running {
+            job: copy_of(job),
+            conf_path: conf_path.copy(),
+            program: None,
+            child: None,
+        };
+        if is_directory(rt, &job.handler)? {
+            running.start_next(rt)?;
+        } else {
+            running.child = Some(start(rt, job, None, conf_path.as_str())?);
+        }
+        Ok(running)
+    }
+
+    // Starts the next program of the handler's directory; none runs where none is left.
+    fn start_next(&mut self, rt: &HostRuntime) -> io::Result<()> {
+        self.child = None;
+        let next = next_in_directory(rt, &self.job.handler, self.program.as_ref())?;
+        if next.is_some() {
+            self.child = Some(start(rt, &self.job, next.as_ref(), self.conf_path.as_str())?);
+            self.program = next;
+        }
+        Ok(())
+    }
+
+    // The status of the program that ran, once it is over; 0 where there is none.
+    fn status(&mut self) -> io::Result<Option<i32>> {
+        let Some(child) = &mut self.child else {
+            return Ok(Some(0));
+        };
+        match child.try_wait()? {
+            Some(status) => Ok(Some(status.code().unwrap_or(SIGNALLED))),
+            None => Ok(None),
+        }
+    }
+
+    // The status of the job, once it is over. Where a program of a directory ended with 0, the next one is started.
+    fn poll(&mut self, rt: &HostRuntime) -> io::Result<Option<i32>> {
+        let Some(status) = self.status()? else {
+            return Ok(None);
+        };
+        if status != 0 || self.program.is_none() {
+            return Ok(Some(status));
+        }
+        self.start_next(rt)?;
+        Ok(if self.child.is_some() { None } else { Some(0) })
+    }
+}
+
+impl Jobs {
+    pub(super) fn new(alloc: Global) -> Jobs {
+        Jobs {
+            running: Vec::new(alloc),
+            killed: Vec::new(alloc),
+        }
+    }
+
+    // Lets go of the ended programs that are over.
+    fn reap(&mut self) {
+        self.killed
+            .retain_mut(|(_, child)| matches!(child.try_wait(), Ok(None)));
+    }
+
+    // Ends the program of a ticket's job that runs on. The job is forgotten.
+    fn end(&mut self, ticket: &Name) -> io::Result<()> {
+        if self.killed.iter().any(|(name, _)| name == ticket) {
+            return Err(io::Error::from(ErrorKind::ResourceBusy));
+        }
+        self.killed.reserve(1)?;
+        let Some(place) = self
+            .running
+            .iter()
+            .position(|one| one.job.ticket == *ticket)
+        else {
+            return Ok(());
+        };
+        let running = self.running.remove(place);
+        if let Some(mut child) = running.child {
+            child.kill()?;
+            self.killed.push_reserved((ticket.copy(), child));
+        }
+        Ok(())
+    }
+
+    /// Starts a job. A program of its ticket that runs on is ended before.
+    pub(super) fn start(
+        &mut self,
+        rt: &HostRuntime,
+        job: &Job,
+        conf_path: &PathText,
+    ) -> io::Result<()> {
+        self.reap();
+        self.end(&job.ticket)?;
+        self.running.reserve(1)?;
+        let running = Running::start(rt, job, conf_path)?;
+        self.running.push_reserved(running);
+        Ok(())
+    }
+
+    /// Looks at each job once, up to the first that is over, which is forgotten.
+    pub(super) fn poll(&mut self, rt: &HostRuntime) -> Option<Ended> {
+        self.reap();
+        for place in 0..self.running.len() {
+            let running = self.running.get_mut(place)?;
+            let job = running.job.number;
+            let status = match running.poll(rt) {
+                Ok(None) => continue,
+                Ok(Some(status)) => Ok(status),
+                Err(error) => Err(error),
+            };
+            self.running.remove(place);
+            return Some(Ended { job, status });
+        }
+        None
+    }
+}

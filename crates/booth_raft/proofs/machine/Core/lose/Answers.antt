@@ -1,0 +1,16 @@
+-- The rule leaves what is true of every view.
+use Rattle.std.proofs.Common.{◌≡◌, None, ap, ◌∙◌}
+use Rattle.booth_raft.specs.State.{State}
+use Rattle.booth_raft.proofs.FactsLemmas.{leaves}
+use Rattle.booth_raft.proofs.DueLemmas.{lost_good}
+use Rattle.booth_raft.proofs.machine.Core.lose.Goals as goal
+
+pub invariant_of-self : goal.invariant_of-self
+invariant_of-self c =
+    let nothing : c.self.inside.view.waiting ≡ None = ap (λ (s : State). s.view.waiting) c.self.view_is ∙ c.requires.idle in
+    (c.self.invariant.0, (leaves _ c.args.now _ _ c.lose.result c.lose.ensures.view c.lose.ensures.deed (lost_good c.self.inside.setup c.self.inside.view c.args.now nothing)).facts)
+
+pub returns-clause-waits : goal.returns-clause-waits
+returns-clause-waits c =
+    let nothing : c.self.inside.view.waiting ≡ None = ap (λ (s : State). s.view.waiting) c.self.view_is ∙ c.requires.idle in
+    (leaves c.self.inside.setup c.args.now _ _ _ c.lose.ensures.view c.lose.ensures.deed (lost_good c.self.inside.setup c.self.inside.view c.args.now nothing)).waits

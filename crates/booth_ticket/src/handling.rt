@@ -1,0 +1,333 @@
+//! What an automatic ticket does for its handler: its starts, and what comes of its end.
+ghost use Rattle.std.specs.Prelude.{◌≡◌, ◌<◌, ◌^◌, ◌||◌, None, IsTrue, is_some, length, slice_set, if◌then◌else◌};
+ghost use Rattle.booth_base.specs.Tree.{Deeds, Leads};
+ghost use Rattle.booth_raft.specs.Facts.{KeepWaits};
+ghost use Rattle.booth_raft.specs.Members.{is_follower, is_leader, is_working};
+ghost use Rattle.booth_raft.specs.Outcome.{Outcome};
+ghost use Rattle.booth_raft.specs.Speech.{IsSpeech};
+ghost use Rattle.booth_ticket.specs.Acts.{Ask, DidSome, IsAct};
+ghost use Rattle.booth_ticket.specs.Automatic.{Left, end_job};
+ghost use Rattle.booth_ticket.specs.Handling.{acquire, acquires, checks, goes_on, job_over, leads_on, renews, renews_or_releases, service_of, works, works_on};
+ghost use Rattle.booth_ticket.specs.Keeping.{carry_out};
+ghost use Rattle.booth_ticket.specs.Waiting.{waiting_at};
+
+use crate::hands::Hands;
+use crate::keeping::carry_out;
+use crate::telling::tell;
+use crate::waiters::Waiters;
+use booth_raft::{Core, Deed, Note, Role, Told, Want, is_promised_elsewhere, own_end};
+use booth_wire::Say;
+use booth_wire::reasons::{LOCF, RACQ};
+
+/// What the end of a handler says of the service of its ticket at this site.
+#[derive(Clone, Copy, Debug, PartialEq, Eq)]
+pub enum Service {
+    /// The handler ended with status 0.
+    CanRun,
+    /// It ended with another.
+    CannotRun,
+}
+
+/// A deed in which clients alone are told.
+pub(crate) fn telling(told: Told) -> Deed
+    ensures { result ≡ record { keep = None; say = Say.Nothing; want = Want.Nothing; told = told } }
+{
+    Deed {
+        keep: None,
+        say: Say::Nothing,
+        want: Want::Nothing,
+        told,
+    }
+}
+
+// ---- before an acquisition
+
+// A new term is asked for. Where the terms are spent, the acquisition fails.
+fn acquire(core: &mut Core, reason: u32, now: u64) -> Deed
+    requires early { now < 2 ^ 62 }
+    requires idle { core.old.view.waiting ≡ None }
+    requires site { IsTrue core.old.setup.site }
+    requires rests { IsTrue (is_follower core.old.view.role || is_working core.old.view.role) }
+    ensures view { core.new.view ≡ (acquire core.old.setup core.old.view reason now).view }
+    ensures deed { result ≡ (acquire core.old.setup core.old.view reason now).deed }
+    ensures setup { core.new.setup ≡ core.old.setup }
+    ensures waits { KeepWaits result.keep core.new.view.waiting now }
+    ensures speech { IsSpeech core.new.setup result.say }
+{
+    match core.ask(now, reason) {
+        Ok(deed) => deed,
+        Err(_) => {
+            core.note(now, Note::AskFailed);
+            telling(Told::AskFailed)
+        }
+    }
+}
+
+// The handler was started before an acquisition, or could not be.
+fn work(core: &mut Core, job: u64, reason: u32, now: u64, ok: bool) -> Deed
+    requires early { now < 2 ^ 62 }
+    requires idle { core.old.view.waiting ≡ None }
+    requires follows { IsTrue (is_follower core.old.view.role) }
+    ensures view { core.new.view ≡ (works core.old.setup core.old.view job reason now ok).view }
+    ensures deed { result ≡ (works core.old.setup core.old.view job reason now ok).deed }
+    ensures setup { core.new.setup ≡ core.old.setup }
+    ensures waits { KeepWaits result.keep core.new.view.waiting now }
+    ensures speech { IsSpeech core.new.setup result.say }
+{
+    if !ok {
+        core.note(now, Note::HandlerFailed);
+        return telling(Told::HandlerFailed);
+    }
+    core.note(now, Note::JobStarted { job, reason });
+    telling(Told::Nothing)
+}
+
+/// The ticket is acquired: its handler is started as this job, where it has one, and a new term is asked
+/// for at once where it has none.
+pub(crate) fn acquire_by<W: Hands>(
+    core: &mut Core,
+    job: Option<u64>,
+    reason: u32,
+    now: u64,
+    hands: &mut W,
+) -> Deed
+    requires early { now < 2 ^ 62 }
+    requires idle { core.old.view.waiting ≡ None }
+    requires site { IsTrue core.old.setup.site }
+    requires follows { IsTrue (is_follower core.old.view.role) }
+    ensures did { DidSome W.did (λ acts. (rest : Outcome → Deeds Ask Left) → Leads IsAct
+        (acquires core.old.setup core.old.view job reason now rest) acts
+        (rest (record { view = core.new.view; deed = result }))) hands.old hands.new }
+    ensures setup { core.new.setup ≡ core.old.setup }
+    ensures waits { KeepWaits result.keep core.new.view.waiting now }
+    ensures speech { IsSpeech core.new.setup result.say }
+{
+    let Some(job) = job else {
+        return acquire(core, reason, now);
+    };
+    let ok = hands.start(job, 0);
+    work(core, job, reason, now, ok)
+}
+
+// ---- before a renewal
+
+// The handler was started before a renewal, or could not be.
+fn check(core: &mut Core, job: u64, now: u64, ok: bool) -> Deed
+    requires early { now < 2 ^ 62 }
+    requires idle { core.old.view.waiting ≡ None }
+    requires site { IsTrue core.old.setup.site }
+    requires leads { IsTrue (is_leader core.old.view.role) }
+    ensures view { core.new.view ≡ (checks core.old.setup core.old.view job now ok).view }
+    ensures deed { result ≡ (checks core.old.setup core.old.view job now ok).deed }
+    ensures setup { core.new.setup ≡ core.old.setup }
+    ensures waits { KeepWaits result.keep core.new.view.waiting now }
+    ensures speech { IsSpeech core.new.setup result.say }
+{
+    if !ok {
+        return core.release(now, LOCF);
+    }
+    core.note(now, Note::JobStarted { job, reason: RACQ });
+    telling(Told::Nothing)
+}
+
+// The job of a site's handler; an arbitrator has none.
+fn job_at(site: bool, job: Option<u64>) -> Option<u64>
+    ensures { result ≡ (if site then job else None) }
+{
+    if site { job } else { None }
+}
+
+/// The lease is renewed, after the handler where the ticket of a site has one.
+pub(crate) fn renew_by<W: Hands>(core: &mut Core, job: Option<u64>, now: u64, hands: &mut W) -> Deed
+    requires early { now < 2 ^ 62 }
+    requires idle { core.old.view.waiting ≡ None }
+    requires leads { IsTrue (is_leader core.old.view.role) }
+    ensures did { DidSome W.did (λ acts. (rest : Outcome → Deeds Ask Left) → Leads IsAct
+        (renews core.old.setup core.old.view job now rest) acts
+        (rest (record { view = core.new.view; deed = result }))) hands.old hands.new }
+    ensures setup { core.new.setup ≡ core.old.setup }
+    ensures waits { KeepWaits result.keep core.new.view.waiting now }
+    ensures speech { IsSpeech core.new.setup result.say }
+{
+    let Some(job) = job_at(core.setup().site, job) else {
+        return core.renew(now);
+    };
+    let ok = hands.start(job, own_end(core.view()) / 1000);
+    check(core, job, now, ok)
+}
+
+// ---- the end of a job
+
+impl Service {
+    /// What the status of a handler says.
+    pub fn of_status(status: i32) -> Service
+        ensures { result ≡ service_of status }
+    {
+        if status == 0 {
+            Service::CanRun
+        } else {
+            Service::CannotRun
+        }
+    }
+}
+
+// The ticket is acquired after its handler, unless this member is promised to another by now.
+fn acquire_after(core: &mut Core, now: u64) -> Deed
+    requires early { now < 2 ^ 62 }
+    requires idle { core.old.view.waiting ≡ None }
+    requires site { IsTrue core.old.setup.site }
+    requires works { IsTrue (is_working core.old.view.role) }
+    ensures view { core.new.view ≡ (works_on core.old.setup core.old.view Service.CanRun now).view }
+    ensures deed { result ≡ (works_on core.old.setup core.old.view Service.CanRun now).deed }
+    ensures setup { core.new.setup ≡ core.old.setup }
+    ensures waits { KeepWaits result.keep core.new.view.waiting now }
+    ensures speech { IsSpeech core.new.setup result.say }
+{
+    if is_promised_elsewhere(core.view().promise, core.setup().me, now) {
+        core.note(now, Note::AskFailed);
+        return telling(Told::AskFailed);
+    }
+    let reason = core.view().reason;
+    acquire(core, reason, now)
+}
+
+// The handler before an acquisition is over.
+fn work_on(core: &mut Core, service: Service, now: u64) -> Deed
+    requires early { now < 2 ^ 62 }
+    requires idle { core.old.view.waiting ≡ None }
+    requires site { IsTrue core.old.setup.site }
+    requires works { IsTrue (is_working core.old.view.role) }
+    ensures view { core.new.view ≡ (works_on core.old.setup core.old.view service now).view }
+    ensures deed { result ≡ (works_on core.old.setup core.old.view service now).deed }
+    ensures setup { core.new.setup ≡ core.old.setup }
+    ensures waits { KeepWaits result.keep core.new.view.waiting now }
+    ensures speech { IsSpeech core.new.setup result.say }
+{
+    match service {
+        Service::CanRun => acquire_after(core, now),
+        Service::CannotRun => {
+            core.note(now, Note::HandlerFailed);
+            telling(Told::HandlerFailed)
+        }
+    }
+}
+
+// The lease is renewed where the service can run, and given back where it cannot.
+fn renew_or_release(core: &mut Core, service: Service, now: u64) -> Deed
+    requires early { now < 2 ^ 62 }
+    requires idle { core.old.view.waiting ≡ None }
+    requires site { IsTrue core.old.setup.site }
+    requires leads { IsTrue (is_leader core.old.view.role) }
+    ensures view { core.new.view ≡ (renews_or_releases core.old.setup core.old.view service now).view }
+    ensures deed { result ≡ (renews_or_releases core.old.setup core.old.view service now).deed }
+    ensures setup { core.new.setup ≡ core.old.setup }
+    ensures waits { KeepWaits result.keep core.new.view.waiting now }
+    ensures speech { IsSpeech core.new.setup result.say }
+{
+    match service {
+        Service::CanRun => core.renew(now),
+        Service::CannotRun => core.release(now, LOCF),
+    }
+}
+
+// The handler before a renewal is over.
+fn lead_on(core: &mut Core, service: Service, now: u64) -> Deed
+    requires early { now < 2 ^ 62 }
+    requires idle { core.old.view.waiting ≡ None }
+    requires site { IsTrue core.old.setup.site }
+    requires leads { IsTrue (is_leader core.old.view.role) }
+    ensures view { core.new.view ≡ (leads_on core.old.setup core.old.view service now).view }
+    ensures deed { result ≡ (leads_on core.old.setup core.old.view service now).deed }
+    ensures setup { core.new.setup ≡ core.old.setup }
+    ensures waits { KeepWaits result.keep core.new.view.waiting now }
+    ensures speech { IsSpeech core.new.setup result.say }
+{
+    if own_end(core.view()) <= now {
+        return core.lose(now);
+    }
+    renew_or_release(core, service, now)
+}
+
+// The job of the ticket is over.
+fn go_on(core: &mut Core, service: Service, now: u64) -> Deed
+    requires early { now < 2 ^ 62 }
+    requires idle { core.old.view.waiting ≡ None }
+    requires site { IsTrue core.old.setup.site }
+    requires runs { IsTrue (is_some core.old.view.job) }
+    ensures view { core.new.view ≡ (goes_on core.old.setup core.old.view service now).view }
+    ensures deed { result ≡ (goes_on core.old.setup core.old.view service now).deed }
+    ensures setup { core.new.setup ≡ core.old.setup }
+    ensures waits { KeepWaits result.keep core.new.view.waiting now }
+    ensures speech { IsSpeech core.new.setup result.say }
+{
+    match core.view().role {
+        Role::Follower | Role::Candidate => telling(Told::Nothing),
+        Role::Working => work_on(core, service, now),
+        Role::Leader => {
+            core.note(now, Note::JobOver);
+            lead_on(core, service, now)
+        }
+    }
+}
+
+// A job is over: the one that the ticket waits for, or another.
+fn end_job(core: &mut Core, job: u64, service: Service, now: u64) -> Deed
+    requires early { now < 2 ^ 62 }
+    requires idle { core.old.view.waiting ≡ None }
+    ensures view { core.new.view ≡ (job_over core.old.setup core.old.view job service now).view }
+    ensures deed { result ≡ (job_over core.old.setup core.old.view job service now).deed }
+    ensures setup { core.new.setup ≡ core.old.setup }
+    ensures waits { KeepWaits result.keep core.new.view.waiting now }
+    ensures speech { IsSpeech core.new.setup result.say }
+{
+    if !core.setup().site || core.view().job != Some(job) {
+        return telling(Told::Nothing);
+    }
+    go_on(core, service, now)
+}
+
+/// A job is over. The last deed says what clients are told.
+pub(crate) fn hear_job<W: Hands>(
+    core: &mut Core,
+    job: u64,
+    service: Service,
+    now: u64,
+    hands: &mut W,
+) -> Deed
+    requires early { now < 2 ^ 62 }
+    requires idle { core.old.view.waiting ≡ None }
+    ensures did { DidSome W.did (λ acts. (rest : Outcome → Deeds Ask Left) → Leads IsAct
+        (carry_out core.old.setup None now
+        (job_over core.old.setup core.old.view job service now) rest) acts
+        (rest (record { view = core.new.view; deed = result }))) hands.old hands.new }
+    ensures setup { core.new.setup ≡ core.old.setup }
+    ensures idle { core.new.view.waiting ≡ None }
+{
+    let deed = end_job(core, job, service, now);
+    carry_out(core, None, now, deed, hands)
+}
+
+/// A job is over, and those that wait are told.
+pub(crate) fn handler_done<W: Hands>(
+    core: &mut Core,
+    now: u64,
+    job: u64,
+    service: Service,
+    list: u32,
+    waiters: &mut Waiters,
+    hands: &mut W,
+)
+    requires early { now < 2 ^ 62 }
+    requires idle { core.old.view.waiting ≡ None }
+    requires exists { list < length waiters.old }
+    ensures did { DidSome W.did (λ acts. Leads IsAct
+        (end_job core.old.setup core.old.view (waiting_at waiters.old list) job service now) acts
+        (Deeds.Ends (record { view = core.new.view; waiters = waiting_at waiters.new list })))
+        hands.old hands.new }
+    ensures others { waiters.new ≡ slice_set waiters.old list (waiting_at waiters.new list) }
+    ensures setup { core.new.setup ≡ core.old.setup }
+    ensures idle { core.new.view.waiting ≡ None }
+{
+    let last = hear_job(core, job, service, now, hands);
+    tell(core, last.told, now, list, waiters, hands);
+}
