@@ -36,6 +36,8 @@ INSTALLED := $(foreach program,$(PROGRAMS),$(SBIN)/$(program):out/$(program):755
   $(foreach program,$(PROGRAMS),$(COMPLETIONS)/$(program):packaging/booth.bash:644) \
   $(USERS)/booth.conf:packaging/booth.sysusers:644 \
   $(DOCS)/README.md:README.md:644 \
+  $(DOCS)/copyright:packaging/copyright:644 \
+  $(DOCS)/changelog:packaging/changelog:644 \
   $(foreach doc,$(wildcard docs/*.md),$(DOCS)/$(notdir $(doc)):$(doc):644) \
   $(foreach file,$(wildcard examples/*.conf),$(DOCS)/examples/$(notdir $(file)):$(file):644)
 
@@ -55,13 +57,15 @@ uninstall:
 
 deb: $(PACKAGE)
 
-$(PACKAGE): build packaging/control
+$(PACKAGE): build $(wildcard packaging/*)
 	@rm -rf out/deb
 	@$(MAKE) --no-print-directory install PREFIX=/usr DESTDIR=out/deb
+	@# (the code stays as it was proved: names alone go)
+	@strip $(PROGRAMS:%=out/deb/usr/sbin/%) 2>/dev/null || true
 	@mkdir -p out/deb/DEBIAN
 	@sed 's|@VERSION@|$(VERSION)|' packaging/control > out/deb/DEBIAN/control
-	@install -m 755 packaging/postinst out/deb/DEBIAN/postinst
-	@find out/deb/usr/share/man -type f -exec gzip -9n {} +
+	@install -m 755 packaging/postinst packaging/prerm packaging/postrm out/deb/DEBIAN
+	@find out/deb/usr/share/man out/deb/usr/share/doc/booth-proved/changelog -type f -exec gzip -9n {} +
 	@dpkg-deb --root-owner-group --build out/deb $@
 
 out/boothd: crates/boothd/out/boothd

@@ -33,9 +33,10 @@ _booth_complete() {
   case $program in
     boothd) commands=$'daemon\nstatus' ;;
     geostore) commands=$'set\nget\ndelete\nlist' ;;
-    *) commands=$'list\npeers\ngrant\nrevoke'
-       [[ $command == client ]] && command=${COMP_WORDS[2]} ;;
+    *) commands=$'list\npeers\ngrant\nrevoke' ;;
   esac
+  # the clients pass a leading `client` over
+  [[ $program != boothd && $command == client ]] && command=${COMP_WORDS[2]}
   case $program:$command in
     boothd:daemon) options=$'-c\n-s\n-l\n-d\n-n\n--help\n--version' ;;
     boothd:status) options=$'-l\n--help\n--version' ;;
@@ -62,7 +63,7 @@ _booth_complete() {
     _booth_reply "$options" "$word"
   elif [[ $program:$command == booth:grant || $program:$command == booth:revoke ]]; then
     _booth_reply "$(_booth_values ticket)" "$word"
-  elif ((COMP_CWORD == 2)) && [[ $program:$before == booth:client ]]; then
+  elif ((COMP_CWORD == 2)) && [[ $program != boothd && $before == client ]]; then
     _booth_reply "$commands" "$word"
   fi
 }

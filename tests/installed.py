@@ -10,16 +10,19 @@ import gzip
 import os
 import re
 import shutil
+import socket
 import stat
 import subprocess
 import sys
 import tempfile
+import time
 
 HERE = os.path.dirname(os.path.abspath(__file__))
 TOP = os.path.dirname(HERE)
 sys.path[:0] = [HERE, f"{TOP}/tools"]
 
-from serving import built_program
+from frames import PORT
+from serving import built_program, own_addresses
 
 # each program with its commands; one that is not built yet is left out
 PROGRAMS = {
@@ -27,6 +30,8 @@ PROGRAMS = {
     "booth": ["list", "peers", "grant", "revoke"],
     "geostore": ["set", "get", "delete", "list"],
 }
+# how exposed the service may be at most, as `systemd-analyze security` counts it
+MOST_EXPOSED = 2.0
 
 
 class Wrong(Exception):
@@ -61,6 +66,11 @@ def page(name):
     return read(f"{TOP}/man/{name}").replace("\\-", "-")
 
 
+def pages():
+    """The paths of the manual pages."""
+    return [f"{TOP}/man/{name}" for name in sorted(os.listdir(f"{TOP}/man"))]
+
+
 # ---- the checks
 
 
@@ -93,17 +103,43 @@ def pages_have_all_options(room):
             need(re.search(rf"^\.Cm {command}$", text, re.M), f"{program}.8 has no synopsis of {command}")
 
 
-def pages_are_well_formed(room):
-    """the manual pages are without a fault that groff or mandoc sees"""
-    pages = [f"{TOP}/man/{name}" for name in sorted(os.listdir(f"{TOP}/man"))]
-    if shutil.which("mandoc"):
-        done = run("mandoc", "-T", "lint", "-W", "warning", *pages)
-        need(not done.stdout + done.stderr, done.stdout + done.stderr)
-    elif shutil.which("groff"):
-        done = run("groff", "-mdoc", "-ww", "-z", *pages)
-        need(not done.stderr, done.stderr)
-    else:
-        return "neither mandoc nor groff is here"
+def said_in(name):
+    """The texts that a file of the programs' words says on standard error."""
+    source = re.sub(r"\\\n\s*", "", read(f"{TOP}/crates/booth_cli/src/{name}"))
+    return {text.strip() for text in re.findall(r'b"([^"]+)"', source)}
+
+
+def pages_have_all_texts(room):
+    """each text that a program says of a refusal stands in a page"""
+    daemon, clients = page("boothd.8"), page("booth.8") + page("geostore.8")
+    refusals = said_in("refusals.rt")
+    need("prerequisite not met" in refusals, f"no refusal was found in the program, but {sorted(refusals)}")
+    missing = [text for text in refusals if not re.search(rf"^\.It {re.escape(text)}", clients, re.M)]
+    need(not missing, f"not in booth.8 or geostore.8: {missing}")
+    faults = {text for text in said_in("texts.rt") if re.fullmatch("[a-z_ -]+", text) and text not in ("line", "ticket")}
+    need("misplaced key" in faults, f"no fault was found in the program, but {sorted(faults)}")
+    # (what is wrong with the times of a ticket stands there in other words)
+    faults -= {"renewal-freq is not below expire", "timeout and retries do not fit renewal-freq"}
+    words = {"bad ticket", "bad name", "bad value"}
+    missing = [text for text in faults - words if text not in daemon] + [text for text in words if text not in clients]
+    need(not missing, f"not in the pages: {missing}")
+
+
+def pages_are_well_formed_for_mandoc(room):
+    """the manual pages are without a fault that mandoc sees"""
+    if not shutil.which("mandoc"):
+        return "mandoc is not here"
+    done = run("mandoc", "-T", "lint", "-W", "warning", *pages())
+    need(not done.stdout + done.stderr, done.stdout + done.stderr)
+    return None
+
+
+def pages_are_well_formed_for_groff(room):
+    """the manual pages are without a fault that groff sees"""
+    if not shutil.which("groff"):
+        return "groff is not here"
+    done = run("groff", "-mdoc", "-ww", "-z", *pages())
+    need(not done.stderr, done.stderr)
     return None
 
 
@@ -111,11 +147,15 @@ def installs_and_uninstalls(room):
     """make install puts everything below DESTDIR, and make uninstall takes it away"""
     make("install", f"DESTDIR={room}/root", "PREFIX=/usr")
     there = files_below(f"{room}/root")
-    for name in ("usr/sbin/boothd", "usr/sbin/booth", "usr/sbin/booth-keygen", "usr/share/man/man5/booth.conf.5",
-                 "usr/lib/systemd/system/booth@.service", "usr/share/bash-completion/completions/booth"):
+    named = [f"usr/sbin/{name}" for name in (*PROGRAMS, "booth-keygen")]
+    named += [f"usr/share/man/man8/{name}.8" for name in (*PROGRAMS, "booth-keygen")] + ["usr/share/man/man5/booth.conf.5"]
+    named += [f"usr/share/bash-completion/completions/{name}" for name in PROGRAMS]
+    named += [f"usr/share/doc/booth-proved/{name}" for name in ("OPERATING.md", "HANDLERS.md", "examples/manual.conf")]
+    for name in (*named, "usr/lib/systemd/system/booth@.service", "usr/lib/sysusers.d/booth.conf"):
         need(name in there, f"{name} is missing")
-    done = run(f"{room}/root/usr/sbin/boothd", "daemon", "--version")
-    need(done.returncode == 0, f"the installed program: status {done.returncode}")
+    for program, commands in PROGRAMS.items():
+        done = run(f"{room}/root/usr/sbin/{program}", commands[0], "--version")
+        need(done.returncode == 0, f"the installed {program}: status {done.returncode}")
     unit = f"{room}/root/usr/lib/systemd/system/booth@.service"
     need("@" not in read(unit).replace("booth@", "").replace("@system-service", ""), "the unit has a word that is not replaced")
     shutil.copytree(f"{room}/root", f"{room}/kept")
@@ -123,18 +163,54 @@ def installs_and_uninstalls(room):
     need(not files_below(f"{room}/root"), f"left: {files_below(f'{room}/root')}")
 
 
+def unit_in(room, name, more=""):
+    """The path of the unit with the installed program, in a directory of this name, and these lines more."""
+    # (the programs stand below the scratch root)
+    unit = read(f"{room}/kept/usr/lib/systemd/system/booth@.service").replace("/usr/sbin/", f"{room}/kept/usr/sbin/")
+    os.makedirs(f"{room}/{name}")
+    with open(f"{room}/{name}/booth@.service", "w", encoding="utf-8") as file:
+        file.write(unit)
+    if more:
+        os.makedirs(f"{room}/{name}/booth@.service.d")
+        with open(f"{room}/{name}/booth@.service.d/more.conf", "w", encoding="utf-8") as file:
+            file.write(more.replace("/usr/sbin/", f"{room}/kept/usr/sbin/"))
+    return f"{room}/{name}/booth@.service"
+
+
+def drop_ins():
+    """The drop-ins that OPERATING.md tells."""
+    text = read(f"{TOP}/docs/OPERATING.md")
+    found = re.findall(r"^ {4,}\[Service\]\n(?: {4,}.*\n)+", text, re.M)
+    need(len(found) > 1, f"OPERATING.md has the drop-ins {found}")
+    return [re.sub("^ +", "", each, flags=re.M) for each in found]
+
+
 def unit_is_sound(room):
-    """the unit is one that systemd takes"""
+    """the unit is one that systemd takes, alone and with each drop-in of OPERATING.md"""
     if not shutil.which("systemd-analyze"):
         return "systemd-analyze is not here"
-    # the program stands below the scratch root, and the pages are not installed for man
-    unit = read(f"{room}/kept/usr/lib/systemd/system/booth@.service").replace("/usr/sbin/boothd", f"{room}/kept/usr/sbin/boothd")
-    os.makedirs(f"{room}/units")
-    with open(f"{room}/units/booth@.service", "w", encoding="utf-8") as file:
-        file.write(unit)
-    done = run("systemd-analyze", "verify", "--man=no", f"{room}/units/booth@a.service", env={**os.environ, "SYSTEMD_UNIT_PATH": f"{room}/units:"})
-    told = [line for line in (done.stdout + done.stderr).splitlines() if "booth" in line]
-    need(not told, "; ".join(told))
+    for number, more in enumerate(["", *drop_ins()]):
+        unit = unit_in(room, f"units-{number}", more).replace("booth@", "booth@a")
+        path = {**os.environ, "SYSTEMD_UNIT_PATH": f"{os.path.dirname(unit)}:"}
+        done = run("systemd-analyze", "verify", "--man=no", unit, env=path)
+        told = [line for line in (done.stdout + done.stderr).splitlines() if "booth" in line]
+        need(not told, "; ".join(told))
+    return None
+
+
+def unit_is_confined(room):
+    """the service is as little exposed as OPERATING.md says"""
+    if not shutil.which("systemd-analyze"):
+        return "systemd-analyze is not here"
+    done = run("systemd-analyze", "security", "--offline=true", "--no-pager", unit_in(room, "confined"))
+    if "offline" in done.stderr:
+        return "this systemd-analyze judges no file"
+    found = re.search(r"exposure level for \S+: ([0-9.]+)", done.stdout)
+    need(found, done.stderr.strip() or "it tells no exposure")
+    need(float(found[1]) <= MOST_EXPOSED, f"its exposure is {found[1]}")
+    written = re.search(r"exposure of \*\*([0-9.]+)\*\*", read(f"{TOP}/docs/OPERATING.md"))
+    # (another version of systemd may count a little differently)
+    need(written and abs(float(written[1]) - float(found[1])) <= 0.3, f"{found[1]}, and not what OPERATING.md says")
     return None
 
 
@@ -182,7 +258,12 @@ def completion_offers(room):
         (("booth", "revoke", "-c", conf, "d"), ["db8"]),
         (("boothd", "daemon", "-c", conf, "-s", ""), ["192.0.2.10", "192.0.2.30"]),
         (("boothd", "status", "-"), ["-l", "--help", "--version"]),
+        (("geostore", ""), ["set", "get", "delete", "list"]),
+        (("geostore", "client", "d"), ["delete"]),
         (("geostore", "get", "-c", conf, "-t", "m"), ["mail"]),
+        (("geostore", "list", "-c", conf, "-s", "192.0.2.1"), ["192.0.2.10"]),
+        (("geostore", "set", "-"), ["-c", "-s", "-t", "--help", "--version"]),
+        (("geostore", "set", "-c", conf, "-t", "db8", ""), []),
         (("booth", "grant", "-c", f"{room}/none.conf", ""), []),
     ]
     for words, offered in cases:
@@ -196,26 +277,130 @@ def package_is_whole(room):
     if not shutil.which("dpkg-deb"):
         return "dpkg-deb is not here"
     make("deb")
-    (built,) = [f"{TOP}/out/{name}" for name in os.listdir(f"{TOP}/out") if name.endswith(".deb")]
+    built = package()
     told = run("dpkg-deb", "-f", built).stdout
     need("Package: booth-proved" in told and "Conflicts: booth" in told, told)
     need(run("dpkg-deb", "-x", built, f"{room}/scratch").returncode == 0, "it is not unpacked")
-    packed = [re.sub(r"(/man/.*)\.gz$", r"\1", name) for name in files_below(f"{room}/scratch")]
+    packed = [re.sub(r"(/man/.*|/changelog)\.gz$", r"\1", name) for name in files_below(f"{room}/scratch")]
     need(sorted(packed) == files_below(f"{room}/kept"), "it has other files than make install")
     with gzip.open(f"{room}/scratch/usr/share/man/man8/boothd.8.gz", "rt", encoding="utf-8") as file:
         need(file.read() == read(f"{TOP}/man/boothd.8"), "the page is another")
-    done = run(f"{room}/scratch/usr/sbin/booth", "list", "-c", f"{TOP}/examples/two-sites.conf", "-s", "not an address")
-    need(done.returncode == 1 and done.stderr == "booth: bad site\n", done.stderr)
+    need(run("dpkg-deb", "-e", built, f"{room}/scripts").returncode == 0, "its scripts are not unpacked")
+    for name in ("postinst", "prerm", "postrm"):
+        need(run("sh", "-n", f"{room}/scripts/{name}").returncode == 0, f"{name} is no program of the shell")
     return None
 
 
-def examples_are_read(room):
-    """the daemon reads each example, and has no fault to tell of it"""
-    for name in sorted(os.listdir(f"{TOP}/examples")):
-        if name.endswith(".conf"):
-            # an address that no example has is refused only after the whole file was read
-            done = run(built_program(), "daemon", "-c", f"{TOP}/examples/{name}", "-s", "10.255.255.1", "-l", f"{room}/x.lock", "-d", f"{room}/x")
-            need(done.stderr == "boothd: 10.255.255.1 is not a member\n", f"{name}: {done.stderr.strip()}")
+def package():
+    """The path of the package that was built."""
+    (built,) = [f"{TOP}/out/{name}" for name in os.listdir(f"{TOP}/out") if name.endswith(".deb")]
+    return built
+
+
+def package_has_no_fault(room):
+    """the package is without an error that lintian sees"""
+    if not shutil.which("lintian") or not shutil.which("dpkg-deb"):
+        return "lintian or dpkg-deb is not here"
+    done = run("lintian", "--fail-on", "error", "--allow-root", package())
+    need(done.returncode == 0, done.stdout + done.stderr)
+    return None
+
+
+def package_comes_and_goes(room):
+    """dpkg installs the package in a root of its own, its programs run there, and dpkg removes it"""
+    if not shutil.which("dpkg") or not shutil.which("dpkg-deb"):
+        return "dpkg is not here"
+    root = f"{room}/other-root"
+    os.makedirs(f"{root}/var/lib/dpkg/info")
+    os.makedirs(f"{root}/etc")
+    for name in ("status", "available"):
+        with open(f"{root}/var/lib/dpkg/{name}", "w", encoding="utf-8"):
+            pass
+    # its scripts are told the root, there being no shell in it; and the C library is that of this machine
+    dpkg = ["dpkg", f"--root={root}", "--force-script-chrootless", "--force-depends", "--force-bad-path"]
+    dpkg += ["--force-not-root"] if os.geteuid() else []
+    env = {**os.environ, "PATH": f"{os.environ['PATH']}:/usr/sbin:/sbin", "LC_ALL": "C"}
+    done = run(*dpkg, "--install", package(), env=env)
+    need(done.returncode == 0, done.stdout + done.stderr)
+    told = run("dpkg", f"--root={root}", "--status", "booth-proved").stdout
+    need("Status: install ok installed" in told, told)
+    listed = run("dpkg", f"--root={root}", "--listfiles", "booth-proved").stdout.split()
+    for name in (*PROGRAMS, "booth-keygen"):
+        need(f"/usr/sbin/{name}" in listed, f"/usr/sbin/{name} is not listed")
+    need(os.path.isdir(f"{root}/etc/booth"), "/etc/booth was not made")
+    need(re.search("^booth:", read(f"{root}/etc/passwd"), re.M), "the user booth was not made")
+    asks_in(f"{root}/usr", f"{room}/asked")
+    done = run(*dpkg, "--remove", "booth-proved", env=env)
+    need(done.returncode == 0, done.stdout + done.stderr)
+    left = [name for name in files_below(root) if "booth" in name and not name.startswith("var/lib/dpkg/")]
+    need(not left, f"left: {left}")
+    return None
+
+
+def on_loopback(example, room):
+    """A file as the example, with its members on loopback and a key that is there, and its first member."""
+    text, own = read(example), own_addresses()
+    members = re.findall(r"^ *(?:site|arbitrator) *= *\W?([0-9a-f.:]+)", text, re.M)
+    addresses = {member: next(own) for member in members}
+    text = re.sub("|".join(map(re.escape, sorted(members, key=len, reverse=True))), lambda found: addresses[found[0]], text)
+    key = f"{room}/a-key"
+    if not os.path.exists(key):
+        need(run(f"{TOP}/packaging/booth-keygen", key).returncode == 0, "no key was made")
+    path = f"{room}/{os.path.basename(example)}"
+    with open(path, "w", encoding="utf-8") as file:
+        file.write(text.replace("/etc/booth/authkey", key))
+    return path, addresses[re.search(r"^ *site *= *\W?([0-9a-f.:]+)", read(example), re.M)[1]]
+
+
+def asks_in(prefix, room):
+    """The daemon below this prefix serves an example, and its clients are answered."""
+    os.makedirs(room)
+    conf, address = on_loopback(f"{prefix}/share/doc/booth-proved/examples/two-sites.conf", room)
+    words = [f"{prefix}/sbin/boothd", "daemon", "-c", conf, "-s", address, "-l", f"{room}/lock", "-d", f"{room}/records"]
+    with subprocess.Popen(words, stdin=subprocess.DEVNULL, stdout=subprocess.DEVNULL, stderr=subprocess.DEVNULL) as daemon:
+        try:
+            wait_until_bound(daemon, address)
+            done = run(f"{prefix}/sbin/booth", "list", "-c", conf)
+            need(done.stdout == "ticket: ticket-db8, leader: none\n", f"booth list: {done.stdout}{done.stderr}")
+            done = run(f"{prefix}/sbin/geostore", "set", "-c", conf, "-t", "ticket-db8", "ready", "yes")
+            need(done.returncode == 0, f"geostore set: {done.stderr}")
+            done = run(f"{prefix}/sbin/geostore", "list", "-c", conf, "-t", "ticket-db8")
+            need(done.stdout == "ready yes\n", f"geostore list: {done.stdout}{done.stderr}")
+        finally:
+            daemon.kill()
+
+
+def wait_until_bound(daemon, address):
+    """Waits until the daemon has its port."""
+    for _ in range(1000):
+        need(daemon.poll() is None, f"the daemon ended with {daemon.returncode}")
+        with socket.socket(socket.AF_INET, socket.SOCK_DGRAM) as other:
+            try:
+                other.bind((address, PORT))
+            except OSError:
+                return
+        time.sleep(0.01)
+    raise Wrong("the daemon has no port")
+
+
+def examples_are_served(room):
+    """a daemon serves each example, and that of booth.conf(5), with addresses and a key of this machine"""
+    names = [name for name in sorted(os.listdir(f"{TOP}/examples")) if name.endswith(".conf")]
+    need({"two-sites.conf", "weights.conf", "manual.conf", "booth.conf"} <= set(names), f"there are {names}")
+    os.makedirs(f"{room}/examples")
+    in_page = re.search(r"^\.Sh EXAMPLES\n.*?^\.Bd.*?\n(.*?)^\.Ed", page("booth.conf.5"), re.M | re.S)
+    need(in_page, "booth.conf(5) has no example")
+    with open(f"{room}/page.conf", "w", encoding="utf-8") as file:
+        file.write(in_page[1])
+    for path in (*(f"{TOP}/examples/{name}" for name in names), f"{room}/page.conf"):
+        name = os.path.basename(path)
+        # an address that no example has is refused only after the whole file was read
+        words = [built_program(), "daemon", "-l", f"{room}/{name}.lock", "-d", f"{room}/{name}.records", "-n", "3"]
+        done = run(*words, "-c", path, "-s", "10.255.255.1")
+        need(done.stderr == "boothd: 10.255.255.1 is not a member\n", f"{name}: {done.stderr.strip()}")
+        conf, address = on_loopback(path, f"{room}/examples")
+        done = run(*words, "-c", conf, "-s", address)
+        need((done.returncode, done.stdout + done.stderr) == (0, ""), f"{name}: status {done.returncode}, {done.stderr}")
 
 
 def walked(text, room):
@@ -258,13 +443,18 @@ def first_cluster_is_as_written(room):
 CHECKS = [
     pages_have_all_keys,
     pages_have_all_options,
-    pages_are_well_formed,
+    pages_have_all_texts,
+    pages_are_well_formed_for_mandoc,
+    pages_are_well_formed_for_groff,
     installs_and_uninstalls,
     unit_is_sound,
+    unit_is_confined,
     keys_are_made_once,
     completion_offers,
     package_is_whole,
-    examples_are_read,
+    package_has_no_fault,
+    package_comes_and_goes,
+    examples_are_served,
     first_cluster_is_as_written,
 ]
 

@@ -1,6 +1,6 @@
 """A cluster of real daemons on loopback: each with an address, a lock and a directory of its own.
 
-It is imported by tools/demo.py and tests/cluster.py, and not run by itself. What is told of a ticket
+It is imported by tools/demo.py, tests/cluster.py and tests/hostile.py, and not run by itself. What is told of a ticket
 is read from the members' record files and from the clock, and not from what a daemon says of itself.
 """
 
@@ -12,7 +12,7 @@ import time
 from typing import NamedTuple, Optional
 
 import frames
-from serving import boothd
+from serving import NotServing, boothd
 
 TICKET = b"ticket-db8"
 # a ticket that is granted by hand, in a cluster that has one
@@ -196,6 +196,8 @@ class Member:
     def counts(self):
         """What the daemon counts: the drops by kind, and (received, sent, errors) by address."""
         answer = self.ask("Peer")
+        if answer is None:
+            raise NotServing(f"{self.address} does not tell what it counts")
         first, *others = answer.body.decode().splitlines()
         by_address = {}
         for line in others:

@@ -1,0 +1,372 @@
+#!/usr/bin/env python3
+"""Floods a daemon that holds a ticket with 1,000,000 datagrams, and stops one for longer than its lease.
+
+Run it as `python3 tests/hostile.py [BOOTHD [DATAGRAMS]]`, BOOTHD being what `make build` leaves where it is left out.
+It takes less than a minute on a machine that does nothing else, prints a line for each check with what it measured,
+ends all that it started, and has the status 1 where a check failed. Where boothd is not built it checks nothing, with
+status 0.
+
+Each datagram has to be counted by its fault, counted for its member, or answered, as tests/gate.py reads
+docs/PROTOCOL.md: what was sent is compared with the daemon's counters and with its answers. Who holds the ticket is
+read from the record files and this machine's clock.
+"""
+
+import collections
+import itertools
+import os
+import random
+import signal
+import socket
+import statistics
+import struct
+import sys
+import tempfile
+import time
+
+HERE = os.path.dirname(os.path.abspath(__file__))
+sys.path[:0] = [HERE, f"{HERE}/../tools"]
+
+import frames
+from gate import Station
+from hostile_frames import Foes
+from members import TICKET, Cluster, Times, now, wait_for
+from serving import NotServing, built_program, end_by_signals, own_addresses
+
+DATAGRAMS = 1_000_000
+# how many different ones there are: each is sent again and again, in another order each time
+DIFFERENT = 50_000
+# after how many the daemon's memory is looked at first: by then it has met each kind
+FIRST = 5_000
+SEED = 20_26
+KEY = b"a-key-of-the-cluster"
+# with room for a machine that others use: a renewal is begun half a lease before the lease's end
+TIMES = Times(expire=10, timeout=1, retries=3, renewal=5)
+# how late a thing may be on such a machine, in seconds
+SLACK = 10
+# how long the flood may take before the rest of it is left out
+SECONDS_OF_FLOOD = 90
+# the median time of a list in the flood, where the machine has a processor for it and where it has not
+SECONDS_OF_LIST, SECONDS_OF_LIST_LOADED = 0.010, 0.100
+# how much the daemon's memory may grow after the first datagrams
+BYTES_MORE = 1 << 20
+
+
+class Wrong(Exception):
+    """The daemon did not what it has to."""
+
+
+def require(holds, why):
+    if not holds:
+        raise Wrong(why)
+
+
+def receive_room():
+    """How many bytes of datagrams a socket keeps that nobody reads, as the system counts them."""
+    try:
+        with open("/proc/sys/net/core/rmem_default", encoding="ascii") as file:
+            return int(file.read())
+    except (OSError, ValueError):
+        return 212_992
+
+
+def room_of(datagram):
+    """How many of them this one takes at most."""
+    return 1280 if len(datagram) <= 600 else 2 * len(datagram) + 2048
+
+
+def lost(address):
+    """How many datagrams the system has dropped before the socket at this address, or None where it does not tell."""
+    local = socket.inet_aton(address)[::-1].hex().upper() + f":{frames.PORT:04X}"
+    try:
+        with open("/proc/net/udp", encoding="ascii") as file:
+            lines = [line.split() for line in file]
+    except OSError:
+        return None
+    return next((int(words[-1]) for words in lines if words[1] == local), None)
+
+
+class Memory(collections.namedtuple("Memory", "data resident files")):
+    """What a process has: bytes of data, bytes in memory, open files."""
+
+    @classmethod
+    def of(cls, process):
+        with open(f"/proc/{process}/status", encoding="ascii") as file:
+            told = dict(line.split(":", 1) for line in file)
+        data, resident = (int(told[name].split()[0]) * 1024 for name in ("VmData", "VmRSS"))
+        return cls(data, resident, len(os.listdir(f"/proc/{process}/fd")))
+
+
+class Flood:
+    """Sends to one member, no faster than it takes, and holds its answers to those that are due."""
+
+    def __init__(self, member):
+        self.member = member
+        self.socket = socket.socket(socket.AF_INET, socket.SOCK_DGRAM)
+        self.socket.setsockopt(socket.SOL_SOCKET, socket.SO_RCVTIMEO, struct.pack("ll", SLACK, 0))
+        self.socket.connect((member.address, frames.PORT))
+        self.room = receive_room() // 2
+        # (those of the datagrams are below)
+        self.numbers = itertools.count(2**31)
+        self.waiting = 0
+        self.due = collections.Counter()
+        # what was sent, by what has to come of it
+        self.drops = [0] * 8
+        self.heard = collections.Counter()
+        self.answered = 0
+        # how long each list took, and the ends of the lease that were seen
+        self.took = []
+        self.ends = set()
+
+    def sent(self):
+        return sum(self.drops) + sum(self.heard.values()) + self.answered
+
+    def send(self, foe):
+        size = room_of(foe.datagram)
+        if self.waiting and self.waiting + size > self.room:
+            self.settle()
+        self.socket.send(foe.datagram)
+        self.waiting += size
+        if foe.counter is not None:
+            self.drops[foe.counter] += 1
+        elif foe.answer is not None:
+            self.due[foe.answer] += 1
+        else:
+            self.heard[foe.member] += 1
+
+    def settle(self):
+        """Asks for a list, whose answer comes behind those to all that was sent, and looks at the lease."""
+        number, asked = next(self.numbers), time.monotonic()
+        self.socket.send(frames.request_now("CLst", number, key=KEY))
+        while self.answer() != ("RLst", number):
+            pass
+        self.took.append(time.monotonic() - asked)
+        require(not +self.due, f"no answer came to {list(+self.due)[:3]}")
+        self.waiting = 0
+        record = self.member.record()
+        require(record is not None and record.holds(now()), f"the lease has lapsed: {record} at {now()}")
+        self.ends.add(record.until)
+
+    def answer(self):
+        """The command and the request of the next answer, which is due."""
+        try:
+            came = self.socket.recv(frames.FRAME_BYTES + 1)
+        except BlockingIOError:
+            raise Wrong(f"a list is not answered in {SLACK} s") from None
+        head, before = frames.Head.read(came), came[: -frames.AUTH_BYTES]
+        is_sealed = came == before + frames.auth_part(KEY, before) and head.length == len(came)
+        require(is_sealed and head.sender == frames.member_id(self.member.address), f"this came: {came.hex()}")
+        answer = head.cmd.to_bytes(4, "big").decode(), head.request
+        if head.request < 2**31:
+            require(self.due[answer] > 0, f"{answer} answers nothing that was sent")
+            self.due[answer] -= 1
+            self.answered += 1
+        return answer
+
+    def run(self, foes, seconds=None):
+        """Sends these, or as many as it takes in so many seconds."""
+        end = seconds and time.monotonic() + seconds
+        for foe in foes:
+            self.send(foe)
+            # (the first behind a list)
+            if end and time.monotonic() > end:
+                break
+        self.settle()
+
+
+def again_and_again(foes):
+    """All of them without end, in another order each time."""
+    chance = random.Random(SEED)
+    while True:
+        chance.shuffle(foes)
+        yield from foes
+
+
+def heard_of(member, other):
+    """How many datagrams of the other this member heard that the other did not count as sent to it."""
+    for _ in range(100):
+        before = other.counts()[1][member.address][1]
+        heard = member.counts()[1][other.address][0]
+        if other.counts()[1][member.address][1] == before:
+            return heard - before
+    raise Wrong(f"{other.address} never stops to send")
+
+
+class Scene:
+    """A cluster whose first site holds the ticket in its second term, and the flood that it meets."""
+
+    def __init__(self, cluster, count):
+        self.cluster, self.count = cluster, count
+        self.one, self.two, self.arbitrator = cluster.members
+        self.others = (self.two, self.arbitrator)
+
+    def begin(self):
+        """Starts the cluster. The second site holds the ticket first, and then the first does."""
+        self.cluster.start()
+        started = now()
+        others = tuple((member.role, member.address) for member in self.others)
+        self.foes = Foes(Station(self.one.address, others, (TICKET,), KEY), SEED).made(min(DIFFERENT, self.count))
+        time.sleep(max(0, started + TIMES.abstention() + 0.1 - now()))
+        for member in (self.two, self.one):
+            require(member.about("CGnt") in ("ok", "Asyn"), f"{member.address} does not take a grant")
+            require(wait_for(lambda: holds(member), SLACK), "the granted ticket is not held")
+            if member is self.two:
+                require(wait_for(lambda: member.about("CRvk") == "ok", SLACK), "the ticket is not revoked")
+        self.term = self.one.record().term
+        require(self.term > 1, f"the record is {self.one.record()}")
+
+    def flood(self):
+        """Sends all, and notes what the daemon counted and has before and behind."""
+        process = self.one.server.process.pid
+        self.counted = [self.one.counts()[0]]
+        self.heard = [{member.address: heard_of(self.one, member) for member in self.others}]
+        self.flooded = Flood(self.one)
+        foes, started = again_and_again(self.foes), time.monotonic()
+        self.flooded.run(itertools.islice(foes, min(FIRST, self.count)))
+        self.memory = [Memory.of(process)]
+        self.flooded.run(itertools.islice(foes, self.count - self.flooded.sent()), SECONDS_OF_FLOOD)
+        self.took = time.monotonic() - started
+        self.memory.append(Memory.of(process))
+        self.counted.append(self.one.counts()[0])
+        self.heard.append({member.address: heard_of(self.one, member) for member in self.others})
+        self.load = os.getloadavg()[0]
+
+
+def holds(member):
+    record = member.record()
+    return record is not None and record.holds(now())
+
+
+# ---- the checks: each gives what it measured
+
+
+def every_datagram_is_met(scene):
+    """each datagram of a flood is dropped by its fault, heard or answered, as it has to be"""
+    flooded, gone = scene.flooded, lost(scene.one.address)
+    sent = flooded.sent()
+    drops = [after - before for before, after in zip(*scene.counted)]
+    heard = {address: scene.heard[1][address] - scene.heard[0][address] for address in scene.heard[0]}
+    met = sum(drops) + sum(heard.values()) + flooded.answered
+    require(met + (gone or 0) >= sent, f"of {sent} {met} are met, and {gone or 0} never came")
+    # (one that the system dropped is of any kind)
+    require(gone or drops == flooded.drops, f"the drops are {drops}, and not {flooded.drops}")
+    require(gone or heard == flooded.heard, f"it heard {heard}, and not {dict(flooded.heard)}")
+    require(all(flooded.drops) and all(heard.values()), f"the test has not each kind: {flooded.drops}, {heard}")
+    told = f"{sum(drops)}, {sum(heard.values())} and {flooded.answered} of {sent}, in {scene.took:.1f} s"
+    told += f", {scene.took / sent * 1e6:.1f} µs each"
+    told += f"; {gone} never came, which the system dropped" if gone else ""
+    told += "; how many the system dropped /proc/net/udp does not tell" if gone is None else ""
+    return told + (f"; {scene.count - sent} are left out, since the time was over" if sent < scene.count else "")
+
+
+def lists_are_answered(scene):
+    """lists are answered meanwhile, behind all that waits"""
+    took, is_loaded = scene.flooded.took, scene.load > (os.cpu_count() or 1)
+    middle, most = statistics.median(took), SECONDS_OF_LIST_LOADED if is_loaded else SECONDS_OF_LIST
+    require(middle <= most, f"a list takes {middle * 1000:.1f} ms in the median, at a load of {scene.load:.1f}")
+    told = f"{len(took)} of them, {middle * 1000:.2f} ms in the median and {max(took) * 1000:.0f} ms at most"
+    return told + f", at a load of {scene.load:.1f}" + (f": up to {most * 1000:.0f} ms are taken" if is_loaded else "")
+
+
+def the_lease_runs_on(scene):
+    """the lease never lapses meanwhile, and is renewed in its term"""
+    renewals = len(scene.flooded.ends) - 1
+    require(scene.one.record().term == scene.term, "the ticket was granted anew")
+    require(renewals > 0 or scene.took < 2 * TIMES.renewal, f"no renewal in {scene.took:.1f} s")
+    require(wait_for(lambda: scene.cluster.shown_by_all() == scene.one.address, SLACK), "a member lists another owner")
+    return f"{renewals} renewals"
+
+
+def memory_stays(scene):
+    """the daemon's memory and its open files are as before"""
+    before, after = scene.memory
+    more = after.resident - before.resident
+    require(after.files == before.files, f"it has {after.files} open files, and had {before.files}")
+    require(after.data == before.data and more <= BYTES_MORE, f"its memory was {before}, and is {after}")
+    return f"{after.resident >> 10} KiB, {more >> 10} more than after the first {FIRST}"
+
+
+def who_was_stopped_holds_nothing(scene):
+    """a daemon that is stopped for longer than its lease comes back and holds nothing"""
+    one, two, process = scene.one, scene.two, scene.one.server.process
+    require(holds(one), "the lease does not run")
+    process.send_signal(signal.SIGSTOP)
+    until = one.record().until
+    latest = until + TIMES.guard() + 3 * TIMES.timeout + SLACK
+    require(wait_for(lambda: holds(two), latest - now()), "nobody took over")
+    taken = now()
+    require(taken > until, f"taken over {until - taken:.3f} s before the lease's end")
+    with socket.socket(socket.AF_INET, socket.SOCK_DGRAM) as asker:
+        asker.settimeout(SLACK)
+        asker.connect((one.address, frames.PORT))
+        # it finds this, and what members said meanwhile
+        asker.send(frames.request_now("CLst", 1, key=KEY))
+        process.send_signal(signal.SIGCONT)
+        shown = asker.recv(frames.FRAME_BYTES)[frames.HEAD_BYTES : -frames.AUTH_BYTES].decode()
+    require(shown.split()[1] in ("none", two.address), f"it comes back and lists {shown}")
+    require(wait_for(lambda: one.shown() == two.address, SLACK), "it does not hear who holds the ticket")
+    require(not holds(one), f"it has a lease: {one.record()}")
+    require(one.about("CGnt") == "Over", "it takes a grant")
+    require(holds(two) and process.poll() is None, "the other site lost the ticket, or this daemon ended")
+    return f"another took over {taken - until:.1f} s behind the lease's end"
+
+
+def no_two_hold(scene):
+    """no two hold the ticket at one moment, and no daemon prints anything"""
+    watch = scene.cluster.watch
+    require(not watch.wrong, f"two held: {watch.wrong[:3]}")
+    printed = [member.printed() for member in scene.cluster.members]
+    require(not any(printed), f"a daemon printed {printed}")
+    return f"{watch.looks} looks"
+
+
+CHECKS = [
+    every_datagram_is_met,
+    lists_are_answered,
+    the_lease_runs_on,
+    memory_stays,
+    who_was_stopped_holds_nothing,
+    no_two_hold,
+]
+
+
+def passes(check, scene):
+    try:
+        measured = check(scene)
+    except (Wrong, NotServing, OSError) as why:
+        print(f"FAILED  {check.__doc__}: {why}", flush=True)
+        return False
+    print(f"ok      {check.__doc__}: {measured}", flush=True)
+    return True
+
+
+def run(program, count):
+    """Runs the checks over one cluster. Says whether all passed."""
+    started, own, passed = time.monotonic(), own_addresses(), []
+    with tempfile.TemporaryDirectory(prefix="booth-hostile-") as folder:
+        with Cluster(program, folder, [next(own) for _ in range(3)], times=TIMES, key=KEY) as cluster:
+            scene = Scene(cluster, count)
+            try:
+                scene.begin()
+                scene.flood()
+            except (Wrong, NotServing, OSError) as why:
+                print(f"FAILED  a flood of datagrams: {why}", flush=True)
+                passed.append(False)
+            else:
+                passed += [passes(check, scene) for check in CHECKS]
+    print(f"hostile: {sum(passed)} passed, {passed.count(False)} failed, in {time.monotonic() - started:.1f} s ({program})")
+    return all(passed)
+
+
+def main(words):
+    end_by_signals()
+    program = words[0] if words else built_program()
+    if program is None:
+        print("hostile: skipped, since boothd is not built: run make build")
+        return 0
+    if not os.access(program, os.X_OK):
+        sys.exit(f"hostile.py: cannot run {program}")
+    return 0 if run(os.path.abspath(program), int(words[1]) if len(words) > 1 else DATAGRAMS) else 1
+
+
+if __name__ == "__main__":
+    sys.exit(main(sys.argv[1:]))
