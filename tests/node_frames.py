@@ -4,7 +4,7 @@
 tools/frames.py spells them, and the standard library's `hmac` signs them: nothing here is of the
 program's own making. From the top of the repository:
 
-    python3 tests/node_frames.py > crates/booth_node/src/tests/frames.rt
+    python3 tests/node_frames.py > crates/booth_node_tests/src/tests/frames.rt
 """
 
 import hashlib

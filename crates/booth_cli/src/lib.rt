@@ -22,8 +22,6 @@ mod replies;
 mod run;
 mod serving;
 mod status;
-#[cfg(test)]
-mod tests;
 mod texts;
 mod usage;
 

@@ -16,8 +16,6 @@ mod peers;
 mod replies;
 mod reply_buffer;
 mod state;
-#[cfg(test)]
-mod tests;
 mod tickets;
 
 pub use node::{Node, Turn};

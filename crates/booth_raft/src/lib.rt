@@ -25,6 +25,7 @@ pub use gain_release_lost::own_end;
 pub use machine::Core;
 pub use members::is_promised_elsewhere;
 pub use messages::{owner_now, shown_end};
+pub use notes::job_limit;
 pub use numbers::seconds_left;
 pub use view::{
     LAST_NUMBER, LAST_TERM, Promise, Role, Round, RoundKind, Rule, Shown, View, Waiting,

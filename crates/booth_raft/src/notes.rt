@@ -10,7 +10,8 @@ use crate::view::{Role, View};
 use booth_wire::Setup;
 
 // How long a handler may run.
-fn job_limit(setup: &Setup, now: u64) -> u64
+/// When a handler that is started now counts as failed, in milliseconds since 1970.
+pub fn job_limit(setup: &Setup, now: u64) -> u64
     requires sound { IsSound setup.now }
     requires early { now < 2 ^ 62 }
     ensures { result ≡ job_limit setup.now now }

@@ -13,8 +13,6 @@ mod request;
 mod requests;
 mod saying;
 mod telling;
-#[cfg(test)]
-mod tests;
 mod ticket;
 mod waiters;
 

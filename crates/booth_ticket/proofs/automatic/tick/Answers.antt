@@ -1,4 +1,4 @@
-use Rattle.std.proofs.Common.{sym, ap, ◌∙◌, subst}
+use Rattle.std.proofs.Common.{ap, ◌∙◌, subst}
 use Rattle.std.specs.Prelude.{None}
 use Rattle.booth_raft.specs.Deadlines.{greeted, hello}
 use Rattle.booth_raft.specs.State.{State}

@@ -1,4 +1,3 @@
-use Rattle.std.proofs.Common.{refl}
 use Rattle.std.specs.Prelude.{None}
 use Rattle.booth_ticket.specs.Handling.{job_over}
 use Rattle.booth_ticket.proofs.CallLemmas.{as_ruled}

@@ -1,9 +1,0 @@
-//! Scripts of whole calls over hands in memory, each act worked out by hand from the rules.
-mod failed_keeps;
-mod handlers;
-mod lives;
-mod manual;
-mod prerequisites;
-mod refusals;
-mod script;
-mod waiting;

@@ -1,0 +1,10 @@
+//! Scripts of whole calls over hands in memory, each act worked out by hand from the rules.
+mod failed_keeps;
+mod handlers;
+mod lines;
+mod lives;
+mod manual;
+mod prerequisites;
+mod refusals;
+mod script;
+mod waiting;
