@@ -221,15 +221,15 @@ def start_rows(bench):
 
 
 def one_run(words):
-    """The seconds from exec to exit of a program that prints nothing to the terminal, and its peak in kB."""
+    """The seconds from exec to exit of a program, of which nothing is printed."""
     null = [(os.POSIX_SPAWN_OPEN, 1, os.devnull, os.O_WRONLY, 0)]
     started = time.perf_counter()
     child = os.posix_spawn(words[0], words, os.environ, file_actions=null)
-    _, status, usage = os.wait4(child, 0)
+    _, status = os.waitpid(child, 0)
     took = time.perf_counter() - started
     if status:
         raise NotServing(f"{' '.join(words)} ended with {os.waitstatus_to_exitcode(status)}")
-    return took, usage.ru_maxrss
+    return took
 
 
 def client_rows(bench):
@@ -238,10 +238,9 @@ def client_rows(bench):
         return
     with bench.daemon(one_ticket()):
         words = [client, "list", "-c", f"{bench.folder}/booth.conf", "-s", bench.address]
-        took, peaks = zip(*(one_run(words) for _ in range(10 * bench.effort.starts)))
+        took = [one_run(words) for _ in range(10 * bench.effort.starts)]
     millis, lowest = statistics.median(took) * 1e3, min(took) * 1e3
     yield below("booth list, exec to exit", millis, f"{millis:.2f} ms (lowest: {lowest:.2f} ms)", 1.5, "ms")
-    yield Row("its peak memory", f"{max(peaks):,} kB")
 
 
 def said(letters, sender, key, ticket=b"ticket-db8", leader=NO_ONE, **fields):

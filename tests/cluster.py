@@ -6,7 +6,8 @@ left out. It takes about three minutes, prints a line for each check, ends all t
 where a check failed. Where a program is not built it checks nothing, with status 0.
 
 What an operator does is done by booth and geostore, at each member: their status and each text that they print or
-say are held to what they have to be.
+say are held to what they have to be. The stories of handlers and of tickets that are granted by hand stand in
+handler_stories.py.
 
 Who holds a ticket is judged from the record files and this machine's clock, hundred times a second over
 the whole run, and never from what a daemon says of itself.
@@ -14,7 +15,6 @@ the whole run, and never from what a daemon says of itself.
 
 import os
 import shutil
-import subprocess
 import sys
 import tempfile
 import time
@@ -22,104 +22,13 @@ import time
 HERE = os.path.dirname(os.path.abspath(__file__))
 sys.path[:0] = [HERE, f"{HERE}/../tools"]
 
-from members import MANUAL, TICKET, Cluster, Ran, Times, now, wait_for
+from handler_stories import handler_in
+from members import MANUAL, Cluster, Times, now, wait_for
 from serving import NotServing, built_program, end_by_signals, own_addresses
+from stories import NAME, SLACK, Wrong, abstains, counts_as, grants, is_held_by, keeps, lists, passed, require, says, stories, story
 
 KEY, OTHER_KEY = b"a-key-of-the-cluster", b"another-key-than-that"
-# how much later than it may a thing happens at most, in seconds
-SLACK = 0.5
 BADMAC = 2
-NAME = TICKET.decode()
-BY_HAND = MANUAL.decode()
-
-stories = []
-
-
-class Wrong(Exception):
-    """The cluster did not what it has to."""
-
-
-def require(holds, why):
-    if not holds:
-        raise Wrong(why)
-
-
-def story(function):
-    """Takes a function, whose docstring says what its cluster is, into the list."""
-    stories.append(function)
-    return function
-
-
-def passed(sentence):
-    print(f"ok      {sentence}", flush=True)
-
-
-def is_held_by(cluster, member):
-    """Whether this member's record is in force and every running member lists it."""
-    record = member.record()
-    return record is not None and record.holds(now()) and cluster.shown_by_all() == member.address
-
-
-def grants(cluster, place, seconds=2):
-    """A client asks this member for a grant, which is answered, and then the member holds."""
-    member = cluster.members[place]
-    result = member.about("CGnt")
-    require(result in ("ok", "Asyn"), f"a grant is answered {result}")
-    require(wait_for(lambda: is_held_by(cluster, member), seconds), "the granted ticket is not held")
-    return member.record()
-
-
-def says(member, words, status, text):
-    """Runs booth at this member, and holds it to this status and this text, of which only one stream has some."""
-    wanted = Ran(status, "", text) if status else Ran(status, text, "")
-    ran = member.booth(*words)
-    require(ran == wanted, f"booth {' '.join(words)} at {member.address} left {ran}, and not {wanted}")
-
-
-def keeps(member, words, status, text, ticket=TICKET):
-    """Runs geostore at this member, and holds it to this status and this text."""
-    wanted = Ran(status, "", text) if status else Ran(status, text, "")
-    ran = member.geostore(*words, ticket=ticket)
-    require(ran == wanted, f"geostore {' '.join(words)} at {member.address} left {ran}, and not {wanted}")
-
-
-def date(moment):
-    return time.strftime("%Y-%m-%d %H:%M:%S", time.gmtime(moment))
-
-
-def lists(cluster, owner):
-    """Every member that runs lists this owner, with the end of the lease in its record, by booth."""
-    for member in cluster.members:
-        if not member.is_running():
-            continue
-        before = owner and owner.record().until
-        ran = member.booth("list")
-        wanted = {f"ticket: {NAME}, leader: none\n"}
-        if owner is not None:
-            # (it may be renewed meanwhile, and a member that only heard of it counts whole seconds)
-            moments = [end + more for end in (before, owner.record().until) for more in (-1, 0, 1)]
-            wanted = {f"ticket: {NAME}, leader: {owner.address}, expires: {date(end)}\n" for end in moments}
-        require(ran.status == 0 and ran.printed in wanted and not ran.said, f"{member.address} lists {ran}")
-
-
-def counts_as(member):
-    """What booth prints of the members is what the daemon counts."""
-    drops, others = member.counts()
-    ran = member.booth("peers")
-    first, *lines = ran.printed.splitlines()
-    kinds = ("frame", "nomac", "badmac", "old", "stranger", "self", "ticket", "leader")
-    require(first == "dropped: " + ", ".join(f"{kind} {n}" for kind, n in zip(kinds, drops)), first)
-    for line, (address, (accepted, sent, errors)) in zip(lines, others.items()):
-        role, other, *_ = line.split(" ")
-        require(other.rstrip(",") == address and role in ("site", "arbitrator"), line)
-        require(line.split(", last: ")[1].split(", received: ")[0] == "never" or accepted > 0, line)
-        require(line.endswith(f", errors: {errors}"), line)
-    require(len(lines) == len(others) and ran.status == 0 and not ran.said, f"booth peers left {ran}")
-
-
-def abstains(cluster, started):
-    """The moment from which each of the members that started until this moment answers rounds."""
-    time.sleep(max(0, started + cluster.times.abstention() + 0.05 - now()))
 
 
 @story
@@ -136,8 +45,8 @@ def two_sites_and_an_arbitrator(cluster):
     passed("nobody is granted the ticket before each member has abstained")
 
     abstains(cluster, started)
-    require(wait_for(lambda: one.about("CGnt") != "Busy", times.expire), "the first grant never ended")
-    record = grants(cluster, 0)
+    # (the first grant has to end before)
+    record = grants(cluster, 0, times.expire)
     require(now() < record.until <= now() + times.expire, f"a lease until {record.until}")
     passed("a grant is held, kept on disk, and listed by every member")
     lists(cluster, one)
@@ -256,183 +165,6 @@ def a_member_with_another_key(cluster):
     passed("its frames are dropped, and counted with their fault")
 
 
-# What a site's handler does: it notes each run and its descriptors, and then sleeps or fails where a file says so.
-HANDLER = """#!/bin/sh
-cd {folder}
-echo "$BOOTH_TICKET $BOOTH_TICKET_EXPIRES $1" >> "ran.$BOOTH_LOCAL"
-ls -l "/proc/$$/fd" > "descriptors.$BOOTH_LOCAL"
-echo $$ > "pid.$BOOTH_LOCAL"
-[ ! -e "fails.$BOOTH_LOCAL" ] || exit 3
-[ ! -e "sleeps.$BOOTH_LOCAL" ] || exec sleep "$(cat "sleeps.$BOOTH_LOCAL")"
-"""
-# a daemon whose standard streams are closed
-CLOSED = """#!/bin/sh
-exec {program} "$@" <&- >&- 2>&-
-"""
-
-
-def script(path, text):
-    with open(path, "w", encoding="ascii") as file:
-        file.write(text)
-    os.chmod(path, 0o755)
-    return path
-
-
-def handler_in(folder):
-    """The setting that names the handler, which is made in this folder."""
-    return f'before-acquire-handler = "{script(folder + "/check", HANDLER.format(folder=folder))} db8"\n'
-
-
-class Handler:
-    """The handler of a member, by the files in the cluster's folder."""
-
-    def __init__(self, cluster, member):
-        self.path = lambda name: os.path.join(cluster.folder, f"{name}.{member.address}")
-
-    def read(self, name):
-        try:
-            with open(self.path(name), encoding="ascii") as file:
-                return file.read()
-        except OSError:
-            return ""
-
-    def set(self, name, text=""):
-        with open(self.path(name), "w", encoding="ascii") as file:
-            file.write(text)
-
-    def clear(self, name):
-        os.remove(self.path(name))
-
-    def runs(self):
-        """What each of its runs was told: the ticket, the end of its lease, and its word."""
-        return [line.split() for line in self.read("ran").splitlines()]
-
-    def is_running(self):
-        return os.path.exists(f"/proc/{self.read('pid').strip()}")
-
-
-def answered_meanwhile(member, asker):
-    """Asks for the list until this run of booth is over. The longest that an answer took."""
-    longest = 0
-    while asker.poll() is None:
-        asked = time.monotonic()
-        require(member.ask("CLst") is not None, "a list is not answered while the handler runs")
-        longest = max(longest, time.monotonic() - asked)
-        time.sleep(0.01)
-    return longest
-
-
-@story
-def sites_with_a_handler(cluster):
-    """a cluster whose ticket has a handler"""
-    times = cluster.times
-    one, two, arbitrator = cluster.members
-    first, second = Handler(cluster, one), Handler(cluster, two)
-    one.start(cluster.program, cluster.conf)
-    two.start(script(cluster.folder + "/closed", CLOSED.format(program=cluster.program)), cluster.conf)
-    arbitrator.start(cluster.program, cluster.conf)
-    abstains(cluster, now())
-    first.set("fails")
-    says(one, ("grant", "-w", NAME), 1, "booth: handler failed\n")
-    require(first.runs() == [[NAME, "0", "db8"]] and one.record() is None, f"ran {first.runs()}, kept {one.record()}")
-    passed("a grant is refused where the handler fails, and nothing is kept or asked for")
-    first.clear("fails")
-
-    first.set("sleeps", "2")
-    asked = now()
-    words = [cluster.client, "grant", "-w", NAME, "-c", cluster.conf, "-s", one.address]
-    asker = subprocess.Popen(words, stdin=subprocess.DEVNULL, stdout=subprocess.PIPE, text=True)
-    longest = answered_meanwhile(one, asker)
-    require((asker.wait(), asker.communicate()[0]) == (0, f"ticket {NAME} granted\n"), "the grant failed")
-    require(now() - asked > 2, "the grant did not wait for its handler")
-    require(longest < SLACK, f"a list took {longest:.2f} s")
-    first.clear("sleeps")
-    passed(f"a handler that runs delays the grant, and no list ({longest * 1000:.0f} ms at most)")
-
-    end, ends = now() + 2 * times.expire, set()
-    while now() < end:
-        record = one.record()
-        require(record is not None and record.holds(now()), "the lease ended though its handler does not fail")
-        ends.add(int(record.until))
-        time.sleep(0.02)
-    told = {int(run[1]) for run in first.runs()[2:]}
-    require(told and told <= ends, f"the handler was told {told}, and leases ended at {ends}")
-    passed(f"each renewal waits for the handler, which is told the end of the lease ({len(told)} of them)")
-
-    held = one.record()
-    first.set("fails")
-    require(wait_for(lambda: one.record().until is None, times.renewal + times.timeout + SLACK), "the lease is kept")
-    given_back = now()
-    require(wait_for(lambda: is_held_by(cluster, two), 3 * times.timeout + SLACK), "the other site did not take over")
-    require(not second.runs()[0][1].strip("0") and now() < given_back + 3 * times.timeout + SLACK, f"{second.runs()}")
-    passed(f"a handler that begins to fail gives the lease back, and the other site takes over ({now() - given_back:.1f} s)")
-    for handler in (first, second):
-        kept_out = handler.read("descriptors")
-        require(kept_out and not any(word in kept_out for word in ("socket", "records", "lock")), kept_out)
-    passed("no file and no socket of a daemon reaches its handler, also where its standard streams are closed")
-
-    second.set("sleeps", "30")
-    require(wait_for(lambda: len(second.runs()) > 1, times.renewal + SLACK), "no renewal started the handler")
-    last = two.record()
-    time.sleep(max(0, last.until + 0.1 - now()))
-    require(two.record() == last and two.shown() != two.address, "a lease is renewed whose handler runs on")
-    require(second.is_running(), "the handler was ended before it was started again")
-    second.clear("sleeps")
-    pid = second.read("pid")
-    says(two, ("grant", "-w", NAME), 0, f"ticket {NAME} granted\n")
-    require(not os.path.exists(f"/proc/{pid.strip()}"), "the handler that ran on runs still")
-    passed("a lease ends whose handler runs on, and that one is ended before the next start")
-
-
-def lists_by_hand(cluster, owner):
-    """Every member that runs lists this owner of the manual ticket, whose lease has no end, by booth."""
-    address = owner.address if owner else "none"
-    text = f"ticket: {NAME}, leader: none\nticket: {BY_HAND}, leader: {address}\n"
-    for member in cluster.members:
-        heard = lambda: member.booth("list") == Ran(0, text, "")
-        require(wait_for(heard, 2), f"{member.address} lists {member.booth('list')}, and not {address}")
-
-
-@story
-def a_manual_ticket(cluster):
-    """a cluster with a ticket that is granted by hand"""
-    one, two, arbitrator = cluster.members
-    cluster.start()
-    says(one, ("revoke", BY_HAND), 1, "booth: ticket is not granted\n")
-    says(one, ("grant", BY_HAND), 0, f"ticket {BY_HAND} granted\n")
-    record = one.record(MANUAL)
-    require(record.term == 1 and record.holds(now()), f"the record is {record}")
-    lists_by_hand(cluster, one)
-    passed("a manual ticket is granted at once, with its record on the disk, and listed by every member")
-    says(one, ("grant", "-C", BY_HAND), 0, f"ticket {BY_HAND} granted\n")
-    says(two, ("grant", BY_HAND), 1, "booth: ticket is granted elsewhere\n")
-    says(arbitrator, ("grant", "-F", BY_HAND), 1, "booth: invalid argument\n")
-    says(one, ("grant", "-F", NAME), 1, "booth: invalid argument\n")
-    passed("it is not granted elsewhere without force, which is for manual tickets at sites alone")
-
-    for member in (one, arbitrator):
-        member.kill()
-        member.start(cluster.program, cluster.conf)
-    lists_by_hand(cluster, one)
-    says(one, ("grant", BY_HAND), 0, f"ticket {BY_HAND} granted\n")
-    require(one.record(MANUAL) == record, "the record changed")
-    passed("its owner is one after a restart, and a member that starts hears who owns it")
-
-    says(two, ("grant", "-F", BY_HAND), 0, f"ticket {BY_HAND} granted\n")
-    require(all(member.record(MANUAL).holds(now()) for member in (one, two)), "one of the two does not hold")
-    require(wait_for(lambda: arbitrator.shown(MANUAL) == two.address, 2), "the arbitrator lists another")
-    require(one.shown(MANUAL) == one.address and two.shown(MANUAL) == two.address, "an owner lists another")
-    passed("by force another site takes it too, both hold it, and each lists itself")
-
-    says(one, ("revoke", BY_HAND), 0, f"ticket {BY_HAND} revoked\n")
-    require(one.record(MANUAL).until is None, "the revoked lease is kept")
-    require(arbitrator.shown(MANUAL) == two.address, "another's revocation is taken for the owner's")
-    says(arbitrator, ("revoke", BY_HAND), 0, f"ticket {BY_HAND} revoked\n")
-    require(two.record(MANUAL).until is None, "the revoked lease is kept")
-    lists_by_hand(cluster, None)
-    passed("each gives it back by itself, or is asked to by way of a member that lists it")
-
-
 @story
 def attributes_that_are_waited_for(cluster):
     """a cluster whose sites acquire where an attribute says so, and are granted where another does not forbid it"""
@@ -528,7 +260,9 @@ def run(program, client, geostore):
                 places[0] = "::1"
             settings = PREREQUISITES if "attributes" in function.__name__ else ""
             settings += handler_in(folder) if "handler" in function.__name__ else ""
-            more = {"key": key, "client": client, "geostore": geostore, "settings": settings, "manual": manual}
+            by_hand = Times().text() + handler_in(folder) if "asks" in function.__name__ else ""
+            more = {"key": key, "client": client, "geostore": geostore, "settings": settings}
+            more.update(manual=manual, by_hand=by_hand)
             with Cluster(program, folder, places, **more) as cluster:
                 try:
                     function(cluster)

@@ -289,6 +289,9 @@ def who_was_stopped_holds_nothing(scene):
     """a daemon that is stopped for longer than its lease comes back and holds nothing"""
     one, two, process = scene.one, scene.two, scene.one.server.process
     require(holds(one), "the lease does not run")
+    # a site that gave the ticket back says so for two timeouts, and then waits for no takeover before the next renewal
+    seen = one.record().until
+    require(wait_for(lambda: one.record().until != seen, TIMES.expire), "the lease is not renewed")
     process.send_signal(signal.SIGSTOP)
     until = one.record().until
     latest = until + TIMES.guard() + 3 * TIMES.timeout + SLACK

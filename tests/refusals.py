@@ -316,7 +316,7 @@ def rich_file(room):
 
 @check
 def not_a_member(room):
-    """an address that is no member's is reported as one writes it, before what is not built"""
+    """an address that is no member's is reported as one writes it, before the key file"""
     path = room.file(LEAST + b"mode = manual\nauthfile = /missing")
     for word, written in (
         ("10.0.0.2", "10.0.0.2"),
@@ -330,22 +330,22 @@ def not_a_member(room):
 
 
 @check
-def not_built(room):
-    """a manual ticket with a handler is reported by that key, before the key file, and what is built is served"""
+def each_kind_is_served(room):
+    """tickets of each kind are served, with handlers and prerequisites, their own or the default's"""
     handler, mode, prereq = b"before-acquire-handler", b"mode = manual\n", b"attr-prereq = auto a eq b\n"
     line, default = handler + b" = /bin/true\n", b"ticket = __default__\n"
-    for text in (
-        FILE + mode + line,
-        FILE + mode + prereq + line,
-        FILE + line + b"ticket = t\n" + mode + line,
-        default + line + FILE + mode,
-    ):
-        path = room.file(here(room, text) + b"authfile = /missing\n")
-        room.refuses(room.words(path), b"not built: " + handler, what=f"the file {text}")
-    # one's own value comes before the default's
-    station = room.station()
     others = FILE + line + b"ticket = t\n" + mode
-    for text in (FILE + mode, FILE + prereq + line, others, default + mode + FILE + b"mode = auto\n" + line):
+    one = room.station()
+    two = room.station(tickets=(*one.tickets, b"t"))
+    for station, text in (
+        (one, FILE + mode),
+        (one, FILE + prereq + line),
+        (one, FILE + mode + prereq + line),
+        (two, others),
+        (two, others + line),
+        (one, default + line + FILE + mode),
+        (one, default + mode + FILE + b"mode = auto\n" + line),
+    ):
         with room.serving(station, here(room, text)) as daemon, Asker(daemon) as asker:
             asker.asks("CLst")
     example = f"{TOP}/examples/booth.conf"

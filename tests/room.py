@@ -26,6 +26,8 @@ KEY = b"secret-key"
 TELL_STATE = ("Stat", "MIdx", "RJC!", "UpdE")
 # the result of each request for what is not there
 NOT_HERE = frames.code("IArg")
+# the most attributes of a ticket
+NAMES = 64
 
 checks = []
 
@@ -146,6 +148,8 @@ class Served:
         self.shown = [Shown() for _ in station.tickets]
         # the tickets that a client was let ask for, each in its first term
         self.asked = set()
+        # of each ticket, by name
+        self.attributes = {ticket: {} for ticket in station.tickets}
 
     def lists_due(self):
         """Says of a list which one was due."""
@@ -181,17 +185,35 @@ class Served:
             self.counts.says()
         return frames.code(result), body[:64] + frames.numbers(frames.NO_ONE, term, 0)
 
+    def attribute_answer(self, letters, body):
+        """What a request about an attribute is answered. A name that is set again keeps its place."""
+        ticket, name, value = (field.rstrip(b"\0") for field in (body[:64], body[64:128], body[128:]))
+        if not self.station.is_site or ticket not in self.attributes:
+            return NOT_HERE, b"" if letters == "ALst" else body
+        pairs = self.attributes[ticket]
+        if letters == "ALst":
+            return 0, b"".join(b"%s %s\n" % pair for pair in pairs.items())
+        if letters == "ASet":
+            if name not in pairs and len(pairs) == NAMES:
+                return frames.code("Busy"), body
+            pairs[name] = value
+            return 0, body
+        if name not in pairs:
+            return frames.code("NAtr"), body
+        if letters == "ADel":
+            del pairs[name]
+            return 0, body
+        return 0, body[:128] + frames.field(pairs[name], 128)
+
     def answer(self, letters, body):
         """The result and the body, as Asker.takes has it, that answer a request of this command."""
         if letters == "CLst":
             return 0, self.lists_due()
         if letters == "Peer":
             return 0, self.counts.copy().peers_due
-        if letters == "ALst":
-            return NOT_HERE, b""
         if letters in ("CGnt", "CRvk"):
             return self.ticket_answer(letters, body)
-        return NOT_HERE, body
+        return self.attribute_answer(letters, body)
 
 
 class Room:

@@ -242,7 +242,8 @@ class Watch(threading.Thread):
 class Cluster:
     """Two sites and an arbitrator with one file, which are killed when the `with` block ends.
 
-    `settings` are lines that the file has for each ticket, behind its times. Those in `manual` are granted by hand.
+    `settings` are lines that the file has for each ticket, behind its times. Those in `manual` are granted by hand, and
+    have the lines `by_hand`.
     """
 
     def __init__(
@@ -257,6 +258,7 @@ class Cluster:
         geostore=None,
         settings="",
         manual=(),
+        by_hand="",
     ):
         self.program = program
         self.client = client
@@ -266,6 +268,7 @@ class Cluster:
         self.key = key
         self.tickets = tickets
         self.manual = manual
+        self.by_hand = by_hand
         roles = ("site", "site", "arbitrator")
         self.members = [
             Member(role, address, os.path.join(folder, address), key, client, geostore)
@@ -282,7 +285,7 @@ class Cluster:
                 file.write(key)
             text += f'authfile = "{path}"\n'
         text += "".join(f'ticket = "{name.decode()}"\n{self.times.text()}{self.settings}' for name in self.tickets)
-        text += "".join(f'ticket = "{name.decode()}"\nmode = manual\n' for name in self.manual)
+        text += "".join(f'ticket = "{name.decode()}"\nmode = manual\n{self.by_hand}' for name in self.manual)
         path = os.path.join(self.folder, name)
         with open(path, "w", encoding="ascii") as file:
             file.write(text)

@@ -13,7 +13,7 @@ use Rattle.booth_host.specs.declared.entry.Entry.{Entry}
 use Rattle.booth_host.specs.declared.entry.Entry.TheVariants.{Open, Now, ReadFile, Lock, Kept, Out}
 use Rattle.booth_cli.specs.declared.outcome.Outcome.{Outcome}
 use Rattle.booth_cli.specs.declared.outcome.Outcome.TheVariants.{Done, Usage, BadWord, ConfUnread, ConfBad}
-use Rattle.booth_cli.specs.declared.outcome.Outcome.TheVariants.{NotMember, Unbuilt, KeyUnread, KeyBad}
+use Rattle.booth_cli.specs.declared.outcome.Outcome.TheVariants.{NotMember, KeyUnread, KeyBad}
 use Rattle.booth_cli.specs.declared.outcome.Outcome.TheVariants.{LockFault, Running, NotRunning, OpenFault}
 use Rattle.booth_cli.specs.declared.outcome.Outcome.TheVariants.{RecordUnread, TurnsSpent, PrintFault}
 use Rattle.booth_cli.specs.declared.outcome.Outcome.TheVariants.{OutOfMemory}
@@ -89,7 +89,6 @@ module _ (asked : DaemonWords) (said : List ℕ) (body entries : List Entry) (al
 
   unserved : (text : List ℕ) (config : ConfigSays) (outcome : Outcome) → Says text config → body ≡ ReadFile asked.conf (Ok text) ∷ [] →
       IsUnserved asked.site config outcome said → EndsWell outcome
-  unserved text config (Unbuilt key) says whole u = tt
   unserved text config NotMember says whole u =
       let call : Entry = ReadFile asked.conf (Ok text) in
       same_member asked.site text config (free.valid text (made call (call ∷ []) (first_of call []) whole)) says u.0

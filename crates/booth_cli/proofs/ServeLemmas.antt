@@ -91,7 +91,7 @@ module _ (asked : DaemonWords) where
         (λ xs ys h k. Unkeyed (record {
           text = h.0;
           config = config;
-          fit = record { says = h.1; member = fit.0; built = fit.1 };
+          fit = record { says = h.1; member = fit };
           rest = ys;
           whole = ap (λ zs. zs ++ ys) h.2;
           here = k;
@@ -103,7 +103,7 @@ module _ (asked : DaemonWords) where
       are_read read fit keyed =
           some_joined (IsConfigRead asked.conf (Ok config)) (IsKeyRead config.authfile (Ok key)) (AreRead asked.site asked.conf config key)
           (λ xs ys h k. record {
-            ready = record { text = h.0; fit = record { says = h.1; member = fit.0; built = fit.1 }; key_text = k.0; holds = k.1 };
+            ready = record { text = h.0; fit = record { says = h.1; member = fit }; key_text = k.0; holds = k.1 };
             whole = ap (λ zs. zs ++ ys) h.2 ∙ ap (λ zs. ReadFile asked.conf (Ok h.0) ∷ zs) k.2;
           }) read keyed
 

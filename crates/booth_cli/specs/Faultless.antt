@@ -13,7 +13,7 @@ use Rattle.booth_cli.specs.declared.command.Verb.{Verb}
 use Rattle.booth_cli.specs.declared.command.Verb.TheVariants as verbs
 use Rattle.booth_cli.specs.declared.outcome.Word.{Word}
 use Rattle.booth_cli.specs.declared.outcome.Outcome.{Outcome}
-use Rattle.booth_cli.specs.declared.outcome.Outcome.TheVariants.{Done, Unbuilt, TurnsSpent, NotRunning}
+use Rattle.booth_cli.specs.declared.outcome.Outcome.TheVariants.{Done, TurnsSpent, NotRunning}
 use Rattle.booth_cli.specs.declared.outcome.Outcome.TheVariants.{OutOfMemory}
 use Rattle.booth_cli.specs.declared.asking.DaemonWords.{DaemonWords}
 use Rattle.booth_cli.specs.declared.program.Program.{Program}
@@ -64,7 +64,6 @@ abbrev pub EndsWell : Outcome → Type 0
 EndsWell Done = Unit {0}
 EndsWell TurnsSpent = Unit {0}
 EndsWell OutOfMemory = Unit {0}
-EndsWell (Unbuilt key) = Unit {0}
 EndsWell outcome = ⊥
 
 -- the same of what the words ask for
@@ -72,7 +71,7 @@ abbrev pub AreFaultless : List (List ℕ) → List Entry → Type 0
 AreFaultless words entries = (asked : DaemonWords) → AsksDaemon words asked → IsFaultless asked entries
 
 -- Valid words, valid files, a free lock and an outside that does not fail give Done, TurnsSpent or
--- OutOfMemory, or Unbuilt where the configuration asks for a part that is not built yet.
+-- OutOfMemory.
 abbrev pub FaultlessRuns : Type 0
 FaultlessRuns = (words : List (List ℕ)) (outcome : Outcome) (entries : List Entry) →
     AreValid Boothd words verbs.Daemon → IsRun words outcome entries → AreFaultless words entries →

@@ -49,9 +49,6 @@ not_member_text address = printed address ++ codes " is not a member"
 abbrev pub key_name : KeyNo → List ℕ
 key_name key = unwrap_or (name_at key) []
 
-abbrev pub unbuilt_text : KeyNo → List ℕ
-unbuilt_text key = codes "not built: " ++ key_name key
-
 abbrev pub key_fault_text : KeyFault → List ℕ
 key_fault_text keys.TooShort = codes "key too short"
 key_fault_text keys.TooLong = codes "key too long"

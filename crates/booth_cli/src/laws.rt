@@ -3,7 +3,7 @@ ghost use Rattle.booth_cli.specs.Faultless.{FaultlessRuns, FaultlessLooks};
 ghost use Rattle.booth_cli.specs.ClientRun.{FaultlessTalks};
 
 /// Valid words and files, a free lock and an outside that does not fail give Done, TurnsSpent or
-/// OutOfMemory, or Unbuilt where a part is not built yet.
+/// OutOfMemory.
 pub fn faultless_runs()
     ensures { FaultlessRuns }
 {}

@@ -4,7 +4,7 @@ ghost use Rattle.booth_cli.specs.Texts.{status_of};
 
 use crate::error_line::ErrorLine;
 use booth_auth::KeyFault;
-use booth_conf::{ConfFault, KeyNo};
+use booth_conf::ConfFault;
 use clap::error::ErrorKind;
 
 /// A word that is refused.
@@ -51,8 +51,6 @@ pub enum Outcome {
     ConfBad(ConfFault),
     /// No member of the configuration has the address.
     NotMember,
-    /// The configuration sets this key, and the part that it asks for is not built yet.
-    Unbuilt(KeyNo),
     /// The key file could not be read.
     KeyUnread,
     /// The key file holds no key.
@@ -86,7 +84,7 @@ impl Outcome {
             Outcome::Usage(Some(ErrorKind::DisplayHelp | ErrorKind::DisplayVersion)) => 0,
             Outcome::Usage(_) | Outcome::BadWord(_) => 1,
             Outcome::ConfUnread | Outcome::ConfBad(_) | Outcome::NotMember => 1,
-            Outcome::Unbuilt(_) | Outcome::KeyUnread | Outcome::KeyBad(_) => 1,
+            Outcome::KeyUnread | Outcome::KeyBad(_) => 1,
             Outcome::LockFault | Outcome::Running | Outcome::OpenFault => 1,
             Outcome::RecordUnread => 1,
             Outcome::Refused(_) | Outcome::NoReply | Outcome::SendFault => 1,

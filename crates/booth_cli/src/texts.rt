@@ -4,7 +4,7 @@ ghost use Rattle.std.specs.Prelude.{unwrap_or};
 ghost use Rattle.booth_base.specs.Address.{printed};
 ghost use Rattle.booth_cli.specs.Texts.{usage_text, bad_word_text, unread_text, unread_record_text};
 ghost use Rattle.booth_cli.specs.Texts.{unlocked_text, unprinted_text, not_member_text, key_name};
-ghost use Rattle.booth_cli.specs.Texts.{unbuilt_text, key_fault_text, out_of_memory_text, file_text, at_line};
+ghost use Rattle.booth_cli.specs.Texts.{key_fault_text, out_of_memory_text, file_text, at_line};
 ghost use Rattle.booth_cli.specs.Texts.{IsTicketText, IsFaultText};
 
 use crate::Word;
@@ -113,15 +113,6 @@ fn key_name(key: KeyNo) -> &'static str
     ensures short { length result.now ≤ 22 }
 {
     key.name().unwrap_or("")
-}
-
-pub(crate) fn unbuilt_text(key: KeyNo) -> ErrorLine
-    ensures { result ≡ unbuilt_text key }
-{
-    let mut line = ErrorLine::none();
-    line.put(b"not built: ");
-    line.put(key_name(key).as_bytes());
-    line
 }
 
 pub(crate) fn key_fault_text(fault: KeyFault) -> ErrorLine

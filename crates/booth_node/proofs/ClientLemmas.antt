@@ -47,7 +47,8 @@ use Rattle.booth_node.proofs.ComesLemmas.{Comes, IsAnsweredAtOnce, IsAsked, IsAt
 use Rattle.booth_node.proofs.DueLemmas.{Each, all_of_each}
 use Rattle.booth_node.proofs.PathLemmas.{Seen, Split, at_end, is_send, seen_parts, split}
 use Rattle.booth_node.proofs.StayLemmas.{AllFewer, AllRemember, Stays, acted_at, acted_remember, acted_set_up, acted_undropped, acts_stay, all_among, as_many, dues_stay, each_fewer, each_over_stays, remember_on, set_up_at, started_set_up, stays_here}
-use Rattle.booth_node.proofs.TalkLemmas.{Replies, asked_replied, each_joined, heard_among, reply_act}
+use Rattle.booth_node.proofs.ReachLemmas.{Replies, each_joined, reply_act}
+use Rattle.booth_node.proofs.TalkLemmas.{asked_replied, heard_among}
 
 abbrev pub at_moment : State → ℕ → State
 at_moment state moment = record state { last_reading = moment }

@@ -11,6 +11,7 @@ pub mod DueLemmas
 pub mod TurnLemmas
 pub mod StartLemmas
 pub mod PathLemmas
+pub mod ReachLemmas
 pub mod ManualTalkLemmas
 pub mod TalkLemmas
 pub mod StayLemmas

@@ -1,188 +1,202 @@
--- Whom the acts of a manual ticket reach: members, but for the reply to who asked, which comes last. Nobody waits anew.
-use Rattle.std.proofs.Common.{◌≡◌, ℕ, Bool, List, [], ◌∷◌, ◌++◌, refl, sym, ap, ◌∙◌, subst, append_assoc, append-nil}
+-- Whom the acts of a manual ticket reach: members and the clients that wait for it, but for the reply to who asked, which
+-- comes last.
+use Rattle.std.proofs.Common.{◌≡◌, inl, ℕ, Bool, true, false, List, [], ◌∷◌, ◌++◌, refl, sym, ap, ◌∙◌, subst, append-nil, if◌then◌else◌}
 use Rattle.std.specs.Prelude.{Option, Some, None}
-use Rattle.booth_base.specs.Tree.{Deeds, Ends, Leads}
-use Rattle.booth_rec.specs.declared.record.Record.{Record}
+use Rattle.std.specs.Option.{is_some}
+use Rattle.booth_base.specs.Tree.{Deeds, Ends, Does, Leads}
 use Rattle.booth_wire.specs.declared.message.Head.{Head}
 use Rattle.booth_wire.specs.declared.message.TicketPart.{TicketPart}
 use Rattle.booth_wire.specs.declared.message.Setup.{Setup}
-use Rattle.booth_wire.specs.declared.message.Say.{Say as Words}
-use Rattle.booth_wire.specs.declared.message.Say.TheVariants as words
-use Rattle.booth_raft.specs.Messages.{head_of}
-use Rattle.booth_raft.specs.Speech.{IsOwn, IsSpeech}
+use Rattle.booth_wire.specs.declared.codes.results.TheConstants.{ASYN, XPRG}
+use Rattle.booth_raft.specs.declared.deed.Told.{Told}
+use Rattle.booth_raft.specs.declared.deed.Told.TheVariants as tells
+use Rattle.booth_raft.specs.Notes.{job_limit}
 use Rattle.booth_manual.specs.declared.view.ManualView.{ManualView}
-use Rattle.booth_manual.specs.GrantAndRevoke.{finish}
+use Rattle.booth_manual.specs.GrantAndRevoke.{are_terms_spent, finish, grant}
 use Rattle.booth_manual.specs.Hearing.{hear}
 use Rattle.booth_manual.specs.Outcome.{Keep as Tries, Outcome}
-use Rattle.booth_ticket.specs.declared.hands.To.TheVariants.{Client, Member}
+use Rattle.booth_ticket.specs.declared.handling.Service.{Service}
+use Rattle.booth_ticket.specs.declared.handling.Service.TheVariants.{CanRun, CannotRun}
 use Rattle.booth_ticket.specs.declared.request.Request.{Request}
+use Rattle.booth_ticket.specs.declared.request.Wish.{Wish}
+use Rattle.booth_ticket.specs.declared.request.Wish.TheVariants.{Grant}
 use Rattle.booth_ticket.specs.declared.waiters.Waiter.{Waiter}
-use Rattle.booth_ticket.specs.Acts.{Ask, Keep, Start, Say, Act, IsAct}
-use Rattle.booth_ticket.specs.Manual.{ManualKnown, greeting, manual_due, manual_heard}
-use Rattle.booth_ticket.specs.ManualRequests.{done_by_hand, manual_asked, manual_reply, manual_reply_part, refused_by_hand, result_of_keep, tried, tries_for}
+use Rattle.booth_ticket.specs.Acts.{Ask, Keep, Start, Act, IsAct}
+use Rattle.booth_ticket.specs.Manual.{ManualKnown, ManualLeft, manual_heard, manual_state}
+use Rattle.booth_ticket.specs.ManualHandling.{grants_after, greeting, is_awaited, is_late, limit_due, manual_due, manual_over, tells_of}
+use Rattle.booth_ticket.specs.ManualRequests.{as_waiting, begun_by_hand, done_by_hand, manual_asked, manual_reply, refused_by_hand, result_of_keep, says_of_keep, tried, tries_for, waits_for, wants_handler}
 use Rattle.booth_ticket.specs.Requests.{reply_cmd}
-use Rattle.booth_ticket.specs.Saying.{others, places_in, say, say_back, say_each}
 use Rattle.booth_ticket.specs.Ticket.{TicketLeft, by_hand, left_by_hand}
+use Rattle.booth_ticket.specs.Waiting.{joined, staying, tell_each}
 use Rattle.booth_ticket.proofs.ManualSpeechLemmas.{greeting_speaks, hearing_speaks, keep_speaks}
-use Rattle.booth_node.proofs.DueLemmas.{Each}
 use Rattle.booth_node.proofs.PathLemmas.{Split, at_end, split}
+use Rattle.booth_node.proofs.ReachLemmas.{Replies, Talks, Tells, among_joined, done_last, replied_last, said, same_ask, talks_more, talks_none, talks_on, told_last}
 
--- what is asked reaches members alone
-abbrev pub ToMembers : Setup → Ask → Type 0
-ToMembers setup (Keep tried) = Unit {0}
-ToMembers setup (Start job expires) = Unit {0}
-ToMembers setup (Say (Member place) head part) = IsOwn setup head part
-ToMembers setup (Say (Client peer) head part) = ⊥
+module _ (setup : Setup) (waiters : List Waiter) (left : ManualLeft) where
+  -- the acts of a path reach members and those that wait alone, and those that wait stay
+  quiet_end : (end : ManualLeft) (acts : List Act) → end.waiters ≡ waiters → Talks setup waiters acts (Ends end) left
+      → Tells setup waiters left.waiters acts
+  quiet_end end acts same talks =
+      let done = done_last setup waiters left end acts talks in
+      subst (λ (l : ManualLeft). Tells setup waiters l.waiters acts) (sym done.1)
+      (subst (λ (ws : List Waiter). Tells setup waiters ws acts) (sym same)
+      (record { among = done.0; fewer = λ w h. h; remembers = λ w h. inl h }))
 
-abbrev pub AllToMembers : Setup → List Act → Type 0
-AllToMembers setup acts = Each (λ act. ToMembers setup act.ask) acts
+  -- those that wait are told of an outcome
+  told_end : (known : ManualKnown) (told : Told) (view : ManualView) (acts : List Act)
+      → Talks setup waiters acts (tells_of setup known waiters told view) left
+      → Tells setup waiters left.waiters acts
+  told_end known told view acts talks =
+      let end : ManualLeft = record { known = record known { view = view; job = None }; waiters = staying told waiters } in
+      let done = told_last setup waiters left (manual_state setup view) told end acts talks in
+      subst (λ (l : ManualLeft). Tells setup waiters l.waiters acts) (sym done.1) done.0
 
-joined_acts : (setup : Setup) (xs ys : List Act) → AllToMembers setup xs → AllToMembers setup ys
-    → AllToMembers setup (xs ++ ys)
-joined_acts setup [] ys first later = later
-joined_acts setup (x ∷ xs) ys first later = (first.0, joined_acts setup xs ys first.1 later)
+  -- a record is kept, and what follows of the answer is said
+  tried_talks : (wish : Wish) (tries : Tries) (rest : ℕ → ManualView → Deeds Ask ManualLeft) (acts : List Act)
+      → Leads IsAct (tried setup wish tries rest) acts (Ends left)
+      → (result : ℕ) × (view : ManualView) × Talks setup waiters acts (rest result view) left
+  tried_talks wish tries rest [] leads = absurd cc
+  tried_talks wish tries rest (act ∷ acts) leads =
+      let ok : Bool = leads.0 in
+      let outcome : Outcome = finish setup tries.view ok in
+      let result : ℕ = result_of_keep wish ok in (
+        result,
+        outcome.view,
+        talks_more setup waiters left (rest result outcome.view) act acts
+            (same_ask setup waiters left (Keep tries.tried) (Keep tries.tried) ok act leads.1 tt)
+            (said setup waiters left None outcome.say (rest result outcome.view) acts (keep_speaks setup tries.view ok)
+            leads.2),
+      )
 
--- the first acts of a path reach members alone, and the others are a path of what is left of the tree
-record Told {S : Type 0} (setup : Setup) (acts : List Act) (rest : Deeds Ask S) (end : S) : Type 0 where
-  pub first : List Act
-  pub later : List Act
-  pub whole : acts ≡ first ++ later
-  pub members : AllToMembers setup first
-  pub leads : Leads IsAct rest later (Ends end)
+  -- ---- messages and the deadline
 
-module _ {S : Type 0} (setup : Setup) (end : S) where
-  told_none : (rest : Deeds Ask S) (acts : List Act) → Leads IsAct rest acts (Ends end)
-      → Told setup acts rest end
-  told_none rest acts leads = record { first = []; later = acts; whole = refl; members = tt; leads = leads }
+  heard_talks : (known : ManualKnown) (from : ℕ) (head : Head) (part : TicketPart) (acts : List Act)
+      → Leads IsAct (manual_heard setup known waiters from head part) acts (Ends left)
+      → Tells setup waiters left.waiters acts
+  heard_talks known from head part acts leads =
+      let outcome : Outcome = hear setup known.view head part head.cmd in
+      let end : ManualLeft = record { known = record known { view = outcome.view }; waiters = waiters } in
+      quiet_end end acts refl
+      (said setup waiters left (Some from) outcome.say (Ends end) acts (hearing_speaks setup known.view head part head.cmd)
+      leads)
 
-  told_more : (rest : Deeds Ask S) (ask : Ask) (ok : Bool) (act : Act) (acts : List Act)
-      → act ≡ record { ask = ask; ok = ok } → ToMembers setup ask → Told setup acts rest end
-      → Told setup (act ∷ acts) rest end
-  told_more rest ask ok act acts is members more = record {
-    first = act ∷ more.first;
-    later = more.later;
-    whole = ap (λ (l : List Act). act ∷ l) more.whole;
-    members = (subst (λ (a : Act). ToMembers setup a.ask) (sym is) members, more.members);
-    leads = more.leads;
-  }
+  due_talks : (known : ManualKnown) (now : ℕ) (acts : List Act)
+      → Leads IsAct (manual_due setup known waiters now) acts (Ends left) → Tells setup waiters left.waiters acts
+  due_talks known now acts leads =
+      by_limit (is_late known.job now)
+      (said setup waiters left None (greeting setup known) (limit_due setup greeted waiters now) acts
+      (greeting_speaks setup known) leads)
+    where
+      greeted : ManualKnown
+      greeted = record known { greets_at = None }
 
-  told_each : (places : List ℕ) (head : Head) (part : TicketPart) (rest : Deeds Ask S) (acts : List Act)
-      → IsOwn setup head part → Leads IsAct (say_each places head part rest) acts (Ends end)
-      → Told setup acts rest end
-  told_each [] head part rest acts own leads = told_none rest acts leads
-  told_each (place ∷ places) head part rest [] own leads = absurd cc
-  told_each (place ∷ places) head part rest (act ∷ acts) own leads =
-      told_more rest (Say (Member place) head part) leads.0 act acts leads.1 own
-      (told_each places head part rest acts own leads.2)
+      quiet : ManualLeft
+      quiet = record { known = greeted; waiters = waiters }
 
-  told_back : (from : Option ℕ) (head : Head) (part : TicketPart) (rest : Deeds Ask S) (acts : List Act)
-      → IsOwn setup head part → Leads IsAct (say_back from head part rest) acts (Ends end)
-      → Told setup acts rest end
-  told_back None head part rest acts own leads = told_none rest acts leads
-  told_back (Some from) head part rest acts own leads = told_each (from ∷ []) head part rest acts own leads
+      by_limit : (late : Bool)
+          → Talks setup waiters acts
+          (if late then tells_of setup greeted waiters tells.HandlerFailed known.view else Ends quiet) left
+          → Tells setup waiters left.waiters acts
+      by_limit true talks = told_end greeted tells.HandlerFailed known.view acts talks
+      by_limit false talks = quiet_end quiet acts refl talks
 
-  told : (from : Option ℕ) (rule_words : Words) (rest : Deeds Ask S) (acts : List Act)
-      → IsSpeech setup rule_words → Leads IsAct (say setup from rule_words rest) acts (Ends end)
-      → Told setup acts rest end
-  told from words.Nothing rest acts speaks leads = told_none rest acts leads
-  told from (words.Reply head part) rest acts speaks leads = told_back from head part rest acts speaks leads
-  told from (words.All head part) rest acts speaks leads =
-      told_each (others setup) head part rest acts speaks leads
-  told from (words.Unanswered head part bits) rest acts speaks leads =
-      told_each (places_in bits) head part rest acts speaks leads
+  -- ---- the end of a job
 
-  -- all of a path whose rest is an end
-  all_told : (known : S) (acts : List Act) → Told setup acts (Ends known) end → AllToMembers setup acts
-  all_told known acts path =
-      subst (λ (l : List Act). AllToMembers setup l) (sym path.whole)
-      (joined_acts setup path.first path.later path.members
-      (subst (λ (l : List Act). AllToMembers setup l) (sym (at_end IsAct known end path.later path.leads).0) tt))
+  after_talks : (known : ManualKnown) (service : Service) (acts : List Act)
+      → Leads IsAct (grants_after setup known.view service (tells_of setup known waiters)) acts (Ends left)
+      → Tells setup waiters left.waiters acts
+  after_talks known CanRun acts leads = by_terms (are_terms_spent known.view) leads
+    where
+      granted : ℕ → ManualView → Deeds Ask ManualLeft
+      granted result view = tells_of setup known waiters (tells.Gained view.sure) view
 
--- ---- messages and the deadline
+      failed : Deeds Ask ManualLeft
+      failed = tells_of setup known waiters tells.AskFailed known.view
 
-heard_members : (setup : Setup) (known end : ManualKnown) (from : ℕ) (head : Head) (part : TicketPart)
-    (acts : List Act) → Leads IsAct (manual_heard setup known from head part) acts (Ends end)
-    → AllToMembers setup acts
-heard_members setup known end from head part acts leads =
-    let outcome : Outcome = hear setup known.view head part head.cmd in
-    let left : ManualKnown = record known { view = outcome.view } in
-    all_told setup end left acts
-    (told setup end (Some from) outcome.say (Ends left) acts (hearing_speaks setup known.view head part head.cmd)
-    leads)
+      by_terms : (spent : Bool)
+          → Leads IsAct (if spent then failed else tried setup Grant (grant known.view) granted) acts (Ends left)
+          → Tells setup waiters left.waiters acts
+      by_terms true given = told_end known tells.AskFailed known.view acts (talks_none setup waiters left failed acts given)
+      by_terms false given =
+          let it = tried_talks Grant (grant known.view) granted acts given in
+          told_end known (tells.Gained it.1.sure) it.1 acts it.2
+  after_talks known CannotRun acts leads =
+      told_end known tells.HandlerFailed known.view acts
+      (talks_none setup waiters left (tells_of setup known waiters tells.HandlerFailed known.view) acts leads)
 
-due_members : (setup : Setup) (known end : ManualKnown) (acts : List Act)
-    → Leads IsAct (manual_due setup known) acts (Ends end) → AllToMembers setup acts
-due_members setup known end acts leads =
-    let left : ManualKnown = record known { greets_at = None } in
-    all_told setup end left acts
-    (told setup end None (greeting setup known) (Ends left) acts (greeting_speaks setup known) leads)
+  over_talks : (known : ManualKnown) (job : ℕ) (service : Service) (acts : List Act)
+      → Leads IsAct (manual_over setup known waiters job service) acts (Ends left)
+      → Tells setup waiters left.waiters acts
+  over_talks known job service acts leads = by_job (is_awaited known.job job) leads
+    where
+      quiet : ManualLeft
+      quiet = record { known = known; waiters = waiters }
+
+      by_job : (awaited : Bool)
+          → Leads IsAct (if awaited then grants_after setup known.view service (tells_of setup known waiters) else Ends quiet)
+          acts (Ends left)
+          → Tells setup waiters left.waiters acts
+      by_job true given = after_talks known service acts given
+      by_job false given = quiet_end quiet acts refl (talks_none setup waiters left (Ends quiet) acts given)
 
 -- ---- a client's request
 
--- the reply to who asked, with a result and what is known of the ticket
-abbrev pub manual_reply_ask : Setup → Request → ℕ → ManualView → Ask
-manual_reply_ask setup request result view =
-    Say (Client request.from) (head_of setup (reply_cmd request.wish) request.number 0 0 result)
-    (manual_reply_part setup view)
+module _ (setup : Setup) (waiters : List Waiter) (left : ManualLeft) (request : Request) where
+  abbrev replied : ℕ → ManualKnown → Deeds Ask ManualLeft
+  replied = manual_reply setup request waiters
 
--- all acts but the last one reach members alone, and the last one is the reply
-pub record RepliesByHand (setup : Setup) (request : Request) (acts : List Act) : Type 0 where
-  pub before : List Act
-  pub result : ℕ
-  pub view : ManualView
-  pub ok : Bool
-  pub whole : acts ≡ before ++ record { ask = manual_reply_ask setup request result view; ok = ok } ∷ []
-  pub members : AllToMembers setup before
+  reply_talks : (result : ℕ) (known : ManualKnown) (acts : List Act)
+      → Talks setup waiters acts (replied result known) left
+      → Replies setup waiters left.waiters request (reply_cmd request.wish) acts
+  reply_talks result known acts talks =
+      let stay : List Waiter = joined (as_waiting request) result waiters in
+      let done =
+      replied_last setup waiters stay left (record { known = known; waiters = stay }) request (reply_cmd request.wish) result
+      (manual_state setup known.view) acts talks (λ w h. inl (among_joined w (as_waiting request) result waiters h)) in
+      subst (λ (l : ManualLeft). Replies setup waiters l.waiters request (reply_cmd request.wish) acts) (sym done.1) done.0
 
-module _ (setup : Setup) (request : Request) (greets_at : Option ℕ) (end : ManualKnown) where
-  abbrev replied : ℕ → ManualView → Deeds Ask ManualKnown
-  replied = manual_reply setup request greets_at
+  begun_talks : (known : ManualKnown) (job : Option ℕ) (now : ℕ) (acts : List Act)
+      → Leads IsAct (begun_by_hand setup known job request.wish now replied) acts (Ends left)
+      → Replies setup waiters left.waiters request (reply_cmd request.wish) acts
+  begun_talks known None now acts leads =
+      let rest : ℕ → ManualView → Deeds Ask ManualLeft = λ result view. replied result (record known { view = view }) in
+      let it = tried_talks setup waiters left request.wish (tries_for known.view request.wish) rest acts leads in
+      reply_talks it.0 (record known { view = it.1 }) acts it.2
+  begun_talks known (Some job) now [] leads = absurd cc
+  begun_talks known (Some job) now (act ∷ acts) leads = by_start leads.0 leads.1 leads.2
+    where
+      by_start : (ok : Bool) → act ≡ record { ask = Start job 0; ok = ok }
+          → Leads IsAct (waits_for setup known job now replied ok) acts (Ends left)
+          → Replies setup waiters left.waiters request (reply_cmd request.wish) (act ∷ acts)
+      by_start true is given =
+          reply_talks ASYN (record known { job = Some (record { number = job; limit = job_limit setup now }) }) (act ∷ acts)
+          (talks_more setup waiters left (waits_for setup known job now replied true) act acts
+          (same_ask setup waiters left (Start job 0) (Start job 0) true act is tt)
+          (talks_none setup waiters left (waits_for setup known job now replied true) acts given))
+      by_start false is given =
+          reply_talks XPRG known (act ∷ acts)
+          (talks_more setup waiters left (waits_for setup known job now replied false) act acts
+          (same_ask setup waiters left (Start job 0) (Start job 0) false act is tt)
+          (talks_none setup waiters left (waits_for setup known job now replied false) acts given))
 
-  reply_last : (result : ℕ) (view : ManualView) (before later : List Act) → AllToMembers setup before
-      → Leads IsAct (replied result view) later (Ends end) → RepliesByHand setup request (before ++ later)
-  reply_last result view before [] members leads = absurd cc
-  reply_last result view before (act ∷ later) members leads =
-      let known : ManualKnown = record { view = view; greets_at = greets_at } in
-      record {
-        before = before;
-        result = result;
-        view = view;
-        ok = leads.0;
-        whole = ap (λ (l : List Act). before ++ act ∷ l) (at_end IsAct known end later leads.2).0
-            ∙ ap (λ (a : Act). before ++ a ∷ []) leads.1;
-        members = members;
-      }
-
-  tried_replies : (tries : Tries) (acts : List Act)
-      → Leads IsAct (tried setup request.wish tries replied) acts (Ends end)
-      → RepliesByHand setup request acts
-  tried_replies tries [] leads = absurd cc
-  tried_replies tries (act ∷ acts) leads =
-      let ok : Bool = leads.0 in
-      let outcome : Outcome = finish setup tries.view ok in
-      let result : ℕ = result_of_keep request.wish ok in
-      let path =
-      told setup end None outcome.say (replied result outcome.view) acts (keep_speaks setup tries.view ok) leads.2 in
-      subst (λ (l : List Act). RepliesByHand setup request (act ∷ l)) (sym path.whole)
-      (reply_last result outcome.view (act ∷ path.first) path.later
-      (subst (λ (a : Act). ToMembers setup a.ask) (sym leads.1) tt, path.members) path.leads)
-
-  done_replies : (view : ManualView) (refused : Option ℕ) (acts : List Act)
-      → Leads IsAct (done_by_hand setup view refused request.wish replied) acts (Ends end)
-      → RepliesByHand setup request acts
-  done_replies view (Some result) acts leads = reply_last result view [] acts tt leads
-  done_replies view None acts leads = tried_replies (tries_for view request.wish) acts leads
+  asked_talks : (known : ManualKnown) (refused job : Option ℕ) (now : ℕ) (acts : List Act)
+      → Leads IsAct (done_by_hand setup known refused job request.wish now replied) acts (Ends left)
+      → Replies setup waiters left.waiters request (reply_cmd request.wish) acts
+  asked_talks known (Some result) job now acts leads =
+      reply_talks result known acts (talks_none setup waiters left (replied result known) acts leads)
+  asked_talks known None job now acts leads =
+      begun_talks known (if wants_handler known.view request.wish then job else None) now acts leads
 
 -- ---- as the ticket's
 
 -- the deeds of a manual ticket, and what they leave
-handled : (setup : Setup) (waiters : List Waiter) (deeds : Deeds Ask ManualKnown) (acts : List Act)
-    (left : TicketLeft) → Leads IsAct (by_hand setup waiters deeds) acts (Ends left)
-    → (end : ManualKnown) × Leads IsAct deeds acts (Ends end) × (left ≡ left_by_hand setup waiters end)
-handled setup waiters deeds acts left leads =
-    let goes_on : ManualKnown → Deeds Ask TicketLeft = λ end. Ends (left_by_hand setup waiters end) in
+handled : (setup : Setup) (deeds : Deeds Ask ManualLeft) (acts : List Act) (left : TicketLeft)
+    → Leads IsAct (by_hand setup deeds) acts (Ends left)
+    → (end : ManualLeft) × Leads IsAct deeds acts (Ends end) × (left ≡ left_by_hand setup end)
+handled setup deeds acts left leads =
+    let goes_on : ManualLeft → Deeds Ask TicketLeft = λ end. Ends (left_by_hand setup end) in
     let parts : Split IsAct deeds goes_on acts left = split IsAct deeds goes_on acts left leads in
-    let over = at_end IsAct (left_by_hand setup waiters parts.mid) left parts.later parts.to_end in (
+    let over = at_end IsAct (left_by_hand setup parts.mid) left parts.later parts.to_end in (
       parts.mid,
       subst (λ (l : List Act). Leads IsAct deeds l (Ends parts.mid))
           (sym (append-nil parts.first) ∙ ap (λ (l : List Act). parts.first ++ l) (sym over.0)
@@ -191,44 +205,42 @@ handled setup waiters deeds acts left leads =
     )
 
 module _ (setup : Setup) (waiters : List Waiter) (left : TicketLeft) (acts : List Act) where
-  -- the setup and those that wait stay
-  pub record StaysByHand : Type 0 where
-    pub setup_stays : left.ticket.setup ≡ setup
-    pub waiters_stay : left.waiters ≡ waiters
+  -- what those that wait are told, and the setup stays
+  abbrev pub TellsByHand : Type 0
+  TellsByHand = Tells setup waiters left.waiters acts × (left.ticket.setup ≡ setup)
 
-  stays_by_hand : (end : ManualKnown) → left ≡ left_by_hand setup waiters end → StaysByHand
-  stays_by_hand end is = record {
-    setup_stays = ap (λ (l : TicketLeft). l.ticket.setup) is;
-    waiters_stay = ap (λ (l : TicketLeft). l.waiters) is;
-  }
+  tells_by_hand : (end : ManualLeft) → left ≡ left_by_hand setup end → Tells setup waiters end.waiters acts → TellsByHand
+  tells_by_hand end is told = (
+    subst (λ (l : TicketLeft). Tells setup waiters l.waiters acts) (sym is) told,
+    ap (λ (l : TicketLeft). l.ticket.setup) is,
+  )
 
   pub heard_by_hand : (known : ManualKnown) (from : ℕ) (head : Head) (part : TicketPart)
-      → Leads IsAct (by_hand setup waiters (manual_heard setup known from head part)) acts (Ends left)
-      → AllToMembers setup acts × StaysByHand
+      → Leads IsAct (by_hand setup (manual_heard setup known waiters from head part)) acts (Ends left) → TellsByHand
   heard_by_hand known from head part leads =
-      let it = handled setup waiters (manual_heard setup known from head part) acts left leads in
-      (heard_members setup known it.0 from head part acts it.1, stays_by_hand it.0 it.2)
+      let it = handled setup (manual_heard setup known waiters from head part) acts left leads in
+      tells_by_hand it.0 it.2 (heard_talks setup waiters it.0 known from head part acts it.1)
 
-  pub due_by_hand : (known : ManualKnown)
-      → Leads IsAct (by_hand setup waiters (manual_due setup known)) acts (Ends left)
-      → AllToMembers setup acts × StaysByHand
-  due_by_hand known leads =
-      let it = handled setup waiters (manual_due setup known) acts left leads in
-      (due_members setup known it.0 acts it.1, stays_by_hand it.0 it.2)
+  pub due_by_hand : (known : ManualKnown) (now : ℕ)
+      → Leads IsAct (by_hand setup (manual_due setup known waiters now)) acts (Ends left) → TellsByHand
+  due_by_hand known now leads =
+      let it = handled setup (manual_due setup known waiters now) acts left leads in
+      tells_by_hand it.0 it.2 (due_talks setup waiters it.0 known now acts it.1)
 
   -- a job is over
-  pub over_by_hand : (known : ManualKnown) → Leads IsAct (by_hand setup waiters (Ends known)) acts (Ends left)
-      → AllToMembers setup acts × StaysByHand
-  over_by_hand known leads =
-      let over = at_end IsAct (left_by_hand setup waiters known) left acts leads in
-      (subst (λ (l : List Act). AllToMembers setup l) (sym over.0) tt, stays_by_hand known over.1)
+  pub over_by_hand : (known : ManualKnown) (job : ℕ) (service : Service)
+      → Leads IsAct (by_hand setup (manual_over setup known waiters job service)) acts (Ends left) → TellsByHand
+  over_by_hand known job service leads =
+      let it = handled setup (manual_over setup known waiters job service) acts left leads in
+      tells_by_hand it.0 it.2 (over_talks setup waiters it.0 known job service acts it.1)
 
-  pub asked_by_hand : (known : ManualKnown) (spare : ℕ) (ready : Bool) (request : Request)
-      → Leads IsAct (by_hand setup waiters (manual_asked setup known spare ready request)) acts (Ends left)
-      → RepliesByHand setup request acts × StaysByHand
-  asked_by_hand known spare ready request leads =
-      let it = handled setup waiters (manual_asked setup known spare ready request) acts left leads in (
-        done_replies setup request known.greets_at it.0 known.view
-            (refused_by_hand setup known.view spare ready request.options request.wish) acts it.1,
-        stays_by_hand it.0 it.2,
+  pub asked_by_hand : (known : ManualKnown) (spare : ℕ) (ready : Bool) (job : Option ℕ) (request : Request) (now : ℕ)
+      → Leads IsAct (by_hand setup (manual_asked setup known waiters spare ready job request now)) acts (Ends left)
+      → Replies setup waiters left.waiters request (reply_cmd request.wish) acts × (left.ticket.setup ≡ setup)
+  asked_by_hand known spare ready job request now leads =
+      let it = handled setup (manual_asked setup known waiters spare ready job request now) acts left leads in (
+        subst (λ (l : TicketLeft). Replies setup waiters l.waiters request (reply_cmd request.wish) acts) (sym it.2)
+            (asked_talks setup waiters it.0 request known
+            (refused_by_hand setup known.view (is_some known.job) spare ready request.options request.wish) job now acts it.1),
+        ap (λ (l : TicketLeft). l.ticket.setup) it.2,
       )

@@ -36,7 +36,8 @@ use Rattle.booth_node.specs.Reaction.{IsDone, acts, acts_as, befalls, dues, due_
 use Rattle.booth_node.specs.State.{State, with_ticket}
 use Rattle.booth_node.proofs.DueLemmas.{Each}
 use Rattle.booth_node.proofs.PathLemmas.{ActFirst, SaidFirst, Seen, Split, at_end, path_of, seen_parts, split}
-use Rattle.booth_node.proofs.TalkLemmas.{AllAmong, Among, Fewer, IsTold, Remembers, Tells, due_among, each_joined, over_among, setup_stays}
+use Rattle.booth_node.proofs.ReachLemmas.{AllAmong, Among, Fewer, IsTold, Remembers, Tells, each_joined}
+use Rattle.booth_node.proofs.TalkLemmas.{due_among, over_among, setup_stays}
 
 -- ---- setups
 

@@ -46,7 +46,6 @@ use Rattle.booth_ticket.specs.Automatic.{Left, end_job, ends, follow, hear_messa
 use Rattle.booth_ticket.specs.Handling.{acquire, acquires, checks, goes_on, is_job, job_over, leads_on, renews_by, works, works_on}
 use Rattle.booth_ticket.specs.Keeping.{carry_out, keep_of, keep_once, say_last}
 use Rattle.booth_ticket.specs.Requests.{grant, grant_result, refused_grant, refused_revoke, replies, reply, reply_cmd, revoke, revoke_result, wish}
-use Rattle.booth_ticket.specs.ManualRequests.{manual_reply_part}
 use Rattle.booth_ticket.specs.Saying.{others, places_in, say, say_back, say_each}
 use Rattle.booth_ticket.specs.Ticket.{TicketState, TicketLeft, Known, Automatic, Manual as IsManual, by_rules, left_as}
 use Rattle.booth_ticket.specs.Waiting.{joined, joins, result_for, staying, tell_each, tell_one, waiter_of}
@@ -55,170 +54,24 @@ use Rattle.booth_node.specs.declared.event.Event.TheVariants.{Due, Heard, Asked,
 use Rattle.booth_node.specs.Calls.{IsAmong, IsOutcome}
 use Rattle.booth_node.specs.Reaction.{befalls}
 use Rattle.booth_node.proofs.DueLemmas.{Each}
-use Rattle.booth_node.proofs.ManualTalkLemmas.{AllToMembers, ToMembers, asked_by_hand, due_by_hand, heard_by_hand, over_by_hand}
+use Rattle.booth_node.proofs.ManualTalkLemmas.{asked_by_hand, due_by_hand, heard_by_hand, over_by_hand}
 use Rattle.booth_node.proofs.PathLemmas.{Split, at_end, split}
-
--- one of these clients that wait is told what became of its grant
-pub record TellsOne (setup : Setup) (waiters : List Waiter) (peer : Peer) (head : Head) : Type 0 where
-  pub waiter : Waiter
-  pub waits : IsAmong waiter waiters
-  pub to : waiter.from ≡ peer
-  pub outcome : IsOutcome setup.me waiter head
-
--- one of these acts tells this client that waits what became of its grant
-pub record IsTold (setup : Setup) (waiter : Waiter) (acts : List Act) : Type 0 where
-  pub before : List Act
-  pub head : Head
-  pub part : TicketPart
-  pub ok : Bool
-  pub after : List Act
-  pub whole : acts ≡ before ++ record { ask = Say (Client waiter.from) head part; ok = ok } ∷ after
-  pub outcome : IsOutcome setup.me waiter head
-
-pub told_behind : (setup : Setup) (waiter : Waiter) (first later acts : List Act) → acts ≡ first ++ later
-    → IsTold setup waiter later → IsTold setup waiter acts
-told_behind setup waiter first later acts whole told = record {
-  before = first ++ told.before;
-  head = told.head;
-  part = told.part;
-  ok = told.ok;
-  after = told.after;
-  whole = whole ∙ ap (λ (l : List Act). first ++ l) told.whole
-      ∙ sym (append_assoc first told.before
-      (record { ask = Say (Client waiter.from) told.head told.part; ok = told.ok } ∷ told.after));
-  outcome = told.outcome;
-}
-
--- who waited is left, or one of these acts tells it
-abbrev pub Remembers : Setup → List Waiter → List Waiter → List Act → Type 0
-Remembers setup waiters stay acts =
-    (waiter : Waiter) → IsAmong waiter waiters → IsAmong waiter stay ⊎ IsTold setup waiter acts
-
--- what is asked reaches members and those that wait alone
-abbrev pub Among : Setup → List Waiter → Ask → Type 0
-Among setup waiters (Keep tried) = Unit {0}
-Among setup waiters (Start job expires) = Unit {0}
-Among setup waiters (Say (Member place) head part) = IsOwn setup head part
-Among setup waiters (Say (Client peer) head part) = TellsOne setup waiters peer head
-
-abbrev pub AllAmong : Setup → List Waiter → List Act → Type 0
-AllAmong setup waiters acts = Each (λ act. Among setup waiters act.ask) acts
-
--- those that are left waited before
-abbrev pub Fewer : List Waiter → List Waiter → Type 0
-Fewer before after = (waiter : Waiter) → IsAmong waiter after → IsAmong waiter before
-
--- these acts reach members and those that wait alone, nobody waits that did not, and nobody is forgotten
-pub record Tells (setup : Setup) (waiters stay : List Waiter) (acts : List Act) : Type 0 where
-  pub among : AllAmong setup waiters acts
-  pub fewer : Fewer waiters stay
-  pub remembers : Remembers setup waiters stay acts
-
-filtered : (p : Waiter → Bool) (ws : List Waiter) → Fewer ws (filter p ws)
-filtered p [] w h = h
-filtered p (x ∷ ws) w h = by_test (p x) (filtered p ws w) h
-  where
-    by_test : (b : Bool) → (IsAmong w (filter p ws) → IsAmong w ws)
-        → IsAmong w (if b then x ∷ filter p ws else filter p ws) → IsAmong w (x ∷ ws)
-    by_test true more (inl e) = inl e
-    by_test true more (inr g) = inr (more g)
-    by_test false more g = inr (more g)
-
-pub each_joined : {X : Type 0} (P : X → Type 0) (xs ys : List X) → Each P xs → Each P ys → Each P (xs ++ ys)
-each_joined P [] ys first later = later
-each_joined P (x ∷ xs) ys first later = (first.0, each_joined P xs ys first.1 later)
-
--- the first acts of a path reach members and those that wait alone, and the others are a path of what is left of the
--- tree
-pub record Talks (setup : Setup) (waiters : List Waiter) (acts : List Act) (rest : Deeds Ask Left)
-    (left : Left) : Type 0 where
-  pub first : List Act
-  pub later : List Act
-  pub whole : acts ≡ first ++ later
-  pub among : AllAmong setup waiters first
-  pub leads : Leads IsAct rest later (Ends left)
+use Rattle.booth_node.proofs.ReachLemmas.{IsTold, Remembers, Replies, Talks, Tells, all_remembered, among_joined, replied_last, said, same_ask, talks_more, talks_none, talks_on, told_behind, told_each, told_last}
 
 module _ (setup : Setup) (waiters : List Waiter) (left : Left) where
-  Whole : Deeds Ask Left → List Act → Type 0
-  Whole deeds acts = Leads IsAct deeds acts (Ends left)
-
-  talks_none : (rest : Deeds Ask Left) (acts : List Act) → Leads IsAct rest acts (Ends left)
-      → Talks setup waiters acts rest left
-  talks_none rest acts leads =
-      record { first = []; later = acts; whole = refl; among = tt; leads = leads }
-
-  -- one act more before them
-  talks_more : (rest : Deeds Ask Left) (act : Act) (acts : List Act) → Among setup waiters act.ask
-      → Talks setup waiters acts rest left
-      → Talks setup waiters (act ∷ acts) rest left
-  talks_more rest act acts among more = record {
-    first = act ∷ more.first;
-    later = more.later;
-    whole = ap (λ (l : List Act). act ∷ l) more.whole;
-    among = (among, more.among);
-    leads = more.leads;
-  }
-
-  -- one part, and then another
-  talks_on : (mid rest : Deeds Ask Left) (acts : List Act) (part : Talks setup waiters acts mid left)
-      → Talks setup waiters part.later rest left
-      → Talks setup waiters acts rest left
-  talks_on mid rest acts part more = record {
-    first = part.first ++ more.first;
-    later = more.later;
-    whole = part.whole ∙ ap (λ (l : List Act). part.first ++ l) more.whole
-        ∙ sym (append_assoc part.first more.first more.later);
-    among = each_joined (λ act. Among setup waiters act.ask) part.first more.first part.among more.among;
-    leads = more.leads;
-  }
-
-  same_ask : (a b : Ask) (ok : Bool) (act : Act) → act ≡ record { ask = a; ok = ok } → Among setup waiters a
-      → Among setup waiters act.ask
-  same_ask a b ok act is among = subst (λ (x : Act). Among setup waiters x.ask) (sym is) among
-
-  said_to_each : (places : List ℕ) (head : Head) (part : TicketPart) (rest : Deeds Ask Left) (acts : List Act)
-      → IsOwn setup head part → Leads IsAct (say_each places head part rest) acts (Ends left)
-      → Talks setup waiters acts rest left
-  said_to_each [] head part rest acts own leads = talks_none rest acts leads
-  said_to_each (place ∷ places) head part rest [] own leads = absurd cc
-  said_to_each (place ∷ places) head part rest (act ∷ acts) own leads =
-      talks_more rest act acts
-      (same_ask (Say (Member place) head part) (Say (Member place) head part) leads.0 act leads.1 own)
-      (said_to_each places head part rest acts own leads.2)
-
-  said_back : (from : Option ℕ) (head : Head) (part : TicketPart) (rest : Deeds Ask Left) (acts : List Act)
-      → IsOwn setup head part → Leads IsAct (say_back from head part rest) acts (Ends left)
-      → Talks setup waiters acts rest left
-  said_back None head part rest acts own leads = talks_none rest acts leads
-  said_back (Some from) head part rest [] own leads = absurd cc
-  said_back (Some from) head part rest (act ∷ acts) own leads =
-      talks_more rest act acts
-      (same_ask (Say (Member from) head part) (Say (Member from) head part) leads.0 act leads.1 own)
-      (talks_none rest acts leads.2)
-
-  pub said : (from : Option ℕ) (rule_words : Words) (rest : Deeds Ask Left) (acts : List Act)
-      → IsSpeech setup rule_words
-      → Leads IsAct (say setup from rule_words rest) acts (Ends left) → Talks setup waiters acts rest left
-  said from words.Nothing rest acts speaks leads = talks_none rest acts leads
-  said from (words.Reply head part) rest acts speaks leads = said_back from head part rest acts speaks leads
-  said from (words.All head part) rest acts speaks leads = said_to_each (others setup) head part rest acts
-      speaks leads
-  said from (words.Unanswered head part bits) rest acts speaks leads =
-      said_to_each (places_in bits) head part rest acts speaks leads
-
   -- what was kept, and the outcome that its answer gave
   kept : (now : ℕ) (keep : Option Record) (outcome : Outcome) (rest : Outcome
       → Deeds Ask Left) (acts : List Act)
       → Speaks setup outcome → Leads IsAct (keep_of setup now keep outcome rest) acts (Ends left)
       → (next_outcome : Outcome) × Speaks setup next_outcome × Talks setup waiters acts (rest next_outcome) left
-  kept now None outcome rest acts speaks leads = (outcome, speaks, talks_none (rest outcome) acts leads)
+  kept now None outcome rest acts speaks leads = (outcome, speaks, talks_none setup waiters left (rest outcome) acts leads)
   kept now (Some tried) outcome rest [] speaks leads = absurd cc
   kept now (Some tried) outcome rest (act ∷ acts) speaks leads =
       let after : Outcome = finish setup outcome.view now leads.0 in (
         after,
         rules_speak.answered setup outcome.view now leads.0,
-        talks_more (rest after) act acts (same_ask (Keep tried) (Keep tried) leads.0 act leads.1 tt)
-            (talks_none (rest after) acts leads.2),
+        talks_more setup waiters left (rest after) act acts (same_ask setup waiters left (Keep tried) (Keep tried) leads.0 act leads.1 tt)
+            (talks_none setup waiters left (rest after) acts leads.2),
       )
 
   pub carried : (from : Option ℕ) (now : ℕ) (outcome : Outcome) (rest : Outcome
@@ -230,98 +83,11 @@ module _ (setup : Setup) (waiters : List Waiter) (left : Left) where
       let then_kept : Outcome → Deeds Ask Left = λ first. keep_once setup now first then_said in
       let one = kept now outcome.deed.keep outcome then_kept acts speaks leads in
       let two = kept now one.0.deed.keep one.0 then_said one.2.later one.1 one.2.leads in
-      let three = said from two.0.deed.say (rest two.0) two.2.later two.1 two.2.leads in (
+      let three = said setup waiters left from two.0.deed.say (rest two.0) two.2.later two.1 two.2.leads in (
         two.0,
-        talks_on (then_kept one.0) (rest two.0) acts one.2
-            (talks_on (then_said two.0) (rest two.0) one.2.later two.2 three),
+        talks_on setup waiters left (then_kept one.0) (rest two.0) acts one.2
+            (talks_on setup waiters left (then_said two.0) (rest two.0) one.2.later two.2 three),
       )
-
-  -- those that wait are told
-  told_one : (view : View) (now : ℕ) (waiter : Waiter) (result : Option ℕ) (rest : Deeds Ask Left)
-      (acts : List Act) → IsAmong waiter waiters
-      → Leads IsAct (tell_one setup view now waiter result rest) acts (Ends left)
-      → Talks setup waiters acts rest left
-  told_one view now waiter None rest acts waits leads = talks_none rest acts leads
-  told_one view now waiter (Some result) rest [] waits leads = absurd cc
-  told_one view now waiter (Some result) rest (act ∷ acts) waits leads =
-      let said_so : Ask = Say (Client waiter.from) (head_of setup RGnt waiter.number 0 0 result)
-      (state_part setup view now) in
-      talks_more rest act acts
-      (same_ask said_so said_so leads.0 act leads.1
-      (record {
-        waiter = waiter;
-        waits = waits;
-        to = refl;
-        outcome = record { cmd = refl; request = refl; options = refl; reason = refl; from = refl };
-      }))
-      (talks_none rest acts leads.2)
-
-  told_each : (view : View) (now : ℕ) (told : Told) (ws : List Waiter) (rest : Deeds Ask Left)
-      (acts : List Act) → Fewer waiters ws
-      → Leads IsAct (tell_each setup view now told ws rest) acts (Ends left)
-      → Talks setup waiters acts rest left
-  told_each view now told [] rest acts are leads = talks_none rest acts leads
-  told_each view now told (w ∷ ws) rest acts are leads =
-      let mid : Deeds Ask Left = tell_each setup view now told ws rest in
-      let one : Talks setup waiters acts mid left =
-      told_one view now w (result_for told w) mid acts (are w (inl refl)) leads in
-      talks_on mid rest acts one
-      (told_each view now told ws rest one.later (λ v h. are v (inr h)) one.leads)
-
-  -- each is told, or stays
-  one_remembered : (view : View) (now : ℕ) (waiter : Waiter) (result : Option ℕ) (rest : Deeds Ask Left)
-      (acts : List Act) → Leads IsAct (tell_one setup view now waiter result rest) acts (Ends left)
-      → (is_none result ≡ true) ⊎ IsTold setup waiter acts
-  one_remembered view now waiter None rest acts leads = inl refl
-  one_remembered view now waiter (Some result) rest [] leads = absurd cc
-  one_remembered view now waiter (Some result) rest (act ∷ acts) leads = inr (record {
-    before = [];
-    head = head_of setup RGnt waiter.number 0 0 result;
-    part = state_part setup view now;
-    ok = leads.0;
-    after = acts;
-    whole = ap (λ (a : Act). a ∷ acts) leads.1;
-    outcome = record { cmd = refl; request = refl; options = refl; reason = refl; from = refl };
-  })
-
-  all_remembered : (view : View) (now : ℕ) (told : Told) (ws : List Waiter) (rest : Deeds Ask Left)
-      (acts : List Act) → Fewer waiters ws
-      → Leads IsAct (tell_each setup view now told ws rest) acts (Ends left)
-      → Remembers setup ws (staying told ws) acts
-  all_remembered view now told [] rest acts are leads w h = absurd h
-  all_remembered view now told (x ∷ ws) rest acts are leads w h =
-      let mid : Deeds Ask Left = tell_each setup view now told ws rest in
-      let one : Talks setup waiters acts mid left =
-      told_one view now x (result_for told x) mid acts (are x (inl refl)) leads in
-      by_place h (one_remembered view now x (result_for told x) mid acts leads)
-      (all_remembered view now told ws rest one.later (λ v g. are v (inr g)) one.leads w)
-      (λ told_later. told_behind setup w one.first one.later acts one.whole told_later)
-    where
-      stays_too : (b : Bool) → IsAmong w (staying told ws)
-          → IsAmong w (if b then x ∷ staying told ws else staying told ws)
-      stays_too true g = inr g
-      stays_too false g = g
-
-      stays_first : (b : Bool) → b ≡ true → w ≡ x
-          → IsAmong w (if b then x ∷ staying told ws else staying told ws)
-      stays_first true e same = inl same
-      stays_first false e same = absurd cc
-
-      by_place : {later : List Act} → IsAmong w (x ∷ ws)
-          → (is_none (result_for told x) ≡ true) ⊎ IsTold setup x acts
-          → (IsAmong w ws → IsAmong w (staying told ws) ⊎ IsTold setup w later)
-          → (IsTold setup w later → IsTold setup w acts)
-          → IsAmong w (staying told (x ∷ ws)) ⊎ IsTold setup w acts
-      by_place (inl same) (inl none) more behind =
-          inl (stays_first (is_none (result_for told x)) none same)
-      by_place (inl same) (inr told_now) more behind =
-          inr (subst (λ (y : Waiter). IsTold setup y acts) (sym same) told_now)
-      by_place {later} (inr g) first more behind = by_rest (more g)
-        where
-          by_rest : IsAmong w (staying told ws) ⊎ IsTold setup w later
-              → IsAmong w (staying told (x ∷ ws)) ⊎ IsTold setup w acts
-          by_rest (inl stays) = inl (stays_too (is_none (result_for told x)) stays)
-          by_rest (inr told_later) = inr (behind told_later)
 
   -- nothing follows
   ended : (now : ℕ) (outcome : Outcome) (acts : List Act)
@@ -329,29 +95,10 @@ module _ (setup : Setup) (waiters : List Waiter) (left : Left) where
       → Tells setup waiters left.waiters acts
   ended now outcome acts talks =
       let stay : List Waiter = staying outcome.deed.told waiters in
-      let all : Talks setup waiters acts (Ends (record { view = outcome.view; waiters = stay })) left =
-      talks_on (ends setup now waiters outcome) (Ends (record { view = outcome.view; waiters = stay })) acts
-      talks
-      (told_each outcome.view now outcome.deed.told waiters
-      (Ends (record { view = outcome.view; waiters = stay })) talks.later (λ w h. h) talks.leads) in
-      let over = at_end IsAct (record { view = outcome.view; waiters = stay }) left all.later all.leads in
-      record {
-        among = subst (λ (l : List Act). AllAmong setup waiters l) (sym all.whole)
-            (subst (λ (l : List Act). AllAmong setup waiters (all.first ++ l)) (sym over.0)
-            (each_joined (λ act. Among setup waiters act.ask) all.first [] all.among tt));
-        fewer = subst (λ (l : Left). Fewer waiters l.waiters) (sym over.1)
-            (filtered (λ w. is_none (result_for outcome.deed.told w)) waiters);
-        remembers = subst (λ (l : Left). Remembers setup waiters l.waiters acts) (sym over.1)
-            (λ w h. remembered_behind w
-            (all_remembered outcome.view now outcome.deed.told waiters
-            (Ends (record { view = outcome.view; waiters = stay })) talks.later (λ v g. g) talks.leads w h));
-      }
-    where
-      remembered_behind : (w : Waiter)
-          → IsAmong w (staying outcome.deed.told waiters) ⊎ IsTold setup w talks.later
-          → IsAmong w (staying outcome.deed.told waiters) ⊎ IsTold setup w acts
-      remembered_behind w (inl h) = inl h
-      remembered_behind w (inr told) = inr (told_behind setup w talks.first talks.later acts talks.whole told)
+      let done =
+      told_last setup waiters left (state_part setup outcome.view now) outcome.deed.told
+      (record { view = outcome.view; waiters = stay }) acts talks in
+      subst (λ (l : Left). Tells setup waiters l.waiters acts) (sym done.1) done.0
 
   heard_talks : (view : View) (from : ℕ) (head : Head) (part : TicketPart) (now : ℕ) (acts : List Act)
       → Leads IsAct (hear_message setup view waiters from head part now) acts (Ends left)
@@ -386,8 +133,8 @@ module _ (setup : Setup) (waiters : List Waiter) (left : Left) where
       let first : Outcome = outcome leads.0 in (
         first,
         speaks leads.0,
-        talks_more (rest first) act acts (same_ask (Start job expires) (Start job expires) leads.0 act leads.1 tt)
-            (talks_none (rest first) acts leads.2),
+        talks_more setup waiters left (rest first) act acts (same_ask setup waiters left (Start job expires) (Start job expires) leads.0 act leads.1 tt)
+            (talks_none setup waiters left (rest first) acts leads.2),
       )
 
   pub acquires_talk : (view : View) (job : Option ℕ) (reason now : ℕ) (rest : Outcome → Deeds Ask Left) (acts : List Act)
@@ -395,7 +142,7 @@ module _ (setup : Setup) (waiters : List Waiter) (left : Left) where
       → (first : Outcome) × Speaks setup first × Talks setup waiters acts (rest first) left
   acquires_talk view None reason now rest acts leads =
       let first : Outcome = acquire setup view reason now in
-      (first, acquires_speak view reason now, talks_none (rest first) acts leads)
+      (first, acquires_speak view reason now, talks_none setup waiters left (rest first) acts leads)
   acquires_talk view (Some job) reason now rest acts leads =
       started_talks job 0 (works setup view job reason now) rest acts (works_speak view job reason now) leads
 
@@ -404,7 +151,7 @@ module _ (setup : Setup) (waiters : List Waiter) (left : Left) where
       → (first : Outcome) × Speaks setup first × Talks setup waiters acts (rest first) left
   renews_talk view None now rest acts leads =
       let first : Outcome = renew setup view now in
-      (first, rules_speak.renewed setup view now, talks_none (rest first) acts leads)
+      (first, rules_speak.renewed setup view now, talks_none setup waiters left (rest first) acts leads)
   renews_talk view (Some job) now rest acts leads =
       started_talks job (own_end view / 1000) (checks setup view job now) rest acts (checks_speak view job now) leads
 
@@ -413,14 +160,14 @@ module _ (setup : Setup) (waiters : List Waiter) (left : Left) where
       → (first : Outcome) × Speaks setup first × Talks setup waiters acts (rest first) left
   takes_over_talk view true job now rest acts leads = acquires_talk view job TLST now rest acts leads
   takes_over_talk view false job now rest acts leads =
-      let first : Outcome = quiet (noted setup view now Unready) in (first, tt, talks_none (rest first) acts leads)
+      let first : Outcome = quiet (noted setup view now Unready) in (first, tt, talks_none setup waiters left (rest first) acts leads)
 
   follows_talk : (outcome : Outcome) (want : Want) (ready : Bool) (job : Option ℕ) (now : ℕ) (rest : Outcome → Deeds Ask Left)
       (acts : List Act) → Speaks setup outcome
       → Leads IsAct (follow setup outcome want ready job now rest) acts (Ends left)
       → (first : Outcome) × Speaks setup first × Talks setup waiters acts (rest first) left
   follows_talk outcome wants.Nothing ready job now rest acts speaks leads =
-      (outcome, speaks, talks_none (rest outcome) acts leads)
+      (outcome, speaks, talks_none setup waiters left (rest outcome) acts leads)
   follows_talk outcome wants.Renew ready job now rest acts speaks leads =
       renews_talk outcome.view (if setup.site then job else None) now rest acts leads
   follows_talk outcome wants.Acquire ready job now rest acts speaks leads =
@@ -437,7 +184,7 @@ module _ (setup : Setup) (waiters : List Waiter) (left : Left) where
       by_test : (b : Bool)
           → Leads IsAct (if b then rest failed else rule_due setup view ready job now rest) acts (Ends left)
           → (first : Outcome) × Speaks setup first × Talks setup waiters acts (rest first) left
-      by_test true given = (failed, tt, talks_none (rest failed) acts given)
+      by_test true given = (failed, tt, talks_none setup waiters left (rest failed) acts given)
       by_test false given =
           follows_talk (due_now setup view now) (due_now setup view now).deed.want ready job now rest acts
           (rules_speak.due setup view now) given
@@ -447,13 +194,13 @@ module _ (setup : Setup) (waiters : List Waiter) (left : Left) where
   due_talks view ready job now acts leads =
       let goes : Outcome → Deeds Ask Left = λ o. carry_out setup None now o (ends setup now waiters) in
       let role : Deeds Ask Left = role_due setup (greeted view) ready job now goes in
-      let greeting = said None (hello setup view now) role acts (rules_speak.greeted setup view now) leads in
+      let greeting = said setup waiters left None (hello setup view now) role acts (rules_speak.greeted setup view now) leads in
       let chosen = role_talks (greeted view) ready job now goes greeting.later greeting.leads in
       let done =
       carried None now chosen.0 (ends setup now waiters) chosen.2.later chosen.1 chosen.2.leads in
       ended now done.0 acts
-      (talks_on role (ends setup now waiters done.0) acts greeting
-      (talks_on (goes chosen.0) (ends setup now waiters done.0) greeting.later chosen.2 done.1))
+      (talks_on setup waiters left role (ends setup now waiters done.0) acts greeting
+      (talks_on setup waiters left (goes chosen.0) (ends setup now waiters done.0) greeting.later chosen.2 done.1))
 
   -- ---- the end of a job
 
@@ -489,65 +236,22 @@ module _ (setup : Setup) (waiters : List Waiter) (left : Left) where
 
 -- ---- a client's request
 
-abbrev pub reply_act : Setup → Request → Cmd → ℕ → TicketPart → Bool → Act
-reply_act setup request cmd result part ok =
-    record { ask = Say (Client request.from) (head_of setup cmd request.number 0 0 result) part; ok = ok }
-
--- all acts but the last one reach members and those that wait alone, the last one is the reply, and nobody is
--- forgotten
-pub record Replies (setup : Setup) (waiters stay : List Waiter) (request : Request) (cmd : Cmd)
-    (acts : List Act) : Type 0 where
-  pub before : List Act
-  pub result : ℕ
-  pub part : TicketPart
-  pub ok : Bool
-  pub whole : acts ≡ before ++ reply_act setup request cmd result part ok ∷ []
-  pub among : AllAmong setup waiters before
-  pub remembers : Remembers setup waiters stay acts
-
-among_more : (w : Waiter) (ws more : List Waiter) → IsAmong w ws → IsAmong w (ws ++ more)
-among_more w [] more h = absurd h
-among_more w (x ∷ ws) more (inl e) = inl e
-among_more w (x ∷ ws) more (inr h) = inr (among_more w ws more h)
-
-among_joined : (w : Waiter) (request : Request) (result : ℕ) (ws : List Waiter) → IsAmong w ws
-    → IsAmong w (joined request result ws)
-among_joined w request result ws h =
-    on_cond (λ (l : List Waiter). IsAmong w l) (joins request result) (ws ++ waiter_of request ∷ []) ws
-    (among_more w ws (waiter_of request ∷ []) h) h
-
 module _ (setup : Setup) (waiters : List Waiter) (left : Left) (request : Request) (cmd : Cmd) (now : ℕ) where
   replied : (result : ℕ) (view : View) (stay : List Waiter) (acts : List Act)
       → Talks setup waiters acts (reply setup request cmd result view now stay) left
       → Remembers setup waiters stay acts
       → Replies setup waiters left.waiters request cmd acts
-  replied result view stay acts talks remembers = by_acts talks.later talks.leads talks.whole
+  replied result view stay acts talks remembers =
+      let end : Left = record { view = view; waiters = joined request result stay } in
+      let done =
+      replied_last setup waiters (joined request result stay) left end request cmd result (state_part setup view now) acts talks
+      (λ w h. or_joined w (remembers w h)) in
+      subst (λ (l : Left). Replies setup waiters l.waiters request cmd acts) (sym done.1) done.0
     where
       or_joined : (w : Waiter) → IsAmong w stay ⊎ IsTold setup w acts
           → IsAmong w (joined request result stay) ⊎ IsTold setup w acts
       or_joined w (inl h) = inl (among_joined w request result stay h)
       or_joined w (inr told) = inr told
-
-      by_acts : (later : List Act)
-          → Leads IsAct (reply setup request cmd result view now stay) later (Ends left)
-          → acts ≡ talks.first ++ later → Replies setup waiters left.waiters request cmd acts
-      by_acts [] leads whole = absurd cc
-      by_acts (act ∷ later) leads whole =
-          let end : Left = record { view = view; waiters = joined request result stay } in
-          let none = (at_end IsAct end left later leads.2).0 in
-          let over : left ≡ end = (at_end IsAct end left later leads.2).1 in
-          record {
-            before = talks.first;
-            result = result;
-            part = state_part setup view now;
-            ok = leads.0;
-            whole = whole
-                ∙ ap (λ (l : List Act). talks.first ++ act ∷ l) none
-                ∙ ap (λ (a : Act). talks.first ++ a ∷ []) leads.1;
-            among = talks.among;
-            remembers = subst (λ (l : Left). Remembers setup waiters l.waiters acts) (sym over)
-                (λ w h. or_joined w (remembers w h));
-          }
 
   -- those that wait are told, and then who asked is answered
   told_and_replied : (result : ℕ) (outcome : Outcome) (acts : List Act)
@@ -558,10 +262,10 @@ module _ (setup : Setup) (waiters : List Waiter) (left : Left) (request : Reques
       let last : Deeds Ask Left = reply setup request cmd result outcome.view now stay in
       replied result outcome.view stay acts
       (talks_on setup waiters left (replies setup waiters request cmd now result outcome) last acts talks
-      (told_each setup waiters left outcome.view now outcome.deed.told waiters last talks.later (λ w h. h)
+      (told_each setup waiters left (state_part setup outcome.view now) outcome.deed.told waiters last talks.later (λ w h. h)
       talks.leads))
       (λ w h. behind w
-      (all_remembered setup waiters left outcome.view now outcome.deed.told waiters last talks.later (λ v g. g)
+      (all_remembered setup waiters left (state_part setup outcome.view now) outcome.deed.told waiters last talks.later (λ v g. g)
       talks.leads w h))
     where
       behind : (w : Waiter)
@@ -612,33 +316,6 @@ module _ (setup : Setup) (waiters : List Waiter) (spare : ℕ) (ready : Bool) (j
 
 -- ---- what befalls a ticket
 
--- acts that reach members alone reach nobody else
-members_among : (setup : Setup) (waiters : List Waiter) (acts : List Act) → AllToMembers setup acts
-    → AllAmong setup waiters acts
-members_among setup waiters [] members = tt
-members_among setup waiters (act ∷ acts) members =
-    (one act.ask members.0, members_among setup waiters acts members.1)
-  where
-    one : (ask : Ask) → ToMembers setup ask → Among setup waiters ask
-    one (Keep tried) member = tt
-    one (Start job expires) member = tt
-    one (Say (Member place) head part) member = member
-    one (Say (Client peer) head part) member = absurd member
-
--- those that wait stay, whatever is done
-all_stay : (setup : Setup) (waiters stay : List Waiter) (acts : List Act) → stay ≡ waiters
-    → Remembers setup waiters stay acts
-all_stay setup waiters stay acts same waiter waits =
-    inl (subst (λ (l : List Waiter). IsAmong waiter l) (sym same) waits)
-
-members_told : (setup : Setup) (waiters stay : List Waiter) (acts : List Act) → AllToMembers setup acts
-    → stay ≡ waiters → Tells setup waiters stay acts
-members_told setup waiters stay acts members same = record {
-  among = members_among setup waiters acts members;
-  fewer = λ waiter waits. subst (λ (l : List Waiter). IsAmong waiter l) same waits;
-  remembers = all_stay setup waiters stay acts same;
-}
-
 -- the rules' deeds, and what they leave
 ruled : (setup : Setup) (deeds : Deeds Ask Left) (acts : List Act) (left : TicketLeft)
     → Leads IsAct (by_rules setup deeds) acts (Ends left)
@@ -687,13 +364,13 @@ module _ (ticket : TicketState) (left : TicketLeft) (waiters : List Waiter) (spa
           ap (λ (l : TicketLeft). l.ticket.setup)
           (ruled ticket.setup (end_job ticket.setup view waiters number service now) acts left leads).2
       by_kind (IsManual known) Due leads =
-          (due_by_hand ticket.setup waiters left acts known leads).1.setup_stays
+          (due_by_hand ticket.setup waiters left acts known now leads).1
       by_kind (IsManual known) (Heard from head part) leads =
-          (heard_by_hand ticket.setup waiters left acts known from head part leads).1.setup_stays
+          (heard_by_hand ticket.setup waiters left acts known from head part leads).1
       by_kind (IsManual known) (Asked request) leads =
-          (asked_by_hand ticket.setup waiters left acts known spare (ready Manual) request leads).1.setup_stays
+          (asked_by_hand ticket.setup waiters left acts known spare (ready Manual) job request now leads).1
       by_kind (IsManual known) (Over number service) leads =
-          (over_by_hand ticket.setup waiters left acts known leads).1.setup_stays
+          (over_by_hand ticket.setup waiters left acts known number service leads).1
 
   -- a deadline and a member's message reach members and those that wait alone
   pub due_among : Leads IsAct (befalls ticket waiters spare ready job Due now) acts (Ends left)
@@ -705,8 +382,7 @@ module _ (ticket : TicketState) (left : TicketLeft) (waiters : List Waiter) (spa
           let r = ruled ticket.setup (tick ticket.setup view waiters (ready Auto) job now) acts left leads in
           told_so r.0 r.2 (due_talks ticket.setup waiters r.0 view (ready Auto) job now acts r.1)
       by_kind (IsManual known) leads =
-          let it = due_by_hand ticket.setup waiters left acts known leads in
-          members_told ticket.setup waiters left.waiters acts it.0 it.1.waiters_stay
+          (due_by_hand ticket.setup waiters left acts known now leads).0
 
   -- and so does the end of a job
   pub over_among : (number : ℕ) (service : Service)
@@ -719,8 +395,7 @@ module _ (ticket : TicketState) (left : TicketLeft) (waiters : List Waiter) (spa
           let r = ruled ticket.setup (end_job ticket.setup view waiters number service now) acts left leads in
           told_so r.0 r.2 (over_talks ticket.setup waiters r.0 view number service now acts r.1)
       by_kind (IsManual known) leads =
-          let it = over_by_hand ticket.setup waiters left acts known leads in
-          members_told ticket.setup waiters left.waiters acts it.0 it.1.waiters_stay
+          (over_by_hand ticket.setup waiters left acts known number service leads).0
 
   pub heard_among : (from : ℕ) (head : Head) (part : TicketPart)
       → Leads IsAct (befalls ticket waiters spare ready job (Heard from head part) now) acts (Ends left)
@@ -734,8 +409,7 @@ module _ (ticket : TicketState) (left : TicketLeft) (waiters : List Waiter) (spa
           ruled ticket.setup (hear_message ticket.setup view waiters from head part now) acts left leads in
           told_so r.0 r.2 (heard_talks ticket.setup waiters r.0 view from head part now acts r.1)
       by_kind (IsManual known) leads =
-          let it = heard_by_hand ticket.setup waiters left acts known from head part leads in
-          members_told ticket.setup waiters left.waiters acts it.0 it.1.waiters_stay
+          (heard_by_hand ticket.setup waiters left acts known from head part leads).0
 
   pub asked_replied : (request : Request)
       → Leads IsAct (befalls ticket waiters spare ready job (Asked request) now) acts (Ends left)
@@ -752,13 +426,4 @@ module _ (ticket : TicketState) (left : TicketLeft) (waiters : List Waiter) (spa
           acts) (sym r.2)
           (asked_replies ticket.setup waiters spare (ready Manual) job r.0 request now view request.wish acts r.1)
       by_kind (IsManual known) leads =
-          let it = asked_by_hand ticket.setup waiters left acts known spare (ready Manual) request leads in
-          record {
-            before = it.0.before;
-            result = it.0.result;
-            part = manual_reply_part ticket.setup it.0.view;
-            ok = it.0.ok;
-            whole = it.0.whole;
-            among = members_among ticket.setup waiters it.0.before it.0.members;
-            remembers = all_stay ticket.setup waiters left.waiters acts it.1.waiters_stay;
-          }
+          (asked_by_hand ticket.setup waiters left acts known spare (ready Manual) job request now leads).0

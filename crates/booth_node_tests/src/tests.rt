@@ -7,6 +7,7 @@ mod frames;
 mod handlers;
 mod lines;
 mod manual;
+mod manual_handlers;
 mod many_tickets;
 mod replies;
 mod rows;

@@ -11,6 +11,7 @@ use Rattle.booth_wire.specs.declared.message.Say.{Say as Words}
 use Rattle.booth_raft.specs.declared.deed.Deed.{Deed}
 use Rattle.booth_raft.specs.declared.deed.Told.{Told}
 use Rattle.booth_raft.specs.declared.view.View.{View}
+use Rattle.booth_raft.specs.Messages.{state_part}
 use Rattle.booth_raft.specs.Outcome.{Outcome}
 use Rattle.booth_ticket.specs.declared.hands.To.{To}
 use Rattle.booth_ticket.specs.declared.request.Request.{Request}
@@ -87,13 +88,13 @@ module _ {X : Type 0} {did : X → Act → X → Type 0} where
   pub then_told : {a b c : X} (setup : Setup) (now : ℕ) (waiters : List Waiter)
       (f : (Outcome → Deeds Ask Left) → Deeds Ask Left) (last : Outcome)
       → DidSome did (FromTo f last) a b
-      → DidSome did (First {S = Left} (tell_each setup last.view now last.deed.told waiters)) b c
+      → DidSome did (First {S = Left} (tell_each setup (state_part setup last.view now) last.deed.told waiters)) b c
       → DidSome did (Whole (f (ends setup now waiters))
       (record { view = last.view; waiters = staying last.deed.told waiters })) a c
   then_told setup now waiters f last first later =
       let left : Left = record { view = last.view; waiters = staying last.deed.told waiters } in
       did_joined (FromTo f last)
-      (First {S = Left} (tell_each setup last.view now last.deed.told waiters))
+      (First {S = Left} (tell_each setup (state_part setup last.view now) last.deed.told waiters))
       (Whole (f (ends setup now waiters)) left)
       (λ xs ys p q. leads_on IsAct (f (ends setup now waiters)) (ends setup now waiters last)
       (Ends left) xs ys (p (ends setup now waiters)) (q (Ends left)))
@@ -118,7 +119,7 @@ module _ {X : Type 0} {did : X → Act → X → Type 0} where
   pub then_replied : {a b c d : X} (setup : Setup) (waiters : List Waiter) (request : Request) (cmd : Cmd)
       (now answer : ℕ) (f : (ℕ → Outcome → Deeds Ask Left) → Deeds Ask Left) (last : Outcome)
       → DidSome did (Answers f answer last) a b
-      → DidSome did (First {S = Left} (tell_each setup last.view now last.deed.told waiters)) b c
+      → DidSome did (First {S = Left} (tell_each setup (state_part setup last.view now) last.deed.told waiters)) b c
       → DidSome did (Replies setup request cmd answer last.view now) c d
       → DidSome did (Whole (f (replies setup waiters request cmd now))
       (record {
@@ -135,7 +136,7 @@ module _ {X : Type 0} {did : X → Act → X → Type 0} where
       (λ xs ys p q. leads_on IsAct whole then_rest (Ends left) xs ys
       (p (replies setup waiters request cmd now)) q)
       first
-      (did_joined (First {S = Left} (tell_each setup last.view now last.deed.told waiters))
+      (did_joined (First {S = Left} (tell_each setup (state_part setup last.view now) last.deed.told waiters))
       (Replies setup request cmd answer last.view now) (Whole then_rest left)
       (λ xs ys p q. leads_on IsAct then_rest rest (Ends left) xs ys (p rest) (q stay))
       told later)
@@ -145,7 +146,7 @@ module _ {X : Type 0} {did : X → Act → X → Type 0} where
       (spare spare' : ℕ) (ready : Bool) (job : Option ℕ) (request : Request) (wanted : Wish) (now answer : ℕ) (last : Outcome)
       → setup' ≡ setup → spare' ≡ spare
       → DidSome did (Answers (done_for setup view spare' ready job request.options wanted now) answer last) a b
-      → DidSome did (First {S = Left} (tell_each setup' last.view now last.deed.told waiters)) b c
+      → DidSome did (First {S = Left} (tell_each setup' (state_part setup' last.view now) last.deed.told waiters)) b c
       → DidSome did (Replies setup' request (reply_cmd wanted) answer last.view now) c d
       → stay ≡ staying last.deed.told waiters → left ≡ joined request answer stay
       → DidSome did (Whole (wish setup view waiters spare ready job request wanted now)
@@ -160,7 +161,7 @@ module _ {X : Type 0} {did : X → Act → X → Type 0} where
       (subst (λ (n : ℕ). DidSome did (Answers (done_for setup view n ready job request.options wanted now) answer last)
       a b) same_spare first)
       (subst (λ (s : Setup). DidSome did
-      (First {S = Left} (tell_each s last.view now last.deed.told waiters)) b c) same_setup told)
+      (First {S = Left} (tell_each s (state_part s last.view now) last.deed.told waiters)) b c) same_setup told)
       (subst (λ (s : Setup). DidSome did (Replies s request (reply_cmd wanted) answer last.view now) c d)
       same_setup later))
 
@@ -168,7 +169,7 @@ module _ {X : Type 0} {did : X → Act → X → Type 0} where
   pub finished_call : {a b c : X} (setup setup' : Setup) (now : ℕ) (waiters stay : List Waiter)
       (f : (Outcome → Deeds Ask Left) → Deeds Ask Left) (last : Outcome) → setup' ≡ setup
       → DidSome did (FromTo f last) a b
-      → DidSome did (First {S = Left} (tell_each setup' last.view now last.deed.told waiters)) b c
+      → DidSome did (First {S = Left} (tell_each setup' (state_part setup' last.view now) last.deed.told waiters)) b c
       → stay ≡ staying last.deed.told waiters
       → DidSome did (Whole (f (ends setup now waiters)) (record { view = last.view; waiters = stay })) a c
   finished_call {a} {b} {c} setup setup' now waiters stay f last same first told stay_is =
@@ -176,7 +177,7 @@ module _ {X : Type 0} {did : X → Act → X → Type 0} where
       (record { view = last.view; waiters = ws })) a c) (sym stay_is)
       (then_told setup now waiters f last first
       (subst (λ (s : Setup). DidSome did
-      (First {S = Left} (tell_each s last.view now last.deed.told waiters)) b c) same told))
+      (First {S = Left} (tell_each s (state_part s last.view now) last.deed.told waiters)) b c) same told))
 
   -- the deeds of the rules are those of the ticket
   pub by_rules_did : {a b : X} (setup setup' : Setup) (deeds : Deeds Ask Left) (left : Left)
@@ -203,20 +204,30 @@ module _ {X : Type 0} {did : X → Act → X → Type 0} where
       done)
 
   -- a client that waits is told its result
-  pub told_one : {a b : X} (setup : Setup) (view : View) (now : ℕ) (waiter : Waiter) (result : Option ℕ)
+  pub told_one : {a b : X} (setup : Setup) (part : TicketPart) (waiter : Waiter) (result : Option ℕ)
       (answer : ℕ) → result ≡ Some answer
-      → DidSome did (First {S = Left} (tell_one setup view now waiter (Some answer))) a b
-      → DidSome did (First {S = Left} (tell_one setup view now waiter result)) a b
-  told_one {a} {b} setup view now waiter result answer is done =
-      subst (λ (o : Option ℕ). DidSome did (First {S = Left} (tell_one setup view now waiter o)) a b)
+      → DidSome did (First {S = Left} (tell_one setup part waiter (Some answer))) a b
+      → DidSome did (First {S = Left} (tell_one setup part waiter result)) a b
+  told_one {a} {b} setup part waiter result answer is done =
+      subst (λ (o : Option ℕ). DidSome did (First {S = Left} (tell_one setup part waiter o)) a b)
       (sym is) done
 
   -- the result that the code found is the outcome's
-  pub told_by : {a b : X} (setup : Setup) (view : View) (now : ℕ) (waiter : Waiter) (found result : Option ℕ)
-      → found ≡ result → DidSome did (First {S = Left} (tell_one setup view now waiter found)) a b
-      → DidSome did (First {S = Left} (tell_one setup view now waiter result)) a b
-  told_by {a} {b} setup view now waiter found result is done =
-      subst (λ (o : Option ℕ). DidSome did (First {S = Left} (tell_one setup view now waiter o)) a b) is done
+  pub told_by : {a b : X} (setup : Setup) (part : TicketPart) (waiter : Waiter) (found result : Option ℕ)
+      → found ≡ result → DidSome did (First {S = Left} (tell_one setup part waiter found)) a b
+      → DidSome did (First {S = Left} (tell_one setup part waiter result)) a b
+  told_by {a} {b} setup part waiter found result is done =
+      subst (λ (o : Option ℕ). DidSome did (First {S = Left} (tell_one setup part waiter o)) a b) is done
+
+  -- those that wait are told, with the setup and the state that the code found
+  pub told_with : {a b : X} (setup setup' : Setup) (part part' : TicketPart) (told : Told) (waiters : List Waiter)
+      → setup' ≡ setup → part' ≡ part
+      → DidSome did (First {S = Left} (tell_each setup' part' told waiters)) a b
+      → DidSome did (First {S = Left} (tell_each setup part told waiters)) a b
+  told_with {a} {b} setup setup' part part' told waiters same_setup same_part done =
+      subst (λ (s : Setup). DidSome did (First {S = Left} (tell_each s part told waiters)) a b) same_setup
+      (subst (λ (p : TicketPart). DidSome did (First {S = Left} (tell_each setup' p told waiters)) a b) same_part
+      done)
 
   -- one message to a client
   pub said_to_client : {a b : X} (to : To) (head' head : Head) (part' part : TicketPart)

@@ -162,10 +162,10 @@ module _ (setup : Setup) (waiters : List Waiter) (request : Request) (now : ℕ)
   asks_now rec left = AsksVotes rec (joined request ASYN waiters) left
 
   -- nobody that waits is told anything
-  none_told : (view : View) (ws : List Waiter) (rest : Deeds Ask Left)
-      → tell_each setup view now tells.Nothing ws rest ≡ rest
-  none_told view [] rest = refl
-  none_told view (w ∷ ws) rest = none_told view ws rest
+  none_told : (part : TicketPart) (ws : List Waiter) (rest : Deeds Ask Left)
+      → tell_each setup part tells.Nothing ws rest ≡ rest
+  none_told part [] rest = refl
+  none_told part (w ∷ ws) rest = none_told part ws rest
 
   all_stay : (ws : List Waiter) → staying tells.Nothing ws ≡ ws
   all_stay [] = refl
@@ -197,7 +197,7 @@ module _ (setup : Setup) (waiters : List Waiter) (request : Request) (now : ℕ)
       subst (λ (t : Deeds Ask Left). Leads IsAct t
       (said (Client request.from) (head_of setup RGnt request.number 0 0 ASYN)
       (state_part setup view now) ∷ []) (Ends left))
-      (sym (none_told after waiters (reply setup request RGnt ASYN after now (staying tells.Nothing waiters)))) (
+      (sym (none_told (state_part setup after now) waiters (reply setup request RGnt ASYN after now (staying tells.Nothing waiters)))) (
         true,
         refl,
         ap (λ (ws : List Waiter). Ends (record { view = after; waiters = joined request ASYN ws }))
@@ -291,18 +291,18 @@ asks_everyone setup view waiters spare ready request now none few =
 -- ---- an answer is heard
 
 -- all that wait are told of a kept lease, and nobody waits on
-all_told : (setup : Setup) (view : View) (now : ℕ) (waiters : List Waiter) (part : TicketPart)
-    (rest : Deeds Ask Left) → state_part setup view now ≡ part
-    → Leads IsAct (tell_each setup view now (tells.Gained true) waiters rest)
+pub all_told : {S : Type 0} (setup : Setup) (found : TicketPart) (waiters : List Waiter) (part : TicketPart)
+    (rest : Deeds Ask S) → found ≡ part
+    → Leads IsAct (tell_each setup found (tells.Gained true) waiters rest)
     (told_granted setup waiters part) rest
-all_told setup view now [] part rest is = refl
-all_told setup view now (w ∷ ws) part rest is = (
+all_told setup found [] part rest is = refl
+all_told setup found (w ∷ ws) part rest is = (
   true,
   ap (λ (p : TicketPart). said (Client w.from) (head_of setup RGnt w.number 0 0 SUCCESS) p) (sym is),
-  all_told setup view now ws part rest is,
+  all_told setup found ws part rest is,
 )
 
-none_stay : (waiters : List Waiter) → staying (tells.Gained true) waiters ≡ []
+pub none_stay : (waiters : List Waiter) → staying (tells.Gained true) waiters ≡ []
 none_stay [] = refl
 none_stay (w ∷ ws) = none_stay ws
 
@@ -326,7 +326,7 @@ gain_done setup view waiters round from now before =
     let clients : Leads IsAct rest (told_granted setup waiters (told setup.me)) (Ends left) =
     subst (λ (ws : List Waiter). Leads IsAct rest (told_granted setup waiters (told setup.me))
     (Ends (record { view = after; waiters = ws }))) (none_stay waiters)
-    (all_told setup after now waiters (told setup.me)
+    (all_told setup (state_part setup after now) waiters (told setup.me)
     (Ends (record { view = after; waiters = staying (tells.Gained true) waiters })) owned) in
     let members : Leads IsAct (say_each (others setup) head (told (if nat_lt now (round.opened + setup.times.expire) then setup.me else NO_ONE)) rest)
     (said_to_each (others setup) head (told setup.me)) rest =

@@ -16,7 +16,8 @@ use Rattle.booth_manual.specs.declared.view.Waiting.{Waiting}
 use Rattle.booth_manual.specs.GrantAndRevoke.{finish, goes_on}
 use Rattle.booth_manual.specs.Hearing.{hear}
 use Rattle.booth_manual.specs.Outcome.{Outcome, quiet}
-use Rattle.booth_ticket.specs.Manual.{ManualKnown, greeting}
+use Rattle.booth_ticket.specs.Manual.{ManualKnown}
+use Rattle.booth_ticket.specs.ManualHandling.{greeting}
 
 pub hearing_speaks : (setup : Setup) (view : ManualView) (head : Head) (part : TicketPart) (cmd : Cmd)
     → IsSpeech setup (hear setup view head part cmd).say
@@ -67,7 +68,7 @@ pub greeting_speaks : (setup : Setup) (known : ManualKnown) → IsSpeech setup (
 greeting_speaks setup known = by_greeting known.greets_at
   where
     by_greeting : (greets_at : Option _)
-        → IsSpeech setup (greeting setup (record { view = known.view; greets_at = greets_at }))
+        → IsSpeech setup (greeting setup (record known { greets_at = greets_at }))
     by_greeting None = tt
     by_greeting (Some at) = record { between = refl; from = refl; ticket = refl }
 

@@ -11,8 +11,8 @@ use Rattle.std.proofs.Math.ListN.{drop_of_length-le}
 use Rattle.booth_base.specs.Tree.{Deeds, Leads}
 use Rattle.booth_base.proofs.TreeLemmas.{leads_on}
 use Rattle.booth_wire.specs.declared.message.Setup.{Setup}
+use Rattle.booth_wire.specs.declared.message.TicketPart.{TicketPart}
 use Rattle.booth_raft.specs.declared.deed.Told.{Told}
-use Rattle.booth_raft.specs.declared.view.View.{View}
 use Rattle.booth_ticket.specs.declared.waiters.Waiter.{Waiter}
 use Rattle.booth_ticket.specs.Acts.{Ask, Act, IsAct, DidSome}
 use Rattle.booth_ticket.specs.Automatic.{Left}
@@ -137,11 +137,11 @@ module _ (lists : List (List Waiter)) (list : ℕ) (told : Told) where
 
   -- ---- the acts
 
-  module _ (setup : Setup) (view : View) (now : ℕ) where
+  module _ (setup : Setup) (part : TicketPart) where
     -- what was said so far leads to what the others are told
     abbrev pub ToldSome : ℕ → List Act → Type 0
-    ToldSome i acts = (rest : Deeds Ask Left) → Leads IsAct (tell_each setup view now told waiters rest) acts
-        (tell_each setup view now told (drop i waiters) rest)
+    ToldSome i acts = (rest : Deeds Ask Left) → Leads IsAct (tell_each setup part told waiters rest) acts
+        (tell_each setup part told (drop i waiters) rest)
 
     module _ {X : Type 0} {did : X → Act → X → Type 0} where
       pub told_none : (a : X) → DidSome did (ToldSome 0) a a
@@ -149,27 +149,27 @@ module _ (lists : List (List Waiter)) (list : ℕ) (told : Told) where
 
       pub told_next : {a b c : X} (i : ℕ) (w : Waiter) → i < length waiters → w ≡ get_or waiters i w
           → DidSome did (ToldSome i) a b
-          → DidSome did (First {S = Left} (tell_one setup view now w (result_for told w))) b c
+          → DidSome did (First {S = Left} (tell_one setup part w (result_for told w))) b c
           → DidSome did (ToldSome (i + 1)) a c
       told_next i w below w_is first later =
-          let one : (rest : Deeds Ask Left) → tell_each setup view now told (drop i waiters) rest
-          ≡ tell_one setup view now w (result_for told w) (tell_each setup view now told (drop (i + 1) waiters) rest) =
-          λ rest. ap (λ ws. tell_each setup view now told ws rest) (drop_more waiters i w below)
-          ∙ ap (λ (x : Waiter). tell_one setup view now x (result_for told x)
-          (tell_each setup view now told (drop (i + 1) waiters) rest)) (sym w_is) in
-          did_joined (ToldSome i) (First {S = Left} (tell_one setup view now w (result_for told w)))
+          let one : (rest : Deeds Ask Left) → tell_each setup part told (drop i waiters) rest
+          ≡ tell_one setup part w (result_for told w) (tell_each setup part told (drop (i + 1) waiters) rest) =
+          λ rest. ap (λ ws. tell_each setup part told ws rest) (drop_more waiters i w below)
+          ∙ ap (λ (x : Waiter). tell_one setup part x (result_for told x)
+          (tell_each setup part told (drop (i + 1) waiters) rest)) (sym w_is) in
+          did_joined (ToldSome i) (First {S = Left} (tell_one setup part w (result_for told w)))
           (ToldSome (i + 1))
           (λ xs ys p q rest.
-          leads_on IsAct (tell_each setup view now told waiters rest)
-          (tell_each setup view now told (drop i waiters) rest)
-          (tell_each setup view now told (drop (i + 1) waiters) rest) xs ys (p rest)
-          (subst (λ (t : Deeds Ask Left). Leads IsAct t ys (tell_each setup view now told (drop (i + 1) waiters) rest))
-          (sym (one rest)) (q (tell_each setup view now told (drop (i + 1) waiters) rest))))
+          leads_on IsAct (tell_each setup part told waiters rest)
+          (tell_each setup part told (drop i waiters) rest)
+          (tell_each setup part told (drop (i + 1) waiters) rest) xs ys (p rest)
+          (subst (λ (t : Deeds Ask Left). Leads IsAct t ys (tell_each setup part told (drop (i + 1) waiters) rest))
+          (sym (one rest)) (q (tell_each setup part told (drop (i + 1) waiters) rest))))
           first later
 
       pub told_all : {a b : X} (i : ℕ) → length waiters ≤ i → DidSome did (ToldSome i) a b
-          → DidSome did (First {S = Left} (tell_each setup view now told waiters)) a b
+          → DidSome did (First {S = Left} (tell_each setup part told waiters)) a b
       told_all {a} {b} i past done =
           subst (λ (ws : List Waiter). DidSome did
-          (λ acts. (rest : Deeds Ask Left) → Leads IsAct (tell_each setup view now told waiters rest) acts
-          (tell_each setup view now told ws rest)) a b) (drop_of_length-le waiters past) done
+          (λ acts. (rest : Deeds Ask Left) → Leads IsAct (tell_each setup part told waiters rest) acts
+          (tell_each setup part told ws rest)) a b) (drop_of_length-le waiters past) done

@@ -9,6 +9,7 @@ pub mod Requests
 pub mod Automatic
 pub mod Manual
 pub mod ManualRequests
+pub mod ManualHandling
 pub mod Ticket
 pub mod Kinds
 pub mod Fake

@@ -1,5 +1,6 @@
 -- Laws over the trees of manual tickets: what is done where it may be, whatever the setup and the view.
-use Rattle.std.specs.Prelude.{◌≡◌, ℕ, ◌+◌, Bool, true, false, List, [], ◌∷◌, ◌++◌, None}
+use Rattle.std.specs.Prelude.{◌≡◌, ℕ, ◌+◌, Bool, true, false, List, [], ◌∷◌, ◌++◌, Option, None}
+use Rattle.std.specs.Option.{is_some}
 use Rattle.booth_base.specs.declared.address.Peer.{Peer}
 use Rattle.booth_base.specs.declared.address.TheConstants.{NO_ONE}
 use Rattle.booth_base.specs.Tree.{Deeds, Ends, Leads}
@@ -11,7 +12,7 @@ use Rattle.booth_wire.specs.declared.command.Cmd.TheVariants.{UpdE, Revk, RGnt, 
 use Rattle.booth_wire.specs.declared.message.Setup.{Setup}
 use Rattle.booth_manual.specs.declared.view.TheConstants.{NO_END_SECONDS}
 use Rattle.booth_manual.specs.declared.view.ManualView.{ManualView}
-use Rattle.booth_manual.specs.GrantAndRevoke.{granted_record}
+use Rattle.booth_manual.specs.GrantAndRevoke.{are_terms_spent, granted_record}
 use Rattle.booth_manual.specs.Messages.{head_of, part_of, shown_or_none}
 use Rattle.booth_raft.specs.Messages.{head_of as reply_head}
 use Rattle.booth_ticket.specs.declared.hands.To.TheVariants.{Client}
@@ -19,16 +20,20 @@ use Rattle.booth_ticket.specs.declared.request.Request.{Request}
 use Rattle.booth_ticket.specs.declared.request.Wish.{Wish}
 use Rattle.booth_ticket.specs.declared.request.Wish.TheVariants.{Grant, Revoke}
 use Rattle.booth_ticket.specs.Acts.{Ask, Act, IsAct, kept, said, said_to_each}
-use Rattle.booth_ticket.specs.Manual.{ManualKnown}
+use Rattle.booth_ticket.specs.declared.handling.Service.TheVariants.{CanRun}
+use Rattle.booth_ticket.specs.declared.waiters.Waiter.{Waiter}
+use Rattle.booth_ticket.specs.Laws.{told_granted}
+use Rattle.booth_ticket.specs.Manual.{ManualKnown, ManualLeft}
+use Rattle.booth_ticket.specs.ManualHandling.{is_awaited, manual_over}
 use Rattle.booth_ticket.specs.ManualRequests.{manual_asked, refused_manual_grant}
 use Rattle.booth_ticket.specs.Saying.{others}
 
 -- these acts are all of the tree along its path of these answers, and leave the ticket with this view
-pub record IsDoneByHand (deeds : Deeds Ask ManualKnown) (acts : List Act) (Holds : ManualView → Type 0) : Type 0
+pub record IsDoneByHand (deeds : Deeds Ask ManualLeft) (acts : List Act) (Holds : ManualLeft → Type 0) : Type 0
   where
-    pub left : ManualKnown
+    pub left : ManualLeft
     pub all : Leads IsAct deeds acts (Ends left)
-    pub holds : Holds left.view
+    pub holds : Holds left
 
 abbrev pub request_for : Wish → Peer → ℕ → ℕ → Request
 request_for wish from number options =
@@ -51,14 +56,39 @@ pub record HoldsByHand (own : Record) (view : ManualView) : Type 0 where
   pub kept_record : view.kept ≡ own
   pub shown : view.shown ≡ None
 
--- A grant that meets no refusal, at a site that does not hold the ticket, is kept, told to all others and answered with
--- success, where the keep answers Ok.
+-- A grant of a ticket without a handler that meets no refusal, at a site that does not hold the ticket, is kept, told
+-- to all others and answered with success, where the keep answers Ok.
 abbrev pub GrantsByHand : Type 0
 GrantsByHand =
-    (setup : Setup) (known : ManualKnown) (spare : ℕ) (ready : Bool) (from : Peer) (number options : ℕ)
-    → known.view.owner ≡ false → refused_manual_grant setup known.view spare ready options ≡ None
-    → IsDoneByHand (manual_asked setup known spare ready (request_for Grant from number options))
-    (granting setup known.view from number) (HoldsByHand (granted_record known.view))
+    (setup : Setup) (known : ManualKnown) (waiters : List Waiter) (spare : ℕ) (ready : Bool) (from : Peer)
+    (number options now : ℕ) → known.view.owner ≡ false
+    → refused_manual_grant setup known.view (is_some known.job) spare ready options ≡ None
+    → IsDoneByHand
+    (manual_asked setup known waiters spare ready None (request_for Grant from number options) now)
+    (granting setup known.view from number) (λ left. HoldsByHand (granted_record known.view) left.known.view)
+
+-- the lease is kept, each other member is told, and then each client that waits
+abbrev pub granting_to_all : Setup → ManualView → List Waiter → List Act
+granting_to_all setup view waiters =
+    kept (granted_record view) true
+    ∷ said_to_each (others setup) (head_of setup UpdE 0 NONE)
+    (part_of setup setup.me (view.term + 1) NO_END_SECONDS)
+    ++ told_granted setup waiters (part_of setup setup.me (view.term + 1) NO_END_SECONDS)
+
+-- this site holds the ticket, no handler runs, and no client waits
+pub record HoldsAfterHandler (own : Record) (left : ManualLeft) : Type 0 where
+  pub holds : HoldsByHand own left.known.view
+  pub over : left.known.job ≡ None
+  pub waiting : left.waiters ≡ []
+
+-- Where the handler of a grant says that the service can run, the grant is kept, told to all others and to each client
+-- that waits, where a term is left and the keep answers Ok.
+abbrev pub GrantsAfterHandler : Type 0
+GrantsAfterHandler =
+    (setup : Setup) (known : ManualKnown) (waiters : List Waiter) (job : ℕ)
+    → is_awaited known.job job ≡ true → are_terms_spent known.view ≡ false
+    → IsDoneByHand (manual_over setup known waiters job CanRun) (granting_to_all setup known.view waiters)
+    (HoldsAfterHandler (granted_record known.view))
 
 -- a record without a lease is kept, each other member is told, and then who asked
 abbrev pub giving_back : Setup → ManualView → Peer → ℕ → List Act
@@ -79,7 +109,8 @@ pub record HoldsNoMore (own : Record) (view : ManualView) : Type 0 where
 -- answers Ok.
 abbrev pub RevokesByHand : Type 0
 RevokesByHand =
-    (setup : Setup) (known : ManualKnown) (spare : ℕ) (ready : Bool) (from : Peer) (number options : ℕ)
-    → known.view.owner ≡ true
-    → IsDoneByHand (manual_asked setup known spare ready (request_for Revoke from number options))
-    (giving_back setup known.view from number) (HoldsNoMore (plain known.view.term None))
+    (setup : Setup) (known : ManualKnown) (waiters : List Waiter) (spare : ℕ) (ready : Bool) (job : Option ℕ)
+    (from : Peer) (number options now : ℕ) → known.view.owner ≡ true
+    → IsDoneByHand
+    (manual_asked setup known waiters spare ready job (request_for Revoke from number options) now)
+    (giving_back setup known.view from number) (λ left. HoldsNoMore (plain known.view.term None) left.known.view)

@@ -16,7 +16,8 @@ use Rattle.booth_ticket.specs.declared.request.Request.{Request}
 use Rattle.booth_ticket.specs.declared.waiters.Waiter.{Waiter}
 use Rattle.booth_ticket.specs.Acts.{Ask}
 use Rattle.booth_ticket.specs.Automatic.{Left, end_job, hear_message, tick}
-use Rattle.booth_ticket.specs.Manual.{ManualKnown, manual_started, manual_heard, manual_due}
+use Rattle.booth_ticket.specs.Manual.{ManualKnown, ManualLeft, manual_started, manual_heard}
+use Rattle.booth_ticket.specs.ManualHandling.{manual_deadline, manual_due, manual_over}
 use Rattle.booth_ticket.specs.ManualRequests.{manual_asked}
 use Rattle.booth_ticket.specs.Requests.{wish}
 
@@ -53,47 +54,50 @@ left_as setup left = record {
 abbrev pub by_rules : Setup → Deeds Ask Left → Deeds Ask TicketLeft
 by_rules setup deeds = next deeds (λ left. Ends (left_as setup left))
 
--- a manual ticket's deeds likewise; nobody begins or ends to wait for one
-abbrev pub left_by_hand : Setup → List Waiter → ManualKnown → TicketLeft
-left_by_hand setup waiters known =
-    record { ticket = record { setup = setup; known = Manual known }; waiters = waiters }
+-- a manual ticket's deeds likewise
+abbrev pub left_by_hand : Setup → ManualLeft → TicketLeft
+left_by_hand setup left = record {
+  ticket = record { setup = setup; known = Manual left.known };
+  waiters = left.waiters;
+}
 
-abbrev pub by_hand : Setup → List Waiter → Deeds Ask ManualKnown → Deeds Ask TicketLeft
-by_hand setup waiters deeds = next deeds (λ known. Ends (left_by_hand setup waiters known))
+abbrev pub by_hand : Setup → Deeds Ask ManualLeft → Deeds Ask TicketLeft
+by_hand setup deeds = next deeds (λ left. Ends (left_by_hand setup left))
 
 -- the message of the member at a place is heard
 abbrev pub ticket_heard : Setup → Known → List Waiter → ℕ → Head → TicketPart → ℕ → Deeds Ask TicketLeft
 ticket_heard setup (Automatic view) waiters from head part now =
     by_rules setup (hear_message setup view waiters from head part now)
 ticket_heard setup (Manual known) waiters from head part now =
-    by_hand setup waiters (manual_heard setup known from head part)
+    by_hand setup (manual_heard setup known waiters from head part)
 
 -- a client's request is followed; so many more clients may wait, the prerequisites of a grant that is asked
--- for hold or do not, and a handler is started as this job, where there is one; a manual ticket starts none
+-- for hold or do not, and a handler is started as this job, where there is one
 abbrev pub ticket_asked : Setup → Known → List Waiter → ℕ → Bool → Option ℕ → Request → ℕ
     → Deeds Ask TicketLeft
 ticket_asked setup (Automatic view) waiters spare ready job request now =
     by_rules setup (wish setup view waiters spare ready job request request.wish now)
 ticket_asked setup (Manual known) waiters spare ready job request now =
-    by_hand setup waiters (manual_asked setup known spare ready request)
+    by_hand setup (manual_asked setup known waiters spare ready job request now)
 
 -- the deadline has come; the prerequisites of a takeover hold or do not, and a handler is started as this job,
 -- where there is one
 abbrev pub ticket_due : Setup → Known → List Waiter → Bool → Option ℕ → ℕ → Deeds Ask TicketLeft
 ticket_due setup (Automatic view) waiters ready job now =
     by_rules setup (tick setup view waiters ready job now)
-ticket_due setup (Manual known) waiters ready job now = by_hand setup waiters (manual_due setup known)
+ticket_due setup (Manual known) waiters ready job now = by_hand setup (manual_due setup known waiters now)
 
--- the job of a handler is over; no manual ticket has one
+-- the job of a handler is over
 abbrev pub ticket_over : Setup → Known → List Waiter → ℕ → Service → ℕ → Deeds Ask TicketLeft
 ticket_over setup (Automatic view) waiters job service now =
     by_rules setup (end_job setup view waiters job service now)
-ticket_over setup (Manual known) waiters job service now = by_hand setup waiters (Ends known)
+ticket_over setup (Manual known) waiters job service now =
+    by_hand setup (manual_over setup known waiters job service)
 
 -- when the ticket is next to be looked at
 abbrev pub deadline : Known → Option ℕ
 deadline (Automatic view) = view.due
-deadline (Manual known) = known.greets_at
+deadline (Manual known) = manual_deadline known
 
 -- the deadline has come
 abbrev pub IsDue : Known → ℕ → Type 0

@@ -1,19 +1,34 @@
-//! What a manual ticket does when a member's message is heard, and at its one deadline.
-ghost use Rattle.std.specs.Prelude.{◌≡◌, ◌<◌, None, IsTrue};
+//! A manual ticket: what is known of it, and what it does in each call.
+ghost use Rattle.std.specs.Prelude.{◌≡◌, ◌≤◌, ◌<◌, ◌^◌, List, None, IsTrue, length, slice_set};
 ghost use Rattle.booth_base.specs.Tree.{Deeds, Leads};
 ghost use Rattle.booth_raft.specs.Sound.{IsSound};
 ghost use Rattle.booth_ticket.specs.Acts.{Ask, DidSome, IsAct};
-ghost use Rattle.booth_ticket.specs.Manual.{ManualKnown, greeting, manual_heard, manual_due};
+ghost use Rattle.booth_ticket.specs.Manual.{ManualKnown, manual_heard};
+ghost use Rattle.booth_ticket.specs.declared.waiters.Waiter as Waiting;
+ghost use Rattle.booth_ticket.specs.ManualHandling.{greeting, is_awaited, is_late, limit_due, manual_deadline, manual_due, manual_over};
 ghost use Rattle.booth_ticket.specs.ManualRequests.{manual_asked};
+ghost use Rattle.booth_ticket.specs.Waiting.{spare_in, waiting_at};
 
+use crate::handling::Service;
 use crate::hands::Hands;
+use crate::manual_handling::{grant_after, tell_waiters};
 use crate::manual_requests::follow_request;
 use crate::request::Request;
 use crate::saying::say;
+use crate::waiters::Waiters;
 use booth_manual::{Manual, ManualView};
+use booth_raft::Told;
 use booth_rec::Record;
 use booth_wire::{Head, Say, Setup, TicketPart};
 use std::marker::Model;
+
+/// The handler of a grant by hand that runs.
+#[derive(Clone, Copy, Debug, PartialEq, Eq)]
+pub struct Job {
+    pub number: u64,
+    /// When it counts as failed, in milliseconds since 1970.
+    pub limit: u64,
+}
 
 /// A manual ticket at one member.
 #[derive(Drop)]
@@ -21,18 +36,20 @@ pub(crate) struct ManualTicket {
     rules: Manual,
     /// The reading of its start, until all were asked for their state.
     greets_at: Option<u64>,
+    /// The handler that runs before a grant.
+    running: Option<Job>,
 }
 
 impl Model for ManualTicket {
     ghost use Rattle.std.specs.Prelude.{◌≡◌, None};
     ghost use Rattle.booth_raft.specs.Sound.{IsSound};
-    ghost use Rattle.booth_ticket.specs.Manual.{ManualState};
+    ghost use Rattle.booth_ticket.specs.Manual.{ManualState, known_as};
 
     ghost Value = { ManualState };
 
     ghost view = { λ ticket. record {
       setup = ticket.rules.setup;
-      known = record { view = ticket.rules.view; greets_at = ticket.greets_at };
+      known = known_as ticket.rules.view ticket.greets_at ticket.running;
     } };
 
     ghost invariant = { λ ticket. IsSound ticket.rules.setup × (ticket.rules.view.waiting ≡ None) };
@@ -54,6 +71,7 @@ impl ManualTicket {
         ManualTicket {
             rules: Manual::start(setup, kept),
             greets_at: Some(now),
+            running: None,
         }
     }
 
@@ -72,33 +90,93 @@ impl ManualTicket {
         self.rules.view()
     }
 
-    /// When all are to be asked for their state, where they were not yet.
-    pub fn greets_at(&self) -> Option<u64>
-        ensures { result ≡ self.now.known.greets_at }
+    /// When it is next to be looked at: all are to be asked for their state, or the handler is late.
+    pub fn deadline(&self) -> Option<u64>
+        ensures { result ≡ manual_deadline self.now.known }
     {
-        self.greets_at
+        if self.greets_at.is_some() {
+            return self.greets_at;
+        }
+        self.running.map(|job| job.limit)
     }
 
     /// The message of the member at the place `from` is heard.
     pub fn hear<W: Hands>(&mut self, from: u32, head: &Head, part: &TicketPart, hands: &mut W)
-        ensures did { DidSome W.did (λ acts. Leads IsAct
-            (manual_heard self.old.setup self.old.known from head.now part.now) acts
-            (Deeds.Ends self.new.known)) hands.old hands.new }
+        ensures did { DidSome W.did (λ acts. (waiters : List Waiting.Waiter) → Leads IsAct
+            (manual_heard self.old.setup self.old.known waiters from head.now part.now) acts
+            (Deeds.Ends (record { known = self.new.known; waiters = waiters }))) hands.old hands.new }
         ensures setup { self.new.setup ≡ self.old.setup }
     {
         let words = self.rules.hear(head, part);
         say(self.rules.setup(), Some(from), &words, hands);
     }
 
-    /// A client's request is followed. The reply is the last deed. So many more clients may wait; `ready`
-    /// says whether the prerequisites of a grant hold that is asked for.
-    pub fn client<W: Hands>(&mut self, request: &Request, spare: u32, ready: bool, hands: &mut W)
+    /// A client's request is followed. The reply is the last deed. `ready` says whether the prerequisites of a
+    /// grant hold that is asked for. Where the ticket has a handler, `job` is the number of the job that may be
+    /// started.
+    pub fn client<W: Hands>(
+        &mut self,
+        request: &Request,
+        ready: bool,
+        job: Option<u64>,
+        now: u64,
+        list: u32,
+        waiters: &mut Waiters,
+        hands: &mut W,
+    )
+        requires early { now < 2 ^ 62 }
+        requires exists { list < length waiters.old }
         ensures did { DidSome W.did (λ acts. Leads IsAct
-            (manual_asked self.old.setup self.old.known spare ready request.now) acts
-            (Deeds.Ends self.new.known)) hands.old hands.new }
+            (manual_asked self.old.setup self.old.known (waiting_at waiters.old list) (spare_in waiters.old)
+            ready job request.now now) acts
+            (Deeds.Ends (record { known = self.new.known; waiters = waiting_at waiters.new list })))
+            hands.old hands.new }
         ensures setup { self.new.setup ≡ self.old.setup }
+        ensures others { waiters.new ≡ slice_set waiters.old list (waiting_at waiters.new list) }
     {
-        follow_request(&mut self.rules, request, spare, ready, hands);
+        follow_request(
+            &mut self.rules,
+            &mut self.running,
+            request,
+            ready,
+            job,
+            now,
+            list,
+            waiters,
+            hands,
+        );
+    }
+
+    // The job is the one that is waited for.
+    fn awaits(&self, job: u64) -> bool
+        ensures { result ≡ is_awaited self.now.known.job job }
+    {
+        self.running.is_some_and(|awaited| awaited.number == job)
+    }
+
+    /// The job of a handler is over. What is no job of the ticket changes nothing.
+    pub fn handler_done<W: Hands>(
+        &mut self,
+        job: u64,
+        service: Service,
+        list: u32,
+        waiters: &mut Waiters,
+        hands: &mut W,
+    )
+        requires exists { list < length waiters.old }
+        ensures did { DidSome W.did (λ acts. Leads IsAct
+            (manual_over self.old.setup self.old.known (waiting_at waiters.old list) job service) acts
+            (Deeds.Ends (record { known = self.new.known; waiters = waiting_at waiters.new list })))
+            hands.old hands.new }
+        ensures setup { self.new.setup ≡ self.old.setup }
+        ensures others { waiters.new ≡ slice_set waiters.old list (waiting_at waiters.new list) }
+    {
+        if !self.awaits(job) {
+            return;
+        }
+        let told = grant_after(&mut self.rules, service, hands);
+        self.running = None;
+        tell_waiters(&self.rules, told, list, waiters, hands);
     }
 
     // What is said at the deadline.
@@ -112,14 +190,42 @@ impl ManualTicket {
         }
     }
 
-    /// The deadline has come.
-    pub fn tick<W: Hands>(&mut self, hands: &mut W)
+    // A handler runs that should be over by now.
+    fn is_late(&self, now: u64) -> bool
+        ensures { result ≡ is_late self.now.known.job now }
+    {
+        self.running.is_some_and(|job| job.limit <= now)
+    }
+
+    // A handler that is late has failed.
+    fn end_late<W: Hands>(&mut self, now: u64, list: u32, waiters: &mut Waiters, hands: &mut W)
+        requires exists { list < length waiters.old }
         ensures did { DidSome W.did (λ acts. Leads IsAct
-            (manual_due self.old.setup self.old.known) acts
-            (Deeds.Ends self.new.known)) hands.old hands.new }
+            (limit_due self.old.setup self.old.known (waiting_at waiters.old list) now) acts
+            (Deeds.Ends (record { known = self.new.known; waiters = waiting_at waiters.new list })))
+            hands.old hands.new }
         ensures setup { self.new.setup ≡ self.old.setup }
+        ensures others { waiters.new ≡ slice_set waiters.old list (waiting_at waiters.new list) }
+    {
+        if !self.is_late(now) {
+            return;
+        }
+        self.running = None;
+        tell_waiters(&self.rules, Told::HandlerFailed, list, waiters, hands);
+    }
+
+    /// The deadline has come.
+    pub fn tick<W: Hands>(&mut self, now: u64, list: u32, waiters: &mut Waiters, hands: &mut W)
+        requires exists { list < length waiters.old }
+        ensures did { DidSome W.did (λ acts. Leads IsAct
+            (manual_due self.old.setup self.old.known (waiting_at waiters.old list) now) acts
+            (Deeds.Ends (record { known = self.new.known; waiters = waiting_at waiters.new list })))
+            hands.old hands.new }
+        ensures setup { self.new.setup ≡ self.old.setup }
+        ensures others { waiters.new ≡ slice_set waiters.old list (waiting_at waiters.new list) }
     {
         say(self.rules.setup(), None, &self.greeting(), hands);
         self.greets_at = None;
+        self.end_late(now, list, waiters, hands);
     }
 }

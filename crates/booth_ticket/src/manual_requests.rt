@@ -1,22 +1,28 @@
 //! What a client asks of a manual ticket.
-ghost use Rattle.std.specs.Prelude.{◌≡◌, ℕ, Option, None, IsSome, IsTrue, IfNone, false};
+ghost use Rattle.std.specs.Prelude.{◌≡◌, ◌≢◌, ◌<◌, ◌^◌, ℕ, List, Option, None, IsSome, IsTrue, IfNone, false, is_some, length, slice_set, if◌then◌else◌};
 ghost use Rattle.booth_base.specs.Tree.{Deeds, Leads};
 ghost use Rattle.booth_raft.specs.Sound.{IsSound};
 ghost use Rattle.booth_manual.specs.declared.view.ManualView as View;
 ghost use Rattle.booth_manual.specs.GrantAndRevoke.{are_terms_spent};
-ghost use Rattle.booth_ticket.specs.Acts.{Ask, DidSome, IsAct};
-ghost use Rattle.booth_ticket.specs.Manual.{ManualKnown};
-ghost use Rattle.booth_ticket.specs.ManualRequests.{forces, unforced, is_strange, is_another_shown, refused_manual_grant, refused_manual_revoke, refused_by_hand, MayTry, tries_for, result_of_keep, tried, done_by_hand, manual_reply_part, manual_reply, manual_asked};
+ghost use Rattle.booth_ticket.specs.Acts.{Ask, Start, DidSome, IsAct};
+ghost use Rattle.booth_ticket.specs.Manual.{ManualKnown, ManualLeft, known_as, manual_state};
+ghost use Rattle.booth_ticket.specs.ManualRequests.{forces, unforced, is_strange, is_another_shown, refused_manual_grant, refused_manual_revoke, refused_by_hand, MayTry, tries_for, result_of_keep, tried, wants_handler, waits_for, begun_by_hand, done_by_hand, as_waiting, manual_reply, manual_asked};
+ghost use Rattle.booth_ticket.specs.declared.manual.Job as Running;
+ghost use Rattle.booth_ticket.specs.declared.waiters.Waiter as Waiting;
+ghost use Rattle.booth_ticket.specs.Waiting.{joined, joins, spare_in, waiting_at, waits};
 
 use crate::hands::{Hands, To};
+use crate::manual::Job;
 use crate::request::{Request, Wish};
 use crate::saying::say;
-use crate::telling::{reply_cmd, reply_head, waits};
+use crate::telling::{join, reply_cmd, reply_head, waits};
+use crate::waiters::Waiters;
 use booth_base::MemberId;
 use booth_manual::{Manual, ManualView, NO_END_SECONDS, are_terms_spent, holder};
+use booth_raft::job_limit;
 use booth_rec::Record;
 use booth_wire::options::{COMMIT, IMMEDIATE, WAIT};
-use booth_wire::results::{APRQ, BUSY, FAIL, IARG, OVER, PEND, REDR, SUCCESS, TIDL};
+use booth_wire::results::{APRQ, ASYN, BUSY, FAIL, IARG, OVER, PEND, REDR, SUCCESS, TIDL, XPRG};
 use booth_wire::{Setup, TicketPart};
 
 // The client wants the ticket although another is shown as its holder.
@@ -51,21 +57,25 @@ fn is_another_shown(shown: Option<MemberId>, me: MemberId) -> bool
     shown.is_some_and(|shown| shown != me)
 }
 
-// What a grant is answered at once, or none where a record is kept.
+// What a grant is answered at once, or none where it is begun. `runs` while a handler runs.
 fn refused_grant(
     setup: &Setup,
     view: &ManualView,
+    runs: bool,
     spare: u32,
     ready: bool,
     options: u32,
 ) -> Option<u32>
-    ensures { result ≡ refused_manual_grant setup.now view.now spare ready options }
+    ensures { result ≡ refused_manual_grant setup.now view.now runs spare ready options }
 {
     if !setup.site || is_strange(options) {
         return Some(IARG);
     }
     if view.owner {
         return view.sure.then_some(SUCCESS);
+    }
+    if runs {
+        return Some(BUSY);
     }
     if is_another_shown(view.shown, setup.me) && !forces(options) {
         return Some(OVER);
@@ -82,12 +92,15 @@ fn refused_grant(
     None
 }
 
-// What a revoke is answered at once, or none where a record is kept.
-fn refused_revoke(setup: &Setup, view: &ManualView) -> Option<u32>
-    ensures { result ≡ refused_manual_revoke setup.now view.now }
+// What a revoke is answered at once, or none where a record is kept. `runs` while a handler runs.
+fn refused_revoke(setup: &Setup, view: &ManualView, runs: bool) -> Option<u32>
+    ensures { result ≡ refused_manual_revoke setup.now view.now runs }
 {
     if view.owner {
         return None;
+    }
+    if runs {
+        return Some(BUSY);
     }
     if is_another_shown(view.shown, setup.me) {
         return Some(REDR);
@@ -95,21 +108,22 @@ fn refused_revoke(setup: &Setup, view: &ManualView) -> Option<u32>
     Some(TIDL)
 }
 
-// What a request is answered at once, or none where a record is kept.
+// What a request is answered at once, or none where it is begun.
 fn refused(
     setup: &Setup,
     view: &ManualView,
+    runs: bool,
     spare: u32,
     ready: bool,
     options: u32,
     wish: Wish,
 ) -> Option<u32>
-    ensures answer { result ≡ refused_by_hand setup.now view.now spare ready options wish }
+    ensures answer { result ≡ refused_by_hand setup.now view.now runs spare ready options wish }
     ensures may { IfNone result (MayTry view.now wish) }
 {
     match wish {
-        Wish::Grant => refused_grant(setup, view, spare, ready, options),
-        Wish::Revoke => refused_revoke(setup, view),
+        Wish::Grant => refused_grant(setup, view, runs, spare, ready, options),
+        Wish::Revoke => refused_revoke(setup, view, runs),
     }
 }
 
@@ -157,58 +171,156 @@ fn result_of_keep(wish: Wish, ok: bool) -> u32
     }
 }
 
-// The record is kept, and what follows of the answer is said to all. What who asked is answered.
-fn keep_for<W: Hands>(rules: &mut Manual, wish: Wish, hands: &mut W) -> u32
+/// The record is kept, and what follows of the answer is said to all. What who asked is answered.
+pub(crate) fn keep_tried<W: Hands>(
+    rules: &mut Manual,
+    wish: Wish,
+    rec: &Record,
+    hands: &mut W,
+) -> u32
     requires sound { IsSound rules.old.setup }
-    requires idle { rules.old.view.waiting ≡ None }
-    requires may { MayTry rules.old.view wish }
-    ensures did { DidSome W.did (λ acts. (rest : ℕ → View.ManualView → Deeds Ask ManualKnown) → Leads IsAct
-        (tried rules.old.setup wish (tries_for rules.old.view wish) rest) acts
+    requires waits { IsSome rules.old.view.waiting }
+    ensures did { DidSome W.did (λ acts. (rest : ℕ → View.ManualView → Deeds Ask ManualLeft) → Leads IsAct
+        (tried rules.old.setup wish (record { view = rules.old.view; tried = rec.now }) rest) acts
         (rest result rules.new.view)) hands.old hands.new }
+    ensures never { result ≢ ASYN }
     ensures setup { rules.new.setup ≡ rules.old.setup }
     ensures idle { rules.new.view.waiting ≡ None }
 {
-    let tried = try_for(rules, wish);
-    let ok = hands.keep(&tried);
+    let ok = hands.keep(rec);
     let words = rules.kept(ok);
     say(rules.setup(), None, &words, hands);
     result_of_keep(wish, ok)
 }
 
-// What the client wishes is done, or it is found why not. What it is answered.
+// The wish's rule is run, and its record is kept. What who asked is answered.
+fn keep_for<W: Hands>(rules: &mut Manual, wish: Wish, hands: &mut W) -> u32
+    requires sound { IsSound rules.old.setup }
+    requires idle { rules.old.view.waiting ≡ None }
+    requires may { MayTry rules.old.view wish }
+    ensures did { DidSome W.did (λ acts. (rest : ℕ → View.ManualView → Deeds Ask ManualLeft) → Leads IsAct
+        (tried rules.old.setup wish (tries_for rules.old.view wish) rest) acts
+        (rest result rules.new.view)) hands.old hands.new }
+    ensures never { result ≢ ASYN }
+    ensures setup { rules.new.setup ≡ rules.old.setup }
+    ensures idle { rules.new.view.waiting ≡ None }
+{
+    let tried = try_for(rules, wish);
+    keep_tried(rules, wish, &tried, hands)
+}
+
+// The wish wants a handler to agree first.
+fn wants_handler(view: &ManualView, wish: Wish) -> bool
+    ensures { result ≡ wants_handler view.now wish }
+{
+    match wish {
+        Wish::Grant => !view.owner,
+        Wish::Revoke => false,
+    }
+}
+
+// The handler of a grant is started as this job. What who asked is answered.
+fn start_for<W: Hands>(
+    setup: &Setup,
+    running: &mut Option<Job>,
+    job: u64,
+    now: u64,
+    hands: &mut W,
+) -> u32
+    requires early { now < 2 ^ 62 }
+    requires sound { IsSound setup.now }
+    ensures did { DidSome W.did (λ acts. (view : View.ManualView) (greets_at : Option ℕ)
+        (rest : ℕ → ManualKnown → Deeds Ask ManualLeft) → Leads IsAct
+        (Deeds.Does (Start job 0) (waits_for setup.now (known_as view greets_at running.old) job now rest)) acts
+        (rest result (known_as view greets_at running.new))) hands.old hands.new }
+{
+    if !hands.start(job, 0) {
+        return XPRG;
+    }
+    *running = Some(Job {
+        number: job,
+        limit: job_limit(setup, now),
+    });
+    ASYN
+}
+
+// The job of a wish that wants a handler to agree first.
+fn job_for(view: &ManualView, job: Option<u64>, wish: Wish) -> Option<u64>
+    ensures { result ≡ (if wants_handler view.now wish then job else None) }
+{
+    if wants_handler(view, wish) { job } else { None }
+}
+
+// A wish that is not refused is begun: its record is kept, after its handler, where there is one. What who asked
+// is answered.
+fn begin_for<W: Hands>(
+    rules: &mut Manual,
+    running: &mut Option<Job>,
+    wish: Wish,
+    job: Option<u64>,
+    now: u64,
+    hands: &mut W,
+) -> u32
+    requires early { now < 2 ^ 62 }
+    requires sound { IsSound rules.old.setup }
+    requires idle { rules.old.view.waiting ≡ None }
+    requires may { MayTry rules.old.view wish }
+    ensures did { DidSome W.did (λ acts. (greets_at : Option ℕ)
+        (rest : ℕ → ManualKnown → Deeds Ask ManualLeft) → Leads IsAct
+        (begun_by_hand rules.old.setup (known_as rules.old.view greets_at running.old)
+        (if wants_handler rules.old.view wish then job else None) wish now rest) acts
+        (rest result (known_as rules.new.view greets_at running.new))) hands.old hands.new }
+    ensures begun { result ≡ ASYN → IsTrue (wants_handler rules.old.view wish) }
+    ensures setup { rules.new.setup ≡ rules.old.setup }
+    ensures idle { rules.new.view.waiting ≡ None }
+{
+    match job_for(rules.view(), job, wish) {
+        Some(job) => start_for(rules.setup(), running, job, now, hands),
+        None => keep_for(rules, wish, hands),
+    }
+}
+
+// What the client wishes is begun, or it is found why not. What it is answered.
 fn do_for<W: Hands>(
     rules: &mut Manual,
+    running: &mut Option<Job>,
     request: &Request,
     spare: u32,
     ready: bool,
+    job: Option<u64>,
+    now: u64,
     hands: &mut W,
 ) -> u32
+    requires early { now < 2 ^ 62 }
     requires sound { IsSound rules.old.setup }
     requires idle { rules.old.view.waiting ≡ None }
-    ensures did { DidSome W.did (λ acts. (rest : ℕ → View.ManualView → Deeds Ask ManualKnown) → Leads IsAct
-        (done_by_hand rules.old.setup rules.old.view
-        (refused_by_hand rules.old.setup rules.old.view spare ready request.now.options
-        request.now.wish) request.now.wish rest) acts
-        (rest result rules.new.view)) hands.old hands.new }
+    ensures did { DidSome W.did (λ acts. (greets_at : Option ℕ)
+        (rest : ℕ → ManualKnown → Deeds Ask ManualLeft) → Leads IsAct
+        (done_by_hand rules.old.setup (known_as rules.old.view greets_at running.old)
+        (refused_by_hand rules.old.setup rules.old.view (is_some running.old) spare ready
+        request.now.options request.now.wish) job request.now.wish now rest) acts
+        (rest result (known_as rules.new.view greets_at running.new))) hands.old hands.new }
+    ensures room { IsTrue (joins (as_waiting request.now) result) → 0 < spare }
     ensures setup { rules.new.setup ≡ rules.old.setup }
     ensures idle { rules.new.view.waiting ≡ None }
 {
     match refused(
         rules.setup(),
         rules.view(),
+        running.is_some(),
         spare,
         ready,
         request.options,
         request.wish,
     ) {
         Some(answer) => answer,
-        None => keep_for(rules, request.wish, hands),
+        None => begin_for(rules, running, request.wish, job, now, hands),
     }
 }
 
-// The state that a reply tells.
-fn reply_part(setup: &Setup, view: &ManualView) -> TicketPart
-    ensures { result ≡ manual_reply_part setup.now view.now }
+/// The state that clients are told.
+pub(crate) fn client_part(setup: &Setup, view: &ManualView) -> TicketPart
+    ensures { result ≡ manual_state setup.now view.now }
 {
     TicketPart {
         ticket: setup.ticket.copy(),
@@ -220,36 +332,72 @@ fn reply_part(setup: &Setup, view: &ManualView) -> TicketPart
 
 // Replies to a request, with the state of the ticket.
 fn reply<W: Hands>(rules: &Manual, request: &Request, answer: u32, hands: &mut W)
-    ensures did { DidSome W.did (λ acts. (greets_at : Option ℕ) → Leads IsAct
-        (manual_reply rules.now.setup request.now greets_at answer rules.now.view) acts
-        (Deeds.Ends (record { view = rules.now.view; greets_at = greets_at })))
-        hands.old hands.new }
+    ensures did { DidSome W.did (λ acts. (greets_at : Option ℕ) (running : Option Running.Job)
+        (waiters : List Waiting.Waiter) → Leads IsAct
+        (manual_reply rules.now.setup request.now waiters answer (known_as rules.now.view greets_at running)) acts
+        (Deeds.Ends (record {
+          known = known_as rules.now.view greets_at running;
+          waiters = joined (as_waiting request.now) answer waiters;
+        }))) hands.old hands.new }
 {
     let cmd = reply_cmd(request.wish);
     let head = reply_head(rules.setup(), request.number, cmd, answer);
-    let part = reply_part(rules.setup(), rules.view());
+    let part = client_part(rules.setup(), rules.view());
     hands.say(To::Client(request.from), &head, &part);
 }
 
-/// A client's request is followed: what it wishes is done, and then it is answered. So many more
-/// clients may wait; `ready` says whether the prerequisites of a grant hold that is asked for.
+// The request as it waits: it hears of a keep that failed too.
+fn as_waiting(request: &Request) -> Request
+    ensures { result ≡ as_waiting request.now }
+{
+    Request {
+        options: if waits(unforced(request.options)) {
+            WAIT
+        } else {
+            0
+        },
+        ..*request
+    }
+}
+
+/// A client's request is followed: what it wishes is begun, and then it is answered. `ready` where the
+/// prerequisites of a grant hold that is asked for; a handler is started as this job, where there is one.
 pub(crate) fn follow_request<W: Hands>(
     rules: &mut Manual,
+    running: &mut Option<Job>,
     request: &Request,
-    spare: u32,
     ready: bool,
+    job: Option<u64>,
+    now: u64,
+    list: u32,
+    waiters: &mut Waiters,
     hands: &mut W,
 )
+    requires early { now < 2 ^ 62 }
     requires sound { IsSound rules.old.setup }
     requires idle { rules.old.view.waiting ≡ None }
+    requires exists { list < length waiters.old }
     ensures did { DidSome W.did (λ acts. (greets_at : Option ℕ) → Leads IsAct
-        (manual_asked rules.old.setup
-        (record { view = rules.old.view; greets_at = greets_at }) spare ready request.now) acts
-        (Deeds.Ends (record { view = rules.new.view; greets_at = greets_at })))
-        hands.old hands.new }
+        (manual_asked rules.old.setup (known_as rules.old.view greets_at running.old)
+        (waiting_at waiters.old list) (spare_in waiters.old) ready job request.now now) acts
+        (Deeds.Ends (record {
+          known = known_as rules.new.view greets_at running.new;
+          waiters = waiting_at waiters.new list;
+        }))) hands.old hands.new }
+    ensures others { waiters.new ≡ slice_set waiters.old list (waiting_at waiters.new list) }
     ensures setup { rules.new.setup ≡ rules.old.setup }
     ensures idle { rules.new.view.waiting ≡ None }
 {
-    let answer = do_for(rules, request, spare, ready, hands);
+    let answer = do_for(
+        rules,
+        running,
+        request,
+        waiters.spare(),
+        ready,
+        job,
+        now,
+        hands,
+    );
     reply(rules, request, answer, hands);
+    join(&as_waiting(request), answer, list, waiters);
 }

@@ -74,15 +74,20 @@ fn result_for(told: Told, waiter: &Waiter) -> Option<u32>
 }
 
 // Tells a client that waits its result, where it has one.
-fn tell_one<W: Hands>(core: &Core, waiter: &Waiter, answer: Option<u32>, now: u64, hands: &mut W)
+fn tell_one<W: Hands>(
+    setup: &Setup,
+    part: &TicketPart,
+    waiter: &Waiter,
+    answer: Option<u32>,
+    hands: &mut W,
+)
     ensures did { DidSome W.did (λ acts. (rest : Deeds Ask Left) → Leads IsAct
-        (tell_one core.now.setup core.now.view now waiter.now answer rest) acts rest)
+        (tell_one setup.now part.now waiter.now answer rest) acts rest)
         hands.old hands.new }
 {
     if let Some(answer) = answer {
-        let head = reply_head(core.setup(), waiter.number, Cmd::RGnt, answer);
-        let part = reply_part(core.setup(), core.view(), now);
-        hands.say(To::Client(waiter.from), &head, &part);
+        let head = reply_head(setup, waiter.number, Cmd::RGnt, answer);
+        hands.say(To::Client(waiter.from), &head, part);
     }
 }
 
@@ -98,7 +103,34 @@ fn keep_waiting(waiter: Waiter, told: Told, list: u32, waiters: &mut Waiters)
     }
 }
 
-/// Tells those that wait for the ticket of an outcome, first to last. Who was told leaves the list.
+/// Tells those that wait for the ticket of an outcome, first to last, with this state of the ticket. Who was told
+/// leaves the list.
+pub(crate) fn tell_each<W: Hands>(
+    setup: &Setup,
+    part: &TicketPart,
+    told: Told,
+    list: u32,
+    waiters: &mut Waiters,
+    hands: &mut W,
+)
+    requires exists { list < length waiters.old }
+    ensures did { DidSome W.did (λ acts. (rest : Deeds Ask Left) → Leads IsAct
+        (tell_each setup.now part.now told (waiting_at waiters.old list) rest) acts
+        rest) hands.old hands.new }
+    ensures left { waiters.new
+        ≡ slice_set waiters.old list (staying told (waiting_at waiters.old list)) }
+    ensures room { spare_in waiters.old ≤ spare_in waiters.new }
+{
+    for _place in 0..waiters.count(list) {
+        let Some(waiter) = waiters.pop(list) else {
+            return;
+        };
+        tell_one(setup, part, &waiter, result_for(told, &waiter), hands);
+        keep_waiting(waiter, told, list, waiters);
+    }
+}
+
+/// Tells those that wait for an automatic ticket of an outcome.
 pub(crate) fn tell<W: Hands>(
     core: &Core,
     told: Told,
@@ -109,19 +141,14 @@ pub(crate) fn tell<W: Hands>(
 )
     requires exists { list < length waiters.old }
     ensures did { DidSome W.did (λ acts. (rest : Deeds Ask Left) → Leads IsAct
-        (tell_each core.now.setup core.now.view now told (waiting_at waiters.old list) rest) acts
-        rest) hands.old hands.new }
+        (tell_each core.now.setup (state_part core.now.setup core.now.view now) told
+        (waiting_at waiters.old list) rest) acts rest) hands.old hands.new }
     ensures left { waiters.new
         ≡ slice_set waiters.old list (staying told (waiting_at waiters.old list)) }
     ensures room { spare_in waiters.old ≤ spare_in waiters.new }
 {
-    for _place in 0..waiters.count(list) {
-        let Some(waiter) = waiters.pop(list) else {
-            return;
-        };
-        tell_one(core, &waiter, result_for(told, &waiter), now, hands);
-        keep_waiting(waiter, told, list, waiters);
-    }
+    let part = reply_part(core.setup(), core.view(), now);
+    tell_each(core.setup(), &part, told, list, waiters, hands);
 }
 
 /// Who asked waits for the outcome, where its request was begun and it wants that.

@@ -178,7 +178,7 @@ impl Ticket {
             Kind::Automatic(core) => {
                 requests::follow_request(core, request, ready, job, now, list, waiters, hands)
             }
-            Kind::Manual(ticket) => ticket.client(request, waiters.spare(), ready, hands),
+            Kind::Manual(ticket) => ticket.client(request, ready, job, now, list, waiters, hands),
         }
     }
 
@@ -205,7 +205,7 @@ impl Ticket {
             Kind::Automatic(core) => {
                 handling::handler_done(core, now, job, service, list, waiters, hands)
             }
-            Kind::Manual(_) => {}
+            Kind::Manual(ticket) => ticket.handler_done(job, service, list, waiters, hands),
         }
     }
 
@@ -234,7 +234,7 @@ impl Ticket {
             Kind::Automatic(core) => {
                 automatic::come_due(core, now, ready, job, list, waiters, hands)
             }
-            Kind::Manual(ticket) => ticket.tick(hands),
+            Kind::Manual(ticket) => ticket.tick(now, list, waiters, hands),
         }
     }
 
@@ -244,7 +244,7 @@ impl Ticket {
     {
         match &self.kind {
             Kind::Automatic(core) => core.view().due,
-            Kind::Manual(ticket) => ticket.greets_at(),
+            Kind::Manual(ticket) => ticket.deadline(),
         }
     }
 

@@ -4,6 +4,7 @@ mod handlers;
 mod lines;
 mod lives;
 mod manual;
+mod manual_handlers;
 mod prerequisites;
 mod refusals;
 mod script;

@@ -1,6 +1,6 @@
 -- What a turn keeps of a manual ticket: each record's term is at least that of the record in force.
 use Rattle.std.proofs.Common.{◌≡◌, ◌≢◌, ◌⊎◌, inl, inr, ℕ, ◌+◌, ◌≤◌, Bool, true, false, List, [], ◌∷◌, set, slice_get, refl, sym, ap, ◌∙◌, subst, arith}
-use Rattle.std.specs.Prelude.{Option, Some, None, Result, Ok, Err, ◌&&◌, not, is_none}
+use Rattle.std.specs.Prelude.{Option, Some, None, Result, Ok, Err, ◌&&◌, not, is_none, is_some, if◌then◌else◌}
 use Rattle.std.proofs.lemmas.Option.{slice_get_within}
 use Rattle.booth_base.specs.declared.address.Peer.{Peer}
 use Rattle.booth_base.specs.declared.address.TheConstants.{NO_ONE}
@@ -20,9 +20,11 @@ use Rattle.booth_wire.specs.PlainMessage.{PlainMessage}
 use Rattle.booth_host.specs.declared.host.Arrival.{Arrival}
 use Rattle.booth_host.specs.declared.host.Arrival.TheVariants as arrivals
 use Rattle.booth_host.specs.declared.host.Failed.{Failed}
+use Rattle.booth_raft.specs.declared.deed.Told.{Told}
+use Rattle.booth_raft.specs.declared.deed.Told.TheVariants as tells
 use Rattle.booth_raft.proofs.FactsLemmas.{on_cond}
 use Rattle.booth_manual.specs.declared.view.ManualView.{ManualView}
-use Rattle.booth_manual.specs.GrantAndRevoke.{again, finish, grant, revoke}
+use Rattle.booth_manual.specs.GrantAndRevoke.{again, are_terms_spent, finish, grant, revoke}
 use Rattle.booth_manual.specs.Hearing.{hear, is_shown, learned, revoked, updated}
 use Rattle.booth_manual.specs.Messages.{is_same}
 use Rattle.booth_manual.specs.Outcome.{Keep as Tries}
@@ -32,12 +34,14 @@ use Rattle.booth_ticket.specs.declared.request.Wish.TheVariants.{Grant, Revoke}
 use Rattle.booth_ticket.specs.declared.waiters.Waiter.{Waiter}
 use Rattle.booth_ticket.specs.Acts.{Ask as TicketAsk, Keep as KeepsRecord, Start as StartsJob, Say}
 use Rattle.booth_ticket.specs.declared.handling.Service.{Service}
+use Rattle.booth_ticket.specs.declared.handling.Service.TheVariants.{CanRun, CannotRun}
 use Rattle.booth_ticket.specs.Handling.{service_of}
-use Rattle.booth_ticket.specs.Manual.{ManualKnown, greeting, manual_due, manual_heard}
-use Rattle.booth_ticket.specs.ManualRequests.{done_by_hand, manual_asked, manual_reply, refused_by_hand, result_of_keep, tried, tries_for}
+use Rattle.booth_ticket.specs.Manual.{ManualKnown, ManualLeft, manual_heard, manual_state}
+use Rattle.booth_ticket.specs.ManualHandling.{grants_after, greeting, is_awaited, is_late, limit_due, manual_due, manual_over, tells_of}
+use Rattle.booth_ticket.specs.ManualRequests.{begun_by_hand, done_by_hand, manual_asked, manual_reply, refused_by_hand, result_of_keep, tried, tries_for, waits_for, wants_handler}
 use Rattle.booth_ticket.specs.Saying.{others, places_in, say, say_back, say_each}
 use Rattle.booth_ticket.specs.Ticket.{TicketState, TicketLeft, Known, Automatic, Manual, by_hand, left_by_hand}
-use Rattle.booth_ticket.specs.Waiting.{spare_in, waiting_at}
+use Rattle.booth_ticket.specs.Waiting.{result_for, spare_in, staying, tell_each, tell_one, waiting_at}
 use Rattle.booth_node.specs.declared.node.Turn.{Turn}
 use Rattle.booth_node.specs.declared.node.Turn.TheVariants.{Went, Stopped}
 use Rattle.booth_node.specs.declared.node_config.NodeConfig.{NodeConfig}
@@ -89,6 +93,17 @@ module _ {V : Type 0} (P : ℕ → V → Type 0) (s : Setup) (term : ℕ) where
   high_say from (words.All head part) rest h = high_each (others s) head part rest h
   high_say from (words.Unanswered head part bits) rest h = high_each (places_in bits) head part rest h
 
+  -- those that wait are told
+  high_told : (part : TicketPart) (told : Told) (waiters : List Waiter) (rest : Deeds TicketAsk V) → High P term rest
+      → High P term (tell_each s part told waiters rest)
+  high_told part told [] rest h = h
+  high_told part told (w ∷ ws) rest h = by_result (result_for told w) (high_told part told ws rest h)
+    where
+      by_result : (r : Option ℕ) → High P term (tell_each s part told ws rest)
+          → High P term (tell_one s part w r (tell_each s part told ws rest))
+      by_result None more = more
+      by_result (Some result) more = more
+
 -- ---- a manual ticket's rules
 
 -- the view's term, which is its record's, is at least this one
@@ -97,6 +112,9 @@ IsHighView term view = (term ≤ view.term) × (view.kept.term ≡ view.term)
 
 abbrev pub IsHighKnown : ℕ → ManualKnown → Type 0
 IsHighKnown term known = IsHighView term known.view
+
+abbrev IsHighByHand : ℕ → ManualLeft → Type 0
+IsHighByHand term left = IsHighKnown term left.known
 
 heard_high : (s : Setup) (view : ManualView) (head : Head) (part : TicketPart) (term : ℕ) (cmd : Cmd) → IsHighView term view
     → IsHighView term (hear s view head part cmd).view
@@ -113,53 +131,102 @@ heard_high s view head part term MIdx h =
     (record view { shown = Some part.leader }) view h h
 heard_high s view head part term cmd h = h
 
+-- those that wait are told, and no handler runs any longer
+tells_keep : (s : Setup) (term : ℕ) (known : ManualKnown) (waiters : List Waiter) (told : Told) (view : ManualView) → IsHighView term view
+    → High IsHighByHand term (tells_of s known waiters told view)
+tells_keep s term known waiters told view h =
+    high_told IsHighByHand s term (manual_state s view) told waiters
+    (Ends (record { known = record known { view = view; job = None }; waiters = staying told waiters })) h
+
 module _ (s : Setup) (term : ℕ) where
-  heard_keeps : (known : ManualKnown) (from : ℕ) (head : Head) (part : TicketPart) → IsHighKnown term known
-      → High IsHighKnown term (manual_heard s known from head part)
-  heard_keeps known from head part h =
-      high_say IsHighKnown s term (Some from) (hear s known.view head part head.cmd).say
-      (Ends (record known { view = (hear s known.view head part head.cmd).view }))
+  heard_keeps : (known : ManualKnown) (waiters : List Waiter) (from : ℕ) (head : Head) (part : TicketPart) → IsHighKnown term known
+      → High IsHighByHand term (manual_heard s known waiters from head part)
+  heard_keeps known waiters from head part h =
+      high_say IsHighByHand s term (Some from) (hear s known.view head part head.cmd).say
+      (Ends (record { known = record known { view = (hear s known.view head part head.cmd).view }; waiters = waiters }))
       (heard_high s known.view head part term head.cmd h)
 
-  due_keeps : (known : ManualKnown) → IsHighKnown term known → High IsHighKnown term (manual_due s known)
-  due_keeps known h =
-      high_say IsHighKnown s term None (greeting s known) (Ends (record known { greets_at = None })) h
+  due_keeps : (known : ManualKnown) (waiters : List Waiter) (now : ℕ) → IsHighKnown term known
+      → High IsHighByHand term (manual_due s known waiters now)
+  due_keeps known waiters now h =
+      high_say IsHighByHand s term None (greeting s known) (limit_due s greeted waiters now)
+      (on_cond (High IsHighByHand term) (is_late known.job now) (tells_of s greeted waiters tells.HandlerFailed known.view)
+      (Ends (record { known = greeted; waiters = waiters })) (tells_keep s term greeted waiters tells.HandlerFailed known.view h) h)
+    where
+      greeted : ManualKnown
+      greeted = record known { greets_at = None }
 
-  module _ (request : Request) (greets_at : Option ℕ) where
-    abbrev replied : ℕ → ManualView → Deeds TicketAsk ManualKnown
-    replied = manual_reply s request greets_at
+  -- what follows a keep goes on from a view of at least this term
+  abbrev GoesOn : (ℕ → ManualView → Deeds TicketAsk ManualLeft) → Type 0
+  GoesOn rest = (least result : ℕ) (view : ManualView) → IsHighView least view → High IsHighByHand least (rest result view)
 
-    grant_keeps : (view : ManualView) → IsHighView term view → High IsHighKnown term (tried s Grant (grant view) replied)
+  module _ (rest : ℕ → ManualView → Deeds TicketAsk ManualLeft) (on : GoesOn rest) where
+    grant_keeps : (view : ManualView) → IsHighView term view → High IsHighByHand term (tried s Grant (grant view) rest)
     grant_keeps view h = (
       omega (arith, h.0),
-      high_say IsHighKnown s (view.term + 1) None (finish s (grant view).view true).say
-          (replied (result_of_keep Grant true) (finish s (grant view).view true).view) (omega arith, refl),
-      (omega (arith, h.0), refl),
+      high_say IsHighByHand s (view.term + 1) None (finish s (grant view).view true).say
+          (rest (result_of_keep Grant true) (finish s (grant view).view true).view)
+          (on (view.term + 1) (result_of_keep Grant true) (finish s (grant view).view true).view (omega arith, refl)),
+      on term (result_of_keep Grant false) (finish s (grant view).view false).view (omega (arith, h.0), refl),
     )
 
-    again_keeps : (view : ManualView) → IsHighView term view → High IsHighKnown term (tried s Grant (again view) replied)
+    again_keeps : (view : ManualView) → IsHighView term view → High IsHighByHand term (tried s Grant (again view) rest)
     again_keeps view h = (
       omega (arith, h.0, h.1),
-      (omega (arith, h.1), h.1),
-      h,
+      on view.kept.term (result_of_keep Grant true) (finish s (again view).view true).view (omega (arith, h.1), h.1),
+      on term (result_of_keep Grant false) (finish s (again view).view false).view h,
     )
 
     wish_keeps : (view : ManualView) (wish : Wish) → IsHighView term view
-        → High IsHighKnown term (tried s wish (tries_for view wish) replied)
+        → High IsHighByHand term (tried s wish (tries_for view wish) rest)
     wish_keeps view Grant h =
-        on_cond (λ (tries : Tries). High IsHighKnown term (tried s Grant tries replied)) view.owner (again view) (grant view)
+        on_cond (λ (tries : Tries). High IsHighByHand term (tried s Grant tries rest)) view.owner (again view) (grant view)
         (again_keeps view h) (grant_keeps view h)
     wish_keeps view Revoke h = (
       h.0,
-      high_say IsHighKnown s view.term None (finish s (revoke view).view true).say
-          (replied (result_of_keep Revoke true) (finish s (revoke view).view true).view) (omega arith, refl),
-      h,
+      high_say IsHighByHand s view.term None (finish s (revoke view).view true).say
+          (rest (result_of_keep Revoke true) (finish s (revoke view).view true).view)
+          (on view.term (result_of_keep Revoke true) (finish s (revoke view).view true).view (omega arith, refl)),
+      on term (result_of_keep Revoke false) (finish s (revoke view).view false).view h,
     )
 
-    done_keeps : (view : ManualView) (refused : Option ℕ) (wish : Wish) → IsHighView term view
-        → High IsHighKnown term (done_by_hand s view refused wish replied)
-    done_keeps view (Some result) wish h = h
-    done_keeps view None wish h = wish_keeps view wish h
+  -- the handler of a grant is over
+  after_keeps : (known : ManualKnown) (waiters : List Waiter) (service : Service) → IsHighKnown term known
+      → High IsHighByHand term (grants_after s known.view service (tells_of s known waiters))
+  after_keeps known waiters CanRun h =
+      on_cond (High IsHighByHand term) (are_terms_spent known.view) (tells_of s known waiters tells.AskFailed known.view)
+      (tried s Grant (grant known.view) granted) (tells_keep s term known waiters tells.AskFailed known.view h)
+      (grant_keeps granted (λ least result view high. tells_keep s least known waiters (tells.Gained view.sure) view high) known.view h)
+    where
+      granted : ℕ → ManualView → Deeds TicketAsk ManualLeft
+      granted result view = tells_of s known waiters (tells.Gained view.sure) view
+  after_keeps known waiters CannotRun h = tells_keep s term known waiters tells.HandlerFailed known.view h
+
+  over_keeps_by_hand : (known : ManualKnown) (waiters : List Waiter) (job : ℕ) (service : Service) → IsHighKnown term known
+      → High IsHighByHand term (manual_over s known waiters job service)
+  over_keeps_by_hand known waiters job service h =
+      on_cond (High IsHighByHand term) (is_awaited known.job job) (grants_after s known.view service (tells_of s known waiters))
+      (Ends (record { known = known; waiters = waiters })) (after_keeps known waiters service h) h
+
+  module _ (request : Request) (waiters : List Waiter) (now : ℕ) where
+    abbrev replied : ℕ → ManualKnown → Deeds TicketAsk ManualLeft
+    replied = manual_reply s request waiters
+
+    waits_keep : (known : ManualKnown) (number : ℕ) → IsHighKnown term known → (ok : Bool)
+        → High IsHighByHand term (waits_for s known number now replied ok)
+    waits_keep known number h true = h
+    waits_keep known number h false = h
+
+    begun_keeps : (known : ManualKnown) (job : Option ℕ) (wish : Wish) → IsHighKnown term known
+        → High IsHighByHand term (begun_by_hand s known job wish now replied)
+    begun_keeps known None wish h =
+        wish_keeps (λ result view. replied result (record known { view = view })) (λ least result view high. high) known.view wish h
+    begun_keeps known (Some number) wish h = waits_keep known number h
+
+    done_keeps : (known : ManualKnown) (refused job : Option ℕ) (wish : Wish) → IsHighKnown term known
+        → High IsHighByHand term (done_by_hand s known refused job wish now replied)
+    done_keeps known (Some result) job wish h = h
+    done_keeps known None job wish h = begun_keeps known (if wants_handler known.view wish then job else None) wish h
 
 -- what is left of a manual ticket
 abbrev pub IsHigh : ℕ → Known → Type 0
@@ -173,9 +240,9 @@ high_lower term higher (Manual known) less h = (omega (arith, less, h.0), h.1)
 abbrev IsHighLeft : ℕ → TicketLeft → Type 0
 IsHighLeft term left = IsHigh term left.ticket.known
 
-as_left : (s : Setup) (waiters : List Waiter) (term : ℕ) (deeds : Deeds TicketAsk ManualKnown) → High IsHighKnown term deeds
-    → High IsHighLeft term (by_hand s waiters deeds)
-as_left s waiters term deeds high = high_as IsHighKnown IsHighLeft (left_by_hand s waiters) term deeds (λ least left g. g) high
+as_left : (s : Setup) (term : ℕ) (deeds : Deeds TicketAsk ManualLeft) → High IsHighByHand term deeds
+    → High IsHighLeft term (by_hand s deeds)
+as_left s term deeds high = high_as IsHighByHand IsHighLeft (left_by_hand s) term deeds (λ least left g. g) high
 
 -- what befalls a ticket, of a term at least this one
 abbrev BefallsHigh : ℕ → Befalling → Type 0
@@ -185,23 +252,25 @@ BefallsHigh moment event =
 
 due_high : (moment : ℕ) → BefallsHigh moment comes_due
 due_high moment s (Automatic view) waiters spare term ready job h = absurd h
-due_high moment s (Manual known) waiters spare term ready job h = as_left s waiters term (manual_due s known) (due_keeps s term known h)
+due_high moment s (Manual known) waiters spare term ready job h =
+    as_left s term (manual_due s known waiters moment) (due_keeps s term known waiters moment h)
 
 told_high : (moment from : ℕ) (head : Head) (part : TicketPart) → BefallsHigh moment (is_told from head part)
 told_high moment from head part s (Automatic view) waiters spare term ready job h = absurd h
 told_high moment from head part s (Manual known) waiters spare term ready job h =
-    as_left s waiters term (manual_heard s known from head part) (heard_keeps s term known from head part h)
+    as_left s term (manual_heard s known waiters from head part) (heard_keeps s term known waiters from head part h)
 
 asked_high : (moment : ℕ) (request : Request) → BefallsHigh moment (is_asked request)
 asked_high moment request s (Automatic view) waiters spare term ready job h = absurd h
 asked_high moment request s (Manual known) waiters spare term ready job h =
-    as_left s waiters term (manual_asked s known spare (ready kinds.Manual) request)
-    (done_keeps s term request known.greets_at known.view
-    (refused_by_hand s known.view spare (ready kinds.Manual) request.options request.wish) request.wish h)
+    as_left s term (manual_asked s known waiters spare (ready kinds.Manual) job request moment)
+    (done_keeps s term request waiters moment known
+    (refused_by_hand s known.view (is_some known.job) spare (ready kinds.Manual) request.options request.wish) job request.wish h)
 
 over_high : (moment number : ℕ) (service : Service) → BefallsHigh moment (ends_job number service)
 over_high moment number service s (Automatic view) waiters spare term ready job h = absurd h
-over_high moment number service s (Manual known) waiters spare term ready job h = as_left s waiters term (Ends known) h
+over_high moment number service s (Manual known) waiters spare term ready job h =
+    as_left s term (manual_over s known waiters number service) (over_keeps_by_hand s term known waiters number service h)
 
 -- ---- the node's deeds
 

@@ -423,24 +423,31 @@ module _ (s : Setup) (place : ℕ) (node : NodeConfig) (moment : ℕ) (all : s.m
           → IsPlacedAt s place view state.tickets → state.last_reading ≡ moment → IsFew state.common → ready_at state ≡ ready
           → Told sent (each_over node moment job service (range_with_len from n) state) (plan_tree s moment view (tells_plan ready view))
       all_over zero from state view ready sent before within at last_is few ready_is = absurd (omega (arith, before, within))
-      all_over (suc n) from state view ready sent before within at last_is few ready_is = by_place (same_or_not from place)
+      all_over (suc n) from state view ready sent before within at last_is few ready_is =
+          by_place (same_or_not from place)
+          (λ state' sent' before_now at_now last_now few_now ready_now.
+          all_over n (from + 1) state' view ready sent' before_now (omega (arith, within)) at_now last_now few_now ready_now)
         where
           tree : TurnTree
           tree = plan_tree s moment view (tells_plan ready view)
 
-          by_place : (from ≡ place) ⊎ (from ≢ place) → Told sent (each_over node moment job service (range_with_len from (suc n)) state) tree
-          by_place (inl e) =
+          by_place : (from ≡ place) ⊎ (from ≢ place)
+              → ((state' : State) (sent' : List MemberLetter) → from + 1 ≤ place → IsPlacedAt s place view state'.tickets
+              → state'.last_reading ≡ moment → IsFew state'.common → ready_at state' ≡ ready
+              → Told sent' (each_over node moment job service (range_with_len (from + 1) n) state') tree)
+              → Told sent (each_over node moment job service (range_with_len from (suc n)) state) tree
+          by_place (inl e) rest =
               subst (λ (p : ℕ). Told sent (next (acts node moment state p (ends_job job service)) (each_over node moment job service (range_with_len (p + 1) n))) tree)
               (sym e)
               (subst (λ (b : Bool). Told sent
               (next (acts node moment state place (ends_job job service)) (each_over node moment job service (range_with_len (place + 1) n)))
               (plan_tree s moment view (tells_plan b view))) ready_is (own_over n state view sent at last_is few))
-          by_place (inr ne) =
+          by_place (inr ne) rest =
               mirrors_next (is_some node.key) s (StandsSo tree view ready) Then (each_over node moment job service (range_with_len (from + 1) n)) sent
               (acts node moment state from (ends_job job service)) tree
               (λ sent' state' tree' m.
               subst (λ (t : TurnTree). Told sent' (each_over node moment job service (range_with_len (from + 1) n) state') t) (sym m.same)
-              (all_over n (from + 1) state' view ready sent' (omega (arith, before, ne)) (omega (arith, within)) m.placed_at m.moment_is m.few m.ready_is))
+              (rest state' sent' (omega (arith, before, ne)) m.placed_at m.moment_is m.few m.ready_is))
               (other_acts s place node moment all (StandsSo tree view ready) state view from (ends_job job service) sent tree at ne few
               (λ t waiters spare ready_of next_job. minds_over t.setup moment t.known waiters job service)
               (λ tickets waiters counted few_now placed_now.
@@ -453,8 +460,9 @@ module _ (s : Setup) (place : ℕ) (node : NodeConfig) (moment : ℕ) (all : s.m
         plan = tells_plan (ready_at state);
         may = over_may s moment most job service (then_plan state) (after_may s place node moment all own most enough (ready_at state) turn) view;
         good = no_letter Good;
-        over = λ sent. joined (each_over node moment job service (all_places state) state) sent (plan_tree s moment view (tells_plan (ready_at state) view))
-            (all_over (length state.tickets) 0 state view (ready_at state) sent (omega arith) (slice_get_within state.tickets place _ at.own) at last_is few refl);
+        over = λ sent. let inside : place < length state.tickets = slice_get_within state.tickets place _ at.own in
+            joined (each_over node moment job service (all_places state) state) sent (plan_tree s moment view (tells_plan (ready_at state) view))
+            (all_over (length state.tickets) 0 state view (ready_at state) sent (omega arith) (omega (arith, inside)) at last_is few refl);
       }
 
   -- every message of this ticket that may be let in is one that may come, but for its stamp

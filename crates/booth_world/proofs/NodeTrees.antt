@@ -29,6 +29,7 @@ use Rattle.booth_raft.specs.GainReleaseLost.{lost, own_end, release}
 use Rattle.booth_raft.specs.Members.{is_promised_elsewhere, is_working}
 use Rattle.booth_raft.specs.Notes.{handler_failed, noted}
 use Rattle.booth_raft.specs.declared.deed.Note.TheVariants as notes
+use Rattle.booth_raft.specs.Messages.{state_part}
 use Rattle.booth_raft.specs.OtherMessages.{hear}
 use Rattle.booth_raft.specs.declared.deed.Told.{Told}
 use Rattle.booth_raft.specs.declared.deed.Told.TheVariants as tells
@@ -37,7 +38,7 @@ use Rattle.booth_raft.specs.Speech.{IsSpeech, Speaks}
 use Rattle.booth_raft.proofs.FactsLemmas.{on_cond, on_role}
 use Rattle.booth_raft.proofs.SpeechLemmas.{rules_speak}
 use Rattle.booth_manual.specs.declared.view.ManualView.{ManualView}
-use Rattle.booth_manual.specs.GrantAndRevoke.{finish as finish_by_hand}
+use Rattle.booth_manual.specs.GrantAndRevoke.{are_terms_spent as are_terms_spent_by_hand, finish as finish_by_hand, grant as grant_by_hand}
 use Rattle.booth_manual.specs.Hearing.{hear as hear_by_hand}
 use Rattle.booth_manual.specs.Outcome.{Keep as Tries}
 use Rattle.booth_ticket.specs.declared.hands.To.{To}
@@ -52,8 +53,9 @@ use Rattle.booth_ticket.specs.Automatic.{Left, end_job, ends, hear_message, take
 use Rattle.booth_ticket.specs.Handling.{acquire, acquires, checks, goes_on, is_job, job_over, leads_on as leads_with, renews, renews_by, works, works_on}
 use Rattle.booth_ticket.specs.Keeping.{keep_of, keep_once, say_last, carry_out}
 use Rattle.booth_ticket.specs.Requests.{refused_grant, grant, grant_result, refused_revoke, revoke, revoke_result, replies, reply, reply_cmd, wish}
-use Rattle.booth_ticket.specs.Manual.{ManualKnown, greeting, manual_due, manual_heard}
-use Rattle.booth_ticket.specs.ManualRequests.{done_by_hand, manual_asked, manual_reply, refused_by_hand, result_of_keep, tried, tries_for}
+use Rattle.booth_ticket.specs.Manual.{ManualKnown, ManualLeft, manual_heard, manual_state}
+use Rattle.booth_ticket.specs.ManualHandling.{grants_after, greeting, is_awaited, is_late, limit_due, manual_due, manual_over, tells_of}
+use Rattle.booth_ticket.specs.ManualRequests.{begun_by_hand, done_by_hand, manual_asked, manual_reply, refused_by_hand, result_of_keep, tried, tries_for, waits_for, wants_handler}
 use Rattle.booth_ticket.specs.Saying.{others, places_in, say_each, say}
 use Rattle.booth_ticket.specs.declared.waiters.Waiter.{Waiter}
 use Rattle.booth_ticket.proofs.ManualSpeechLemmas.{greeting_speaks, hearing_speaks, keep_speaks}
@@ -128,13 +130,13 @@ module _ (s : Setup) {V : Type 0} (P : V → Type 0) where
       λ ok. on (finish s outcome.view now ok) (rules_speak.answered s outcome.view now ok)
 
   -- those that wait are told, and that is said to clients
-  pub minds_told : (view : View) (now : ℕ) (told : Told) (waiters : List Waiter) (rest : Deeds TicketAsk V) → Minds P s.ticket rest
-      → Minds P s.ticket (tell_each s view now told waiters rest)
-  minds_told view now told [] rest m = m
-  minds_told view now told (w ∷ ws) rest m = by_result (result_for told w) (minds_told view now told ws rest m)
+  pub minds_told : (part : TicketPart) (told : Told) (waiters : List Waiter) (rest : Deeds TicketAsk V) → Minds P s.ticket rest
+      → Minds P s.ticket (tell_each s part told waiters rest)
+  minds_told part told [] rest m = m
+  minds_told part told (w ∷ ws) rest m = by_result (result_for told w) (minds_told part told ws rest m)
     where
-      by_result : (r : Option ℕ) → Minds P s.ticket (tell_each s view now told ws rest)
-          → Minds P s.ticket (tell_one s view now w r (tell_each s view now told ws rest))
+      by_result : (r : Option ℕ) → Minds P s.ticket (tell_each s part told ws rest)
+          → Minds P s.ticket (tell_one s part w r (tell_each s part told ws rest))
       by_result None more = more
       by_result (Some result) more = (refl, more)
 
@@ -149,15 +151,15 @@ module _ (s : Setup) (now : ℕ) where
   abbrev Any : Left → Type 0
   Any left = Unit {0}
 
-  abbrev AnyKnown : ManualKnown → Type 0
-  AnyKnown known = Unit {0}
+  abbrev AnyKnown : ManualLeft → Type 0
+  AnyKnown left = Unit {0}
 
   speaks_acquired : (view : View) (reason : ℕ) → Speaks s (acquire s view reason now)
   speaks_acquired view reason = on_cond (Speaks s) (are_terms_spent view) _ _ tt (rules_speak.asked s view reason now)
 
   minds_ends : (waiters : List Waiter) (o : Outcome) → Minds Any s.ticket (ends s now waiters o)
   minds_ends waiters o =
-      minds_told s Any o.view now o.deed.told waiters (Ends (record { view = o.view; waiters = staying o.deed.told waiters })) tt
+      minds_told s Any (state_part s o.view now) o.deed.told waiters (Ends (record { view = o.view; waiters = staying o.deed.told waiters })) tt
 
   -- an outcome is carried out, and those that wait are told
   minds_outcome : (waiters : List Waiter) (o : Outcome) → Speaks s o → Minds Any s.ticket (carry_out s None now o (ends s now waiters))
@@ -241,7 +243,7 @@ module _ (s : Setup) (now : ℕ) where
   minds_replies : (waiters : List Waiter) (request : Request) (cmd : Cmd) (result : ℕ) (o : Outcome) → direction_of cmd ≡ ToClient
       → Minds Any s.ticket (replies s waiters request cmd now result o)
   minds_replies waiters request cmd result o client =
-      minds_told s Any o.view now o.deed.told waiters (reply s request cmd result o.view now (staying o.deed.told waiters)) (client, tt)
+      minds_told s Any (state_part s o.view now) o.deed.told waiters (reply s request cmd result o.view now (staying o.deed.told waiters)) (client, tt)
 
   minds_grant : (view : View) (waiters : List Waiter) (request : Request) (job : Option ℕ) (refused : Option ℕ)
       → Minds Any s.ticket (grant s view request.options refused job now (replies s waiters request RGnt now))
@@ -273,22 +275,53 @@ module _ (s : Setup) (now : ℕ) where
   left_as left = record { ticket = record { setup = s; known = Automatic left.view }; waiters = left.waiters }
 
   -- a manual ticket's
-  minds_by_hand : (waiters : List Waiter) (deeds : Deeds TicketAsk ManualKnown) → Minds AnyKnown s.ticket deeds
-      → Minds HasSetup s.ticket (by_hand s waiters deeds)
-  minds_by_hand waiters deeds m = minds_as AnyKnown HasSetup (left_by_hand s waiters) s.ticket deeds (λ left any. refl) m
+  minds_by_hand : (deeds : Deeds TicketAsk ManualLeft) → Minds AnyKnown s.ticket deeds → Minds HasSetup s.ticket (by_hand s deeds)
+  minds_by_hand deeds m = minds_as AnyKnown HasSetup (left_by_hand s) s.ticket deeds (λ left any. refl) m
 
-  minds_tried : (wish : Wish) (tries : Tries) (rest : ℕ → ManualView → Deeds TicketAsk ManualKnown)
+  minds_tried : (wish : Wish) (tries : Tries) (rest : ℕ → ManualView → Deeds TicketAsk ManualLeft)
       → ((result : ℕ) (view : ManualView) → Minds AnyKnown s.ticket (rest result view))
       → Minds AnyKnown s.ticket (tried s wish tries rest)
   minds_tried wish tries rest on =
       λ ok. minds_say s AnyKnown None (finish_by_hand s tries.view ok).say (rest (result_of_keep wish ok) (finish_by_hand s tries.view ok).view)
       (keep_speaks s tries.view ok) (on (result_of_keep wish ok) (finish_by_hand s tries.view ok).view)
 
-  minds_done : (view : ManualView) (refused : Option ℕ) (wish : Wish) (rest : ℕ → ManualView → Deeds TicketAsk ManualKnown)
-      → ((result : ℕ) (view : ManualView) → Minds AnyKnown s.ticket (rest result view))
-      → Minds AnyKnown s.ticket (done_by_hand s view refused wish rest)
-  minds_done view (Some result) wish rest on = on result view
-  minds_done view None wish rest on = minds_tried wish (tries_for view wish) rest on
+  minds_waits : (known : ManualKnown) (number : ℕ) (rest : ℕ → ManualKnown → Deeds TicketAsk ManualLeft)
+      → ((result : ℕ) (known : ManualKnown) → Minds AnyKnown s.ticket (rest result known))
+      → (ok : Bool) → Minds AnyKnown s.ticket (waits_for s known number now rest ok)
+  minds_waits known number rest on true = on _ _
+  minds_waits known number rest on false = on _ _
+
+  minds_begun : (known : ManualKnown) (job : Option ℕ) (wish : Wish) (rest : ℕ → ManualKnown → Deeds TicketAsk ManualLeft)
+      → ((result : ℕ) (known : ManualKnown) → Minds AnyKnown s.ticket (rest result known))
+      → Minds AnyKnown s.ticket (begun_by_hand s known job wish now rest)
+  minds_begun known None wish rest on =
+      minds_tried wish (tries_for known.view wish) (λ result view. rest result (record known { view = view }))
+      (λ result view. on result (record known { view = view }))
+  minds_begun known (Some number) wish rest on = minds_waits known number rest on
+
+  minds_done : (known : ManualKnown) (refused job : Option ℕ) (wish : Wish) (rest : ℕ → ManualKnown → Deeds TicketAsk ManualLeft)
+      → ((result : ℕ) (known : ManualKnown) → Minds AnyKnown s.ticket (rest result known))
+      → Minds AnyKnown s.ticket (done_by_hand s known refused job wish now rest)
+  minds_done known (Some result) job wish rest on = on result known
+  minds_done known None job wish rest on = minds_begun known (if wants_handler known.view wish then job else None) wish rest on
+
+  -- those that wait for a manual ticket are told
+  minds_tells : (known : ManualKnown) (waiters : List Waiter) (told : Told) (view : ManualView)
+      → Minds AnyKnown s.ticket (tells_of s known waiters told view)
+  minds_tells known waiters told view =
+      minds_told s AnyKnown (manual_state s view) told waiters
+      (Ends (record { known = record known { view = view; job = None }; waiters = staying told waiters })) tt
+
+  minds_after : (known : ManualKnown) (waiters : List Waiter) (service : Service)
+      → Minds AnyKnown s.ticket (grants_after s known.view service (tells_of s known waiters))
+  minds_after known waiters CanRun =
+      on_cond (Minds AnyKnown s.ticket) (are_terms_spent_by_hand known.view) (tells_of s known waiters tells.AskFailed known.view)
+      (tried s Grant (grant_by_hand known.view) granted) (minds_tells known waiters tells.AskFailed known.view)
+      (minds_tried Grant (grant_by_hand known.view) granted (λ result view. minds_tells known waiters (tells.Gained view.sure) view))
+    where
+      granted : ℕ → ManualView → Deeds TicketAsk ManualLeft
+      granted result view = tells_of s known waiters (tells.Gained view.sure) view
+  minds_after known waiters CannotRun = minds_tells known waiters tells.HandlerFailed known.view
 
   to_client : (wish : Wish) → direction_of (reply_cmd wish) ≡ ToClient
   to_client Grant = refl
@@ -298,22 +331,31 @@ module _ (s : Setup) (now : ℕ) where
   minds_due (Automatic view) waiters ready job =
       minds_as Any HasSetup left_as s.ticket (tick s view waiters ready job now) (λ left any. refl) (minds_tick view waiters ready job)
   minds_due (Manual known) waiters ready job =
-      minds_by_hand waiters (manual_due s known)
-      (minds_say s AnyKnown None (greeting s known) (Ends (record known { greets_at = None })) (greeting_speaks s known) tt)
+      minds_by_hand (manual_due s known waiters now)
+      (minds_say s AnyKnown None (greeting s known) (limit_due s greeted waiters now) (greeting_speaks s known)
+      (on_cond (Minds AnyKnown s.ticket) (is_late known.job now) (tells_of s greeted waiters tells.HandlerFailed known.view)
+      (Ends (record { known = greeted; waiters = waiters })) (minds_tells greeted waiters tells.HandlerFailed known.view) tt))
+    where
+      greeted : ManualKnown
+      greeted = record known { greets_at = None }
 
   pub minds_over : (known : Known) (waiters : List Waiter) (job : ℕ) (service : Service) → Minds HasSetup s.ticket (ticket_over s known waiters job service now)
   minds_over (Automatic view) waiters job service =
       minds_as Any HasSetup left_as s.ticket (end_job s view waiters job service now) (λ left any. refl) (minds_end_job view waiters job service)
-  minds_over (Manual known) waiters job service = minds_by_hand waiters (Ends known) tt
+  minds_over (Manual known) waiters job service =
+      minds_by_hand (manual_over s known waiters job service)
+      (on_cond (Minds AnyKnown s.ticket) (is_awaited known.job job) (grants_after s known.view service (tells_of s known waiters))
+      (Ends (record { known = known; waiters = waiters })) (minds_after known waiters service) tt)
 
   pub minds_heard : (known : Known) (waiters : List Waiter) (from : ℕ) (head : Head) (part : TicketPart)
       → Minds HasSetup s.ticket (ticket_heard s known waiters from head part now)
   minds_heard (Automatic view) waiters from head part =
       minds_as Any HasSetup left_as s.ticket (hear_message s view waiters from head part now) (λ left any. refl) (minds_hear view waiters from head part)
   minds_heard (Manual known) waiters from head part =
-      minds_by_hand waiters (manual_heard s known from head part)
+      minds_by_hand (manual_heard s known waiters from head part)
       (minds_say s AnyKnown (Some from) (hear_by_hand s known.view head part head.cmd).say
-      (Ends (record known { view = (hear_by_hand s known.view head part head.cmd).view })) (hearing_speaks s known.view head part head.cmd) tt)
+      (Ends (record { known = record known { view = (hear_by_hand s known.view head part head.cmd).view }; waiters = waiters }))
+      (hearing_speaks s known.view head part head.cmd) tt)
 
   pub minds_asked : (known : Known) (waiters : List Waiter) (spare : ℕ) (ready : Bool) (job : Option ℕ) (request : Request)
       → Minds HasSetup s.ticket (ticket_asked s known waiters spare ready job request now)
@@ -321,9 +363,9 @@ module _ (s : Setup) (now : ℕ) where
       minds_as Any HasSetup left_as s.ticket (wish s view waiters spare ready job request request.wish now) (λ left any. refl)
       (minds_wish view waiters spare ready job request request.wish)
   minds_asked (Manual known) waiters spare ready job request =
-      minds_by_hand waiters (manual_asked s known spare ready request)
-      (minds_done known.view (refused_by_hand s known.view spare ready request.options request.wish) request.wish
-      (manual_reply s request known.greets_at) (λ result view. (to_client request.wish, tt)))
+      minds_by_hand (manual_asked s known waiters spare ready job request now)
+      (minds_done known (refused_by_hand s known.view (is_some known.job) spare ready request.options request.wish) job request.wish
+      (manual_reply s request waiters) (λ result known. (to_client request.wish, tt)))
 
 -- ---- a ticket's deeds as the node's
 

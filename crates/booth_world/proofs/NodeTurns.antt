@@ -207,7 +207,7 @@ module _ (s : Setup) (place : ℕ) (node : NodeConfig) (moment : ℕ) (all : s.m
   rests view = Rests
 
   module _ (own : s.place < s.members) (most : ℕ) (enough : 2 ^ 64 ≤ most) where
-    below_most : (common : Common) → IsFew common → common.next_job < most
+    pub below_most : (common : Common) → IsFew common → common.next_job < most
     below_most common few = omega (arith, few, enough)
 
     abbrev Done : List MemberLetter → Left → TurnTree → Type 0

@@ -27,7 +27,7 @@ use Rattle.booth_raft.specs.AskAndRenew.{acquisition_failed, are_terms_spent, as
 use Rattle.booth_raft.specs.Deadlines.{due_now, greeted, hello, is_tried, waits_or_acquires, follower_due, leader_due, resends_or_renews, candidate_due}
 use Rattle.booth_raft.specs.GainReleaseLost.{lost, own_end, release}
 use Rattle.booth_raft.specs.Members.{is_promised_elsewhere, is_follower, is_leader, is_working}
-use Rattle.booth_raft.specs.Messages.{shown_end}
+use Rattle.booth_raft.specs.Messages.{shown_end, state_part}
 use Rattle.booth_raft.specs.Notes.{MayNote, noted, handler_failed}
 use Rattle.booth_raft.specs.OtherMessages.{hear}
 use Rattle.booth_raft.specs.Outcome.{Outcome, quiet, telling}
@@ -109,7 +109,7 @@ wants_this : (s : Setup) (outcome : Outcome) (want : Want) → outcome.deed.want
 wants_this s outcome want is w = subst (λ (x : Want). WantsWell s outcome x) is w
 
 never_both : (b : Bool) → b ≡ true → b ≡ false → ⊥
-never_both b yes no = cc
+never_both b holds_now fails_now = cc
 
 -- where nothing is kept or said, the view is all that is left
 no_deeds : (s : Setup) (now : ℕ) (outcome : Outcome) → outcome.deed.keep ≡ None → outcome.deed.say ≡ words.Nothing
@@ -430,13 +430,13 @@ module _ (s : Setup) (now most : ℕ) where
     job_now = option_map (λ words_of. number) handler
 
     -- those that wait are told, which no member hears
-    told_each : (view : View) (told : Told) (waiters : List Waiter) (rest : Deeds Ask Left) (sent : List MemberLetter) (tree : TurnTree)
-        → Echoes s P sent rest tree → Echoes s P sent (tell_each s view now told waiters rest) tree
-    told_each view told [] rest sent tree m = m
-    told_each view told (w ∷ ws) rest sent tree m = by_result (result_for told w) (told_each view told ws rest sent tree m)
+    told_each : (part : TicketPart) (told : Told) (waiters : List Waiter) (rest : Deeds Ask Left) (sent : List MemberLetter) (tree : TurnTree)
+        → Echoes s P sent rest tree → Echoes s P sent (tell_each s part told waiters rest) tree
+    told_each part told [] rest sent tree m = m
+    told_each part told (w ∷ ws) rest sent tree m = by_result (result_for told w) (told_each part told ws rest sent tree m)
       where
-        by_result : (r : Option ℕ) → Echoes s P sent (tell_each s view now told ws rest) tree
-            → Echoes s P sent (tell_one s view now w r (tell_each s view now told ws rest)) tree
+        by_result : (r : Option ℕ) → Echoes s P sent (tell_each s part told ws rest) tree
+            → Echoes s P sent (tell_one s part w r (tell_each s part told ws rest)) tree
         by_result None more = more
         by_result (Some result) more = (refl, more)
 
@@ -516,7 +516,7 @@ module _ (s : Setup) (now most : ℕ) where
         → Echoes s P sent (ends s now waiters o) (plan_tree s now o.view (go o.view))
     ended waiters o sent =
         let left : Left = record { view = o.view; waiters = staying o.deed.told waiters } in
-        told_each o.view o.deed.told waiters (Ends left) sent (plan_tree s now o.view (go o.view)) (on left sent)
+        told_each (state_part s o.view now) o.deed.told waiters (Ends left) sent (plan_tree s now o.view (go o.view)) (on left sent)
 
     pub heard : (view : View) (waiters : List Waiter) (from : ℕ) (head : Head) (part : TicketPart) (sent : List MemberLetter)
         → Echoes s P sent (hear_message s view waiters from head part now)
@@ -632,7 +632,7 @@ module _ (s : Setup) (now most : ℕ) where
         → Echoes s P sent (replies s waiters request cmd now result o) (plan_tree s now o.view (go o.view))
     replied waiters request cmd result o sent client =
         let stay : List Waiter = staying o.deed.told waiters in
-        told_each o.view o.deed.told waiters (reply s request cmd result o.view now stay) sent (plan_tree s now o.view (go o.view))
+        told_each (state_part s o.view now) o.deed.told waiters (reply s request cmd result o.view now stay) sent (plan_tree s now o.view (go o.view))
         (client, on (record { view = o.view; waiters = joined request result stay }) sent)
 
     granted : (view : View) (waiters : List Waiter) (request : Request) (refused : Option ℕ) (sent : List MemberLetter)

@@ -159,17 +159,6 @@ fn check_refusal(
 #[test]
 fn each_refusal_has_its_calls_and_its_text(rt: HostRuntime) {
     let alloc = rt.alloc();
-    let lines = "mode = manual\nbefore-acquire-handler = /h";
-    let said = "boothd: not built: before-acquire-handler\n";
-    check_refusal(
-        &rt,
-        alloc,
-        lines,
-        "",
-        Outcome::Unbuilt(KeyNo(19)),
-        "re",
-        said,
-    );
     let lines = "authfile = /n";
     let said = "boothd: cannot read /n\n";
     check_refusal(&rt, alloc, lines, "", Outcome::KeyUnread, "rre", said);
@@ -193,17 +182,6 @@ fn each_refusal_has_its_calls_and_its_text(rt: HostRuntime) {
         LONG_KEY,
         Outcome::KeyBad(KeyFault::TooLong),
         "rre",
-        said,
-    );
-    let lines = "mode = manual\nauthfile = /n\nbefore-acquire-handler = /h";
-    let said = "boothd: not built: before-acquire-handler\n";
-    check_refusal(
-        &rt,
-        alloc,
-        lines,
-        "",
-        Outcome::Unbuilt(KeyNo(19)),
-        "re",
         said,
     );
 }

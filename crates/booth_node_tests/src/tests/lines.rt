@@ -210,21 +210,44 @@ fn check_send(rt: &impl Abort, alloc: Global, now: u64, line: &str, to: &Peer, b
     let said = line.strip_prefix("send ").expect(rt, "a send");
     let (name, frame) = said.split_once(": ").expect(rt, "to whom");
     assert!(rt; peer_of(rt, name) == *to, "{line}");
-    assert_eq!(rt; bytes, frame_of(rt, alloc, now, frame).as_slice(), "{line}");
+    let wanted = frame_of(rt, alloc, now, frame);
+    assert!(rt; bytes == wanted.as_slice(), "{line}");
 }
 
 fn check_keep(rt: &impl Abort, line: &str, ticket: &[u8], record: &Record) {
     let kept = line.strip_prefix("keep ").expect(rt, "a keep");
     let (name, record_text) = kept.split_once(' ').expect(rt, "a record");
     assert!(rt; name.as_bytes() == ticket, "{line}");
-    assert_eq!(rt; *record, record_of(rt, record_text), "{line}");
+    assert!(rt; *record == record_of(rt, record_text), "{line}");
 }
 
 // The line without the mark of a failure, which stands exactly where this call failed.
 fn without_failed<'a>(rt: &impl Abort, line: &'a str, failed: bool) -> &'a str {
     let unmarked = line.strip_suffix(" failed");
-    assert_eq!(rt; unmarked.is_some(), failed, "{line}");
+    assert!(rt; unmarked.is_some() == failed, "{line}");
     unmarked.unwrap_or(line)
+}
+
+// A job's number, its ticket, the member's address, and the end of the lease.
+fn job_text(
+    rt: &impl Abort,
+    alloc: Global,
+    number: u64,
+    ticket: &[u8],
+    local: &Address,
+    expires: u64,
+) -> String {
+    let ticket = std::str::from_utf8(ticket).expect(rt, "a text");
+    let address = local.print();
+    let text = format!(in alloc; "{number} {ticket} {} {expires}", address.as_str());
+    text.expect(rt, "memory")
+}
+
+fn check_start(rt: &impl Abort, line: &str, job: &str, handler: &[u8]) {
+    let start = line.strip_prefix("start ").expect(rt, line);
+    let (wanted, asked) = start.split_once(": ").expect(rt, line);
+    assert!(rt; job == wanted, "{line}");
+    assert!(rt; asked.as_bytes() == handler, "{line}");
 }
 
 /// The call is that of the line, in a turn of this moment.
@@ -251,15 +274,8 @@ pub fn check_call(rt: &impl Abort, alloc: Global, now: u64, line: &str, call: &E
             answer,
         } => {
             let line = without_failed(rt, line, answer.is_err());
-            let start = line.strip_prefix("start ").expect(rt, line);
-            let (job, asked) = start.split_once(": ").expect(rt, line);
-            let text = format!(in alloc;
-                "{number} {} {} {expires}",
-                std::str::from_utf8(ticket.bytes()).expect(rt, line),
-                local.print().as_str()
-            );
-            assert!(rt; job == text.expect(rt, "memory").as_str(), "{line}");
-            assert!(rt; asked.as_bytes() == handler.bytes(), "{line}");
+            let job = job_text(rt, alloc, *number, ticket.bytes(), local, *expires);
+            check_start(rt, line, job.as_str(), handler.bytes());
         }
         _ => panic!(rt; "another call: {line}"),
     }

@@ -68,7 +68,7 @@ pub fn record_of(rt: &impl Abort, line: &str) -> Record {
 fn behind<'a>(rt: &impl Abort, line: &'a str, word: &str, ok: bool) -> &'a str {
     let rest = line.strip_prefix(word).expect(rt, line);
     let unmarked = rest.strip_suffix(" failed");
-    assert_eq!(rt; unmarked.is_none(), ok, "{line}");
+    assert!(rt; unmarked.is_none() == ok, "{line}");
     unmarked.unwrap_or(rest)
 }
 

@@ -7,7 +7,7 @@ use Rattle.booth_cli.proofs.opening.open.Goals as goal
 pub open_node-requires : goal.open_node-requires
 open_node-requires g c =
     found_by_id c.in_ok-config.config c.args.asked.now.site
-    (subst IsSound c.config.view_is c.config.invariant.1) c.in_ok-admit.ensures.admitted.0
+    (subst IsSound c.config.view_is c.config.invariant.1) c.in_ok-admit.ensures.admitted
 
 pub returns-in_err-admit-clause-past : goal.returns-in_err-admit-clause-past
 returns-in_err-admit-clause-past g c =

@@ -1,7 +1,5 @@
-use Rattle.std.proofs.Common.{ℕ, sym, ap, ◌∙◌, subst}
-use Rattle.booth_base.specs.Tree.{Ends, Leads}
+use Rattle.std.proofs.Common.{sym, ap, ◌∙◌}
 use Rattle.booth_ticket.specs.declared.ticket.Kind.TheVariants as kinds
-use Rattle.booth_ticket.specs.Acts.{DidSome, IsAct}
 use Rattle.booth_ticket.specs.Kinds.{state_of}
 use Rattle.booth_ticket.specs.ManualRequests.{manual_asked}
 use Rattle.booth_ticket.specs.Requests.{wish}
@@ -37,11 +35,10 @@ returns-clause-did g c =
           let after = w.client.new.self in
           did_by_kind (λ (s : TicketState). ticket_asked s.setup s.known waiting spare ready job request c.args.now)
           c.args.list (state_of (kinds.Manual ticket)) c.args.self.now (record { kind = kinds.Manual after })
-          c.match-self.self-inside lists c.match-self.waiters
+          c.match-self.self-inside w.client.new.waiters c.match-self.waiters
           (sym c.self.view_is ∙ ap state_of w.in-Manual.is) w.self-inside-is w.waiters-is w.hands-is
-          (by_hand_did ticket.setup after.setup waiting (manual_asked ticket.setup ticket.known spare ready request)
-          after.known w.client.ensures.setup
-          (subst (λ (n : ℕ). DidSome g.W.Hands.did
-          (λ acts. Leads IsAct (manual_asked ticket.setup ticket.known n ready request) acts (Ends after.known))
-          c.args.hands.now w.client.new.hands) w.spare.ensures w.client.ensures.did))
+          (by_hand_did ticket.setup after.setup
+          (manual_asked ticket.setup ticket.known waiting spare ready job request c.args.now)
+          (record { known = after.known; waiters = waiting_at w.client.new.waiters c.args.list })
+          w.client.ensures.setup w.client.ensures.did)
     ]

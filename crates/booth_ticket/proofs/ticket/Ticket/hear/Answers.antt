@@ -1,12 +1,14 @@
-use Rattle.std.proofs.Common.{sym, ap, ◌∙◌}
+use Rattle.std.proofs.Common.{List, sym, ap, ◌∙◌}
 use Rattle.booth_ticket.specs.declared.ticket.Kind.TheVariants as kinds
+use Rattle.booth_ticket.specs.declared.waiters.Waiter.{Waiter}
 use Rattle.booth_ticket.specs.Automatic.{hear_message}
 use Rattle.booth_ticket.specs.Kinds.{state_of}
 use Rattle.booth_ticket.specs.Manual.{manual_heard}
 use Rattle.booth_ticket.specs.Ticket.{TicketState, ticket_heard}
 use Rattle.booth_ticket.specs.Waiting.{waiting_at}
 use Rattle.booth_ticket.proofs.CallLemmas.{by_rules_did}
-use Rattle.booth_ticket.proofs.ManualLemmas.{by_hand_did, did_by_kind}
+use Rattle.booth_ticket.proofs.DidLemmas.{did_weaker}
+use Rattle.booth_ticket.proofs.ManualLemmas.{Whole, by_hand_did, did_by_kind}
 use Rattle.booth_ticket.proofs.ticket.Ticket.hear.Goals.{in-Automatic, in-Manual}
 use Rattle.booth_ticket.proofs.ticket.Ticket.hear.Goals as goal
 
@@ -35,7 +37,14 @@ returns-clause-did g c =
           c.args.list (state_of (kinds.Manual ticket)) c.args.self.now (record { kind = kinds.Manual after })
           c.match-self.self-inside lists c.match-self.waiters
           (sym c.self.view_is ∙ ap state_of w.in-Manual.is) w.self-inside-is w.waiters-is w.hands-is
-          (by_hand_did ticket.setup after.setup waiting
-          (manual_heard ticket.setup ticket.known c.args.from head part) after.known
-          w.hear-in-Manual.ensures.setup w.hear-in-Manual.ensures.did)
+          (by_hand_did ticket.setup after.setup
+          (manual_heard ticket.setup ticket.known waiting c.args.from head part)
+          (record { known = after.known; waiters = waiting })
+          w.hear-in-Manual.ensures.setup
+          (did_weaker
+          (λ acts. (waiters : List Waiter) → Whole (manual_heard ticket.setup ticket.known waiters c.args.from head part)
+          (record { known = after.known; waiters = waiters }) acts)
+          (Whole (manual_heard ticket.setup ticket.known waiting c.args.from head part)
+          (record { known = after.known; waiters = waiting }))
+          (λ acts heard. heard waiting) w.hear-in-Manual.ensures.did))
     ]

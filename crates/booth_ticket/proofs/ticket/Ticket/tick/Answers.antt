@@ -2,7 +2,7 @@ use Rattle.std.proofs.Common.{sym, ap, ◌∙◌}
 use Rattle.booth_ticket.specs.declared.ticket.Kind.TheVariants as kinds
 use Rattle.booth_ticket.specs.Automatic.{tick}
 use Rattle.booth_ticket.specs.Kinds.{state_of}
-use Rattle.booth_ticket.specs.Manual.{manual_due}
+use Rattle.booth_ticket.specs.ManualHandling.{manual_due}
 use Rattle.booth_ticket.specs.Ticket.{TicketState, ticket_due}
 use Rattle.booth_ticket.specs.Waiting.{waiting_at}
 use Rattle.booth_ticket.proofs.CallLemmas.{by_rules_did}
@@ -30,8 +30,9 @@ returns-clause-did g c =
           let after = w.tick.new.self in
           did_by_kind (λ (s : TicketState). ticket_due s.setup s.known waiting c.args.ready c.args.job c.args.now)
           c.args.list (state_of (kinds.Manual ticket)) c.args.self.now (record { kind = kinds.Manual after })
-          c.match-self.self-inside lists c.match-self.waiters
+          c.match-self.self-inside w.tick.new.waiters c.match-self.waiters
           (sym c.self.view_is ∙ ap state_of w.in-Manual.is) w.self-inside-is w.waiters-is w.hands-is
-          (by_hand_did ticket.setup after.setup waiting (manual_due ticket.setup ticket.known) after.known
+          (by_hand_did ticket.setup after.setup (manual_due ticket.setup ticket.known waiting c.args.now)
+          (record { known = after.known; waiters = waiting_at w.tick.new.waiters c.args.list })
           w.tick.ensures.setup w.tick.ensures.did)
     ]

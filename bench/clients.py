@@ -1,0 +1,148 @@
+#!/usr/bin/env python3
+"""Measures clients at three proved boothd on loopback: grants that wait, 64 of them at once, and 512 attributes.
+
+Run it as `python3 bench/clients.py [BOOTHD BOOTH]`, the programs being what `make build` leaves where they are left
+out. It prints one table and takes a minute. The members share this machine with each other and with what else it does.
+"""
+
+import contextlib
+import itertools
+import os
+import signal
+import socket
+import statistics
+import subprocess
+import sys
+import tempfile
+import time
+
+HERE = os.path.dirname(os.path.abspath(__file__))
+sys.path[:0] = [HERE, f"{HERE}/../tools"]
+
+import frames
+from members import TICKET, Cluster
+from run import Row, cpu_seconds, one_run, status_field
+from serving import NotServing, built_program, end_by_signals, own_addresses
+
+TRIES = 20
+# as many clients as may wait, each for a ticket of its own
+MANY = tuple(b"ticket-%02d" % number for number in range(64))
+# how long the clients have to come before the members that were stopped go on, in seconds
+SECONDS_TO_COME = 1.5
+# as many attributes as a member has room for, of eight tickets, as one ticket has
+NAMES, TICKETS = 64, 8
+# the longest name and the longest value
+NAME_BYTES, VALUE_BYTES = 63, 127
+GETS = 2_000
+
+ADDRESSES = own_addresses()
+
+
+def require(holds, what):
+    if not holds:
+        raise NotServing(what)
+
+
+@contextlib.contextmanager
+def serving(programs, folder, tickets):
+    """Three members that answer rounds."""
+    addresses = list(itertools.islice(ADDRESSES, 3))
+    with Cluster(programs[0], folder, addresses, client=programs[1], tickets=tickets) as made:
+        made.start()
+        time.sleep(made.times.abstention() + 0.1)
+        yield made
+
+
+def words_of(made, ticket, *command):
+    """The words of a run of `booth` at the first member."""
+    return [made.client, *command, ticket.decode(), "-c", made.conf, "-s", made.members[0].address]
+
+
+def grant_rows(programs, folder):
+    """`booth grant -w` from exec to exit, each after a revocation."""
+    took = []
+    with serving(programs, folder, (TICKET,)) as made:
+        for _ in range(TRIES):
+            took.append(one_run(words_of(made, TICKET, "grant", "-w")) * 1e3)
+            one_run(words_of(made, TICKET, "revoke"))
+    shown = f"{statistics.median(took):.1f} ms (lowest: {min(took):.1f} ms)"
+    yield Row("booth grant -w, exec to exit, three members", shown)
+
+
+def signalled(members, number):
+    for member in members:
+        os.kill(member.server.process.pid, number)
+
+
+def waiting_rows(programs, folder):
+    """64 clients that wait while the other members are stopped, until the last is told."""
+    with serving(programs, folder, MANY) as made:
+        one, *others = made.members
+        resident = status_field(one.server.process, "VmRSS")
+        signalled(others, signal.SIGSTOP)
+        quiet = {"stdin": subprocess.DEVNULL, "stdout": subprocess.DEVNULL}
+        clients = [subprocess.Popen(words_of(made, ticket, "grant", "-w"), **quiet) for ticket in MANY]
+        time.sleep(SECONDS_TO_COME)
+        require(all(client.poll() is None for client in clients), "a client did not wait")
+        started, cpu = time.perf_counter(), cpu_seconds(one.server.process)
+        signalled(others, signal.SIGCONT)
+        require(all(client.wait(timeout=30) == 0 for client in clients), "a client was not granted its ticket")
+        took, cpu = time.perf_counter() - started, cpu_seconds(one.server.process) - cpu
+        more = status_field(one.server.process, "VmRSS") - resident
+    yield Row("64 clients that wait: from the first vote to the last exit", f"{took * 1e3:.0f} ms")
+    yield Row("the holder's CPU for it: 64 majorities, records and replies", f"{cpu * 1e3:.1f} ms")
+    yield Row("its memory more than before", f"{more} kB")
+
+
+def attribute(number):
+    """A name of the greatest length."""
+    return b"%0*d" % (NAME_BYTES, number)
+
+
+def answered(member, letters, ticket, number, value=b""):
+    answer = member.ask(letters, frames.attribute_body(ticket, attribute(number), value))
+    require(answer is not None and answer.result == "ok", f"{letters} of {number}: {answer}")
+
+
+def get_micros(member, ticket, number):
+    """The daemon's CPU of a get of one name, in microseconds."""
+    before = cpu_seconds(member.server.process)
+    for _ in range(GETS):
+        answered(member, "AGet", ticket, number)
+    return (cpu_seconds(member.server.process) - before) / GETS * 1e6
+
+
+def attribute_rows(programs, folder):
+    """512 attributes of full length, and gets of the first and the last of 64."""
+    tickets = MANY[:TICKETS]
+    with serving(programs, folder, tickets) as made:
+        one = made.members[0]
+        resident = status_field(one.server.process, "VmRSS")
+        answered(one, "ASet", tickets[0], 0, b"v" * VALUE_BYTES)
+        alone = get_micros(one, tickets[0], 0)
+        for ticket, number in itertools.product(tickets, range(NAMES)):
+            answered(one, "ASet", ticket, number, b"v" * VALUE_BYTES)
+        full = status_field(one.server.process, "VmRSS")
+        first, last = (get_micros(one, tickets[0], number) for number in (0, NAMES - 1))
+    yield Row("resident memory with 512 attributes of full length", f"{full:,} kB ({full - resident} kB more)")
+    yield Row("daemon CPU a get: of one name; of 64, the first, the last", f"{alone:.1f}; {first:.1f}; {last:.1f} µs")
+
+
+def main(words):
+    end_by_signals()
+    programs = words if len(words) == 2 else [built_program("boothd"), built_program("booth")]
+    if None in programs:
+        sys.exit("clients.py: boothd or booth is not built: run make build")
+    programs = [os.path.abspath(program) for program in programs]
+    try:
+        for measured in (grant_rows, waiting_rows, attribute_rows):
+            with tempfile.TemporaryDirectory(prefix="booth-bench-") as folder:
+                for row in measured(programs, f"{folder}/members"):
+                    print(f"{row.name:64} {row.value}", flush=True)
+    except (NotServing, socket.timeout) as why:
+        sys.exit(f"clients.py: {why}")
+    return 0
+
+
+if __name__ == "__main__":
+    sys.exit(main(sys.argv[1:]))

@@ -1,0 +1,232 @@
+"""Clusters whose ticket has a handler, or is granted by hand.
+
+It is imported by tests/cluster.py, and not run by itself.
+"""
+
+import os
+import subprocess
+import time
+
+from members import MANUAL, Ran, now, wait_for
+from stories import BY_HAND, NAME, SLACK, abstains, is_held_by, passed, require, says, story
+
+# What a site's handler does: it notes each run and its descriptors, and then sleeps or fails where a file says so.
+HANDLER = """#!/bin/sh
+cd {folder}
+echo "$BOOTH_TICKET $BOOTH_TICKET_EXPIRES $1" >> "ran.$BOOTH_LOCAL"
+ls -l "/proc/$$/fd" > "descriptors.$BOOTH_LOCAL"
+echo $$ > "pid.$BOOTH_LOCAL"
+[ ! -e "fails.$BOOTH_LOCAL" ] || exit 3
+[ ! -e "sleeps.$BOOTH_LOCAL" ] || exec sleep "$(cat "sleeps.$BOOTH_LOCAL")"
+"""
+# a daemon whose standard streams are closed
+CLOSED = """#!/bin/sh
+exec {program} "$@" <&- >&- 2>&-
+"""
+
+
+def script(path, text):
+    with open(path, "w", encoding="ascii") as file:
+        file.write(text)
+    os.chmod(path, 0o755)
+    return path
+
+
+def handler_in(folder):
+    """The setting that names the handler, which is made in this folder."""
+    return f'before-acquire-handler = "{script(folder + "/check", HANDLER.format(folder=folder))} db8"\n'
+
+
+class Handler:
+    """The handler of a member, by the files in the cluster's folder."""
+
+    def __init__(self, cluster, member):
+        self.path = lambda name: os.path.join(cluster.folder, f"{name}.{member.address}")
+
+    def read(self, name):
+        try:
+            with open(self.path(name), encoding="ascii") as file:
+                return file.read()
+        except OSError:
+            return ""
+
+    def set(self, name, text=""):
+        with open(self.path(name), "w", encoding="ascii") as file:
+            file.write(text)
+
+    def clear(self, name):
+        os.remove(self.path(name))
+
+    def runs(self):
+        """What each of its runs was told: the ticket, the end of its lease, and its word."""
+        return [line.split() for line in self.read("ran").splitlines()]
+
+    def is_running(self):
+        return os.path.exists(f"/proc/{self.read('pid').strip()}")
+
+
+def answered_meanwhile(member, asker):
+    """Asks for the list until this run of booth is over. The longest that an answer took."""
+    longest = 0
+    while asker.poll() is None:
+        asked = time.monotonic()
+        require(member.ask("CLst") is not None, "a list is not answered while the handler runs")
+        longest = max(longest, time.monotonic() - asked)
+        time.sleep(0.01)
+    return longest
+
+
+@story
+def sites_with_a_handler(cluster):
+    """a cluster whose ticket has a handler"""
+    times = cluster.times
+    one, two, arbitrator = cluster.members
+    first, second = Handler(cluster, one), Handler(cluster, two)
+    one.start(cluster.program, cluster.conf)
+    two.start(script(cluster.folder + "/closed", CLOSED.format(program=cluster.program)), cluster.conf)
+    arbitrator.start(cluster.program, cluster.conf)
+    abstains(cluster, now())
+    first.set("fails")
+    says(one, ("grant", "-w", NAME), 1, "booth: handler failed\n")
+    require(first.runs() == [[NAME, "0", "db8"]] and one.record() is None, f"ran {first.runs()}, kept {one.record()}")
+    passed("a grant is refused where the handler fails, and nothing is kept or asked for")
+    first.clear("fails")
+
+    first.set("sleeps", "2")
+    asked = now()
+    words = [cluster.client, "grant", "-w", NAME, "-c", cluster.conf, "-s", one.address]
+    asker = subprocess.Popen(words, stdin=subprocess.DEVNULL, stdout=subprocess.PIPE, text=True)
+    longest = answered_meanwhile(one, asker)
+    require((asker.wait(), asker.communicate()[0]) == (0, f"ticket {NAME} granted\n"), "the grant failed")
+    require(now() - asked > 2, "the grant did not wait for its handler")
+    require(longest < SLACK, f"a list took {longest:.2f} s")
+    first.clear("sleeps")
+    passed(f"a handler that runs delays the grant, and no list ({longest * 1000:.0f} ms at most)")
+
+    end, ends = now() + 2 * times.expire, set()
+    while now() < end:
+        record = one.record()
+        require(record is not None and record.holds(now()), "the lease ended though its handler does not fail")
+        ends.add(int(record.until))
+        time.sleep(0.02)
+    told = {int(run[1]) for run in first.runs()[2:]}
+    require(told and told <= ends, f"the handler was told {told}, and leases ended at {ends}")
+    passed(f"each renewal waits for the handler, which is told the end of the lease ({len(told)} of them)")
+
+    held = one.record()
+    first.set("fails")
+    require(wait_for(lambda: one.record().until is None, times.renewal + times.timeout + SLACK), "the lease is kept")
+    given_back = now()
+    require(wait_for(lambda: is_held_by(cluster, two), 3 * times.timeout + SLACK), "the other site did not take over")
+    require(not second.runs()[0][1].strip("0") and now() < given_back + 3 * times.timeout + SLACK, f"{second.runs()}")
+    passed(f"a handler that begins to fail gives the lease back, and the other site takes over ({now() - given_back:.1f} s)")
+    for handler in (first, second):
+        kept_out = handler.read("descriptors")
+        require(kept_out and not any(word in kept_out for word in ("socket", "records", "lock")), kept_out)
+    passed("no file and no socket of a daemon reaches its handler, also where its standard streams are closed")
+
+    second.set("sleeps", "30")
+    require(wait_for(lambda: len(second.runs()) > 1, times.renewal + SLACK), "no renewal started the handler")
+    last = two.record()
+    time.sleep(max(0, last.until + 0.1 - now()))
+    require(two.record() == last and two.shown() != two.address, "a lease is renewed whose handler runs on")
+    require(second.is_running(), "the handler was ended before it was started again")
+    second.clear("sleeps")
+    pid = second.read("pid")
+    says(two, ("grant", "-w", NAME), 0, f"ticket {NAME} granted\n")
+    require(not os.path.exists(f"/proc/{pid.strip()}"), "the handler that ran on runs still")
+    passed("a lease ends whose handler runs on, and that one is ended before the next start")
+
+
+def lists_by_hand(cluster, owner):
+    """Every member that runs lists this owner of the manual ticket, whose lease has no end, by booth."""
+    address = owner.address if owner else "none"
+    text = f"ticket: {NAME}, leader: none\nticket: {BY_HAND}, leader: {address}\n"
+    for member in cluster.members:
+        heard = lambda: member.booth("list") == Ran(0, text, "")
+        require(wait_for(heard, 2), f"{member.address} lists {member.booth('list')}, and not {address}")
+
+
+@story
+def a_manual_ticket(cluster):
+    """a cluster with a ticket that is granted by hand"""
+    one, two, arbitrator = cluster.members
+    cluster.start()
+    says(one, ("revoke", BY_HAND), 1, "booth: ticket is not granted\n")
+    says(one, ("grant", BY_HAND), 0, f"ticket {BY_HAND} granted\n")
+    record = one.record(MANUAL)
+    require(record.term == 1 and record.holds(now()), f"the record is {record}")
+    lists_by_hand(cluster, one)
+    passed("a manual ticket is granted at once, with its record on the disk, and listed by every member")
+    says(one, ("grant", "-C", BY_HAND), 0, f"ticket {BY_HAND} granted\n")
+    says(two, ("grant", BY_HAND), 1, "booth: ticket is granted elsewhere\n")
+    says(arbitrator, ("grant", "-F", BY_HAND), 1, "booth: invalid argument\n")
+    says(one, ("grant", "-F", NAME), 1, "booth: invalid argument\n")
+    passed("it is not granted elsewhere without force, which is for manual tickets at sites alone")
+
+    for member in (one, arbitrator):
+        member.kill()
+        member.start(cluster.program, cluster.conf)
+    lists_by_hand(cluster, one)
+    says(one, ("grant", BY_HAND), 0, f"ticket {BY_HAND} granted\n")
+    require(one.record(MANUAL) == record, "the record changed")
+    passed("its owner is one after a restart, and a member that starts hears who owns it")
+
+    says(two, ("grant", "-F", BY_HAND), 0, f"ticket {BY_HAND} granted\n")
+    require(all(member.record(MANUAL).holds(now()) for member in (one, two)), "one of the two does not hold")
+    require(wait_for(lambda: arbitrator.shown(MANUAL) == two.address, 2), "the arbitrator lists another")
+    require(one.shown(MANUAL) == one.address and two.shown(MANUAL) == two.address, "an owner lists another")
+    passed("by force another site takes it too, both hold it, and each lists itself")
+
+    says(one, ("revoke", BY_HAND), 0, f"ticket {BY_HAND} revoked\n")
+    require(one.record(MANUAL).until is None, "the revoked lease is kept")
+    require(arbitrator.shown(MANUAL) == two.address, "another's revocation is taken for the owner's")
+    says(arbitrator, ("revoke", BY_HAND), 0, f"ticket {BY_HAND} revoked\n")
+    require(two.record(MANUAL).until is None, "the revoked lease is kept")
+    lists_by_hand(cluster, None)
+    passed("each gives it back by itself, or is asked to by way of a member that lists it")
+
+
+@story
+def a_manual_ticket_that_asks(cluster):
+    """a cluster with a ticket that is granted by hand and has a handler"""
+    one, two, arbitrator = cluster.members
+    first, second = Handler(cluster, one), Handler(cluster, two)
+    cluster.start()
+    first.set("fails")
+    says(one, ("grant", "-w", BY_HAND), 1, "booth: handler failed\n")
+    require(first.runs() == [[BY_HAND, "0", "db8"]] and one.record(MANUAL) is None, f"ran {first.runs()}")
+    says(arbitrator, ("grant", BY_HAND), 1, "booth: invalid argument\n")
+    passed("a grant by hand is refused where the handler fails, and nothing is kept")
+    first.clear("fails")
+
+    first.set("sleeps", "2")
+    asked = now()
+    says(one, ("grant", BY_HAND), 0, f"grant of {BY_HAND} requested\n")
+    for command in ("grant", "revoke"):
+        says(one, (command, BY_HAND), 1, "booth: busy\n")
+    require(one.record(MANUAL) is None, "a record is kept while the handler runs")
+    require(wait_for(lambda: one.record(MANUAL) is not None, 2 + 2 * SLACK), "nothing is kept behind the handler")
+    require(now() - asked > 2 and one.record(MANUAL).holds(now()), "it did not wait for its handler")
+    lists_by_hand(cluster, one)
+    passed("a grant by hand waits for its handler, and meanwhile another grant or a revoke is refused")
+
+    one.kill()
+    one.start(cluster.program, cluster.conf)
+    says(one, ("grant", "-w", BY_HAND), 0, f"ticket {BY_HAND} granted\n")
+    says(one, ("revoke", BY_HAND), 0, f"ticket {BY_HAND} revoked\n")
+    require(len(first.runs()) == 2, f"ran {first.runs()}")
+    lists_by_hand(cluster, None)
+    passed("neither a restart of the owner, nor a grant to it, nor a revoke asks the handler")
+
+    second.set("sleeps", "30")
+    asked, due = now(), cluster.times.timeout * (cluster.times.retries + 1)
+    says(two, ("grant", "-w", BY_HAND), 1, "booth: handler failed\n")
+    took = now() - asked
+    require(due - SLACK < took < due + 2 * SLACK and two.record(MANUAL) is None, f"refused after {took:.2f} s")
+    second.clear("sleeps")
+    pid = second.read("pid")
+    says(two, ("grant", "-w", BY_HAND), 0, f"ticket {BY_HAND} granted\n")
+    require(not os.path.exists(f"/proc/{pid.strip()}"), "the handler that ran on runs still")
+    lists_by_hand(cluster, two)
+    passed(f"a handler that is too slow has failed ({took:.1f} s), and is ended before the next start")

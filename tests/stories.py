@@ -1,0 +1,102 @@
+"""What the stories of tests/cluster.py stand on: what a cluster is held to, and how that is said.
+
+It is imported by the programs in tests/, and not run by itself.
+"""
+
+import time
+
+from members import MANUAL, TICKET, Ran, now, wait_for
+
+# how much later than it may a thing happens at most, in seconds
+SLACK = 0.5
+NAME = TICKET.decode()
+BY_HAND = MANUAL.decode()
+
+stories = []
+
+
+class Wrong(Exception):
+    """The cluster did not what it has to."""
+
+
+def require(holds, why):
+    if not holds:
+        raise Wrong(why)
+
+
+def story(function):
+    """Takes a function, whose docstring says what its cluster is, into the list."""
+    stories.append(function)
+    return function
+
+
+def passed(sentence):
+    print(f"ok      {sentence}", flush=True)
+
+
+def is_held_by(cluster, member):
+    """Whether this member's record is in force and every running member lists it."""
+    record = member.record()
+    return record is not None and record.holds(now()) and cluster.shown_by_all() == member.address
+
+
+def grants(cluster, place, seconds=2):
+    """A client asks this member for a grant, again where it is busy, and then the member holds."""
+    member = cluster.members[place]
+    result = wait_for(lambda: (answer := member.about("CGnt")) != "Busy" and answer, seconds)
+    require(result in ("ok", "Asyn"), f"a grant is answered {result or 'Busy, or not at all'}")
+    require(wait_for(lambda: is_held_by(cluster, member), seconds), "the granted ticket is not held")
+    return member.record()
+
+
+def says(member, words, status, text):
+    """Runs booth at this member, and holds it to this status and this text, of which only one stream has some."""
+    wanted = Ran(status, "", text) if status else Ran(status, text, "")
+    ran = member.booth(*words)
+    require(ran == wanted, f"booth {' '.join(words)} at {member.address} left {ran}, and not {wanted}")
+
+
+def keeps(member, words, status, text, ticket=TICKET):
+    """Runs geostore at this member, and holds it to this status and this text."""
+    wanted = Ran(status, "", text) if status else Ran(status, text, "")
+    ran = member.geostore(*words, ticket=ticket)
+    require(ran == wanted, f"geostore {' '.join(words)} at {member.address} left {ran}, and not {wanted}")
+
+
+def date(moment):
+    return time.strftime("%Y-%m-%d %H:%M:%S", time.gmtime(moment))
+
+
+def lists(cluster, owner):
+    """Every member that runs lists this owner, with the end of the lease in its record, by booth."""
+    for member in cluster.members:
+        if not member.is_running():
+            continue
+        before = owner and owner.record().until
+        ran = member.booth("list")
+        wanted = {f"ticket: {NAME}, leader: none\n"}
+        if owner is not None:
+            # (it may be renewed meanwhile, and a member that only heard of it counts whole seconds)
+            moments = [end + more for end in (before, owner.record().until) for more in (-1, 0, 1)]
+            wanted = {f"ticket: {NAME}, leader: {owner.address}, expires: {date(end)}\n" for end in moments}
+        require(ran.status == 0 and ran.printed in wanted and not ran.said, f"{member.address} lists {ran}")
+
+
+def counts_as(member):
+    """What booth prints of the members is what the daemon counts."""
+    drops, others = member.counts()
+    ran = member.booth("peers")
+    first, *lines = ran.printed.splitlines()
+    kinds = ("frame", "nomac", "badmac", "old", "stranger", "self", "ticket", "leader")
+    require(first == "dropped: " + ", ".join(f"{kind} {n}" for kind, n in zip(kinds, drops)), first)
+    for line, (address, (accepted, sent, errors)) in zip(lines, others.items()):
+        role, other, *_ = line.split(" ")
+        require(other.rstrip(",") == address and role in ("site", "arbitrator"), line)
+        require(line.split(", last: ")[1].split(", received: ")[0] == "never" or accepted > 0, line)
+        require(line.endswith(f", errors: {errors}"), line)
+    require(len(lines) == len(others) and ran.status == 0 and not ran.said, f"booth peers left {ran}")
+
+
+def abstains(cluster, started):
+    """The moment from which each of the members that started until this moment answers rounds."""
+    time.sleep(max(0, started + cluster.times.abstention() + 0.05 - now()))
