@@ -203,6 +203,13 @@ impl Config {
         rank(&self.members, &self.tickets[ticket].weights, member)
     }
 
+    /// What is true of each configuration that a text says.
+    pub fn sound(&self)
+        ensures { IsSound self.now }
+    {
+        let _port = self.port;
+    }
+
     /// The same configuration.
     pub fn copy(&self, alloc: Global) -> Result<Config, AllocError>
         ensures { IfOk result (λ config. config ≡ self.now) }
