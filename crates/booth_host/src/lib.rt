@@ -7,8 +7,6 @@ mod host;
 mod memory;
 mod quiet;
 mod real;
-#[cfg(test)]
-mod tests;
 
 pub use datagram::{DATAGRAM_BYTES, Datagram};
 pub use entry::Entry;

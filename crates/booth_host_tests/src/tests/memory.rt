@@ -1,8 +1,8 @@
 //! Hosts in memory that run a script.
-use crate::{
+use booth_base::{Address, ByteText, PathText, Peer};
+use booth_host::{
     Arrival, Datagram, Entry, Failed, Files, Host, MemoryHost, QuietHost, ReadFault, Script, Step,
 };
-use booth_base::{Address, ByteText, PathText, Peer};
 use std::alloc::Global;
 use std::test::Fail;
 
