@@ -20,8 +20,6 @@ mod prints;
 mod ranks;
 mod sections;
 mod settings;
-#[cfg(test)]
-mod tests;
 mod texts;
 mod tickets;
 mod values;

@@ -1,6 +1,6 @@
 //! Small texts and their first faults.
 use super::{bad, clash, fault, repeated, syntax};
-use crate::ConfFault;
+use booth_conf::ConfFault;
 use std::test::Fail;
 
 const SMALL: &str =

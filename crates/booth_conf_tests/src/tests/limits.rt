@@ -1,6 +1,6 @@
 //! Texts at the limits, and one past them.
 use super::{bad, fault, repeated, too_many};
-use crate::ConfFault;
+use booth_conf::ConfFault;
 use std::alloc::{AllocError, Global};
 use std::test::Fail;
 

@@ -3,7 +3,7 @@ mod faults;
 mod limits;
 mod values;
 
-use crate::{ConfFault, Config, KeyNo};
+use booth_conf::{ConfFault, Config, KeyNo};
 use std::alloc::Global;
 
 // Why a text is no configuration.

@@ -1,6 +1,6 @@
 //! Texts that are configurations, their values, and the text that is printed of them.
-use crate::{Config, KeyNo};
 use booth_base::{Address, ByteText, Name, promise_ms};
+use booth_conf::{Config, KeyNo};
 use std::alloc::Global;
 use std::test::Fail;
 
