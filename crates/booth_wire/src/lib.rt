@@ -17,6 +17,3 @@ pub use layout::AUTH_BYTES;
 pub use message::{AttrPart, Body, FrameFault, Head, Message, Say, Setup, TermSpent, TicketPart};
 pub use reading::decode;
 pub use writing::encode;
-
-#[cfg(test)]
-mod tests;

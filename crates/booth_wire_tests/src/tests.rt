@@ -1,7 +1,10 @@
 //! Frames from outside: the protocol's worked example, what tests/every_frame.py spells, and frames
 //! with one or two faults.
-use super::*;
 use booth_base::MemberId;
+use booth_wire::{
+    AUTH_BYTES, Body, Cmd, Direction, FRAME_BYTES, Frame, FrameFault, Head, Kind, Message,
+    TermSpent, decode, encode,
+};
 use std::alloc::{AllocError, Global};
 use std::process::Abort;
 use std::test::Fail;
