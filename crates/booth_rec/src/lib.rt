@@ -6,10 +6,6 @@ mod memory_disk;
 mod record;
 mod record_file;
 mod slots;
-#[cfg(test)]
-mod store_tests;
-#[cfg(test)]
-mod tests;
 
 pub use disk::{Disk, DiskFault};
 pub use memory_disk::MemoryDisk;

@@ -1,5 +1,5 @@
 //! Records spelled by hand from the layout of the record file.
-use crate::{Lease, Record, RecordFault};
+use booth_rec::{Lease, Record, RecordFault};
 use std::alloc::AllocError;
 
 const FREE: [u8; 32] = [

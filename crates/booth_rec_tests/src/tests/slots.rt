@@ -1,5 +1,5 @@
 //! The two slots over a disk in memory, with files that were written by hand from the layout.
-use crate::{Lease, MemoryDisk, OpenFault, PutFault, Record, ReopenFault, Slots};
+use booth_rec::{Lease, MemoryDisk, OpenFault, PutFault, Record, ReopenFault, Slots};
 use std::alloc::Global;
 use std::test::Fail;
 

@@ -1,0 +1,3 @@
+//! Records and files that were spelled by hand from the layout.
+mod slots;
+mod spelling;
