@@ -6,8 +6,6 @@ mod key;
 pub mod laws;
 mod mac;
 mod sealing;
-#[cfg(test)]
-mod tests;
 
 pub use admission::{DropFault, gate, is_signed};
 pub use key::{Key, KeyFault};

@@ -1,7 +1,7 @@
 //! A configuration, ids, a key, and a frame that is signed by another program; bytes are read from texts.
 ghost use Rattle.std.specs.Prelude.{◌<◌};
 
-use crate::{DropFault, Key, gate, hmac};
+use booth_auth::{DropFault, Key, gate, hmac};
 use booth_base::{MemberId, NO_ONE};
 use booth_conf::Config;
 use std::alloc::Global;

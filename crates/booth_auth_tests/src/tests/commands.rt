@@ -1,6 +1,6 @@
 //! Each command at the gate: who may send it, and what a key asks of it.
 use super::frames::{begin, bytes_of, config, id_of, key, put, put_id, signed, told};
-use crate::{DropFault, Key};
+use booth_auth::{DropFault, Key};
 use booth_conf::Config;
 use std::alloc::Global;
 use std::process::Abort;

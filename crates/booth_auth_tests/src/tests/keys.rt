@@ -1,35 +1,32 @@
 //! Keys, and MACs of the standards.
 use super::frames::bytes_of;
-use crate::DropFault;
-use crate::key::{Key, KeyFault};
-use crate::mac::{are_equal, hmac};
+use booth_auth::{DropFault, Key, KeyFault, hmac};
 use booth_wire::FrameFault;
 use sha1::Sha1;
 use std::alloc::Global;
 use std::process::Abort;
 
 fn check_mac(rt: &impl Abort, alloc: Global, key: &str, message: &str, mac: &str) {
-    let key = bytes_of(rt, alloc, key);
-    assert!(rt; key.len() >= 8 && key.len() <= 64);
-    let signed = hmac(&Key::of(&key), &bytes_of(rt, alloc, message));
+    let key = Key::read(&bytes_of(rt, alloc, key)).expect(rt, key);
+    let signed = hmac(&key, &bytes_of(rt, alloc, message));
     let mac = bytes_of(rt, alloc, mac);
     assert!(rt; signed.as_slice() == mac.as_slice(), "{message}");
 }
 
-// RFC 2202, section 3: the vectors whose keys have 8 to 64 bytes. The last two are of Python's hmac,
-// with the longest key and the shortest.
+// RFC 2202, section 3: the vectors whose keys have 8 to 64 bytes. Two of these keys are blanks alone, so they stand here
+// with the zeros that RFC 2104 puts behind a key. The last two are of Python's hmac, with the longest key and the shortest.
 #[test]
 fn macs_are_those_of_the_standard(rt: HostRuntime) {
     let alloc = rt.alloc();
     let mac = "# b6173186 55057264 e28bc0b6 fb378c8e f146be00";
-    check_mac(&rt, alloc, "# 0b*20", "Hi There", mac);
+    check_mac(&rt, alloc, "# 0b*20 00*44", "Hi There", mac);
     let mac = "# 125d7342 b9ac11cd 91a39af4 8aa17b4f 63f175d3";
     check_mac(&rt, alloc, "# aa*20", "# dd*50", mac);
     let counting = "# 01020304 05060708 090a0b0c 0d0e0f10 11121314 15161718 19";
     let mac = "# 4c9007f4 026250c6 bc8414f9 bf50c86c 2d7235da";
     check_mac(&rt, alloc, counting, "# cd*50", mac);
     let mac = "# 4c1a0342 4b55e07f e7f27be1 d58bb932 4a9a5a04";
-    check_mac(&rt, alloc, "# 0c*20", "Test With Truncation", mac);
+    check_mac(&rt, alloc, "# 0c*20 00*44", "Test With Truncation", mac);
     let mac = "# c4855c2b 4102e8cc 936b94a2 d4e0c1ec e85d66dd";
     check_mac(&rt, alloc, "# 4b*64", "# 78*64", mac);
     let mac = "# 8bd39410 55ae217b 13b5a797 df4e0a1e b126c77c";
@@ -64,11 +61,13 @@ fn signs(file: &[u8]) -> Result<[u8; 20], KeyFault> {
     Ok(hmac(&Key::read(file)?, b""))
 }
 
-fn check_key(rt: &impl Abort, alloc: Global, file: &str, key: &str) {
-    let key = bytes_of(rt, alloc, key);
-    assert!(rt; key.len() >= 8 && key.len() <= 64);
-    let mac = hmac(&Key::of(&key), b"");
-    assert!(rt; signs(&bytes_of(rt, alloc, file)) == Ok(mac), "{file}");
+// The MAC is the one of Python's hmac under the key that is meant.
+fn check_key(rt: &impl Abort, alloc: Global, file: &str, mac: &str) {
+    let found = signs(&bytes_of(rt, alloc, file)).expect(rt, file);
+    assert!(rt;
+        found.as_slice() == bytes_of(rt, alloc, mac).as_slice(),
+        "{file}"
+    );
 }
 
 fn check_no_key(rt: &impl Abort, alloc: Global, file: &str, fault: KeyFault) {
@@ -78,28 +77,31 @@ fn check_no_key(rt: &impl Abort, alloc: Global, file: &str, fault: KeyFault) {
 #[test]
 fn blanks_round_a_text_are_no_key(rt: HostRuntime) {
     let alloc = rt.alloc();
-    check_key(&rt, alloc, "  secret-key\n", "secret-key");
-    check_key(&rt, alloc, "\t\n\x0b\x0c\r secret-key\r\n", "secret-key");
-    check_key(&rt, alloc, "secret key", "secret key");
-    check_key(&rt, alloc, "seven by", "seven by");
+    let secret_key = "# 0877fcf3 af864ddf 56157f9f 4e39eb48 dedd74fd";
+    check_key(&rt, alloc, "  secret-key\n", secret_key);
+    check_key(&rt, alloc, "\t\n\x0b\x0c\r secret-key\r\n", secret_key);
+    let mac = "# 4df289f9 c3bc6fd0 ce6a1cb7 6d430321 c1ec8d9c";
+    check_key(&rt, alloc, "secret key", mac);
+    let mac = "# b019618c c19e612c 6b404654 e6d62a7e b1d9618b";
+    check_key(&rt, alloc, "seven by", mac);
     // ten blanks, and the longest key
-    check_key(&rt, alloc, "# 20*10 6b*64 0a", "# 6b*64");
+    let mac = "# b6b10bf1 7b16d734 7adb5e41 49102761 dbb3bcbd";
+    check_key(&rt, alloc, "# 20*10 6b*64 0a", mac);
 }
 
 // One byte is no text, and then all bytes are of the key.
 #[test]
 fn blanks_round_other_bytes_are_of_the_key(rt: HostRuntime) {
     let alloc = rt.alloc();
-    check_key(&rt, alloc, "  secret-key\n\0", "  secret-key\n\0");
+    let mac = "# 7e319957 20cdcbd7 939d6571 360a65ed 8ac62a94";
+    check_key(&rt, alloc, "  secret-key\n\0", mac);
     // 0xE9, and in the letters of Python's bytes.hex: b" secret\n"
-    check_key(
-        &rt,
-        alloc,
-        "# e9 20736563 7265740a",
-        "# e9 20736563 7265740a",
-    );
-    check_key(&rt, alloc, "\x7fsecret\n", "\x7fsecret\n");
-    check_key(&rt, alloc, "\x08secret\n", "\x08secret\n");
+    let mac = "# 21864fb0 e0ac2d3d 7e2f550d 252d5156 cb3512e7";
+    check_key(&rt, alloc, "# e9 20736563 7265740a", mac);
+    let mac = "# fccf6639 31dc93cb 11b77205 977da10d bb94468b";
+    check_key(&rt, alloc, "\x7fsecret\n", mac);
+    let mac = "# 7786bedd 73fdf8a9 a3569736 65860a8b 5bba5723";
+    check_key(&rt, alloc, "\x08secret\n", mac);
 }
 
 #[test]
@@ -152,15 +154,4 @@ fn faults_are_told_in_plain_words(rt: HostRuntime) {
     check_told(&rt, alloc, Own, "it is this member's own");
     check_told(&rt, alloc, Ticket, "the ticket is not in the configuration");
     check_told(&rt, alloc, Leader, "the leader may not be the leader");
-}
-
-#[test]
-fn macs_differ_in_any_byte(rt: HostRuntime) {
-    let mac = [0x5A; 20];
-    assert!(rt; are_equal(&mac, &[0x5A; 20]));
-    for i in 0..20 {
-        let mut other = [0x5A; 20];
-        other[i] = 0x5B;
-        assert!(rt; !are_equal(&mac, &other), "byte {i}");
-    }
 }

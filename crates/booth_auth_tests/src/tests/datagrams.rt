@@ -3,7 +3,7 @@ use super::frames::{
     ARBITRATOR, CLIENT, FRAME_BYTES, ME, NOW, PLAIN_BYTES, UNKNOWN, begin, bytes_of, config, key,
     put, put_id, sign, signed, told,
 };
-use crate::{DropFault, Key, gate, seal};
+use booth_auth::{DropFault, Key, gate, seal};
 use booth_conf::Config;
 use booth_wire::{Frame, FrameFault, decode};
 use std::alloc::Global;
