@@ -15,8 +15,6 @@ mod other_messages;
 mod outcome;
 mod rounds_and_answers;
 mod start_and_learn;
-#[cfg(test)]
-mod tests;
 mod view;
 
 pub use ask_and_renew::are_terms_spent;

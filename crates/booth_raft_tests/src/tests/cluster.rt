@@ -6,7 +6,7 @@ ghost use Rattle.std.specs.Prelude.{◌<◌, ◌^◌};
 use super::lines::{check_deed, moment_of, number_of};
 use super::script::{ask, core_of, hear, hello, kept, renew, tick};
 use super::views::check_view;
-use crate::{Core, Deed, Role, Told, Want};
+use booth_raft::{Core, Deed, Role, Told, Want};
 use booth_wire::{Head, Say, TicketPart};
 use std::collections::VecDeque;
 use std::process::Abort;

@@ -8,8 +8,8 @@ ghost use Rattle.booth_raft.specs.Sound.{IsSound};
 
 use super::lines::{check_deed, moment_of, number_of, numbers_of, record_of, ticket};
 use super::views::check_view;
-use crate::{Core, Deed, Note, Role, Told, Want};
 use booth_base::{MemberId, Times};
+use booth_raft::{Core, Deed, Note, Role, Told, Want};
 use booth_rec::Record;
 use booth_wire::reasons::{ADMN, LOCF};
 use booth_wire::{Cmd, Head, Say, Setup, TicketPart};
@@ -40,13 +40,15 @@ pub fn setup(rt: &impl Abort, place: u32) -> Setup
     }
 }
 
-/// A site that is the only member.
-pub fn alone(rt: &impl Abort) -> Setup
+/// A site at this place of so many members, before which no site stands.
+fn among(rt: &impl Abort, place: u32, members: u32) -> Setup
     ensures { IsSound result }
 {
+    assert!(rt; place < members && members <= 16);
     Setup {
-        place: 0,
-        members: 1,
+        me: MemberId(place + 1),
+        place,
+        members,
         ..setup(rt, 0)
     }
 }
@@ -59,14 +61,18 @@ fn start(rt: &impl Abort, setup: &Setup, kept: Option<&Record>, now: u64) -> Cor
     Core::start(setup, kept, now)
 }
 
-/// Its core at a site, at the arbitrator, or at a site alone.
+/// Its core at a site, at the arbitrator, at a site alone, or as `15 of 16` at the site of that place among so many.
 pub fn core_of(rt: &impl Abort, who: &str, kept: Option<&Record>, now: u64) -> Core {
     match who {
         "S1" => start(rt, &setup(rt, 0), kept, now),
         "S2" => start(rt, &setup(rt, 1), kept, now),
         "AR" => start(rt, &setup(rt, 2), kept, now),
-        "alone" => start(rt, &alone(rt), kept, now),
-        _ => panic!(rt; "nobody is {who}"),
+        "alone" => start(rt, &among(rt, 0, 1), kept, now),
+        _ => {
+            let (place, members) = who.split_once(" of ").expect(rt, who);
+            let setup = among(rt, number_of(rt, place), number_of(rt, members));
+            start(rt, &setup, kept, now)
+        }
     }
 }
 

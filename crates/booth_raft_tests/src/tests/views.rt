@@ -1,7 +1,7 @@
 //! Fields of views as text.
 use super::lines::{moment_of, number_of, record_of, truth_of};
-use crate::{Promise, Role, Shown, View};
 use booth_base::MemberId;
+use booth_raft::{Promise, Role, Shown, View};
 use std::process::Abort;
 
 /// None is `none`.
@@ -101,27 +101,5 @@ pub fn check_view(rt: &impl Abort, view: &View, text: &str) {
     for field in text.split(", ") {
         let (name, value) = field.split_once(' ').expect(rt, field);
         assert!(rt; has_field(rt, view, name, value), "{field}");
-    }
-}
-
-fn set_field(rt: &impl Abort, view: &mut View, name: &str, text: &str) {
-    match name {
-        "term" => view.term = number_of(rt, text),
-        "seen" => view.seen = number_of(rt, text),
-        "bound" => view.bound = bound_of(rt, text),
-        "promise" => view.promise = promise_of(rt, text),
-        "abstain" => view.abstain = moment_of(rt, text),
-        "force" => view.force = moment_of(rt, text),
-        "shown" => view.shown = shown_of(rt, text),
-        "managed" => view.managed = truth_of(rt, text),
-        _ => panic!(rt; "no field: {name}"),
-    }
-}
-
-/// Sets the fields of a view that are told.
-pub fn set_fields(rt: &impl Abort, view: &mut View, text: &str) {
-    for field in text.split(", ") {
-        let (name, value) = field.split_once(' ').expect(rt, field);
-        set_field(rt, view, name, value);
     }
 }

@@ -4,8 +4,8 @@
 //! result, leader, term and seconds. A record is its term, and of a lease then the term and the end. A deed
 //! is `nothing`, or its parts with `, ` between them: `keep` and a record, `say` with to whom and a message,
 //! `want`, and `told`.
-use crate::{Deed, Told, Want};
 use booth_base::{MemberId, NO_ONE, Name};
+use booth_raft::{Deed, Told, Want};
 use booth_rec::{Lease, Record};
 use booth_wire::{Head, Say, TicketPart};
 use std::process::Abort;
