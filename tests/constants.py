@@ -1,6 +1,6 @@
-"""How tests/every_frame.py and tests/node_frames.py print constants: as byte strings, and as texts.
+"""How the programs in tests/ that print constants do it: as byte strings, and as texts.
 
-It is imported by these two, and not run by itself.
+It is imported by tests/every_frame.py, node_frames.py and gate_frames.py, and not run by itself.
 """
 
 # where the lines of a header begin

@@ -150,6 +150,7 @@ def print_signed_requests():
         ("BAD_MAC", "one frame with a wrong MAC", peers("0 0 1 0 0 0 0 0")),
         ("HRTB", "one `HrtB` of S2", peers(NO_DROPS, "1700000000 1 2 0")),
         ("FAULTS", "one frame with each fault", peers("1 1 1 1 1 1 1 1")),
+        ("FLOOD", "1,250 frames with each fault", peers(" ".join(["1250"] * 8))),
     ]:
         reply = at(NOW, signed, "RPer", text, sender=S1, request=13)
         about = f"`Peer` with its MAC, after {after}."

@@ -4,12 +4,17 @@
 ghost use Rattle.std.specs.Prelude.{◌<◌};
 
 mod client;
+mod failing_hosts;
 mod faults;
+mod gate_frames;
 mod geostore;
 mod grants;
+mod hindered;
+mod hostile_frames;
 mod keyed;
 mod options;
 mod records;
+mod room;
 mod scripts;
 mod transcript;
 mod words;

@@ -3,6 +3,7 @@ mod attributes;
 mod cluster;
 mod counters;
 mod failed_keeps;
+mod flood;
 mod frames;
 mod handlers;
 mod lines;

@@ -503,40 +503,26 @@ fn without_a_key_no_mac_is_looked_at(rt: HostRuntime) {
     check_end(&rt, alloc, LIST, comes, Outcome::Report, "ronsxnp", last);
 }
 
-// A host with more lines in the file, to which a list comes, and of which this fails.
-fn hindered(rt: &impl Abort, alloc: Global, more: &str, fails: &str) -> MemoryHost {
-    let mut step = step_of(rt, alloc, "1050 S1 RLst 1000 0 0 = ticket-db8 none 0/");
-    step.fail_out = fails == "out";
+// A host with more lines in the file, and a key that is too short, to which a list comes.
+fn hindered(rt: &impl Abort, alloc: Global, more: &str) -> MemoryHost {
+    let step = step_of(rt, alloc, "1050 S1 RLst 1000 0 0 = ticket-db8 none 0/");
     let mut steps = Vec::new(alloc);
     steps.push(step).expect(rt, "memory");
-    let script = scripted(1_000, steps, fails);
+    let script = scripted(1_000, steps, "");
     host(rt, alloc, script, &good_and(rt, alloc, more), " 1234567\n")
 }
 
-// What is behind the file's four lines, what fails, what comes of a list request, its calls, and what is said.
+// What is behind the file's four lines, what comes of a list request, its calls, and what is said.
 fn check_hindered(
     rt: &impl Abort,
     alloc: Global,
     more: &str,
-    fails: &str,
     outcome: Outcome,
     kinds: &str,
     said: &str,
 ) {
-    let mut host = hindered(rt, alloc, more, fails);
+    let mut host = hindered(rt, alloc, more);
     check_ending(rt, alloc, LIST, &mut host, outcome, kinds, said);
-}
-
-#[test]
-fn each_call_that_fails_is_told(rt: HostRuntime) {
-    let alloc = rt.alloc();
-    let said = "booth: cannot open\n";
-    check_hindered(&rt, alloc, "", "open", Outcome::OpenFault, "roe", said);
-    let said = "booth: cannot send\n";
-    check_hindered(&rt, alloc, "", "send", Outcome::SendFault, "ronse", said);
-    let said = "booth: cannot print\n";
-    let outcome = Outcome::PrintFault;
-    check_hindered(&rt, alloc, "", "out", outcome, "ronsxnpe", said);
 }
 
 #[test]
@@ -544,15 +530,15 @@ fn a_client_without_its_file_or_key_asks_nobody(rt: HostRuntime) {
     let alloc = rt.alloc();
     let said = "booth: cannot read /missing\n";
     let more = "authfile = /missing";
-    check_hindered(&rt, alloc, more, "", Outcome::KeyUnread, "rre", said);
+    check_hindered(&rt, alloc, more, Outcome::KeyUnread, "rre", said);
     let said = "booth: key too short\n";
     let outcome = Outcome::KeyBad(KeyFault::TooShort);
-    check_hindered(&rt, alloc, "authfile = /k", "", outcome, "rre", said);
+    check_hindered(&rt, alloc, "authfile = /k", outcome, "rre", said);
     let said = "booth: /etc/booth.conf: line 5: syntax\n";
     let outcome = Outcome::ConfBad(ConfFault::Syntax { line: 5 });
-    check_hindered(&rt, alloc, "port = \"1", "", outcome, "re", said);
+    check_hindered(&rt, alloc, "port = \"1", outcome, "re", said);
     let said = "booth: cannot read /etc/booth/other.conf\n";
-    let mut host = hindered(&rt, alloc, "", "");
+    let mut host = hindered(&rt, alloc, "");
     let outcome = Outcome::ConfUnread;
     check_ending(&rt, alloc, "peers -c other", &mut host, outcome, "re", said);
 }

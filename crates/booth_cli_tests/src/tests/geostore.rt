@@ -118,8 +118,8 @@ fn bytes_of(rt: &impl Abort, alloc: Global, comes: &str) -> ByteText {
     }
 }
 
-// A script in which this comes.
-fn script_of(rt: &impl Abort, alloc: Global, comes: &str) -> Script {
+// A script in which this comes, and this fails.
+fn script_of(rt: &impl Abort, alloc: Global, comes: &str, fails: &str) -> Script {
     let mut steps = Vec::new(alloc);
     let step = Step {
         arrival: Ok(arrival_of(comes)),
@@ -128,10 +128,10 @@ fn script_of(rt: &impl Abort, alloc: Global, comes: &str) -> Script {
         fail_send: false,
         fail_keep: false,
         fail_start: false,
-        fail_out: false,
+        fail_out: fails == "out",
     };
     steps.push(step).expect(rt, "memory");
-    scripted(START, steps, "")
+    scripted(START, steps, fails)
 }
 
 fn files_of(rt: &impl Abort, alloc: Global) -> Files {
@@ -142,15 +142,28 @@ fn files_of(rt: &impl Abort, alloc: Global) -> Files {
     files
 }
 
-// Runs geostore with these words and the file, of which this comes.
-fn run(rt: &impl Abort, alloc: Global, words: &str, comes: &str, outcome: Outcome) -> MemoryHost {
-    let script = script_of(rt, alloc, comes);
+// Runs geostore with these words and the file over a host to which this comes and of which this fails, and this comes of
+// it.
+fn run_over(
+    rt: &impl Abort,
+    alloc: Global,
+    words: &str,
+    comes: &str,
+    fails: &str,
+    outcome: Outcome,
+) -> MemoryHost {
+    let script = script_of(rt, alloc, comes, fails);
     let files = files_of(rt, alloc);
     let host = MemoryHost::new(alloc, script, files, Vec::new(alloc), 100);
     let mut host = host.expect(rt, "memory");
     let got = geostore(alloc, &strings(rt, alloc, words), &mut host);
     assert!(rt; got == outcome, "{words}");
     host
+}
+
+// The same over a host that does not fail.
+fn run(rt: &impl Abort, alloc: Global, words: &str, comes: &str, outcome: Outcome) -> MemoryHost {
+    run_over(rt, alloc, words, comes, "", outcome)
 }
 
 // This is asked of the first site.
@@ -246,6 +259,33 @@ delete -t ticket-db8 n -c/b.conf | ADel 0 ticket-db8 n | RAtr NAtr ticket-db8 n 
 get -t ticket-db8 n -c/b.conf | AGet 0 ticket-db8 n | nothing | err geostore: no reply/ | NoReply
 get -t ticket-db8 n -c/b.conf | AGet 0 ticket-db8 n | RALs 0 =n v/ | err geostore: no reply/ | NoReply";
     check_each(&rt, rt.alloc(), table);
+}
+
+// What fails of a request for a value that comes, how the client ends, the calls before it says why, and what it says.
+fn check_failed(
+    rt: &impl Abort,
+    alloc: Global,
+    fails: &str,
+    outcome: Outcome,
+    kinds: &str,
+    said: &str,
+) {
+    let words = "get -t ticket-db8 color -c/b.conf";
+    let comes = "RAtr 0 ticket-db8 color red";
+    let host = run_over(rt, alloc, words, comes, fails, outcome);
+    assert!(rt; outcome.status() == 1, "{fails}");
+    check_last(rt, alloc, &host, kinds, said);
+}
+
+#[test]
+fn each_call_that_fails_is_told(rt: HostRuntime) {
+    let alloc = rt.alloc();
+    let said = "err geostore: cannot open/";
+    check_failed(&rt, alloc, "open", Outcome::OpenFault, "ro", said);
+    let said = "err geostore: cannot send/";
+    check_failed(&rt, alloc, "send", Outcome::SendFault, "rons", said);
+    let said = "err geostore: cannot print/";
+    check_failed(&rt, alloc, "out", Outcome::PrintFault, "ronsxnp", said);
 }
 
 // Words that a reader refuses, and what is said in the one call.

@@ -8,7 +8,7 @@ use std::process::Abort;
 
 const OTHER_WORDS: &str = "daemon -c /etc/booth.conf -s 192.168.202.100";
 
-const OPENED: &str = "\
+pub const OPENED: &str = "\
 read /etc/booth.conf
 lock /var/run/booth.lock
 now 0

@@ -1,10 +1,8 @@
 //! The records that a daemon starts from, and what is said where one cannot be read.
+use super::hindered::Hindered;
 use super::scripts::{behind, calls_of, host_of};
 use super::{WORDS, check_kinds, check_said, strings};
-use booth_base::{ByteText, Name, Peer};
 use booth_cli::{Outcome, boothd};
-use booth_host::{Arrival, Datagram, Failed, Host, Job, MemoryHost, Place, ReadFault};
-use booth_rec::Record;
 use std::alloc::Global;
 use std::process::Abort;
 
@@ -39,74 +37,11 @@ send client:4000: RLst of S1 at 1700000000000 1 0 0 0 c 192.168.201.100 17000006
     let _ = behind(&rt, calls.as_str(), &[wanted]);
 }
 
-// A host in memory of which the read of one ticket's record fails. Its count of faults stands at its end.
-#[derive(Drop)]
-struct Unreading {
-    host: MemoryHost,
-    ticket: &'static str,
-}
-
-impl Host for Unreading {
-    ghost use Rattle.std.specs.Prelude.{None, ◌-◌, ◌^◌};
-
-    ghost past = { λ _. None };
-
-    ghost faults = { λ _. 2 ^ 64 - 1 };
-
-    fn open(&mut self, place: &Place) -> Result<(), Failed> {
-        self.host.open(place)
-    }
-
-    fn next(&mut self, wait_ms: u64, into: &mut Datagram) -> Result<Arrival, Failed> {
-        self.host.next(wait_ms, into)
-    }
-
-    fn now(&mut self) -> u64 {
-        self.host.now()
-    }
-
-    fn send(&mut self, to: &Peer, bytes: &[u8]) -> Result<(), Failed> {
-        self.host.send(to, bytes)
-    }
-
-    fn kept(&mut self, ticket: &Name) -> Result<Option<Record>, Failed> {
-        let answer = self.host.kept(ticket);
-        if ticket.bytes() == self.ticket.as_bytes() {
-            Err(Failed)
-        } else {
-            answer
-        }
-    }
-
-    fn keep(&mut self, ticket: &Name, rec: &Record) -> Result<(), Failed> {
-        self.host.keep(ticket, rec)
-    }
-
-    fn start(&mut self, job: &Job) -> Result<(), Failed> {
-        self.host.start(job)
-    }
-
-    fn read_file(&mut self, alloc: Global, path: &str) -> Result<ByteText, ReadFault> {
-        self.host.read_file(alloc, path)
-    }
-
-    fn lock(&mut self, path: &str) -> Result<bool, Failed> {
-        self.host.lock(path)
-    }
-
-    fn out(&mut self, bytes: &[u8]) -> Result<(), Failed> {
-        self.host.out(bytes)
-    }
-
-    fn err(&mut self, bytes: &[u8]) -> Result<(), Failed> {
-        self.host.err(bytes)
-    }
-}
-
 // The ticket whose record cannot be read, the calls, and what is said.
 fn check_unread(rt: &impl Abort, alloc: Global, ticket: &'static str, calls: &str, said: &str) {
     let host = host_of(rt, alloc, NOW, "1700000000000 list", THREE, "");
-    let mut host = Unreading { host, ticket };
+    let mut host = Hindered::over(host);
+    host.ticket = ticket;
     let outcome = boothd(alloc, &strings(rt, alloc, WORDS), &mut host);
     assert!(rt; outcome == Outcome::RecordUnread && outcome.status() == 1);
     check_kinds(rt, alloc, &host.host, calls);

@@ -41,7 +41,7 @@ fn key(rt: &impl Abort) -> Key {
 }
 
 // S1 with the key, which starts at 0.
-fn keyed(rt: &impl Abort, alloc: Global) -> Node
+pub(super) fn keyed(rt: &impl Abort, alloc: Global) -> Node
     ensures { 1 < length (node_config result).config.members }
 {
     let config = keyed_config(rt, alloc, S1);
