@@ -1,99 +1,74 @@
 //! Small texts and their first faults.
-use super::{bad, clash, fault, repeated, syntax};
-use booth_conf::ConfFault;
-use std::test::Fail;
+use super::{check_table, fault, syntax};
+use std::process::Abort;
 
 const SMALL: &str =
     "site=\"192.168.201.100\"\nsite=\"192.168.202.100\"\narbitrator=\"192.168.203.100\"\nticket=\"ticket-db8\"\n";
 
 #[test]
-fn the_first_fault_is_reported_with_its_line(rt: HostRuntime) -> Result<(), Fail> {
-    let retry = Some(ConfFault::RetryTime { ticket: 0 });
-    let table = [
-        ("", None),
-        ("retries = 2\n", bad(5, 16)),
-        ("timeout = 28\n", retry),
-        ("timeout = 27\n", None),
-        ("expire = 8\ntimeout = 1\nretries = 3", retry),
-        ("expire = 9\ntimeout = 1\nretries = 3", None),
-        (
-            "expire = 600\nrenewal-freq = 600\n",
-            Some(ConfFault::Renewal { ticket: 0 }),
-        ),
-        (
-            "ticket = \"__default__\"\n",
-            Some(ConfFault::DefaultLate { line: 5 }),
-        ),
-        ("expires = 3\n", Some(ConfFault::UnknownKey { line: 5 })),
-        ("expire = 600s\n", bad(5, 13)),
-        ("port = \"1\n", syntax(5)),
-        ("port = '1", syntax(5)),
-        ("ticket=\"ticket-db8\"\n", repeated(5)),
-        (
-            "# of any bytes \u{e9}\u{1}\n \t\r\nport=1\nport=1",
-            repeated(8),
-        ),
-        ("site = ::ffff:192.168.201.100", None),
-        ("arbitrator = '192.168.201.100' # again", repeated(5)),
-        ("site = ::1\nsite = 0:0:0:0:0:0:0:1", repeated(6)),
-        ("site = fe80::1%eth0", bad(5, 10)),
-        ("site = 255.255.255.255", clash(3, 3)),
-        ("site = 157.10.217.109", clash(3, 3)),
-        ("expire = 0600", None),
-        ("expire = 00000000600", bad(5, 13)),
-        ("before-acquire-handler = '  '", bad(5, 19)),
-        ("attr-prereq = auto a eq b c", bad(5, 20)),
-        ("weights = 1,,2", bad(5, 18)),
-        ("transport = SCTP", bad(5, 2)),
-        ("mode = Manual", bad(5, 21)),
-        ("authfile = \"\"", bad(5, 3)),
-        ("port = 0", bad(5, 1)),
-        ("port = 9#9", bad(5, 1)),
-        ("port = 99 #9", None),
-        ("port = 1\nport = 0", bad(6, 1)),
-        ("debug =", syntax(5)),
-        ("debug = \"\"", None),
-        ("debug = 1\ndebug = 2", repeated(6)),
-        ("retries = 3\nretries = 3", repeated(6)),
-        ("port", syntax(5)),
-        (" = 1", syntax(5)),
-        ("po.rt = 1", syntax(5)),
-        ("port = '1' 2", syntax(5)),
-        ("port = '1\nport = 2'", syntax(5)),
-        ("port = 'a\u{e9}'", syntax(5)),
-        ("port = a\u{7f}", syntax(5)),
-        ("port = #1", syntax(5)),
-        ("\tport\t=\t'1'\t#\u{1}\r", None),
-    ];
-    for (line, want) in table {
-        let text = format!(in rt.alloc(); "{SMALL}{line}")?;
-        assert_eq!(rt; fault(rt.alloc(), text.as_bytes()), want, "at {line}");
-    }
-    Ok(())
+fn the_first_fault_is_reported_with_its_line(rt: HostRuntime) {
+    let table = "\
+retries = 2 /  => bad 5 16
+ => none
+timeout = 28 /  => retry 0
+timeout = 27 /  => none
+expire = 8 / timeout = 1 / retries = 3 => retry 0
+expire = 9 / timeout = 1 / retries = 3 => none
+expire = 600 / renewal-freq = 600 /  => renewal 0
+ticket = \"__default__\" /  => late 5
+expires = 3 /  => unknown 5
+expire = 600s /  => bad 5 13
+port = \"1 /  => syntax 5
+port = '1 => syntax 5
+ticket=\"ticket-db8\" /  => repeated 5
+# of any bytes \u{e9}\u{1} /  \t\r / port=1 / port=1 => repeated 8
+site = ::ffff:192.168.201.100 => none
+arbitrator = '192.168.201.100' # again => repeated 5
+site = ::1 / site = 0:0:0:0:0:0:0:1 => repeated 6
+site = fe80::1%eth0 => bad 5 10
+site = 255.255.255.255 => clash 3 3
+site = 157.10.217.109 => clash 3 3
+expire = 0600 => none
+expire = 00000000600 => bad 5 13
+before-acquire-handler = '  ' => bad 5 19
+attr-prereq = auto a eq b c => bad 5 20
+weights = 1,,2 => bad 5 18
+transport = SCTP => bad 5 2
+mode = Manual => bad 5 21
+authfile = \"\" => bad 5 3
+port = 0 => bad 5 1
+port = 9#9 => bad 5 1
+port = 99 #9 => none
+port = 1 / port = 0 => bad 6 1
+debug = => syntax 5
+debug = \"\" => none
+debug = 1 / debug = 2 => repeated 6
+retries = 3 / retries = 3 => repeated 6
+port => syntax 5
+ = 1 => syntax 5
+po.rt = 1 => syntax 5
+port = '1' 2 => syntax 5
+port = '1 / port = 2' => syntax 5
+port = 'a\u{e9}' => syntax 5
+port = a\u{7f} => syntax 5
+port = #1 => syntax 5
+\tport\t=\t'1'\t#\u{1}\r => none";
+    check_table(&rt, rt.alloc(), SMALL, table);
 }
 
 #[test]
 fn a_text_may_lack_members_or_tickets(rt: HostRuntime) {
-    let table = [
-        ("", Some(ConfFault::NoSite)),
-        ("site=10.0.0.1", Some(ConfFault::NoTicket)),
-        ("arbitrator=10.0.0.1\nticket=a", Some(ConfFault::NoSite)),
-        ("expire = 3", Some(ConfFault::Misplaced { line: 1 })),
-        ("expire = none", Some(ConfFault::Misplaced { line: 1 })),
-        ("ticket = __default__\nexpire = 3", Some(ConfFault::NoSite)),
-        ("ticket = __default__\nticket = '__default__'", repeated(2)),
-        (
-            "ticket = __default__\nticket = a\nticket = __default__",
-            repeated(3),
-        ),
-        (
-            "site=10.0.0.1\nticket=a\nticket=b\ntimeout=60",
-            Some(ConfFault::RetryTime { ticket: 1 }),
-        ),
-    ];
-    for (text, want) in table {
-        assert_eq!(rt; fault(rt.alloc(), text.as_bytes()), want, "at {text}");
-    }
+    let table = "\
+site=10.0.0.1 => no ticket
+ => no site
+arbitrator=10.0.0.1 / ticket=a => no site
+expire = 3 => misplaced 1
+expire = none => misplaced 1
+ticket = __default__ / expire = 3 => no site
+ticket = __default__ / ticket = '__default__' => repeated 2
+ticket = __default__ / ticket = a / ticket = __default__ => repeated 3
+site=10.0.0.1 / ticket=a / ticket=b / timeout=60 => retry 1";
+    check_table(&rt, rt.alloc(), "", table);
 }
 
 #[test]
