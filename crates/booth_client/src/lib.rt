@@ -11,8 +11,6 @@ mod reply;
 mod reports;
 mod request;
 mod talking;
-#[cfg(test)]
-mod tests;
 mod wait;
 
 pub use order::{Asking, Options, Order};

@@ -6,8 +6,6 @@ mod hearing;
 mod machine;
 mod messages;
 mod start;
-#[cfg(test)]
-mod tests;
 mod view;
 
 pub use grant_and_revoke::are_terms_spent;

@@ -1,16 +1,16 @@
 //! Dates as another calendar gives them, and which texts are shown line by line.
-use crate::date::date_text;
-use crate::{Order, report};
 use booth_base::MemberId;
+use booth_client::{Order, report};
 use booth_wire::{Body, Cmd, Head, Message};
 use std::alloc::Global;
 use std::test::Fail;
 
-// The values are Python's datetime's.
+// The values are Python's datetime's. Nothing ends at second 0.
 #[test]
-fn dates_of_moments(rt: HostRuntime) {
+fn dates_of_moments(rt: HostRuntime) -> Result<(), Fail> {
+    let alloc = rt.alloc();
     let table = [
-        (0, "1970-01-01 00:00:00"),
+        (1u64, "1970-01-01 00:00:01"),
         (86399, "1970-01-01 23:59:59"),
         (1600, "1970-01-01 00:26:40"),
         (951782400, "2000-02-29 00:00:00"),
@@ -24,8 +24,12 @@ fn dates_of_moments(rt: HostRuntime) {
         (18446744073709551615, "@18446744073709551615"),
     ];
     for (seconds, text) in table {
-        assert_eq!(rt; date_text(seconds).as_str(), text);
+        let line = format!(in alloc; "a 1.2.3.4 {seconds}\n")?;
+        let want = format!(in alloc; "ticket: a, leader: 1.2.3.4, expires: {text}\n")?;
+        let found = shown(alloc, &Order::List, line.as_bytes())?;
+        assert!(rt; found.as_slice() == want.as_bytes(), "{text}");
     }
+    Ok(())
 }
 
 // What is printed of this text.

@@ -1,6 +1,6 @@
 //! One member's calls, in rows worked out by hand: what is kept, said with each field, and known.
-use crate::{Manual, ManualView, NO_END};
 use booth_base::{MemberId, NO_ONE, Name, Times};
+use booth_manual::{Manual, ManualView, NO_END};
 use booth_rec::{Lease, Record};
 use booth_wire::reasons::{ADMN, SPLT};
 use booth_wire::{Cmd, Head, Say, Setup, TicketPart};

@@ -1,11 +1,10 @@
 //! Tests of what no clause says: values from standards and from other programs.
 
-use crate::text::PATH_BYTES;
-use crate::{
+use arrayvec::ArrayVec;
+use booth_base::{
     Address, AddressFault, AttrValue, ByteText, MEMBERS, MemberId, NO_ONE, Name, NameFault,
     PathFault, PathText, TEXT_BYTES, Times, ValueFault, guard_ms, promise_ms,
 };
-use arrayvec::ArrayVec;
 use std::alloc::AllocError;
 
 // The values for V6 are those of zlib's crc32.
@@ -207,7 +206,7 @@ fn a_path_has_at_most_255_bytes(rt: HostRuntime) {
             Err(_) => assert!(rt; false),
         }
     }
-    assert_eq!(rt; (MEMBERS, PATH_BYTES, TEXT_BYTES), (16, 255, 16_384));
+    assert_eq!(rt; (MEMBERS, TEXT_BYTES), (16, 16_384));
 }
 
 #[test]
