@@ -1,0 +1,95 @@
+-- What an event is, by what it draws and by what was done before it.
+use Rattle.std.specs.Prelude.{ℕ, ◌+◌, ◌*◌, ◌/◌, ◌%◌, ◌==◌, false, List, [], ◌∷◌, length, slice_get, Option, Some, None, unwrap_or, if◌then◌else◌}
+use Rattle.std.specs.Option.{option_map_or}
+use Rattle.booth_base.specs.declared.address.Address.TheVariants.{V4}
+use Rattle.booth_base.specs.declared.address.Peer.{Peer}
+use Rattle.booth_base.specs.declared.address.TheConstants.{NO_ONE}
+use Rattle.booth_conf.specs.Config.{ConfigSays}
+use Rattle.booth_conf.specs.declared.tickets.TicketConf.{TicketConf}
+use Rattle.booth_wire.specs.declared.command.Cmd.{Cmd}
+use Rattle.booth_wire.specs.declared.command.Cmd.TheVariants.{CGnt, CRvk}
+use Rattle.booth_wire.specs.PlainMessage.{PlainMessage, Ticket}
+use Rattle.booth_auth.specs.Sealed.{sealed}
+use Rattle.booth_host.specs.declared.host.Arrival.{Arrival}
+use Rattle.booth_host.specs.declared.host.Arrival.TheVariants as arrivals
+use Rattle.booth_node.specs.Reaction.{peer_at}
+use Rattle.booth_node.specs.World.{WorldEntry}
+use Rattle.booth_sim.specs.declared.drawing.Draw.{Draw}
+use Rattle.booth_sim.specs.declared.drawing.Kind.{Kind}
+use Rattle.booth_sim.specs.declared.drawing.Kind.TheVariants as kinds
+use Rattle.booth_sim.specs.declared.frames.SentFrame.{SentFrame}
+use Rattle.booth_sim.specs.Drawing.{kind_of, member_of, ticket_of}
+use Rattle.booth_sim.specs.Frames.{chosen, kept_frames}
+
+-- ---- clocks
+
+-- how many milliseconds a member's clock gains in 1,000 seconds of true time, and 1,000,000 more: of three members one
+-- is right, one as fast as a clock may be, and one as slow
+abbrev pub rate_at : ℕ → ℕ
+rate_at place = if place % 3 == 0 then 1000000 else if place % 3 == 1 then 1001000 else 999000
+
+-- what the clock of the member at a place reads at a true time
+abbrev pub reading_at : ℕ → ℕ → ℕ
+reading_at place time = time * rate_at place / 1000000
+
+-- ---- clients
+
+-- all clients are at 0.0.0.0, port 0
+abbrev pub client : Peer
+client = record { address = V4 (0 ∷ 0 ∷ 0 ∷ 0 ∷ []); port = 0 }
+
+-- a client's request about a ticket, without options, whose number is the event's
+abbrev pub request : Cmd → List ℕ → ℕ → PlainMessage
+request cmd ticket event = record {
+  head = record {
+    auth = false;
+    secs = 0;
+    usecs = 0;
+    from = record { 0 = 0 };
+    cmd = cmd;
+    request = event;
+    options = 0;
+    reason = 0;
+    result = 0;
+  };
+  content = Ticket (record { ticket = ticket; leader = NO_ONE; term = 0; valid_for = 0 });
+}
+
+abbrev pub ticket_name : ConfigSays → ℕ → List ℕ
+ticket_name config place = option_map_or (λ ticket. ticket.name) (slice_get config.tickets place) []
+
+-- ---- events
+
+-- a member makes a turn, in which this comes with these bytes; or it is stopped and starts again
+pub data Happening : Type 0 where
+  Turns : (place : ℕ) (arrival : Arrival) (bytes : List ℕ) → Happening
+  Restarts : (place : ℕ) → Happening
+
+-- where the member at a place listens
+abbrev pub peer_in : ConfigSays → ℕ → Peer
+peer_in config place = unwrap_or (peer_at config (slice_get config.members place)) client
+
+-- a frame arrives where it was sent to, from who sent it; without one the member at a place hears nothing
+abbrev pub arrives : ConfigSays → ℕ → Option SentFrame → Happening
+arrives config place None = Turns place arrivals.Quiet []
+arrives config place (Some frame) =
+    Turns frame.to (arrivals.Datagram (peer_in config frame.from)) frame.bytes
+
+-- a client asks the member at a place for a ticket
+abbrev pub asks : ConfigSays → ℕ → Draw → Cmd → ℕ → Happening
+asks config place draw cmd event =
+    Turns place (arrivals.Datagram client)
+    (sealed None (request cmd (ticket_name config (ticket_of draw (length config.tickets))) event))
+
+abbrev pub happens : ConfigSays → List WorldEntry → ℕ → Draw → ℕ → Kind → Happening
+happens config before event draw place kinds.Frame =
+    arrives config place (chosen draw.first (kept_frames config before))
+happens config before event draw place kinds.Quiet = Turns place arrivals.Quiet []
+happens config before event draw place kinds.Grant = asks config place draw CGnt event
+happens config before event draw place kinds.Revoke = asks config place draw CRvk event
+happens config before event draw place kinds.Restart = Restarts place
+
+-- what the event of this number is
+abbrev pub happening : ConfigSays → List WorldEntry → ℕ → Draw → Happening
+happening config before event draw =
+    happens config before event draw (member_of draw (length config.members)) (kind_of draw)

@@ -1,0 +1,38 @@
+-- What holds of each simulation.
+use Rattle.std.specs.Prelude.{◌≡◌, ◌≤◌, ℕ, List}
+use Rattle.booth_conf.specs.Config.{ConfigSays}
+use Rattle.booth_conf.specs.Sound.{IsSound}
+use Rattle.booth_node.specs.World.{WorldEntry, IsWorld}
+use Rattle.booth_sim.specs.declared.summary.Summary.{Summary}
+use Rattle.booth_sim.specs.Counts.{summary_of}
+use Rattle.booth_sim.specs.Simulation.{IsSimulation, world_of}
+
+-- so many events: more than a simulation is asked for would run out of clocks
+abbrev pub most_events : ℕ
+most_events = 10000000
+
+-- the entries of a simulation are a world
+abbrev pub SimulationsAreWorlds : Type 0
+SimulationsAreWorlds =
+    (config : ConfigSays) → IsSound config → (number events : ℕ) → events ≤ most_events
+    → (entries : List WorldEntry) → IsSimulation config number events entries → IsWorld (world_of config entries)
+
+-- a configuration, a number and a count of events make one simulation
+abbrev pub OneSimulation : Type 0
+OneSimulation =
+    (config : ConfigSays) (number events : ℕ) (one other : List WorldEntry)
+    → IsSimulation config number events one → IsSimulation config number events other → one ≡ other
+
+-- after no event of a simulation is a ticket that is granted by votes held at two sites
+abbrev pub AtMostOneHolds : Type 0
+AtMostOneHolds =
+    (config : ConfigSays) → IsSound config → (number events : ℕ) → events ≤ most_events
+    → (entries : List WorldEntry) → IsSimulation config number events entries
+    → (summary_of config events number entries).most_holders ≤ 1
+
+-- these are the numbers of the simulation, whose entries are a world
+pub record IsSummary (config : ConfigSays) (events number : ℕ) (summary : Summary) : Type 0 where
+  pub entries : List WorldEntry
+  pub simulation : IsSimulation config number events entries
+  pub counts : summary ≡ summary_of config events number entries
+  pub world : IsWorld (world_of config entries)

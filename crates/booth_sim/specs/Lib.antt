@@ -1,0 +1,11 @@
+pub use Rattle.booth_node.specs.World
+pub mod Drawing
+pub mod Frames
+pub mod Happenings
+pub mod Simulation
+pub mod Kept
+pub mod Counts
+pub mod Laws
+pub mod Standing
+pub mod Turning
+pub mod Clusters

@@ -1,0 +1,104 @@
+-- A simulation: the entries that a configuration and a generator's words make, and their world.
+use Rattle.std.specs.Prelude.{◌≡◌, ℕ, zero, suc, ◌+◌, ◌++◌, false, Bool, List, [], ◌∷◌, length, map, None, Ok, is_err}
+use Rattle.std.specs.List.{range_with_len}
+use Rattle.booth_base.specs.Tree.{Ends}
+use Rattle.booth_conf.specs.Config.{ConfigSays}
+use Rattle.booth_host.specs.declared.host.Arrival.{Arrival}
+use Rattle.booth_host.specs.declared.entry.Entry.{Entry}
+use Rattle.booth_host.specs.declared.entry.Entry.TheVariants as calls
+use Rattle.booth_node.specs.declared.node.Turn.TheVariants.{Went}
+use Rattle.booth_node.specs.declared.node_config.NodeConfig.{NodeConfig}
+use Rattle.booth_node.specs.Reaction.{IsTurn}
+use Rattle.booth_node.specs.Session.{SessionEntry, Starts, Makes, Doing}
+use Rattle.booth_node.specs.State.{State}
+use Rattle.booth_node.specs.World.{WorldEntry, World, last_time, node_at, stand_after}
+use Rattle.booth_sim.specs.declared.drawing.Draw.{Draw}
+use Rattle.booth_sim.specs.Drawing.{draw_of, keeps_fail, rise_of}
+use Rattle.booth_sim.specs.Happenings.{Happening, Turns, Restarts, happening, reading_at}
+use Rattle.booth_sim.specs.Kept.{all_kept}
+
+-- ---- the world of entries
+
+-- the readings of the clock of the member at a place, one for each true time of the span
+abbrev pub clock_of : ℕ → ℕ → List ℕ
+clock_of span place = map (reading_at place) (range_with_len 0 span)
+
+-- without a key, and with clocks up to the last entry
+abbrev pub world_of : ConfigSays → List WorldEntry → World
+world_of config entries = record {
+  config = config;
+  key = None;
+  span = last_time 0 entries + 1;
+  clock = clock_of (last_time 0 entries + 1);
+  entries = entries;
+}
+
+-- the member at a place, without a key
+abbrev pub node_in : ConfigSays → ℕ → NodeConfig
+node_in config place = node_at (world_of config []) place
+
+abbrev pub entry_at : ℕ → ℕ → SessionEntry → WorldEntry
+entry_at place time what = record { member = place; time = time; what = what }
+
+-- ---- starts
+
+-- the member at a place starts at a true time, with the records that it kept before
+abbrev pub start_at : ConfigSays → List WorldEntry → ℕ → ℕ → WorldEntry
+start_at config before place time =
+    entry_at place time (Starts (node_in config place) (reading_at place time) (all_kept config.tickets place before))
+
+-- all members start at true time 0, one after the other, and have kept nothing
+abbrev pub starts : ConfigSays → List WorldEntry
+starts config = map (λ place. start_at config [] place 0) (range_with_len 0 (length config.members))
+
+-- ---- events
+
+-- each keep answers as it is said, and sends and starts of handlers do not fail
+abbrev pub IsAnswered : Bool → Entry → Type 0
+IsAnswered fails (calls.Keep ticket rec answer) = is_err answer ≡ fails
+IsAnswered fails (calls.Send to bytes answer) = is_err answer ≡ false
+IsAnswered fails (calls.Start number ticket handler local expires answer) = is_err answer ≡ false
+IsAnswered fails call = Unit {0}
+
+abbrev pub AreAnswered : Bool → List Entry → Type 0
+AreAnswered fails [] = Unit {0}
+AreAnswered fails (call ∷ calls) = IsAnswered fails call × AreAnswered fails calls
+
+-- the calls of a turn: what comes, the reading, and the deeds
+abbrev pub turn_calls : Arrival → List ℕ → ℕ → List Entry → List Entry
+turn_calls arrival bytes reading deeds = calls.Next 100 (Ok arrival) bytes ∷ calls.Now reading ∷ deeds
+
+-- what a member does by these calls at a true time
+abbrev pub made_at : ℕ → ℕ → List Entry → List WorldEntry
+made_at place time calls = map (λ call. entry_at place time (Makes call)) calls
+
+-- these are the entries of a turn of the member at a place, from where it stands
+pub record IsTurnAt (config : ConfigSays) (before : List WorldEntry) (place time : ℕ) (fails : Bool)
+    (arrival : Arrival) (bytes : List ℕ) (entries : List WorldEntry) : Type 0 where
+  pub old : State
+  pub new : State
+  pub deeds : List Entry
+  pub stands : stand_after place before ≡ Doing (node_in config place) (Ends old)
+  pub turn : IsTurn (node_in config place) old Went (turn_calls arrival bytes (reading_at place time) deeds) new
+  pub answered : AreAnswered fails deeds
+  pub whole : entries ≡ made_at place time (turn_calls arrival bytes (reading_at place time) deeds)
+
+-- these are the entries of what happens at a true time
+abbrev pub IsHappening : ConfigSays → List WorldEntry → ℕ → Bool → Happening → List WorldEntry → Type 0
+IsHappening config before time fails (Turns place arrival bytes) entries =
+    IsTurnAt config before place time fails arrival bytes entries
+IsHappening config before time fails (Restarts place) entries = entries ≡ start_at config before place time ∷ []
+
+-- these are the entries of the event of this number that draws these words
+abbrev pub IsEvent : ConfigSays → List WorldEntry → ℕ → Draw → List WorldEntry → Type 0
+IsEvent config before event draw entries =
+    IsHappening config before (last_time 0 before + rise_of draw) (keeps_fail draw)
+    (happening config before event draw) entries
+
+-- the entries of so many events of a number's words: each event follows those before it
+abbrev pub IsSimulation : ConfigSays → ℕ → ℕ → List WorldEntry → Type 0
+IsSimulation config number zero entries = entries ≡ starts config
+IsSimulation config number (suc event) entries =
+    (before : List WorldEntry) × (last : List WorldEntry) × (entries ≡ before ++ last)
+    × IsSimulation config number event before
+    × IsEvent config before event (draw_of number event) last

@@ -1,0 +1,212 @@
+//! A member's daemon over a host in memory, and its turns.
+ghost use Rattle.std.specs.Prelude.{◌≡◌, ◌<◌, ◌^◌, ◌↔◌, [], length, replicate, IfOk, IfSome, OnOk, OnErr, IsSome, IsTrue, None, position};
+ghost use Rattle.booth_conf.specs.Config.{has_id};
+ghost use Rattle.std.specs.List.{All};
+ghost use Rattle.booth_host.specs.declared.entry.Entry.{Entry};
+ghost use Rattle.booth_node.specs.Opening.{opened};
+ghost use Rattle.booth_node.specs.View.{node_config, state_of};
+ghost use Rattle.booth_sim.specs.Kept.{all_kept};
+ghost use Rattle.booth_sim.specs.Simulation.{AreAnswered, IsAnswered, node_in};
+ghost use Rattle.booth_sim.specs.Standing.{Brought, HasStarted, MetIn, TookTurn};
+
+use booth_base::{ByteText, MemberId};
+use booth_conf::Config;
+use booth_host::{Arrival, Entry, MemoryHost, Script, Step};
+use booth_node::Node;
+use booth_rec::Record;
+use std::alloc::{AllocError, Global};
+
+/// The most calls that a host tells: those of one turn.
+const ROOM: u32 = u32::MAX;
+
+/// A member: its node, its host, and the record that it keeps of each ticket.
+#[derive(Drop)]
+pub(crate) struct Daemon {
+    pub node: Node,
+    pub host: MemoryHost,
+    pub kept: Vec<Option<Record>>,
+}
+
+/// What a turn meets.
+#[derive(Drop)]
+pub(crate) struct Coming<'a> {
+    pub arrival: Arrival,
+    pub bytes: &'a [u8],
+    pub reading: u64,
+    pub keeps_fail: bool,
+}
+
+// A host that has nothing, and tells as many calls as there is memory for.
+fn new_host(alloc: Global) -> Result<MemoryHost, AllocError> {
+    let script = Script {
+        first: 0,
+        steps: Vec::new(alloc),
+        taken: false,
+        fail_open: false,
+        fail_lock: false,
+        fail_kept: false,
+        fail_err: false,
+        fail_send: false,
+        fail_out: false,
+    };
+    MemoryHost::new(alloc, script, Vec::new(alloc), Vec::new(alloc), ROOM)
+}
+
+// The id of the member at a place.
+fn id_at(config: &Config, place: usize) -> MemberId
+    requires { place < length config.now.members }
+    ensures same { result ≡ (node_in config.now place).me }
+    ensures known { IsSome (position (has_id result) config.now.members) }
+{
+    config.members()[place].id
+}
+
+// The node of a member, which starts from these records.
+fn start_node(
+    alloc: Global,
+    config: &Config,
+    place: usize,
+    kept: &[Option<Record>],
+    reading: u64,
+) -> Result<Node, AllocError>
+    requires member { place < length config.now.members }
+    requires records { length kept.now ≡ length config.now.tickets }
+    ensures node { IfOk result (λ node. node_config node ≡ node_in config.now place) }
+    ensures state { IfOk result (λ node. state_of node ≡ opened (node_in config.now place) kept.now reading) }
+{
+    let me = id_at(config, place);
+    Node::open(alloc, config.copy(alloc)?, None, me, kept, reading)
+}
+
+// No record of any ticket.
+fn no_records(alloc: Global, tickets: usize) -> Result<Vec<Option<Record>>, AllocError>
+    ensures { IfOk result (λ kept. kept.items ≡ replicate tickets None) }
+{
+    let mut kept = Vec::with_capacity(alloc, tickets)?;
+    for _ticket in 0..tickets {
+        kept.push(None)?;
+    }
+    Ok(kept)
+}
+
+// Whether a call of a turn was answered as it is to be: no send and no start of a handler fails, and each keep does
+// or none.
+fn is_answered(call: &Entry, keeps_fail: bool) -> bool
+    ensures { IsTrue result ↔ IsAnswered keeps_fail call.now }
+{
+    match call {
+        Entry::Keep { answer, .. } => answer.is_err() == keeps_fail,
+        Entry::Send { answer, .. } => answer.is_ok(),
+        Entry::Start { answer, .. } => answer.is_ok(),
+        _ => true,
+    }
+}
+
+// Whether all calls of a turn were.
+fn are_answered(calls: &[Entry], keeps_fail: bool) -> bool
+    ensures { IsTrue result → All (IsAnswered keeps_fail) calls.now }
+{
+    calls.iter().all(|call| is_answered(call, keeps_fail))
+}
+
+// Whether a call is a next that brought this.
+fn brought(call: &Entry, coming: &Coming<'_>) -> bool
+    ensures { IsTrue result → Brought coming.now call.now }
+{
+    match call {
+        Entry::Next { answer, bytes, .. } => match answer {
+            Ok(arrival) => *arrival == coming.arrival && bytes.bytes() == coming.bytes,
+            Err(_) => false,
+        },
+        _ => false,
+    }
+}
+
+// Whether a call is this reading.
+fn is_reading(call: &Entry, reading: u64) -> bool
+    ensures { IsTrue result → call.now ≡ Entry.Now reading }
+{
+    match call {
+        Entry::Now { reading: told } => *told == reading,
+        _ => false,
+    }
+}
+
+// The deeds of a turn of these calls, where it met this.
+fn deeds_in<'a>(calls: &'a [Entry], coming: &Coming<'_>) -> Option<&'a [Entry]>
+    ensures met { IfSome result (λ deeds. MetIn coming.now calls.now deeds.now) }
+    ensures few { IfSome result (λ deeds. length deeds.now < 2 ^ 32) }
+{
+    let (next, rest) = calls.split_first()?;
+    let (now, deeds) = rest.split_first()?;
+    if brought(next, coming)
+        && is_reading(now, coming.reading)
+        && are_answered(deeds, coming.keeps_fail)
+        && deeds.len() < ROOM as usize
+    {
+        Some(deeds)
+    } else {
+        None
+    }
+}
+
+impl Daemon {
+    /// The member at a place starts for the first time.
+    pub(crate) fn new(alloc: Global, config: &Config, place: usize) -> Result<Daemon, AllocError>
+        requires { place < length config.now.members }
+        ensures { IfOk result (HasStarted config.now place (all_kept config.now.tickets place []) 0) }
+    {
+        let kept = no_records(alloc, config.tickets().len())?;
+        Ok(Daemon {
+            node: start_node(alloc, config, place, &kept, 0)?,
+            host: new_host(alloc)?,
+            kept,
+        })
+    }
+
+    /// It is stopped, and starts again with the records that it kept.
+    pub(crate) fn restart(
+        &mut self,
+        alloc: Global,
+        config: &Config,
+        place: usize,
+        reading: u64,
+    ) -> Result<(), AllocError>
+        requires member { place < length config.now.members }
+        requires all { length self.old.kept.items ≡ length config.now.tickets }
+        ensures starts { OnOk result (HasStarted config.now place self.old.kept.items reading self.new) }
+        ensures kept { self.new.kept.items ≡ self.old.kept.items }
+    {
+        self.node = start_node(alloc, config, place, &self.kept, reading)?;
+        Ok(())
+    }
+}
+
+/// Makes a turn, and tells its deeds.
+pub(crate) fn take_turn<'a>(
+    alloc: Global,
+    node: &mut Node,
+    host: &'a mut MemoryHost,
+    coming: &Coming<'_>,
+) -> Result<&'a [Entry], AllocError>
+    ensures took { IfOk result (λ deeds. TookTurn (node_config node.old) (state_of node.old) (state_of node.new)
+        coming.now deeds.now) }
+    ensures few { IfOk result (λ deeds. length deeds.now < 2 ^ 32) }
+    ensures node { node_config node.new ≡ node_config node.old }
+{
+    host.forget();
+    host.add(Step {
+        arrival: Ok(coming.arrival),
+        bytes: ByteText::new(alloc, coming.bytes)?,
+        reading: coming.reading,
+        fail_send: false,
+        fail_keep: coming.keeps_fail,
+        fail_start: false,
+        fail_out: false,
+    })?;
+    node.turn(host);
+    match host.past() {
+        Some(calls) => deeds_in(calls, coming).ok_or(AllocError),
+        None => Err(AllocError),
+    }
+}

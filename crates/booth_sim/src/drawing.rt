@@ -1,0 +1,101 @@
+//! What an event draws from the generator.
+ghost use Rattle.std.specs.Prelude.{◌≡◌, ◌<◌};
+ghost use Rattle.booth_sim.specs.Drawing.{drawn, generator_of, keeps_fail, kind_of, member_of, rise_of, ticket_of};
+
+use rand_core::utils::NextWord;
+use rand_pcg::Pcg32;
+
+/// The stream of the generator.
+const STREAM: u64 = 54;
+
+/// Three words, in the order in which they are drawn.
+#[derive(Clone, Copy, Debug, PartialEq, Eq)]
+pub(crate) struct Draw {
+    pub first: u32,
+    pub second: u32,
+    pub third: u32,
+}
+
+/// What an event is.
+#[derive(Clone, Copy, Debug, PartialEq, Eq)]
+pub(crate) enum Kind {
+    /// A frame arrives where it was sent to.
+    Frame,
+    /// Nothing comes.
+    Quiet,
+    /// A client asks for a ticket.
+    Grant,
+    /// A client asks that a ticket be given back.
+    Revoke,
+    /// A member is stopped, and starts again.
+    Restart,
+}
+
+/// The generator of a number.
+pub(crate) fn generator_of(number: u64) -> Pcg32
+    ensures { result ≡ generator_of number }
+{
+    Pcg32::new(number, STREAM)
+}
+
+impl Draw {
+    /// The next three words.
+    pub(crate) fn next(generator: &mut Pcg32) -> Draw
+        ensures { (result, generator.new) ≡ drawn generator.old }
+    {
+        let first = generator.next_word();
+        let second = generator.next_word();
+        let third = generator.next_word();
+        Draw {
+            first,
+            second,
+            third,
+        }
+    }
+
+    /// By how many milliseconds true time rises.
+    pub(crate) fn rise(&self) -> u64
+        ensures exact { result ≡ rise_of self.now }
+        ensures few { result < 2000 }
+    {
+        u64::from(self.first % 2000)
+    }
+
+    /// Whether each keep of this event's turn fails.
+    pub(crate) fn keeps_fail(&self) -> bool
+        ensures { result ≡ keeps_fail self.now }
+    {
+        self.third % 64 == 0
+    }
+
+    /// What the event is.
+    pub(crate) fn kind(&self) -> Kind
+        ensures { result ≡ kind_of self.now }
+    {
+        match self.second % 2000 {
+            0..=1199 => Kind::Frame,
+            1200..=1989 => Kind::Quiet,
+            1990..=1997 => Kind::Grant,
+            1998 => Kind::Revoke,
+            _ => Kind::Restart,
+        }
+    }
+
+    /// The member that the event is at, among so many.
+    pub(crate) fn member(&self, members: usize) -> usize
+        requires { 0 < members }
+        ensures exact { result ≡ member_of self.now members }
+        ensures within { result < members }
+    {
+        self.third as usize % members
+    }
+
+    /// The ticket that a client asks for, among so many.
+    pub(crate) fn ticket(&self, tickets: usize) -> usize
+        requires { 0 < tickets }
+        ensures exact { result ≡ ticket_of self.now tickets }
+        ensures within { result < tickets }
+    {
+        self.first as usize % tickets
+    }
+}

@@ -1,0 +1,121 @@
+//! What an event is.
+ghost use Rattle.std.specs.Prelude.{◌≡◌, ◌<◌, [], None, IfOk, length, option_map};
+ghost use Rattle.booth_conf.specs.Sound.{IsSound};
+ghost use Rattle.booth_host.specs.declared.host.Arrival.{Arrival};
+ghost use Rattle.booth_wire.specs.Command.{kind_of};
+ghost use Rattle.booth_wire.specs.declared.command.Kind.TheVariants.{Ticket as TicketKind};
+ghost use Rattle.booth_auth.specs.Sealed.{sealed};
+ghost use Rattle.booth_sim.specs.Happenings.{Turns, arrives, client, peer_in, request, ticket_name};
+ghost use Rattle.booth_sim.specs.Clusters.{IsWhatHappens, says};
+
+use crate::drawing::{Draw, Kind};
+use crate::frames::{SentFrame, SentFrames};
+use crate::request::{CLIENT, put_request};
+use booth_base::{ByteText, Peer};
+use booth_conf::Config;
+use booth_host::Arrival;
+use booth_wire::{Cmd, Frame};
+use std::alloc::{AllocError, Global};
+
+/// What an event is.
+#[derive(Drop)]
+pub(crate) enum Happening {
+    /// The member at a place makes a turn, in which this comes.
+    Turn {
+        place: usize,
+        arrival: Arrival,
+        bytes: ByteText,
+    },
+    /// The member at a place is stopped, and starts again.
+    Restart(usize),
+}
+
+// Nothing comes at a member.
+fn quiet(alloc: Global, place: usize) -> Result<Happening, AllocError>
+    ensures { IfOk result (λ happening. says happening ≡ Turns place Arrival.Quiet []) }
+{
+    Ok(Happening::Turn {
+        place,
+        arrival: Arrival::Quiet,
+        bytes: ByteText::new(alloc, &[])?,
+    })
+}
+
+// Where the member at a place listens.
+fn peer_in(config: &Config, place: usize) -> Peer
+    ensures { result ≡ peer_in config.now place }
+{
+    match config.members().get(place) {
+        Some(member) => Peer {
+            address: member.address,
+            port: config.port(),
+        },
+        None => CLIENT,
+    }
+}
+
+// A frame arrives where it was sent to, or nothing at the member at a place where there is none.
+fn arrives(
+    alloc: Global,
+    config: &Config,
+    place: usize,
+    frame: Option<&SentFrame>,
+) -> Result<Happening, AllocError>
+    ensures { IfOk result (λ happening.
+        says happening ≡ arrives config.now place (option_map (λ frame. frame.now) frame.entry)) }
+{
+    let Some(frame) = frame else {
+        return quiet(alloc, place);
+    };
+    Ok(Happening::Turn {
+        place: frame.to,
+        arrival: Arrival::Datagram(peer_in(config, frame.from)),
+        bytes: ByteText::new(alloc, frame.bytes.bytes())?,
+    })
+}
+
+// A client asks the member at a place for the ticket at another.
+fn asks(
+    alloc: Global,
+    config: &Config,
+    cmd: Cmd,
+    ticket: usize,
+    event: u32,
+    place: usize,
+    into: &mut Frame,
+) -> Result<Happening, AllocError>
+    requires ticket { ticket < length config.now.tickets }
+    requires kind { kind_of cmd ≡ TicketKind }
+    ensures { IfOk result (λ happening. says happening ≡ Turns place (Arrival.Datagram client)
+        (sealed None (request cmd (ticket_name config.now ticket) event))) }
+{
+    put_request(cmd, &config.tickets()[ticket].name, event, into);
+    Ok(Happening::Turn {
+        place,
+        arrival: Arrival::Datagram(CLIENT),
+        bytes: ByteText::new(alloc, into.bytes())?,
+    })
+}
+
+/// What the event of this number is, where these frames were sent; requests are written into a frame.
+pub(crate) fn what_happens(
+    alloc: Global,
+    config: &Config,
+    frames: &SentFrames,
+    event: u32,
+    draw: &Draw,
+    into: &mut Frame,
+) -> Result<Happening, AllocError>
+    requires { IsSound config.now }
+    ensures { IfOk result (IsWhatHappens config.now frames.now event draw.now) }
+{
+    let place = draw.member(config.members().len());
+    let ticket = draw.ticket(config.tickets().len());
+    match draw.kind() {
+        Kind::Frame => arrives(alloc, config, place, frames.chosen(draw.first)),
+        Kind::Quiet => quiet(alloc, place),
+        Kind::Grant => asks(alloc, config, Cmd::CGnt, ticket, event, place, into),
+        Kind::Revoke => asks(alloc, config, Cmd::CRvk, ticket, event, place, into),
+        Kind::Restart => Ok(Happening::Restart(place)),
+    }
+}
