@@ -31,7 +31,7 @@ _booth_complete() {
   local word=${COMP_WORDS[COMP_CWORD]} before=${COMP_WORDS[COMP_CWORD - 1]} program=${1##*/}
   local command=${COMP_WORDS[1]} commands options
   case $program in
-    boothd) commands=$'daemon\nstatus' ;;
+    boothd) commands=$'daemon\nstatus\nsim' ;;
     geostore) commands=$'set\nget\ndelete\nlist' ;;
     *) commands=$'list\npeers\ngrant\nrevoke' ;;
   esac
@@ -40,6 +40,7 @@ _booth_complete() {
   case $program:$command in
     boothd:daemon) options=$'-c\n-s\n-l\n-d\n-n\n--help\n--version' ;;
     boothd:status) options=$'-l\n--help\n--version' ;;
+    boothd:sim) options=$'-c\n-e\n-r\n--help\n--version' ;;
     geostore:*) options=$'-c\n-s\n-t\n--help\n--version' ;;
     booth:grant) options=$'-c\n-s\n-w\n-C\n-F\n--help\n--version' ;;
     booth:revoke) options=$'-c\n-s\n-w\n--help\n--version' ;;
@@ -57,7 +58,7 @@ _booth_complete() {
     -s) _booth_reply "$(_booth_values site arbitrator)" "$word"; return ;;
     -t) _booth_reply "$(_booth_values ticket)" "$word"; return ;;
     -l | -d) COMPREPLY=($(compgen -f -- "$word")); return ;;
-    -n) return ;;
+    -n | -e | -r) return ;;
   esac
   if [[ $word == -* ]]; then
     _booth_reply "$options" "$word"

@@ -26,7 +26,7 @@ from serving import built_program, own_addresses
 
 # each program with its commands; one that is not built yet is left out
 PROGRAMS = {
-    "boothd": ["daemon", "status"],
+    "boothd": ["daemon", "status", "sim"],
     "booth": ["list", "peers", "grant", "revoke"],
     "geostore": ["set", "get", "delete", "list"],
 }
@@ -251,13 +251,14 @@ def completion_offers(room):
             'ticket="db8"\nticket = mail # the other\n'
         )
     cases = [
-        (("boothd", ""), ["daemon", "status"]),
+        (("boothd", ""), ["daemon", "status", "sim"]),
         (("booth", "gr"), ["grant"]),
         (("booth", "client", "re"), ["revoke"]),
         (("booth", "grant", "-c", conf, ""), ["db8", "mail"]),
         (("booth", "revoke", "-c", conf, "d"), ["db8"]),
         (("boothd", "daemon", "-c", conf, "-s", ""), ["192.0.2.10", "192.0.2.30"]),
         (("boothd", "status", "-"), ["-l", "--help", "--version"]),
+        (("boothd", "sim", "-"), ["-c", "-e", "-r", "--help", "--version"]),
         (("geostore", ""), ["set", "get", "delete", "list"]),
         (("geostore", "client", "d"), ["delete"]),
         (("geostore", "get", "-c", conf, "-t", "m"), ["mail"]),

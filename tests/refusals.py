@@ -29,7 +29,7 @@ LEAST = SITE + TICKET
 MOST_BYTES = 1_048_576
 
 USAGE = (
-    b"usage: boothd COMMAND [OPTIONS], with the command daemon or status;"
+    b"usage: boothd COMMAND [OPTIONS], with the command daemon, status or sim;"
     b" see --help behind it, and boothd(8)"
 )
 

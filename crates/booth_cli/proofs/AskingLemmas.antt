@@ -10,14 +10,14 @@ use Rattle.booth_cli.specs.declared.command.Verb.{Verb}
 use Rattle.booth_cli.specs.declared.command.Verb.TheVariants as verbs
 use Rattle.booth_cli.specs.declared.reading.Read.{Read}
 use Rattle.booth_cli.specs.declared.asking.Asked.{Asked}
-use Rattle.booth_cli.specs.declared.asking.Asked.TheVariants.{Daemon, Status, Client}
+use Rattle.booth_cli.specs.declared.asking.Asked.TheVariants.{Daemon, Status, Simulation, Client}
 use Rattle.booth_cli.specs.declared.asking.ClientWords.{ClientWords}
 use Rattle.booth_cli.specs.declared.program.Program.{Program}
 use Rattle.booth_cli.specs.declared.program.Program.TheVariants.{Boothd, Booth, Geostore}
 use Rattle.booth_cli.specs.Commands.{app_for, verb_in}
 use Rattle.booth_cli.specs.Given.{Texts, HasAttribute, HasNeeded, found_in}
 use Rattle.booth_cli.specs.Reading.{HasAddress, HasName, IsRead}
-use Rattle.booth_cli.specs.Asking.{Asks, AreTaken, AttributeRead, HasOrder, HasWords, IsAskedBy, IsClient, IsClientOf, IsUntakenFor}
+use Rattle.booth_cli.specs.Asking.{Asks, AreTaken, AttributeRead, HasWords, IsAskedBy, IsClient, IsClientOf, IsUntakenFor}
 
 -- where there is a word there is an address
 has_address : (word : Option (List ℕ)) (read : Option Address) → HasAddress word read → is_some word ≡ true → is_some read ≡ true
@@ -43,56 +43,67 @@ has_words verbs.GetAttribute t read needed is = has_attribute t read needed is
 has_words verbs.DeleteAttribute t read needed is = has_attribute t read needed is
 has_words verbs.ListAttributes t read needed is = has_name t.ticket read.ticket is.ticket needed
 has_words verbs.Status t read needed is = tt
+has_words verbs.Simulate t read needed is = tt
 has_words verbs.List t read needed is = tt
 has_words verbs.Peers t read needed is = tt
 
 -- ---- whose command it is
 
+-- a command of boothd
+abbrev IsBoothds : Verb → Type 0
+IsBoothds verbs.Daemon = Unit {0}
+IsBoothds verbs.Status = Unit {0}
+IsBoothds verbs.Simulate = Unit {0}
+IsBoothds verb = ⊥
+
+same_owner : (one verb : Verb) → Some one ≡ Some verb → IsBoothds verb → IsBoothds one
+same_owner one verb same own = let e : verb ≡ one = cc in subst IsBoothds e own
+
+boothds_own : (one verb : Verb) → Some one ≡ Some verb → IsBoothds one → IsBoothds verb
+boothds_own one verb same own = let e : one ≡ verb = cc in subst IsBoothds e own
+
 no_daemon : (a b c d : Bool) (verb : Verb) →
-    cond a (Some verbs.List) (cond b (Some verbs.Peers) (cond c (Some verbs.Grant) (cond d (Some verbs.Revoke) None))) ≡ Some verb →
-    (verb ≡ verbs.Daemon → ⊥) × (verb ≡ verbs.Status → ⊥)
-no_daemon true b c d verb h = (λ e. cc, λ e. cc)
-no_daemon false true c d verb h = (λ e. cc, λ e. cc)
-no_daemon false false true d verb h = (λ e. cc, λ e. cc)
-no_daemon false false false true verb h = (λ e. cc, λ e. cc)
-no_daemon false false false false verb h = absurd cc
+    cond a (Some verbs.List) (cond b (Some verbs.Peers) (cond c (Some verbs.Grant) (cond d (Some verbs.Revoke) None))) ≡ Some verb → IsBoothds verb → ⊥
+no_daemon true b c d verb h own = same_owner verbs.List verb h own
+no_daemon false true c d verb h own = same_owner verbs.Peers verb h own
+no_daemon false false true d verb h own = same_owner verbs.Grant verb h own
+no_daemon false false false true verb h own = same_owner verbs.Revoke verb h own
+no_daemon false false false false verb h own = cc
 
 no_attributes_daemon : (a b c d : Bool) (verb : Verb) →
     cond a (Some verbs.SetAttribute) (cond b (Some verbs.GetAttribute) (cond c (Some verbs.DeleteAttribute) (cond d (Some verbs.ListAttributes) None)))
-    ≡ Some verb → (verb ≡ verbs.Daemon → ⊥) × (verb ≡ verbs.Status → ⊥)
-no_attributes_daemon true b c d verb h = (λ e. cc, λ e. cc)
-no_attributes_daemon false true c d verb h = (λ e. cc, λ e. cc)
-no_attributes_daemon false false true d verb h = (λ e. cc, λ e. cc)
-no_attributes_daemon false false false true verb h = (λ e. cc, λ e. cc)
-no_attributes_daemon false false false false verb h = absurd cc
+    ≡ Some verb → IsBoothds verb → ⊥
+no_attributes_daemon true b c d verb h own = same_owner verbs.SetAttribute verb h own
+no_attributes_daemon false true c d verb h own = same_owner verbs.GetAttribute verb h own
+no_attributes_daemon false false true d verb h own = same_owner verbs.DeleteAttribute verb h own
+no_attributes_daemon false false false true verb h own = same_owner verbs.ListAttributes verb h own
+no_attributes_daemon false false false false verb h own = cc
 
-no_client : (a b : Bool) (verb : Verb) → cond a (Some verbs.Daemon) (cond b (Some verbs.Status) None) ≡ Some verb →
-    (verb ≡ verbs.Daemon) ⊎ (verb ≡ verbs.Status)
-no_client true b verb h = inl cc
-no_client false true verb h = inr cc
-no_client false false verb h = absurd cc
+no_client : (a b c : Bool) (verb : Verb) → cond a (Some verbs.Daemon) (cond b (Some verbs.Status) (cond c (Some verbs.Simulate) None)) ≡ Some verb → IsBoothds verb
+no_client true b c verb h = boothds_own verbs.Daemon verb h tt
+no_client false true c verb h = boothds_own verbs.Status verb h tt
+no_client false false true verb h = boothds_own verbs.Simulate verb h tt
+no_client false false false verb h = absurd cc
 
-daemons_own : (program : Program) (words : List (List ℕ)) (verb : Verb) → verb_in program words ≡ Some verb → (verb ≡ verbs.Daemon) ⊎ (verb ≡ verbs.Status) →
-    program ≡ Boothd
+daemons_own : (program : Program) (words : List (List ℕ)) (verb : Verb) → verb_in program words ≡ Some verb → IsBoothds verb → program ≡ Boothd
 daemons_own Boothd words verb named own = refl
 daemons_own Booth [] verb named own = absurd cc
-daemons_own Booth (word ∷ words) verb named (inl own) = absurd ((no_daemon _ _ _ _ verb named).0 own)
-daemons_own Booth (word ∷ words) verb named (inr own) = absurd ((no_daemon _ _ _ _ verb named).1 own)
+daemons_own Booth (word ∷ words) verb named own = absurd (no_daemon _ _ _ _ verb named own)
 daemons_own Geostore [] verb named own = absurd cc
-daemons_own Geostore (word ∷ words) verb named (inl own) = absurd ((no_attributes_daemon _ _ _ _ verb named).0 own)
-daemons_own Geostore (word ∷ words) verb named (inr own) = absurd ((no_attributes_daemon _ _ _ _ verb named).1 own)
+daemons_own Geostore (word ∷ words) verb named own = absurd (no_attributes_daemon _ _ _ _ verb named own)
 
-clients_own : (program : Program) (words : List (List ℕ)) (verb : Verb) → verb_in program words ≡ Some verb → ((verb ≡ verbs.Daemon) ⊎ (verb ≡ verbs.Status) → ⊥) →
-    IsClient program
-clients_own Booth words verb named own = tt
-clients_own Geostore words verb named own = tt
-clients_own Boothd [] verb named own = absurd cc
-clients_own Boothd (word ∷ words) verb named own = absurd (own (no_client _ _ verb named))
+clients_own : (program : Program) (words : List (List ℕ)) (verb : Verb) → verb_in program words ≡ Some verb → (IsBoothds verb → ⊥) → IsClient program
+clients_own Booth words verb named other = tt
+clients_own Geostore words verb named other = tt
+clients_own Boothd [] verb named other = absurd cc
+clients_own Boothd (word ∷ words) verb named other = absurd (other (no_client _ _ _ verb named))
 
 -- a client's command is no daemon's
-is_clients : (verb : Verb) (read : Read) (asked : ClientWords) → IsClientOf verb read asked → (verb ≡ verbs.Daemon) ⊎ (verb ≡ verbs.Status) → ⊥
-is_clients verb read asked is (inl e) = (subst (λ v. HasOrder v read asked.order) e is.order)
-is_clients verb read asked is (inr e) = (subst (λ v. HasOrder v read asked.order) e is.order)
+is_clients : (verb : Verb) (read : Read) (asked : ClientWords) → IsClientOf verb read asked → IsBoothds verb → ⊥
+is_clients verbs.Daemon read asked is own = is.order
+is_clients verbs.Status read asked is own = is.order
+is_clients verbs.Simulate read asked is own = is.order
+is_clients verb read asked is own = absurd own
 
 client_asked : (program : Program) (words : List (List ℕ)) (verb : Verb) (read : Read) (asked : ClientWords) → AreTaken program words verb read →
     IsClientOf verb read asked → Asks program words (Ok (Client asked))
@@ -103,6 +114,7 @@ asked_by : (program : Program) (words : List (List ℕ)) (verb : Verb) (read : R
     Asks program words (Ok asked)
 asked_by program words verbs.Daemon read (Client asked) taken is = client_asked program words verbs.Daemon read asked taken is
 asked_by program words verbs.Status read (Client asked) taken is = client_asked program words verbs.Status read asked taken is
+asked_by program words verbs.Simulate read (Client asked) taken is = client_asked program words verbs.Simulate read asked taken is
 asked_by program words verbs.List read (Client asked) taken is = client_asked program words verbs.List read asked taken is
 asked_by program words verbs.Peers read (Client asked) taken is = client_asked program words verbs.Peers read asked taken is
 asked_by program words verbs.Grant read (Client asked) taken is = client_asked program words verbs.Grant read asked taken is
@@ -112,11 +124,14 @@ asked_by program words verbs.GetAttribute read (Client asked) taken is = client_
 asked_by program words verbs.DeleteAttribute read (Client asked) taken is = client_asked program words verbs.DeleteAttribute read asked taken is
 asked_by program words verbs.ListAttributes read (Client asked) taken is = client_asked program words verbs.ListAttributes read asked taken is
 asked_by program words verbs.Daemon read (Daemon asked) taken is =
-    let own : program ≡ Boothd = daemons_own program words verbs.Daemon taken.named (inl refl) in
+    let own : program ≡ Boothd = daemons_own program words verbs.Daemon taken.named tt in
     (own, record { all = read; asks = subst (λ p. AreTaken p words verbs.Daemon read) own taken; same = is })
 asked_by program words verbs.Status read (Status lock) taken is =
-    let own : program ≡ Boothd = daemons_own program words verbs.Status taken.named (inr refl) in
+    let own : program ≡ Boothd = daemons_own program words verbs.Status taken.named tt in
     (own, record { all = read; asks = subst (λ p. AreTaken p words verbs.Status read) own taken; same = is })
+asked_by program words verbs.Simulate read (Simulation asked) taken is =
+    let own : program ≡ Boothd = daemons_own program words verbs.Simulate taken.named tt in
+    (own, record { all = read; asks = subst (λ p. AreTaken p words verbs.Simulate read) own taken; same = is })
 asked_by program words verb read asked taken is = absurd is
 
 -- words that were taken and read

@@ -1,10 +1,9 @@
 -- Where the outside does not fail, a client ends with an answer or without one.
 use Rattle.std.specs.Prelude.{Contains, Option, Some, None, Result, Ok, Err, MatchBool, MatchOption}
-use Rattle.std.proofs.Common.{◌≡◌, ◌++◌, ◌∙◌, ℕ, Bool, true, false, List, [], ◌∷◌, refl, sym, ap, subst, inl, inr}
-use Rattle.std.proofs.lemmas.List.Elements.{Contains-append_left, Contains-append_right}
+use Rattle.std.proofs.Common.{◌≡◌, ◌++◌, ℕ, Bool, true, false, List, [], ◌∷◌, refl, sym, subst}
+use Rattle.std.proofs.lemmas.List.Elements.{Contains-append_right}
 use Rattle.booth_base.specs.declared.address.Peer.{Peer}
 use Rattle.booth_conf.specs.Config.{ConfigSays}
-use Rattle.booth_conf.specs.Says.{Says}
 use Rattle.booth_conf.proofs.OneAnswers.{one_answer}
 use Rattle.booth_host.specs.declared.host.Failed.{Failed}
 use Rattle.booth_host.specs.declared.host.ReadFault.TheVariants as reads
@@ -18,16 +17,15 @@ use Rattle.booth_client.specs.declared.wait.Waited.TheVariants.{Came, Over}
 use Rattle.booth_client.specs.Asking.{request_bytes}
 use Rattle.booth_client.specs.Report.{is_silent}
 use Rattle.booth_client.specs.Talk.{AsksOn, IsAsking, IsTalk, Rests, redirected}
-use Rattle.booth_cli.specs.declared.command.Verb.{Verb}
 use Rattle.booth_cli.specs.declared.asking.ClientWords.{ClientWords}
 use Rattle.booth_cli.specs.declared.outcome.Outcome.{Outcome}
 use Rattle.booth_cli.specs.declared.outcome.Outcome.TheVariants as outs
 use Rattle.booth_cli.specs.Opening.{IsUnread}
-use Rattle.booth_cli.specs.Client.{EndsWith, Follows, IsAsked, IsClientLog, IsConversing, IsPlainEnd, IsPrinted, IsReported, IsSocketless, IsTold, IsUnkeyedClient, cluster_calls}
+use Rattle.booth_cli.specs.Client.{EndsWith, Follows, IsClientLog, IsPlainEnd, IsPrinted, IsReported, IsSocketless, IsTold, IsUnkeyedClient, cluster_calls}
 use Rattle.booth_cli.specs.Client.{Unread, Unkeyed, Asked, Socketless, Conversing}
 use Rattle.booth_cli.specs.Client.{is_good, refused_text}
 use Rattle.booth_cli.specs.ClientRun.{FaultlessTalks, IsClientMade, IsTalked, IsUnhindered, Talked, Unasked}
-use Rattle.booth_cli.proofs.FaultlessLemmas.{among, first_of, for_memory, same_calls, second_of}
+use Rattle.booth_cli.proofs.FaultlessLemmas.{among, first_of, for_memory, same_calls}
 
 -- a part of calls that are among these
 abbrev AreAmong : List Entry → List Entry → Type 0

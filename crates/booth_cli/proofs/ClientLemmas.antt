@@ -24,7 +24,7 @@ use Rattle.booth_cli.specs.Opening.{IsConfigRead, IsKeyRead, HasKey, key_calls}
 use Rattle.booth_cli.specs.Client.{IsClusterRead, IsKeyed, IsTold, IsClientLog, EndsWith, Follows, Conversing, Socketless, destination}
 use Rattle.booth_cli.specs.Client.{Unread, Unkeyed, Asked}
 use Rattle.booth_cli.specs.ClientRun.{FitsClientWords, IsAnswered, IsClientMade, IsClientRun, Talked, Unasked}
-use Rattle.booth_cli.specs.Asking.{Asks, AsksClient, AsksDaemon, AsksStatus, IsClient, IsUntaken, IsUntakenFor}
+use Rattle.booth_cli.specs.Asking.{Asks, AsksClient, IsClient, IsUntaken, IsUntakenFor}
 use Rattle.booth_cli.specs.Unasked.{IsTold as IsTold_, IsToldOutcome, IsUnasked}
 use Rattle.booth_cli.specs.Run.{IsText}
 use Rattle.booth_cli.specs.declared.asking.Asked.TheVariants.{Client}

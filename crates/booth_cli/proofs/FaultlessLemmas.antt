@@ -1,5 +1,5 @@
 -- Where the outside does not fail, a run ends well.
-use Rattle.std.specs.Prelude.{Contains, Some, None, Ok, Err}
+use Rattle.std.specs.Prelude.{Contains, Option, Some, None, Ok, Err}
 use Rattle.std.proofs.Common.{◌≡◌, ℕ, false, true, List, [], ◌∷◌, ◌++◌, refl, sym, ap}
 use Rattle.std.proofs.Common.{◌∙◌, subst, arith}
 use Rattle.std.proofs.lemmas.List.Elements.{Contains-append_left, Contains-append_right}
@@ -35,9 +35,11 @@ use Rattle.booth_cli.specs.Reading.{Refuses}
 use Rattle.booth_cli.specs.Status.{IsStatus, status_text}
 use Rattle.booth_cli.specs.Unasked.{IsUnasked}
 use Rattle.booth_cli.specs.Asking.{IsUntaken, HasBadWord}
-use Rattle.booth_cli.specs.Run.{IsMade, Unasked, Served, Looked}
+use Rattle.booth_cli.specs.Simulating.{IsSimulated, IsSummed, IsUnchosen, Simulated, Unchosen, summary_text}
+use Rattle.booth_cli.specs.declared.asking.SimulationWords.{SimulationWords}
+use Rattle.booth_cli.specs.Run.{IsMade, Unasked, Served, Summed, Looked}
 use Rattle.booth_cli.specs.Faultless.{AreValid, IsValid, IsFaultless, EndsWell, FaultlessRuns, IsUnfailing}
-use Rattle.booth_cli.specs.Faultless.{Tells, FaultlessLooks}
+use Rattle.booth_cli.specs.Faultless.{Tells, FaultlessLooks, FaultlessSimulations, IsFaultlessFor, Sums}
 
 -- a call among the calls of a part is one of the whole
 pub among : (x : Entry) (xs ys entries : List Entry) → Contains xs x → entries ≡ xs ++ ys → Contains entries x
@@ -187,6 +189,51 @@ faultless_runs words outcome entries valid run free = go run.made
     go (Unasked is) = subst EndsWell (sym (for_memory Boothd words verbs.Daemon outcome run.said run.body valid is)) tt
     go (Served asked asks is) =
         served asked run.said run.body entries (λ x here. among x run.body run.last entries here run.whole) (free asked asks) outcome is
+    go (Summed asked asks is) = let named = valid.named in let other = asks.asks.named in cc
+    go (Looked lock asks is) = let named = valid.named in let other = asks.asks.named in cc
+
+-- ---- a simulation
+
+module _ (asked : SimulationWords) (said : List ℕ) (entries : List Entry) (free : IsFaultlessFor asked entries) where
+  unread_for : (path : List ℕ) (outcome : Outcome) (part : List Entry) → asked.conf ≡ Some path → ((x : Entry) → Contains part x → Contains entries x) →
+      IsUnread path outcome said part → Sums outcome
+  unread_for path OutOfMemory part same all u = tt
+  unread_for path ConfUnread part same all u =
+      let call : Entry = ReadFile path (Err reads.Failed) in
+      absurd (free.read path (all call (same_calls call (call ∷ []) part (first_of call []) u.1)))
+  unread_for path (ConfBad fault) part same all u =
+      let call : Entry = ReadFile path (Ok u.0) in
+      let valid = free.valid path u.0 same (all call (same_calls call (call ∷ []) part (first_of call []) u.3)) in
+      absurd ((one_answer u.0).not_both valid.0 fault valid.1 u.1)
+  unread_for path outcome part same all u = absurd u
+
+  unchosen : (conf : Option (List ℕ)) (outcome : Outcome) (part : List Entry) → asked.conf ≡ conf → ((x : Entry) → Contains part x → Contains entries x) →
+      IsUnchosen conf outcome said part → Sums outcome
+  unchosen None outcome part same all u = subst Sums (sym u.0) tt
+  unchosen (Some path) outcome part same all u = unread_for path outcome part same all u
+
+  summed : (config : ConfigSays) (outcome : Outcome) (part : List Entry) → ((x : Entry) → Contains part x → Contains entries x) →
+      IsSummed config asked outcome said part → Sums outcome
+  summed config Done part all s = tt
+  summed config OutOfMemory part all s = tt
+  summed config PrintFault part all s =
+      let call : Entry = Out (summary_text s.1) (Err s.4) in
+      absurd (free.printed (summary_text s.1) s.4 (all call (same_calls call (call ∷ []) part (first_of call []) s.5)))
+  summed config outcome part all s = absurd s
+
+  simulated : (outcome : Outcome) (part : List Entry) → ((x : Entry) → Contains part x → Contains entries x) → IsSimulated asked outcome said part → Sums outcome
+  simulated outcome part all (Unchosen u) = unchosen asked.conf outcome part refl all u
+  simulated outcome part all (Simulated config chosen rest is s whole) =
+      summed config outcome rest (λ x here. all x (same_calls x (chosen ++ rest) part (Contains-append_right chosen rest x here) whole)) s
+
+pub faultless_simulations : FaultlessSimulations
+faultless_simulations words outcome entries valid run free = go run.made
+  where
+    go : IsMade words outcome run.said run.body → Sums outcome
+    go (Unasked is) = subst Sums (sym (for_memory Boothd words verbs.Simulate outcome run.said run.body valid is)) tt
+    go (Served asked asks is) = let named = valid.named in let other = asks.asks.named in cc
+    go (Summed asked asks is) =
+        simulated asked run.said entries (free asked asks) outcome run.body (λ x here. among x run.body run.last entries here run.whole) is
     go (Looked lock asks is) = let named = valid.named in let other = asks.asks.named in cc
 
 looked : (lock said : List ℕ) (body entries : List Entry) (outcome : Outcome) → ((x : Entry) → Contains body x → Contains entries x) →
@@ -208,5 +255,6 @@ faultless_looks words outcome entries valid run free = go run.made
     go : IsMade words outcome run.said run.body → Tells outcome
     go (Unasked is) = subst Tells (sym (for_memory Boothd words verbs.Status outcome run.said run.body valid is)) tt
     go (Served asked asks is) = let named = valid.named in let other = asks.asks.named in cc
+    go (Summed asked asks is) = let named = valid.named in let other = asks.asks.named in cc
     go (Looked lock asks is) =
         looked lock run.said run.body entries outcome (λ x here. among x run.body run.last entries here run.whole) free is

@@ -23,6 +23,7 @@ use Rattle.booth_cli.proofs.RequiredLemmas.{IsNeeded, is_only_at, is_plain_rule,
 pub simple : (verb : Verb) → is_simple (app_for verb) ≡ true
 simple verbs.Daemon = refl
 simple verbs.Status = refl
+simple verbs.Simulate = refl
 simple verbs.List = refl
 simple verbs.Peers = refl
 simple verbs.Grant = refl
@@ -35,6 +36,7 @@ simple verbs.ListAttributes = refl
 pub simple_and_free : (verb : Verb) → is_simple_and_free (app_for verb) ≡ true
 simple_and_free verbs.Daemon = refl
 simple_and_free verbs.Status = refl
+simple_and_free verbs.Simulate = refl
 simple_and_free verbs.List = refl
 simple_and_free verbs.Peers = refl
 simple_and_free verbs.Grant = refl
@@ -55,18 +57,22 @@ pub texts_are : (m : ArgMatches) (rows : List Row) (g : Given) → rows_of (foun
     option_map (λ (t : Bor (List ℕ)). t.now) g.value ≡ first_value (found_of m) (codes "value") →
     option_map (λ (t : Bor (List ℕ)). t.now) g.site ≡ first_value (found_of m) (codes "site") →
     option_map (λ (t : Bor (List ℕ)). t.now) g.turns ≡ first_value (found_of m) (codes "turns") →
+    option_map (λ (t : Bor (List ℕ)). t.now) g.events ≡ first_value (found_of m) (codes "events") →
+    option_map (λ (t : Bor (List ℕ)). t.now) g.number ≡ first_value (found_of m) (codes "number") →
     option_map (λ (t : Bor (List ℕ)). t.now) g.lock ≡ first_value (found_of m) (codes "lock") →
     option_map (λ (t : Bor (List ℕ)). t.now) g.records ≡ first_value (found_of m) (codes "records") →
     option_map (λ (t : Bor (List ℕ)). t.now) g.conf ≡ first_value (found_of m) (codes "conf") →
     g.wait ≡ is_set (first_value (found_of m) (codes "wait")) → g.commit ≡ is_set (first_value (found_of m) (codes "commit")) →
     g.immediate ≡ is_set (first_value (found_of m) (codes "immediate")) → texts_of g ≡ texts_in rows
-texts_are m rows g same ticket name value site turns lock records conf wait commit immediate =
+texts_are m rows g same ticket name value site turns events number lock records conf wait commit immediate =
     rw (
       ticket,
       name,
       value,
       site,
       turns,
+      events,
+      number,
       lock,
       records,
       conf,
@@ -78,6 +84,8 @@ texts_are m rows g same ticket name value site turns lock records conf wait comm
       value_is m rows (codes "value") same,
       value_is m rows (codes "site") same,
       value_is m rows (codes "turns") same,
+      value_is m rows (codes "events") same,
+      value_is m rows (codes "number") same,
       value_is m rows (codes "lock") same,
       value_is m rows (codes "records") same,
       value_is m rows (codes "conf") same,
@@ -246,5 +254,6 @@ module _ (cmd : Command) (m : ArgMatches) (parsed : IsParsedFrom cmd m) where
       record { ticket = ap is_some ticket ∙ delete_ticket is; name = ap is_some name ∙ delete_name is }
   has_needed verbs.ListAttributes g is ticket name value site = ap is_some ticket ∙ list_ticket is
   has_needed verbs.Status g is ticket name value site = tt
+  has_needed verbs.Simulate g is ticket name value site = tt
   has_needed verbs.List g is ticket name value site = tt
   has_needed verbs.Peers g is ticket name value site = tt

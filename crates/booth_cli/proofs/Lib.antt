@@ -9,6 +9,7 @@ pub mod RecordLemmas
 pub mod TurnLemmas
 pub mod UsageLemmas
 pub mod StatusLemmas
+pub mod SimulatingLemmas
 pub mod RunLemmas
 pub mod FaultlessLemmas
 pub mod ClientLemmas

@@ -12,18 +12,20 @@ use Rattle.booth_host.proofs.PastLemmas.{no_entry, some_of, some_joined, some_we
 use Rattle.booth_cli.specs.declared.outcome.Outcome.{Outcome}
 use Rattle.booth_cli.specs.declared.outcome.Outcome.TheVariants.{Done, Usage, BadWord, LockFault, NotRunning}
 use Rattle.booth_cli.specs.declared.outcome.Outcome.TheVariants.{PrintFault, OutOfMemory, Report, Refused, NoReply}
-use Rattle.booth_cli.specs.declared.outcome.Outcome.TheVariants.{SendFault}
+use Rattle.booth_cli.specs.declared.outcome.Outcome.TheVariants.{SendFault, ConfUnread, ConfBad}
 use Rattle.booth_cli.specs.declared.program.Program.{Program}
 use Rattle.booth_cli.specs.declared.program.Program.TheVariants.{Boothd}
 use Rattle.booth_cli.specs.Texts.{spoken}
 use Rattle.booth_cli.specs.declared.asking.DaemonWords.{DaemonWords}
+use Rattle.booth_cli.specs.declared.asking.SimulationWords.{SimulationWords}
 use Rattle.booth_cli.specs.declared.asking.Asked.{Asked}
-use Rattle.booth_cli.specs.declared.asking.Asked.TheVariants.{Daemon, Status}
-use Rattle.booth_cli.specs.Asking.{Asks, AsksDaemon, AsksStatus, IsUntaken, IsUntakenFor}
+use Rattle.booth_cli.specs.declared.asking.Asked.TheVariants.{Daemon, Status, Simulation}
+use Rattle.booth_cli.specs.Asking.{Asks, AsksDaemon, AsksSimulation, AsksStatus, IsUntaken, IsUntakenFor}
 use Rattle.booth_cli.specs.Unasked.{IsShown, IsTold, IsToldOutcome, IsUnasked, is_request}
 use Rattle.booth_cli.specs.Serving.{IsServing, IsServed}
 use Rattle.booth_cli.specs.Status.{IsStatus, IsStatusOutcome}
-use Rattle.booth_cli.specs.Run.{IsText, IsMade, Unasked, Served, Looked, IsRun, FitsWords}
+use Rattle.booth_cli.specs.Simulating.{IsSimulated}
+use Rattle.booth_cli.specs.Run.{IsText, IsMade, Unasked, Served, Summed, Looked, IsRun, FitsWords}
 
 -- ---- words that ask for nothing
 
@@ -70,10 +72,18 @@ asks_daemon words asked all asks same = let is : Asks Boothd words (Ok (Daemon a
 pub asks_status : (words : List (List ℕ)) (lock : List ℕ) (all : Asked) → Asks Boothd words (Ok all) → all ≡ Status lock → AsksStatus words lock
 asks_status words lock all asks same = let is : Asks Boothd words (Ok (Status lock)) = subst (λ x. Asks Boothd words (Ok x)) same asks in is.1
 
+pub asks_simulation : (words : List (List ℕ)) (asked : SimulationWords) (all : Asked) → Asks Boothd words (Ok all) → all ≡ Simulation asked → AsksSimulation words asked
+asks_simulation words asked all asks same = let is : Asks Boothd words (Ok (Simulation asked)) = subst (λ x. Asks Boothd words (Ok x)) same asks in is.1
+
 pub served_made : {a b : Option (List Entry)} (words : List (List ℕ)) (asked : DaemonWords) (outcome : Outcome) (said : List ℕ) → AsksDaemon words asked →
     GrewSome (IsServing asked outcome said) a b → GrewSome (IsMade words outcome said) a b
 served_made words asked outcome said asks served =
     some_weaker (IsServing asked outcome said) (IsMade words outcome said) (λ es is. Served asked asks is) served
+
+pub summed_made : {a b : Option (List Entry)} (words : List (List ℕ)) (asked : SimulationWords) (outcome : Outcome) (said : List ℕ) → AsksSimulation words asked →
+    GrewSome (IsSimulated asked outcome said) a b → GrewSome (IsMade words outcome said) a b
+summed_made words asked outcome said asks simulated =
+    some_weaker (IsSimulated asked outcome said) (IsMade words outcome said) (λ es is. Summed asked asks is) simulated
 
 pub looked_made : {a b : Option (List Entry)} (words : List (List ℕ)) (lock : List ℕ) (outcome : Outcome) (said : List ℕ) → AsksStatus words lock →
     GrewSome (IsStatus lock outcome said) a b → GrewSome (IsMade words outcome said) a b
@@ -92,10 +102,12 @@ fits_served words asked SendFault asks served = absurd served
 fits_served words asked Done asks served = inl (record { asked = asked; asks = asks })
 fits_served words asked LockFault asks served = inl (record { asked = asked; asks = asks })
 fits_served words asked OutOfMemory asks served = tt
+fits_served words asked ConfUnread asks served = inl (record { asked = asked; asks = asks })
+fits_served words asked (ConfBad fault) asks served = inl (record { asked = asked; asks = asks })
 fits_served words asked outcome asks served = record { asked = asked; asks = asks }
 
 pub fits_looked : (words : List (List ℕ)) (lock : List ℕ) (outcome : Outcome) → AsksStatus words lock → IsStatusOutcome outcome → FitsWords words outcome
-fits_looked words lock Done asks is = inr (record { lock = lock; asks = asks })
+fits_looked words lock Done asks is = inr (inl (record { lock = lock; asks = asks }))
 fits_looked words lock LockFault asks is = inr (record { lock = lock; asks = asks })
 fits_looked words lock NotRunning asks is = record { lock = lock; asks = asks }
 fits_looked words lock PrintFault asks is = λ none. let named = asks.asks.named in cc

@@ -1,5 +1,5 @@
 -- What the words ask for, or why they ask for nothing.
-use Rattle.std.specs.Prelude.{◌≡◌, ℕ, true, List, [], Some, None, is_some, Result, Ok, Err}
+use Rattle.std.specs.Prelude.{◌≡◌, ℕ, Bool, true, List, [], Option, Some, None, is_some, Result, Ok, Err, if◌then◌else◌}
 use Rattle.clap.specs.Words.{IsAmong, fault_of, kind_of, takes}
 use Rattle.clap.specs.declared.error.kind.ErrorKind.{ErrorKind}
 use Rattle.clap.specs.declared.error.kind.ErrorKind.TheVariants as kinds
@@ -8,8 +8,9 @@ use Rattle.booth_cli.specs.declared.command.Verb.TheVariants as verbs
 use Rattle.booth_cli.specs.declared.outcome.Word.{Word}
 use Rattle.booth_cli.specs.declared.reading.Read.{Read}
 use Rattle.booth_cli.specs.declared.asking.DaemonWords.{DaemonWords}
+use Rattle.booth_cli.specs.declared.asking.SimulationWords.{SimulationWords}
 use Rattle.booth_cli.specs.declared.asking.Asked.{Asked}
-use Rattle.booth_cli.specs.declared.asking.Asked.TheVariants.{Daemon, Status, Client}
+use Rattle.booth_cli.specs.declared.asking.Asked.TheVariants.{Daemon, Status, Simulation, Client}
 use Rattle.booth_cli.specs.declared.asking.ClientWords.{ClientWords}
 use Rattle.booth_cli.specs.declared.program.Program.{Program}
 use Rattle.booth_cli.specs.declared.program.Program.TheVariants.{Boothd}
@@ -40,6 +41,22 @@ pub record AsksDaemon (words : List (List ℕ)) (asked : DaemonWords) : Type 0 w
   pub all : Read
   pub asks : AreTaken Boothd words verbs.Daemon all
   pub same : IsDaemonOf all asked
+
+-- the path of a configuration that words name
+abbrev pub named_conf : Bool → List ℕ → Option (List ℕ)
+named_conf names conf = if names then Some conf else None
+
+-- what was read says this of a simulation
+pub record IsSimulationOf (read : Read) (asked : SimulationWords) : Type 0 where
+  pub conf : asked.conf ≡ named_conf read.names_conf read.conf
+  pub events : asked.events ≡ read.events
+  pub number : asked.number ≡ read.number
+
+-- the words ask for this simulation
+pub record AsksSimulation (words : List (List ℕ)) (asked : SimulationWords) : Type 0 where
+  pub all : Read
+  pub asks : AreTaken Boothd words verbs.Simulate all
+  pub same : IsSimulationOf all asked
 
 -- the words ask whether the daemon of this lock runs
 pub record AsksStatus (words : List (List ℕ)) (lock : List ℕ) : Type 0 where
@@ -128,6 +145,7 @@ client_of order read = record { order = order; site = read.site; conf = read.con
 abbrev pub IsAskedBy : Verb → Read → Asked → Type 0
 IsAskedBy verbs.Daemon read (Daemon asked) = IsDaemonOf read asked
 IsAskedBy verbs.Status read (Status lock) = lock ≡ read.lock
+IsAskedBy verbs.Simulate read (Simulation asked) = IsSimulationOf read asked
 IsAskedBy verb read (Client asked) = IsClientOf verb read asked
 IsAskedBy verb read asked = ⊥
 
@@ -135,6 +153,7 @@ IsAskedBy verb read asked = ⊥
 abbrev pub Asks : Program → List (List ℕ) → Result Asked Refusal → Type 0
 Asks program words (Ok (Daemon asked)) = (program ≡ Boothd) × AsksDaemon words asked
 Asks program words (Ok (Status lock)) = (program ≡ Boothd) × AsksStatus words lock
+Asks program words (Ok (Simulation asked)) = (program ≡ Boothd) × AsksSimulation words asked
 Asks program words (Ok (Client asked)) = IsClient program × AsksClient program words asked
 Asks program words (Err NoCommand) = verb_in program words ≡ None
 Asks program words (Err (Untaken error)) = IsUntakenFor program words (kind_of error)

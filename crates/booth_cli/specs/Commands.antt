@@ -44,6 +44,9 @@ abbrev pub app_for : Verb → App
 app_for verbs.Daemon = with_rule (with_rule (with_rule member_app (option (codes "lock") 108))
     (option (codes "records") 100)) (option (codes "turns") 110)
 app_for verbs.Status = with_rule (command_app (codes "status")) (option (codes "lock") 108)
+app_for verbs.Simulate =
+    with_rule (with_rule (with_rule (command_app (codes "sim")) (option (codes "conf") 99)) (option (codes "events") 101))
+    (option (codes "number") 114)
 app_for verbs.List = client_app (codes "list")
 app_for verbs.Peers = client_app (codes "peers")
 app_for verbs.Grant =
@@ -65,7 +68,8 @@ name_of Geostore = codes "geostore"
 abbrev pub daemon_verb : List ℕ → Option Verb
 daemon_verb word =
     if bytes_eq word (codes "daemon") then Some verbs.Daemon else
-    if bytes_eq word (codes "status") then Some verbs.Status else None
+    if bytes_eq word (codes "status") then Some verbs.Status else
+    if bytes_eq word (codes "sim") then Some verbs.Simulate else None
 
 abbrev pub client_verb : List ℕ → Option Verb
 client_verb word =

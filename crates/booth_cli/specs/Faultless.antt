@@ -16,12 +16,13 @@ use Rattle.booth_cli.specs.declared.outcome.Outcome.{Outcome}
 use Rattle.booth_cli.specs.declared.outcome.Outcome.TheVariants.{Done, TurnsSpent, NotRunning}
 use Rattle.booth_cli.specs.declared.outcome.Outcome.TheVariants.{OutOfMemory}
 use Rattle.booth_cli.specs.declared.asking.DaemonWords.{DaemonWords}
+use Rattle.booth_cli.specs.declared.asking.SimulationWords.{SimulationWords}
 use Rattle.booth_cli.specs.declared.program.Program.{Program}
 use Rattle.booth_cli.specs.declared.program.Program.TheVariants.{Boothd}
 use Rattle.booth_cli.specs.Commands.{app_for, verb_in}
 use Rattle.booth_cli.specs.Given.{found_in}
 use Rattle.booth_cli.specs.Reading.{Refuses}
-use Rattle.booth_cli.specs.Asking.{AsksDaemon}
+use Rattle.booth_cli.specs.Asking.{AsksDaemon, AsksSimulation}
 use Rattle.booth_cli.specs.Fitness.{has_member}
 use Rattle.booth_cli.specs.Run.{IsRun}
 
@@ -76,6 +77,26 @@ abbrev pub FaultlessRuns : Type 0
 FaultlessRuns = (words : List (List ℕ)) (outcome : Outcome) (entries : List Entry) →
     AreValid Boothd words verbs.Daemon → IsRun words outcome entries → AreFaultless words entries →
     EndsWell outcome
+
+-- ---- a simulation
+
+-- what was read at the path of the configuration says one, and neither a read nor a print failed
+pub record IsFaultlessFor (asked : SimulationWords) (entries : List Entry) : Type 0 where
+  pub read : (file : List ℕ) → Contains entries (ReadFile file (Err reads.Failed)) → ⊥
+  pub valid : (path text : List ℕ) → asked.conf ≡ Some path → Contains entries (ReadFile path (Ok text)) →
+      (config : ConfigSays) × Says text config
+  pub printed : (text : List ℕ) (failed : Failed) → Contains entries (Out text (Err failed)) → ⊥
+
+abbrev pub Sums : Outcome → Type 0
+Sums Done = Unit {0}
+Sums OutOfMemory = Unit {0}
+Sums outcome = ⊥
+
+-- Valid words, a valid file and an outside that does not fail give Done or OutOfMemory.
+abbrev pub FaultlessSimulations : Type 0
+FaultlessSimulations = (words : List (List ℕ)) (outcome : Outcome) (entries : List Entry) →
+    AreValid Boothd words verbs.Simulate → IsRun words outcome entries →
+    ((asked : SimulationWords) → AsksSimulation words asked → IsFaultlessFor asked entries) → Sums outcome
 
 -- ---- a look at the lock
 

@@ -15,6 +15,8 @@ pub record Texts : Type 0 where
   pub value : Option (List ℕ)
   pub site : Option (List ℕ)
   pub turns : Option (List ℕ)
+  pub events : Option (List ℕ)
+  pub number : Option (List ℕ)
   pub lock : Option (List ℕ)
   pub records : Option (List ℕ)
   pub conf : Option (List ℕ)
@@ -34,6 +36,8 @@ texts_in rows = record {
   value = first_of (codes "value") rows;
   site = first_of (codes "site") rows;
   turns = first_of (codes "turns") rows;
+  events = first_of (codes "events") rows;
+  number = first_of (codes "number") rows;
   lock = first_of (codes "lock") rows;
   records = first_of (codes "records") rows;
   conf = first_of (codes "conf") rows;
@@ -53,6 +57,8 @@ texts_of g = record {
   value = option_map (λ t. t.now) g.value;
   site = option_map (λ t. t.now) g.site;
   turns = option_map (λ t. t.now) g.turns;
+  events = option_map (λ t. t.now) g.events;
+  number = option_map (λ t. t.now) g.number;
   lock = option_map (λ t. t.now) g.lock;
   records = option_map (λ t. t.now) g.records;
   conf = option_map (λ t. t.now) g.conf;

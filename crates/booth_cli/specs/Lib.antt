@@ -5,6 +5,7 @@ pub mod Asking
 pub mod Texts
 pub mod Unasked
 pub mod Status
+pub mod Simulating
 pub mod Fitness
 pub mod Records
 pub mod Opening
@@ -18,5 +19,6 @@ pub mod Client
 pub mod ClientRun
 pub mod Ending
 pub use Rattle.booth_host.specs.Past
+pub use Rattle.booth_sim.specs.Laws
 pub use Rattle.booth_host.specs.Causes
 pub use Rattle.booth_host.specs.Memory

@@ -40,6 +40,13 @@ IsUnread path OutOfMemory said entries = (said ≡ out_of_memory_text)
     ⊎ ((text : List ℕ) × (entries ≡ ReadFile path (Ok text) ∷ [])))
 IsUnread path outcome said entries = ⊥
 
+-- the outcomes of a configuration that did not come
+abbrev pub IsUnreadOutcome : Outcome → Type 0
+IsUnreadOutcome ConfUnread = Unit {0}
+IsUnreadOutcome (ConfBad fault) = Unit {0}
+IsUnreadOutcome OutOfMemory = Unit {0}
+IsUnreadOutcome outcome = ⊥
+
 -- the read of the file, and the configuration that its text says
 abbrev pub IsConfigRead : List ℕ → Result ConfigSays Ended → List Entry → Type 0
 IsConfigRead path (Ok config) entries = (text : List ℕ) × Says text config

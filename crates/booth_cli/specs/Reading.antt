@@ -1,7 +1,7 @@
 -- What the readers make of the options and words, and which is refused first.
 use Rattle.std.specs.Prelude.{◌≡◌, ◌<◌, ◌≤◌, ◌^◌, ◌==◌, ◌&&◌, ◌⊎◌, ◌++◌}
 use Rattle.std.specs.Prelude.{nat_le, decimal, ℕ, Bool, false, List, Option, Some, None, Result, Ok, Err}
-use Rattle.std.specs.Prelude.{codes, length, unwrap_or, if◌then◌else◌}
+use Rattle.std.specs.Prelude.{◌-◌, codes, is_some, length, unwrap_or, if◌then◌else◌}
 use Rattle.std.specs.Prelude.{eqb}
 use Rattle.std.specs.List.{list_any, ends_with}
 use Rattle.booth_base.specs.declared.address.Address.{Address}
@@ -11,6 +11,7 @@ use Rattle.booth_client.specs.declared.order.Options.{Options}
 use Rattle.booth_cli.specs.declared.outcome.Word.{Word}
 use Rattle.booth_cli.specs.declared.outcome.Word.TheVariants as words
 use Rattle.booth_cli.specs.declared.reading.Named.{Named}
+use Rattle.booth_cli.specs.declared.reading.Numbers.{Numbers}
 use Rattle.booth_cli.specs.declared.reading.Read.{Read}
 use Rattle.booth_cli.specs.Given.{Texts}
 
@@ -73,7 +74,8 @@ Refuses t words.Ticket = IsNoName t.ticket
 Refuses t words.Name = IsNoName t.name
 Refuses t words.Value = IsNoValue t.value
 Refuses t words.Site = IsNoAddress t.site
-Refuses t words.Number = IsNoNumber 1 (2 ^ 62) t.turns
+Refuses t words.Number =
+    IsNoNumber 1 (2 ^ 62) t.turns ⊎ (IsNoNumber 0 10000000 t.events ⊎ IsNoNumber 0 (2 ^ 64 - 1) t.number)
 Refuses t words.Path = IsNoPath t.lock ⊎ IsNoPath t.records
 Refuses t words.Configuration = 255 < length (conf_path t.conf)
 
@@ -114,6 +116,18 @@ HasNumber low high None None = Unit {0}
 HasNumber low high (Some text) (Some n) = IsNumber low high text n
 HasNumber low high word read = ⊥
 
+-- the number in a word, or this one where there is no word
+abbrev pub HasNumberOr : ℕ → ℕ → ℕ → Option (List ℕ) → ℕ → Type 0
+HasNumberOr low high default None n = n ≡ default
+HasNumberOr low high default (Some text) n = IsNumber low high text n
+
+-- the numbers that words spell, none of which is refused
+pub record AreNumbers (t : Texts) (n : Numbers) : Type 0 where
+  pub accepted : Refuses t words.Number → ⊥
+  pub turns : HasNumber 1 (2 ^ 62) t.turns n.turns
+  pub events : HasNumberOr 0 10000000 100000 t.events n.events
+  pub number : HasNumberOr 0 (2 ^ 64 - 1) 1 t.number n.number
+
 -- no word is refused, and this is what they say
 pub record IsRead (t : Texts) (r : Read) : Type 0 where
   pub accepted : (word : Word) → Refuses t word → ⊥
@@ -123,6 +137,9 @@ pub record IsRead (t : Texts) (r : Read) : Type 0 where
   pub options : r.options ≡ options_in t
   pub site : HasAddress t.site r.site
   pub turns : HasNumber 1 (2 ^ 62) t.turns r.turns
+  pub events : HasNumberOr 0 10000000 100000 t.events r.events
+  pub number : HasNumberOr 0 (2 ^ 64 - 1) 1 t.number r.number
+  pub names_conf : r.names_conf ≡ is_some t.conf
   pub lock : r.lock ≡ unwrap_or t.lock default_lock
   pub records : r.records ≡ unwrap_or t.records default_records
   pub conf : r.conf ≡ conf_path t.conf

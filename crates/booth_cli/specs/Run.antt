@@ -1,21 +1,23 @@
 -- The calls of a whole run of boothd.
-use Rattle.std.specs.Prelude.{◌≡◌, ◌++◌, ◌⊎◌, ℕ, List, [], ◌∷◌, Some, None, Result}
+use Rattle.std.specs.Prelude.{◌≡◌, ◌++◌, ◌⊎◌, ℕ, List, [], ◌∷◌, Some, None, IsSome, Result}
 use Rattle.booth_host.specs.declared.host.Failed.{Failed}
 use Rattle.booth_host.specs.declared.entry.Entry.{Entry}
 use Rattle.booth_host.specs.declared.entry.Entry.TheVariants as calls
 use Rattle.booth_cli.specs.declared.outcome.Outcome.{Outcome}
 use Rattle.booth_cli.specs.declared.outcome.Outcome.TheVariants.{Done, Usage, BadWord, LockFault, NotRunning}
 use Rattle.booth_cli.specs.declared.outcome.Outcome.TheVariants.{PrintFault, OutOfMemory, Report, Refused, NoReply}
-use Rattle.booth_cli.specs.declared.outcome.Outcome.TheVariants.{SendFault}
+use Rattle.booth_cli.specs.declared.outcome.Outcome.TheVariants.{SendFault, ConfUnread, ConfBad}
 use Rattle.booth_cli.specs.declared.program.Program.{Program}
 use Rattle.booth_cli.specs.declared.program.Program.TheVariants.{Boothd}
 use Rattle.booth_cli.specs.Texts.{spoken}
 use Rattle.booth_cli.specs.declared.asking.DaemonWords.{DaemonWords}
+use Rattle.booth_cli.specs.declared.asking.SimulationWords.{SimulationWords}
 use Rattle.booth_cli.specs.Commands.{verb_in}
-use Rattle.booth_cli.specs.Asking.{AsksDaemon, AsksStatus, IsUntaken, HasBadWord}
+use Rattle.booth_cli.specs.Asking.{AsksDaemon, AsksSimulation, AsksStatus, IsUntaken, HasBadWord}
 use Rattle.booth_cli.specs.Unasked.{IsUnasked}
 use Rattle.booth_cli.specs.Serving.{IsServing}
 use Rattle.booth_cli.specs.Status.{IsStatus}
+use Rattle.booth_cli.specs.Simulating.{IsSimulated}
 
 -- one err of the program's line with this text, whatever the host answers, or none where the text is empty
 abbrev pub IsText : Program → List ℕ → List Entry → Type 0
@@ -28,6 +30,8 @@ pub data IsMade (words : List (List ℕ)) (outcome : Outcome) (said : List ℕ)
     (entries : List Entry) : Type 0 where
   Unasked : IsUnasked Boothd words outcome said entries → IsMade words outcome said entries
   Served : (asked : DaemonWords) → AsksDaemon words asked → IsServing asked outcome said entries →
+      IsMade words outcome said entries
+  Summed : (asked : SimulationWords) → AsksSimulation words asked → IsSimulated asked outcome said entries →
       IsMade words outcome said entries
   Looked : (lock : List ℕ) → AsksStatus words lock → IsStatus lock outcome said entries →
       IsMade words outcome said entries
@@ -53,16 +57,29 @@ pub record AskForStatus (words : List (List ℕ)) : Type 0 where
   pub lock : List ℕ
   pub asks : AsksStatus words lock
 
+-- the words ask for a simulation, whatever they say of it
+pub record AskForSimulation (words : List (List ℕ)) : Type 0 where
+  pub asked : SimulationWords
+  pub asks : AsksSimulation words asked
+
+-- the words ask for a simulation of a configuration that they name
+pub record AskForNamed (words : List (List ℕ)) : Type 0 where
+  pub asked : SimulationWords
+  pub asks : AsksSimulation words asked
+  pub named : IsSome asked.conf
+
 -- Usage comes only for words that are not taken, and BadWord exactly where that word is the first refused
 abbrev pub FitsWords : List (List ℕ) → Outcome → Type 0
 FitsWords words (Usage None) = verb_in Boothd words ≡ None
 FitsWords words (Usage (Some kind)) = IsUntaken Boothd words kind
 FitsWords words (BadWord word) = HasBadWord Boothd words word
-FitsWords words Done = AskForDaemon words ⊎ AskForStatus words
+FitsWords words Done = AskForDaemon words ⊎ (AskForStatus words ⊎ AskForSimulation words)
 FitsWords words LockFault = AskForDaemon words ⊎ AskForStatus words
 FitsWords words NotRunning = AskForStatus words
 FitsWords words PrintFault = verb_in Boothd words ≡ None → ⊥
 FitsWords words OutOfMemory = Unit {0}
+FitsWords words ConfUnread = AskForDaemon words ⊎ AskForNamed words
+FitsWords words (ConfBad fault) = AskForDaemon words ⊎ AskForNamed words
 FitsWords words Report = ⊥
 FitsWords words (Refused result) = ⊥
 FitsWords words NoReply = ⊥

@@ -24,7 +24,7 @@ spoken program text = name_of program ++ codes ": " ++ text ++ codes "\n"
 
 abbrev pub usage_text : Program → List ℕ
 usage_text Boothd =
-    codes "usage: boothd COMMAND [OPTIONS], with the command daemon or status; see --help behind it, and boothd(8)"
+    codes "usage: boothd COMMAND [OPTIONS], with the command daemon, status or sim; see --help behind it, and boothd(8)"
 usage_text Booth =
     codes "usage: booth COMMAND [OPTIONS], with the command list, peers, grant or revoke; see --help behind it"
 usage_text Geostore =

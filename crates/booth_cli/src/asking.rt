@@ -1,6 +1,6 @@
 //! What the words ask for, or why they ask for nothing.
 ghost use Rattle.std.specs.Prelude.{◌≡◌, true, Some, is_some, map, string_bytes};
-ghost use Rattle.booth_cli.specs.Asking.{Asks, HasOrder, HasWords, IsAskedBy, IsDaemonOf, client_of};
+ghost use Rattle.booth_cli.specs.Asking.{Asks, HasOrder, HasWords, IsAskedBy, IsDaemonOf, IsSimulationOf, client_of};
 
 use crate::Word;
 use crate::command::{Verb, verb_in};
@@ -27,6 +27,17 @@ pub(crate) struct DaemonWords {
     pub conf: PathText,
 }
 
+/// What the words of a simulation say.
+#[derive(Drop)]
+pub(crate) struct SimulationWords {
+    /// The file of the configuration, where one is named.
+    pub conf: Option<PathText>,
+    /// How many events there are.
+    pub events: u64,
+    /// The number that they are drawn by.
+    pub number: u64,
+}
+
 /// What the words of a client say.
 #[derive(Drop)]
 pub(crate) struct ClientWords {
@@ -44,6 +55,8 @@ pub(crate) enum Asked {
     Daemon(DaemonWords),
     /// Whether the daemon of this lock runs.
     Status(PathText),
+    /// What becomes of a whole cluster in generated events.
+    Simulation(SimulationWords),
     /// Something that a daemon is asked.
     Client(ClientWords),
 }
@@ -73,6 +86,17 @@ fn daemon_of(read: Read) -> DaemonWords
         lock: read.lock,
         records: read.records,
         conf: read.conf,
+    }
+}
+
+// The simulation that these options ask for.
+fn simulation_of(read: Read) -> SimulationWords
+    ensures { IsSimulationOf read result }
+{
+    SimulationWords {
+        conf: read.names_conf.then_some(read.conf),
+        events: read.events,
+        number: read.number,
     }
 }
 
@@ -160,6 +184,7 @@ fn asked_of(verb: Verb, read: Read) -> Asked
     match verb {
         Verb::Daemon => Asked::Daemon(daemon_of(read)),
         Verb::Status => Asked::Status(read.lock),
+        Verb::Simulate => Asked::Simulation(simulation_of(read)),
         Verb::List => Asked::Client(client_of(Order::List, read)),
         Verb::Peers => Asked::Client(client_of(Order::Peers, read)),
         Verb::Grant => {

@@ -41,7 +41,7 @@ fn run_words<H: Host>(alloc: Global, program: Program, words: &[String], host: &
 {
     match ask(alloc, program, words) {
         Ok(Asked::Client(asked)) => ask_daemon(alloc, asked, host),
-        Ok(Asked::Daemon(_)) | Ok(Asked::Status(_)) => unreachable!(),
+        Ok(Asked::Daemon(_)) | Ok(Asked::Status(_)) | Ok(Asked::Simulation(_)) => unreachable!(),
         Err(Refusal::Untaken(error)) => tell_error(alloc, &error, host),
         Err(Refusal::NoCommand) => Ended {
             outcome: Outcome::Usage(None),

@@ -25,6 +25,8 @@ pub(crate) enum Verb {
     Daemon,
     /// Says whether a daemon runs.
     Status,
+    /// Runs a whole cluster through generated events.
+    Simulate,
     /// Lists tickets.
     List,
     /// Lists members.
@@ -51,6 +53,9 @@ fn daemon_verb(word: &str) -> Option<Verb>
     }
     if word == "status" {
         return Some(Verb::Status);
+    }
+    if word == "sim" {
+        return Some(Verb::Simulate);
     }
     None
 }
@@ -212,6 +217,43 @@ fn status<'a>(alloc: Global) -> Result<Command<'a>, AllocError>
     plain(alloc, "status", "boothd status", about, MORE)?.arg(lock(alloc))
 }
 
+fn events<'a>(alloc: Global) -> Arg<'a>
+    ensures rule { rule_of result ≡ option (codes "events") 101 }
+    ensures local { result.global ≡ false }
+{
+    let help = "How many events, 0 to 10000000 [default: 100000]";
+    option(alloc, "events", 'e', "EVENTS", help)
+}
+
+fn number<'a>(alloc: Global) -> Arg<'a>
+    ensures rule { rule_of result ≡ option (codes "number") 114 }
+    ensures local { result.global ≡ false }
+{
+    let help = "The number that the events are drawn by [default: 1]";
+    option(alloc, "number", 'r', "NUMBER", help)
+}
+
+// The configuration of a simulation.
+fn simulated<'a>(alloc: Global) -> Arg<'a>
+    ensures rule { rule_of result ≡ option (codes "conf") 99 }
+    ensures local { result.global ≡ false }
+{
+    let help =
+        "Configuration: a path with a slash, or a name in /etc/booth [default: three members and a ticket]";
+    option(alloc, "conf", 'c', "CONF", help)
+}
+
+fn simulate<'a>(alloc: Global) -> Result<Command<'a>, AllocError>
+    ensures { IfOk result (λ c. app_of c ≡ app_for Verb.Simulate) }
+{
+    let about =
+        "Runs a whole cluster through generated events, and tells what became of its tickets.";
+    plain(alloc, "sim", "boothd sim", about, MORE)?
+        .arg(simulated(alloc))?
+        .arg(events(alloc))?
+        .arg(number(alloc))
+}
+
 /// What `clap` is to know of a command.
 pub(crate) fn command<'a>(alloc: Global, verb: Verb) -> Result<Command<'a>, AllocError>
     ensures { IfOk result (λ c. app_of c ≡ app_for verb) }
@@ -219,6 +261,7 @@ pub(crate) fn command<'a>(alloc: Global, verb: Verb) -> Result<Command<'a>, Allo
     match verb {
         Verb::Daemon => daemon(alloc),
         Verb::Status => status(alloc),
+        Verb::Simulate => simulate(alloc),
         Verb::List => list(alloc),
         Verb::Peers => peers(alloc),
         Verb::Grant => grant(alloc),

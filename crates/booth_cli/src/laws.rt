@@ -1,11 +1,16 @@
 //! What follows from the contracts, for all runs.
-ghost use Rattle.booth_cli.specs.Faultless.{FaultlessRuns, FaultlessLooks};
+ghost use Rattle.booth_cli.specs.Faultless.{FaultlessRuns, FaultlessSimulations, FaultlessLooks};
 ghost use Rattle.booth_cli.specs.ClientRun.{FaultlessTalks};
 
 /// Valid words and files, a free lock and an outside that does not fail give Done, TurnsSpent or
 /// OutOfMemory.
 pub fn faultless_runs()
     ensures { FaultlessRuns }
+{}
+
+/// Valid words, a valid file and an outside that does not fail have `sim` give Done or OutOfMemory.
+pub fn faultless_simulations()
+    ensures { FaultlessSimulations }
 {}
 
 /// Valid words and an outside that does not fail have `status` give Done, NotRunning or OutOfMemory.

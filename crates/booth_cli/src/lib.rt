@@ -21,7 +21,9 @@ mod refusals;
 mod replies;
 mod run;
 mod serving;
+mod simulating;
 mod status;
+mod summary_text;
 mod texts;
 mod usage;
 

@@ -6,7 +6,7 @@ ghost use Rattle.booth_host.specs.Past.{GrewBy, GrewSome};
 ghost use Rattle.booth_host.specs.Causes.{HasCause};
 ghost use Rattle.booth_host.specs.declared.entry.Entry.{Entry};
 ghost use Rattle.booth_cli.specs.Texts.{IsFaultText};
-ghost use Rattle.booth_cli.specs.Opening.{IsConfigRead, IsLocked, IsNodeOpened};
+ghost use Rattle.booth_cli.specs.Opening.{IsConfigRead, IsLocked, IsNodeOpened, IsUnreadOutcome};
 ghost use Rattle.booth_cli.specs.Serving.{HasBlame, IsOpened, IsServed};
 ghost use Rattle.booth_cli.specs.Stages.{IsParsed, refusal};
 
@@ -27,6 +27,7 @@ use std::alloc::Global;
 fn refuse(path: &PathText, text: &[u8], fault: ConfFault) -> Ended
     ensures outcome { result.outcome ≡ refusal fault }
     ensures said { IsFaultText path.now text.now fault result.said }
+    ensures unread { IsUnreadOutcome result.outcome }
     ensures served { IsServed result.outcome }
 {
     let outcome = match fault {
@@ -43,6 +44,7 @@ fn refuse(path: &PathText, text: &[u8], fault: ConfFault) -> Ended
 fn parse(alloc: Global, path: &PathText, text: &[u8]) -> Result<Config, Ended>
     ensures parsed { IsParsed path.now text.now result }
     ensures whole { IfOk result (λ config. file_fault config.members config.tickets ≡ None) }
+    ensures unread { IfErr result (λ ended. IsUnreadOutcome ended.outcome) }
     ensures served { IfErr result (λ ended. IsServed ended.outcome) }
     ensures blame { IfErr result (λ ended. (before after : ℕ) → HasBlame ended.outcome before after) }
 {
@@ -60,6 +62,7 @@ pub(crate) fn read_config<H: Host>(
 ) -> Result<Config, Ended>
     ensures past { GrewSome (IsConfigRead path.now result) (H.past host.old) (H.past host.new) }
     ensures whole { IfOk result (λ config. file_fault config.members config.tickets ≡ None) }
+    ensures unread { IfErr result (λ ended. IsUnreadOutcome ended.outcome) }
     ensures served { IfErr result (λ ended. IsServed ended.outcome) }
     ensures blame { IfErr result (λ ended. HasBlame ended.outcome (H.faults host.old) (H.faults host.new)) }
     ensures later { H.faults host.old ≤ H.faults host.new }

@@ -1,17 +1,18 @@
 //! The readers of the options, in the order in which a refusal is told.
 ghost use Rattle.std.specs.Prelude.{◌≡◌, ◌<◌, ◌≤◌, ◌^◌, ◌==◌, decimal, ℕ};
-ghost use Rattle.std.specs.Prelude.{option_map, unwrap_or, MatchOption, MatchResult, codes, length};
+ghost use Rattle.std.specs.Prelude.{is_some, option_map, unwrap_or, MatchOption, MatchResult, codes, length};
 ghost use Rattle.std.specs.Prelude.{eqb};
 ghost use Rattle.std.specs.List.{list_any, ends_with};
 ghost use Rattle.booth_cli.specs.Given.{texts_of};
 ghost use Rattle.booth_cli.specs.Reading.{completed, conf_path, default_lock, default_records, HasAddress, HasName, options_in};
-ghost use Rattle.booth_cli.specs.Reading.{HasNumber, IsNoAddress, IsNoName, IsNoNumber, IsNoPath, IsNoValue, Names, Reads, Refuses};
+ghost use Rattle.booth_cli.specs.Reading.{AreNumbers, HasNumber, HasNumberOr, IsNoAddress, IsNoName, IsNoNumber, IsNoPath, IsNoValue, Names, Reads, Refuses};
 
 use crate::Word;
 use crate::given::Given;
 use arrayvec::ArrayString;
 use booth_base::{Address, AttrValue, Name, PathText};
 use booth_client::Options;
+use booth_sim::MOST_EVENTS;
 use itoa::Buffer;
 
 /// The file that is locked while a daemon runs, where none is named.
@@ -23,6 +24,12 @@ const RECORDS: &str = "/var/lib/booth";
 /// The most turns that can be asked for.
 const MOST_TURNS: u64 = 1 << 62;
 
+/// How many events a simulation has, where it is not said.
+const EVENTS: u64 = 100_000;
+
+/// The number that a simulation is drawn by, where it is not said.
+const NUMBER: u64 = 1;
+
 /// What the options and words say.
 #[derive(Drop)]
 pub(crate) struct Read {
@@ -32,8 +39,12 @@ pub(crate) struct Read {
     pub options: Options,
     pub site: Option<Address>,
     pub turns: Option<u64>,
+    pub events: u64,
+    pub number: u64,
     pub lock: PathText,
     pub records: PathText,
+    /// Whether a configuration is named.
+    pub names_conf: bool,
     pub conf: PathText,
 }
 
@@ -150,6 +161,46 @@ fn number_in(word: Option<&str>, low: u64, high: u64) -> Result<Option<u64>, Ref
     }
 }
 
+// The number in a word, or this one where there is no word.
+fn number_or(word: Option<&str>, low: u64, high: u64, default: u64) -> Result<u64, Refused>
+    ensures { MatchResult result (λ n. HasNumberOr low high default (option_map (λ t. t.now) word.entry) n
+        × (IsNoNumber low high (option_map (λ t. t.now) word.entry) → ⊥))
+        (λ _. IsNoNumber low high (option_map (λ t. t.now) word.entry)) }
+{
+    match number_in(word, low, high) {
+        Ok(n) => Ok(n.unwrap_or(default)),
+        Err(_) => Err(Refused),
+    }
+}
+
+/// The numbers that words spell.
+#[derive(Drop)]
+struct Numbers {
+    turns: Option<u64>,
+    events: u64,
+    number: u64,
+}
+
+fn numbers_in(given: &Given) -> Result<Numbers, Refused>
+    ensures { MatchResult result (λ n. AreNumbers (texts_of given.now) n)
+        (λ _. Refuses (texts_of given.now) Word.Number) }
+{
+    let Ok(turns) = number_in(given.turns, 1, MOST_TURNS) else {
+        return Err(Refused);
+    };
+    let Ok(events) = number_or(given.events, 0, MOST_EVENTS, EVENTS) else {
+        return Err(Refused);
+    };
+    match number_or(given.number, 0, u64::MAX, NUMBER) {
+        Ok(number) => Ok(Numbers {
+            turns,
+            events,
+            number,
+        }),
+        Err(_) => Err(Refused),
+    }
+}
+
 // The path in a word, or this one where there is no word.
 fn path_in(word: Option<&str>, default: &str) -> Result<PathText, Refused>
     requires { length default.now ≤ 255 }
@@ -232,6 +283,16 @@ fn conf_in(word: Option<&str>) -> Option<PathText>
     completed(word.unwrap_or("booth"))
 }
 
+// Whether a word names a configuration.
+fn names_conf(word: Option<&str>) -> bool
+    ensures { result ≡ is_some (option_map (λ t. t.now) word.entry) }
+{
+    match word {
+        Some(_) => true,
+        None => false,
+    }
+}
+
 // The flags.
 fn options_in(given: &Given) -> Options
     ensures { result ≡ options_in (texts_of given.now) }
@@ -254,7 +315,7 @@ pub(crate) fn read_words(given: &Given) -> Result<Read, Word>
     let Ok(site) = address_in(given.site) else {
         return Err(Word::Site);
     };
-    let Ok(turns) = number_in(given.turns, 1, MOST_TURNS) else {
+    let Ok(numbers) = numbers_in(given) else {
         return Err(Word::Number);
     };
     let Ok(paths) = paths_in(given) else {
@@ -269,9 +330,12 @@ pub(crate) fn read_words(given: &Given) -> Result<Read, Word>
         value: named.value,
         options: options_in(given),
         site,
-        turns,
+        turns: numbers.turns,
+        events: numbers.events,
+        number: numbers.number,
         lock: paths.lock,
         records: paths.records,
+        names_conf: names_conf(given.conf),
         conf,
     })
 }

@@ -11,6 +11,7 @@ use crate::error_line::ErrorLine;
 use crate::outcome::Ended;
 use crate::program::Program;
 use crate::serving::serve;
+use crate::simulating::simulate;
 use crate::status::status;
 use crate::usage::tell_error;
 use crate::{Outcome, texts};
@@ -39,6 +40,7 @@ fn run_words<H: Host>(alloc: Global, words: &[String], host: &mut H) -> Ended
     match ask(alloc, Program::Boothd, words) {
         Ok(Asked::Daemon(asked)) => serve(alloc, &asked, host),
         Ok(Asked::Status(lock)) => status(&lock, host),
+        Ok(Asked::Simulation(asked)) => simulate(alloc, &asked, host),
         Ok(Asked::Client(_)) => unreachable!(),
         Err(Refusal::Untaken(error)) => tell_error(alloc, &error, host),
         Err(Refusal::NoCommand) => Ended {
@@ -56,8 +58,8 @@ fn run_words<H: Host>(alloc: Global, words: &[String], host: &mut H) -> Ended
 ///
 /// `daemon` reads the configuration, its key where `authfile` is set, takes the lock, opens its socket, reads
 /// the record of each ticket, and makes turns at the member's address until the host says `Stop` or the
-/// turns that were asked for are made. `status` says whether a daemon holds the lock. Help and version are
-/// printed; of all other words it is said what is wrong with them.
+/// turns that were asked for are made. `status` says whether a daemon holds the lock. `sim` runs a whole cluster in
+/// memory through generated events, and prints what was counted. Help and version are printed; of all other words it is said what is wrong with them.
 pub fn boothd<H: Host>(alloc: Global, words: &[String], host: &mut H) -> Outcome
     // Where the host tells its calls: exactly these, by how the run ended.
     ensures past { GrewSome (IsRun (map string_bytes words.now) result) (H.past host.old) (H.past host.new) }

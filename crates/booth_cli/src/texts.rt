@@ -29,7 +29,7 @@ pub(crate) fn usage_text(program: Program) -> ErrorLine
 {
     match program {
         Program::Boothd => line_of(
-            b"usage: boothd COMMAND [OPTIONS], with the command daemon or status; \
+            b"usage: boothd COMMAND [OPTIONS], with the command daemon, status or sim; \
             see --help behind it, and boothd(8)",
         ),
         Program::Booth => line_of(

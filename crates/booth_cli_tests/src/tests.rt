@@ -16,6 +16,7 @@ mod options;
 mod records;
 mod room;
 mod scripts;
+mod simulations;
 mod transcript;
 mod words;
 

@@ -200,6 +200,16 @@ File that is locked while a daemon runs [default: /var/run/booth.lock]\n|\
 boothd(8)";
     check_help(&rt, alloc, "status -h", ErrorKind::DisplayHelp, pieces);
     let pieces = "\
+Usage: boothd sim [OPTIONS]\n|\
+-c <CONF>|\
+Configuration: a path with a slash, or a name in /etc/booth [default: three members and a ticket]\n|\
+-e <EVENTS>|\
+How many events, 0 to 10000000 [default: 100000]\n|\
+-r <NUMBER>|\
+The number that the events are drawn by [default: 1]\n|\
+boothd(8)";
+    check_help(&rt, alloc, "sim --help", ErrorKind::DisplayHelp, pieces);
+    let pieces = "\
 0.1.0\n";
     check_help(
         &rt,

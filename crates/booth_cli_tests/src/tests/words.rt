@@ -101,6 +101,11 @@ status -s ::1 | UnknownArgument
 status -- -l /l | UnknownArgument
 status -l | InvalidValue
 status -l a -l b | ArgumentConflict
+sim more | UnknownArgument
+sim -s ::1 | UnknownArgument
+sim -e | InvalidValue
+sim -r 1 -c | InvalidValue
+sim -e 1 -e 1 | ArgumentConflict
  | None";
     for line in table.split("\n") {
         check_usage_line(&rt, alloc, line);
