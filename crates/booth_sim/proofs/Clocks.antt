@@ -1,10 +1,9 @@
 -- The clocks of a simulation drift within their bounds.
-use Rattle.std.proofs.Common.{◌≡◌, ℕ, ◌+◌, ◌-◌, ◌*◌, ◌^◌, ◌<◌, ◌≤◌, Bool, true, false, List, length, refl, sym, ap, subst, arith, if◌then◌else◌}
+use Rattle.std.proofs.Common.{◌≡◌, ℕ, ◌+◌, ◌-◌, ◌*◌, ◌^◌, ◌<◌, ◌≤◌, Bool, true, false, length, arith, if◌then◌else◌}
 use Rattle.std.specs.Prelude.{slice_index, map, ◌/◌, ◌%◌, ◌==◌}
 use Rattle.std.specs.List.{range_with_len}
 use Rattle.std.proofs.lemmas.List.FromFn.{length-map-range_with_len, get_or-map-range_with_len}
 use Rattle.booth_node.specs.Clock.{IsClock}
-use Rattle.booth_sim.specs.Happenings.{rate_at, reading_at}
 use Rattle.booth_sim.specs.Simulation.{clock_of}
 
 -- what a list of the values of f reads

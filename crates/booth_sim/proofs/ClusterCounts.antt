@@ -1,7 +1,6 @@
 -- What is counted of entries when one more follows, and the most holders when an event follows.
-use Rattle.std.proofs.Common.{◌≡◌, ℕ, zero, suc, ◌+◌, Bool, true, false, List, [], ◌∷◌, ◌++◌, length, refl, sym, ap, ◌∙◌, subst, arith, if◌then◌else◌}
-use Rattle.std.specs.Prelude.{Option, Some, None, Ok, max, ◌==◌}
-use Rattle.std.specs.List.{filter_map}
+use Rattle.std.proofs.Common.{◌≡◌, ℕ, ◌+◌, Bool, true, false, List, [], ◌∷◌, ◌++◌, refl, sym, ap, ◌∙◌, arith, if◌then◌else◌}
+use Rattle.std.specs.Prelude.{Option, None, Ok, max}
 use Rattle.std.proofs.lemmas.List.{append-nil, append_assoc}
 use Rattle.std.proofs.lemmas.List.Elements.{filter_map-append}
 use Rattle.booth_base.specs.Tree.{Deeds, Ends, Does, Leads}
@@ -13,18 +12,18 @@ use Rattle.booth_host.specs.declared.host.Arrival.TheVariants as arrivals
 use Rattle.booth_host.specs.declared.entry.Entry.{Entry}
 use Rattle.booth_host.specs.declared.entry.Entry.TheVariants as calls
 use Rattle.booth_node.specs.Reaction.{Ask, Send, Keep, Start, IsDone}
-use Rattle.booth_node.specs.Session.{SessionEntry, Starts, Makes}
+use Rattle.booth_node.specs.Session.{SessionEntry, Makes}
 use Rattle.booth_node.specs.State.{State}
 use Rattle.booth_node.specs.World.{WorldEntry, entries_of}
 use Rattle.booth_sim.specs.declared.frames.SentFrame.{SentFrame}
 use Rattle.booth_sim.specs.declared.frames.TheConstants.{KEPT_FRAMES}
 use Rattle.booth_sim.specs.declared.summary.Summary.{Summary}
-use Rattle.booth_sim.specs.Counts.{begins, changes_in, count_after, delivered_in, gains, greatest_term, is_change, is_delivery, is_restart, is_some_entry, most_between, most_of, one_if, releases, restarts_in, term_in}
+use Rattle.booth_sim.specs.Counts.{begins, count_after, gains, greatest_term, is_change, is_delivery, is_restart, is_some_entry, most_between, most_of, one_if, releases, term_in}
 use Rattle.booth_sim.specs.Frames.{frame_in, frames_in, kept_frames, last_of}
 use Rattle.booth_sim.specs.Kept.{all_kept, kept_after, kept_by}
 use Rattle.booth_sim.specs.Simulation.{entry_at, made_at, start_at}
-use Rattle.booth_sim.specs.Standing.{IsCounted, IsSeen}
-use Rattle.booth_sim.proofs.Entries.{entries_join, entry_own, entry_other}
+use Rattle.booth_sim.specs.Standing.{IsCounted}
+use Rattle.booth_sim.proofs.Entries.{entries_join, entry_own}
 use Rattle.booth_sim.proofs.KeptRecords.{kept_join}
 
 -- ---- counts

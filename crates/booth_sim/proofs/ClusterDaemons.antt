@@ -1,8 +1,8 @@
 -- The daemons of a cluster, when entries of one member follow.
-use Rattle.std.proofs.Common.{◌≡◌, ◌≢◌, ℕ, zero, suc, ◌+◌, ◌<◌, ◌≤◌, Bool, true, false, List, [], ◌∷◌, ◌++◌, length, set, refl, sym, ap, ◌∙◌, subst, arith}
+use Rattle.std.proofs.Common.{◌≡◌, ◌≢◌, ℕ, zero, suc, ◌+◌, ◌<◌, List, [], ◌∷◌, ◌++◌, set, refl, sym, ap, ◌∙◌, subst, arith}
 use Rattle.std.specs.Prelude.{Option, Ok}
 use Rattle.std.proofs.lemmas.List.{append-nil}
-use Rattle.booth_base.specs.Tree.{Deeds, Ends}
+use Rattle.booth_base.specs.Tree.{Ends}
 use Rattle.booth_conf.specs.Config.{ConfigSays}
 use Rattle.booth_rec.specs.declared.record.Record.{Record}
 use Rattle.booth_host.specs.declared.entry.Entry.{Entry}
@@ -10,8 +10,8 @@ use Rattle.booth_node.specs.declared.node.Turn.{Turn}
 use Rattle.booth_node.specs.declared.node.Turn.TheVariants.{Went}
 use Rattle.booth_node.specs.declared.node_config.NodeConfig.{NodeConfig}
 use Rattle.booth_node.specs.Opening.{opened}
-use Rattle.booth_node.specs.Reaction.{Ask, IsTurn, turn_end}
-use Rattle.booth_node.specs.Session.{SessionEntry, Makes, Starts, Stand, Down, Doing, after_entries}
+use Rattle.booth_node.specs.Reaction.{IsTurn, turn_end}
+use Rattle.booth_node.specs.Session.{SessionEntry, Stand, Down, Doing, after_entries}
 use Rattle.booth_node.specs.State.{State}
 use Rattle.booth_node.specs.View.{node_config, state_of}
 use Rattle.booth_node.specs.World.{WorldEntry, entries_of, stand_after}
@@ -21,10 +21,10 @@ use Rattle.booth_sim.specs.declared.daemon.Coming.{Coming}
 use Rattle.booth_sim.specs.declared.daemon.Daemon.{Daemon}
 use Rattle.booth_sim.specs.Happenings.{reading_at}
 use Rattle.booth_sim.specs.Kept.{all_kept}
-use Rattle.booth_sim.specs.Simulation.{IsTurnAt, entry_at, made_at, node_in, start_at, turn_calls}
+use Rattle.booth_sim.specs.Simulation.{IsTurnAt, made_at, node_in, start_at, turn_calls}
 use Rattle.booth_sim.specs.Standing.{AreDaemons, HasStarted, IsDaemon, TookTurn}
 use Rattle.booth_sim.proofs.ClusterCounts.{kept_other, kept_stay}
-use Rattle.booth_sim.proofs.Entries.{entries_join, entry_own, stand_own, stands_join}
+use Rattle.booth_sim.proofs.Entries.{entries_join, stand_own, stands_join}
 use Rattle.booth_sim.proofs.Sessions.{own_calls}
 
 -- ---- entries of another member

@@ -1,12 +1,11 @@
 -- What happens in a cluster is what the definitions say, and an event leads from one cluster to the next.
-use Rattle.std.proofs.Common.{◌≡◌, ◌≢◌, ℕ, zero, suc, ◌+◌, ◌*◌, ◌<◌, ◌≤◌, ◌^◌, Bool, true, false, List, [], ◌∷◌, ◌++◌, ◌%◌, length, set, refl, sym, ap, ◌∙◌, subst, arith}
+use Rattle.std.proofs.Common.{◌≡◌, ℕ, suc, ◌+◌, ◌*◌, ◌<◌, ◌≤◌, ◌^◌, Bool, true, List, [], ◌∷◌, ◌++◌, ◌%◌, length, set, refl, sym, ap, ◌∙◌, subst, arith}
 use Rattle.std.specs.Prelude.{Option, Some, None, Ok, max, slice_get}
 use Rattle.std.specs.List.{All}
 use Rattle.std.proofs.lemmas.List.{length-set}
-use Rattle.booth_base.specs.Tree.{Deeds, Ends}
+use Rattle.booth_base.specs.Tree.{Ends}
 use Rattle.booth_conf.specs.Config.{ConfigSays}
 use Rattle.booth_conf.specs.Sound.{IsSound}
-use Rattle.booth_rec.specs.declared.record.Record.{Record}
 use Rattle.booth_host.specs.declared.entry.Entry.{Entry}
 use Rattle.booth_host.specs.declared.entry.Entry.TheVariants as calls
 use Rattle.booth_node.specs.declared.node.Turn.TheVariants.{Went}
@@ -14,7 +13,7 @@ use Rattle.booth_node.specs.Reaction.{turn_end, used, react}
 use Rattle.booth_node.specs.Session.{SessionEntry, Stand, Down, Doing, Makes, after_entries}
 use Rattle.booth_node.specs.State.{State}
 use Rattle.booth_node.specs.View.{state_of}
-use Rattle.booth_node.specs.World.{WorldEntry, entries_of, last_time, stand_after}
+use Rattle.booth_node.specs.World.{WorldEntry, entries_of, last_time}
 use Rattle.booth_sim.specs.declared.cluster.Cluster.{Cluster}
 use Rattle.booth_sim.specs.declared.clock.TheConstants.{TIMES_END}
 use Rattle.booth_sim.specs.declared.daemon.Coming.{Coming}
@@ -26,14 +25,13 @@ use Rattle.booth_sim.specs.declared.frames.SentFrame.{SentFrame}
 use Rattle.booth_sim.specs.declared.happening.Happening.{Happening as HappeningOf}
 use Rattle.booth_sim.specs.declared.summary.Summary.{Summary}
 use Rattle.booth_sim.specs.Clusters.{CanHappen, Happened, Holds, IsFew, IsReady, IsWhatHappens, Leaves, Stands, says}
-use Rattle.booth_sim.specs.Counts.{begins, is_some_entry, most_between, most_of}
+use Rattle.booth_sim.specs.Counts.{is_some_entry, most_between, most_of}
 use Rattle.booth_sim.specs.Drawing.{draw_of, keeps_fail, kind_of, member_of, rise_of}
 use Rattle.booth_sim.specs.Frames.{chosen, kept_frames}
 use Rattle.booth_sim.specs.Happenings.{Happening, Turns, Restarts, arrives, happening, happens, reading_at}
-use Rattle.booth_sim.specs.Kept.{all_kept}
 use Rattle.booth_sim.specs.Laws.{most_events}
 use Rattle.booth_sim.specs.Simulation.{IsEvent, IsHappening, IsSimulation, entry_at, made_at, node_in, start_at, turn_calls}
-use Rattle.booth_sim.specs.Standing.{AreDaemons, HasStarted, IsCounted, IsDaemon, IsSeen, KeepsAll}
+use Rattle.booth_sim.specs.Standing.{AreDaemons, HasStarted, IsCounted, IsDaemon, KeepsAll}
 use Rattle.booth_sim.specs.Turning.{Grows, HasRoom, MadeTurn}
 use Rattle.booth_sim.proofs.ClusterCounts.{deeds_begin_none, frames_stay, most_join, restart_counted}
 use Rattle.booth_sim.proofs.ClusterDaemons.{daemons_after, started, turn_is, turned}

@@ -1,9 +1,8 @@
 -- A cluster through all events, and its summary.
-use Rattle.std.proofs.Common.{◌≡◌, ℕ, suc, ◌+◌, ◌<◌, ◌≤◌, List, refl, sym, ap, ◌∙◌, subst, arith}
+use Rattle.std.proofs.Common.{◌≡◌, ℕ, suc, ◌+◌, ◌≤◌, sym, ap, ◌∙◌, subst, arith}
 use Rattle.rand_pcg.specs.Lcg.{Lcg}
 use Rattle.booth_conf.specs.Config.{ConfigSays}
 use Rattle.booth_conf.specs.Sound.{IsSound}
-use Rattle.booth_node.specs.World.{WorldEntry}
 use Rattle.booth_sim.specs.declared.cluster.Cluster.{Cluster}
 use Rattle.booth_sim.specs.declared.drawing.Draw.{Draw}
 use Rattle.booth_sim.specs.declared.summary.Summary.{Summary}

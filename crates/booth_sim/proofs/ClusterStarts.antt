@@ -1,29 +1,28 @@
 -- What the first starts leave: nothing was kept, sent or counted.
-use Rattle.std.proofs.Common.{◌≡◌, ◌≢◌, ℕ, zero, suc, ◌+◌, ◌*◌, ◌/◌, ◌<◌, ◌≤◌, Bool, true, false, ◌&&◌, List, [], ◌∷◌, ◌++◌, length, refl, sym, ap, ◌∙◌, subst, inl, inr, ◌⊎◌, arith, if◌then◌else◌}
-use Rattle.std.specs.Prelude.{Option, Some, None, max, map, count_by, slice_get}
+use Rattle.std.proofs.Common.{◌≡◌, ◌≢◌, ℕ, zero, suc, ◌+◌, ◌<◌, ◌≤◌, Bool, true, false, ◌&&◌, List, [], ◌∷◌, ◌++◌, length, refl, sym, ap, ◌∙◌, subst, inl, inr, ◌⊎◌, arith, if◌then◌else◌}
+use Rattle.std.specs.Prelude.{Option, None, map, count_by}
 use Rattle.std.specs.List.{range_with_len}
 use Rattle.std.proofs.lemmas.Bool.{cases_eq}
 use Rattle.std.proofs.lemmas.List.{append-nil, append_assoc, length_push}
-use Rattle.booth_base.specs.Tree.{Deeds, Ends}
+use Rattle.booth_base.specs.Tree.{Ends}
 use Rattle.booth_conf.specs.Config.{ConfigSays}
 use Rattle.booth_conf.specs.Sound.{IsSound}
 use Rattle.booth_conf.specs.declared.tickets.TicketConf.{TicketConf}
-use Rattle.booth_rec.specs.declared.record.Lease.{Lease}
 use Rattle.booth_rec.specs.declared.record.Record.{Record}
 use Rattle.booth_rec.specs.Record.{record_or_none}
 use Rattle.booth_node.specs.Opening.{opened, is_site_at}
-use Rattle.booth_node.specs.Session.{SessionEntry, Starts, Down, Doing, after_entries}
+use Rattle.booth_node.specs.Session.{SessionEntry, Down, Doing, after_entries}
 use Rattle.booth_node.specs.State.{State}
-use Rattle.booth_node.specs.World.{WorldEntry, entries_of, last_time, stand_after}
+use Rattle.booth_node.specs.World.{WorldEntry, entries_of, last_time}
 use Rattle.booth_sim.specs.declared.cluster.Cluster.{Cluster}
 use Rattle.booth_sim.specs.declared.daemon.Daemon.{Daemon}
 use Rattle.booth_sim.specs.declared.frames.SentFrame.{SentFrame}
 use Rattle.booth_sim.specs.declared.frames.TheConstants.{KEPT_FRAMES}
 use Rattle.booth_sim.specs.declared.summary.Summary.{Summary}
-use Rattle.booth_sim.specs.Clusters.{AreStarted, HaveStarted, Holds, IsFew, IsNothing, Stands}
-use Rattle.booth_sim.specs.Counts.{begins, holders, is_holder, is_in_force, is_some_entry, most_between, most_of}
-use Rattle.booth_sim.specs.Frames.{frames_in, kept_frames, last_of}
-use Rattle.booth_sim.specs.Happenings.{rate_at, reading_at}
+use Rattle.booth_sim.specs.Clusters.{AreStarted, HaveStarted, IsNothing, Stands}
+use Rattle.booth_sim.specs.Counts.{holders, is_holder, is_in_force, is_some_entry, most_between, most_of}
+use Rattle.booth_sim.specs.Frames.{frames_in, last_of}
+use Rattle.booth_sim.specs.Happenings.{reading_at}
 use Rattle.booth_sim.specs.Kept.{all_kept, kept_after, kept_by}
 use Rattle.booth_sim.specs.Simulation.{node_in, start_at, starts}
 use Rattle.booth_sim.specs.Standing.{AreDaemons, HasStarted, IsCounted, IsDaemon}

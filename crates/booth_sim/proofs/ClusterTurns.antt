@@ -1,6 +1,6 @@
 -- What a turn changes, deed by deed, is what its entries change.
-use Rattle.std.proofs.Common.{◌≡◌, ℕ, zero, suc, ◌+◌, ◌<◌, ◌≤◌, ◌^◌, List, [], ◌∷◌, ◌++◌, length, take, get_or, refl, sym, ap, ◌∙◌, subst, arith}
-use Rattle.std.specs.Prelude.{Option, Ok, map, Bool, true, false}
+use Rattle.std.proofs.Common.{◌≡◌, ℕ, ◌+◌, ◌<◌, ◌≤◌, ◌^◌, List, [], ◌∷◌, ◌++◌, length, take, get_or, refl, sym, ap, ◌∙◌, subst, arith}
+use Rattle.std.specs.Prelude.{Option, Ok, Bool, true, false}
 use Rattle.std.proofs.lemmas.List.{append-nil, append_assoc, length-take, map-append, take_more, with_items_is}
 use Rattle.std.specs.Vec.{with_items}
 use Rattle.booth_base.specs.Tree.{Deeds, Ends, Does, Leads}
@@ -20,10 +20,9 @@ use Rattle.booth_sim.specs.declared.daemon.Daemon.{Daemon}
 use Rattle.booth_sim.specs.declared.frames.SentFrame.{SentFrame}
 use Rattle.booth_sim.specs.declared.summary.Summary.{Summary}
 use Rattle.booth_sim.specs.Counts.{is_delivery, one_if}
-use Rattle.booth_sim.specs.Kept.{all_kept}
-use Rattle.booth_sim.specs.Simulation.{entry_at, made_at, turn_calls}
+use Rattle.booth_sim.specs.Simulation.{entry_at, made_at}
 use Rattle.booth_sim.specs.Standing.{IsCounted, IsSeen, RisesByOne, TookTurn}
-use Rattle.booth_sim.specs.Turning.{Grows, MadeTurn, NoneArrives, Sees}
+use Rattle.booth_sim.specs.Turning.{MadeTurn, NoneArrives, Sees}
 use Rattle.booth_sim.proofs.ClusterCounts.{frames_stay, kept_stay, next_counted, now_counted}
 
 -- ---- deeds

@@ -1,21 +1,17 @@
 -- What stands in each daemon where they stand as the entries left their members.
-use Rattle.std.proofs.Common.{◌≡◌, ℕ, zero, suc, ◌+◌, ◌<◌, Bool, true, false, ◌&&◌, List, [], ◌∷◌, ◌++◌, length, map, max, get_or, drop, All, refl, sym, ap, ◌∙◌, subst, arith, if◌then◌else◌}
-use Rattle.std.specs.Prelude.{Option, Some, None, slice_get, count_by}
+use Rattle.std.proofs.Common.{◌≡◌, ℕ, zero, suc, ◌+◌, ◌<◌, Bool, true, false, List, [], ◌∷◌, ◌++◌, length, max, get_or, drop, All, refl, sym, ap, ◌∙◌, subst, arith, if◌then◌else◌}
+use Rattle.std.specs.Prelude.{Option, Some, slice_get, count_by}
 use Rattle.std.specs.List.{range_with_len}
-use Rattle.std.proofs.lemmas.List.{length-map, get_or-map}
+use Rattle.std.proofs.lemmas.List.{length-map}
 use Rattle.std.proofs.lemmas.List.Elements.{All-nil, All-cons}
 use Rattle.std.proofs.lemmas.List.Sums.{sum_by_push}
-use Rattle.std.proofs.lemmas.Option.{get_or_from_slice_get, slice_get_within}
 use Rattle.booth_conf.specs.Config.{ConfigSays}
 use Rattle.booth_conf.specs.declared.tickets.TicketConf.{TicketConf}
 use Rattle.booth_rec.specs.declared.record.Record.{Record}
-use Rattle.booth_rec.specs.Record.{record_or_none}
-use Rattle.booth_node.specs.Opening.{is_site_at}
-use Rattle.booth_node.specs.World.{WorldEntry, last_time}
+use Rattle.booth_node.specs.World.{WorldEntry}
 use Rattle.booth_sim.specs.declared.daemon.Daemon.{Daemon}
-use Rattle.booth_sim.specs.Counts.{holders, is_holder, is_in_force, most_of, one_if}
-use Rattle.booth_sim.specs.Happenings.{reading_at}
-use Rattle.booth_sim.specs.Kept.{all_kept, kept_by}
+use Rattle.booth_sim.specs.Counts.{holders, is_holder, most_of, one_if}
+use Rattle.booth_sim.specs.Kept.{kept_by}
 use Rattle.booth_sim.specs.Standing.{AreDaemons, IsDaemon, KeepsAll}
 
 pub all_keep : (config : ConfigSays) (before : List WorldEntry) (place : ℕ) (daemons : List Daemon) → AreDaemons config before place daemons

@@ -1,7 +1,6 @@
 -- What each entry of a simulation is, beside those before it.
-use Rattle.std.proofs.Common.{◌≡◌, ℕ, zero, suc, ◌+◌, ◌*◌, ◌<◌, ◌≤◌, Bool, List, [], ◌∷◌, ◌++◌, length, refl, sym, ap, ◌∙◌, subst, arith}
-use Rattle.std.specs.Prelude.{Option, map, ◌%◌, Ok}
-use Rattle.std.specs.List.{range_with_len}
+use Rattle.std.proofs.Common.{◌≡◌, ℕ, ◌<◌, ◌≤◌, Bool, List, [], ◌∷◌, ◌++◌, length, refl, sym, subst, arith}
+use Rattle.std.specs.Prelude.{Option, Ok}
 use Rattle.booth_base.specs.Tree.{Deeds, Ends, Does, Leads}
 use Rattle.booth_conf.specs.Config.{ConfigSays}
 use Rattle.booth_host.specs.declared.entry.Entry.{Entry}
@@ -9,11 +8,11 @@ use Rattle.booth_host.specs.declared.entry.Entry.TheVariants as calls
 use Rattle.booth_node.specs.Reaction.{Ask, Send, Keep, Start, IsDone, react, used}
 use Rattle.booth_node.specs.Session.{SessionEntry, Starts, Makes}
 use Rattle.booth_node.specs.State.{State}
-use Rattle.booth_node.specs.World.{WorldEntry, World, last_time, HasConfiguration}
+use Rattle.booth_node.specs.World.{WorldEntry, last_time, HasConfiguration}
 use Rattle.booth_world.proofs.AlongWorlds.{Along}
 use Rattle.booth_sim.specs.Happenings.{Happening, Turns, Restarts, reading_at}
 use Rattle.booth_sim.specs.Kept.{all_kept}
-use Rattle.booth_sim.specs.Simulation.{IsHappening, IsTurnAt, entry_at, made_at, node_in, start_at, world_of}
+use Rattle.booth_sim.specs.Simulation.{IsHappening, entry_at, made_at, node_in, world_of}
 use Rattle.booth_sim.proofs.Entries.{time_of_last}
 
 abbrev pub ReadsAt : ℕ → ℕ → SessionEntry → Type 0

@@ -1,11 +1,10 @@
 -- What a member of a simulation hears of another was sent by that one.
-use Rattle.std.proofs.Common.{◌≡◌, ℕ, zero, suc, ◌+◌, ◌-◌, ◌%◌, Bool, true, false, List, [], ◌∷◌, ◌++◌, length, drop, min, refl, sym, ap, ◌∙◌, subst, inl, inr, if◌then◌else◌}
+use Rattle.std.proofs.Common.{◌≡◌, ℕ, zero, suc, Bool, true, false, List, [], ◌∷◌, ◌++◌, length, drop, refl, sym, ap, ◌∙◌, subst, inl, inr, if◌then◌else◌}
 use Rattle.std.specs.Prelude.{◌==◌, Option, Some, None, Result, Ok, Err, option_map, slice_get, map}
 use Rattle.std.specs.List.{cons_option}
 use Rattle.booth_base.specs.declared.address.MemberId.{MemberId}
 use Rattle.booth_base.specs.Tree.{Deeds, Ends, Does, Leads}
 use Rattle.booth_conf.specs.Config.{ConfigSays}
-use Rattle.booth_wire.specs.declared.command.Cmd.TheVariants.{CGnt, CRvk}
 use Rattle.booth_wire.specs.declared.command.Direction.TheVariants.{BetweenMembers}
 use Rattle.booth_wire.specs.declared.message.FrameFault.{FrameFault}
 use Rattle.booth_wire.specs.Command.{direction_of}
@@ -23,7 +22,7 @@ use Rattle.booth_host.specs.declared.entry.Entry.TheVariants as calls
 use Rattle.booth_node.specs.declared.node_config.NodeConfig.{NodeConfig}
 use Rattle.booth_node.specs.Reaction.{Ask, Send, Keep, Start, IsDone, react, used}
 use Rattle.booth_node.specs.Records.{Has}
-use Rattle.booth_node.specs.Session.{SessionEntry, Starts, Makes, IsCut, Stand, Down, Doing, Hearing, after_entry, did}
+use Rattle.booth_node.specs.Session.{SessionEntry, Starts, Makes, Stand, Doing, Hearing, after_entry, did}
 use Rattle.booth_node.specs.State.{State}
 use Rattle.booth_node.specs.World.{WorldEntry, World, HearsSent, IsSend, WasSent, id_at, stand_after}
 use Rattle.booth_world.proofs.AlongWorlds.{Along}
@@ -31,10 +30,10 @@ use Rattle.booth_sim.specs.declared.drawing.Draw.{Draw}
 use Rattle.booth_sim.specs.declared.drawing.Kind.{Kind}
 use Rattle.booth_sim.specs.declared.drawing.Kind.TheVariants as kinds
 use Rattle.booth_sim.specs.declared.frames.SentFrame.{SentFrame}
-use Rattle.booth_sim.specs.Drawing.{draw_of, keeps_fail, kind_of, member_of, rise_of, ticket_of}
+use Rattle.booth_sim.specs.Drawing.{kind_of, member_of, ticket_of}
 use Rattle.booth_sim.specs.Frames.{chosen, frame_in, frames_in, kept_frames, place_of}
 use Rattle.booth_sim.specs.Happenings.{Happening, Turns, Restarts, arrives, happens, happening, reading_at, ticket_name}
-use Rattle.booth_sim.specs.Simulation.{IsHappening, IsTurnAt, entry_at, made_at, node_in, start_at, turn_calls, world_of}
+use Rattle.booth_sim.specs.Simulation.{IsHappening, entry_at, made_at, node_in, start_at}
 use Rattle.booth_sim.proofs.Entries.{stand_own}
 use Rattle.booth_sim.proofs.Speaking.{grant_is_a_clients, read_head, revoke_is_a_clients}
 

@@ -1,10 +1,10 @@
 -- After no event of a simulation do two sites hold a ticket.
-use Rattle.std.proofs.Common.{◌≡◌, ◌≢◌, ℕ, zero, suc, ◌+◌, ◌<◌, ◌≤◌, Bool, true, false, ◌&&◌, List, [], ◌∷◌, ◌++◌, length, refl, sym, ap, ◌∙◌, subst, inl, inr, arith, if◌then◌else◌}
-use Rattle.std.specs.Prelude.{Option, Some, None, max, count_by, nat_lt, slice_get, bytes_eq}
+use Rattle.std.proofs.Common.{◌≡◌, ℕ, zero, suc, ◌+◌, ◌<◌, ◌≤◌, Bool, true, false, ◌&&◌, List, [], ◌∷◌, ◌++◌, length, refl, sym, ap, ◌∙◌, subst, inr, arith, if◌then◌else◌}
+use Rattle.std.specs.Prelude.{Option, Some, None, count_by, slice_get, bytes_eq}
 use Rattle.std.specs.List.{range_with_len}
 use Rattle.std.proofs.Math.Nat.{max-le}
 use Rattle.std.proofs.lemmas.Bool.Decides.{nat_tests}
-use Rattle.std.proofs.lemmas.List.{append-nil, append_assoc}
+use Rattle.std.proofs.lemmas.List.{append_assoc}
 use Rattle.std.proofs.lemmas.List.Sums.{sum_by-cons}
 use Rattle.booth_conf.specs.Config.{ConfigSays}
 use Rattle.booth_conf.specs.Sound.{IsSound}
@@ -13,13 +13,13 @@ use Rattle.booth_rec.specs.declared.record.Lease.{Lease}
 use Rattle.booth_rec.specs.declared.record.Record.{Record}
 use Rattle.booth_rec.specs.Record.{IsInForce, record_or_none}
 use Rattle.booth_host.specs.declared.entry.Entry.TheVariants as calls
-use Rattle.booth_node.specs.Held.{Moment, IsAutomatic, IsBefore, Holds}
+use Rattle.booth_node.specs.Held.{Moment, IsBefore, Holds}
 use Rattle.booth_node.specs.Opening.{is_site_at}
 use Rattle.booth_node.specs.Records.{Has, TicketPlace, with_next}
-use Rattle.booth_node.specs.Session.{SessionEntry, Starts, Makes, IsCut, CutKeep}
+use Rattle.booth_node.specs.Session.{SessionEntry, Makes, IsCut, CutKeep}
 use Rattle.booth_node.specs.World.{WorldEntry, IsWorld, last_time, entries_of, ticket_at}
 use Rattle.booth_world.proofs.AlongWorlds.{Along}
-use Rattle.booth_world.specs.Worlds.{WorldsHoldOne, HoldsOneIn}
+use Rattle.booth_world.specs.Worlds.{WorldsHoldOne}
 use Rattle.booth_sim.specs.Counts.{begins, holders, is_holder, is_in_force, most_between, most_of}
 use Rattle.booth_sim.specs.Happenings.{reading_at}
 use Rattle.booth_sim.specs.Kept.{kept_by}

@@ -1,5 +1,5 @@
 -- A configuration, a number and a count of events make one simulation.
-use Rattle.std.proofs.Common.{◌≡◌, ℕ, zero, suc, ◌+◌, Bool, true, false, List, [], ◌∷◌, ◌++◌, refl, sym, ap, ◌∙◌, subst}
+use Rattle.std.proofs.Common.{◌≡◌, ℕ, zero, suc, ◌+◌, Bool, List, [], ◌∷◌, ◌++◌, refl, sym, ap, ◌∙◌, subst}
 use Rattle.std.specs.Prelude.{Option, None, Result, Ok, Err, is_err}
 use Rattle.booth_base.specs.Tree.{Deeds, Ends, Does, Leads}
 use Rattle.booth_conf.specs.Config.{ConfigSays}
@@ -9,13 +9,13 @@ use Rattle.booth_host.specs.declared.entry.Entry.{Entry}
 use Rattle.booth_host.specs.declared.entry.Entry.TheVariants as calls
 use Rattle.booth_node.specs.declared.node_config.NodeConfig.{NodeConfig}
 use Rattle.booth_node.specs.Reaction.{Ask, Send, Keep, Start, IsDone, react, used}
-use Rattle.booth_node.specs.Session.{Stand, Doing}
+use Rattle.booth_node.specs.Session.{Doing}
 use Rattle.booth_node.specs.State.{State}
 use Rattle.booth_node.specs.World.{WorldEntry, last_time}
 use Rattle.booth_sim.specs.Drawing.{draw_of, keeps_fail, rise_of}
 use Rattle.booth_sim.specs.Happenings.{Happening, Turns, Restarts, happening, reading_at}
 use Rattle.booth_sim.specs.Laws.{OneSimulation}
-use Rattle.booth_sim.specs.Simulation.{AreAnswered, IsAnswered, IsEvent, IsHappening, IsSimulation, IsTurnAt, made_at, node_in, turn_calls}
+use Rattle.booth_sim.specs.Simulation.{AreAnswered, IsAnswered, IsEvent, IsHappening, made_at, node_in, turn_calls}
 
 one_answer : (a b : Result (Unit {0}) Failed) → is_err a ≡ is_err b → a ≡ b
 one_answer (Ok x) (Ok y) e = refl

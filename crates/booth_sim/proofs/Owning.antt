@@ -1,6 +1,6 @@
 -- Each send of a simulation bears the id of its member.
 use Rattle.std.proofs.Common.{◌≡◌, ◌≢◌, ◌⊎◌, ⊎_elim, ℕ, zero, suc, ◌+◌, ◌^◌, ◌<◌, Bool, true, false, List, [], ◌∷◌, ◌++◌, length, refl, sym, ap, ◌∙◌, subst, inl, inr, arith, if◌then◌else◌}
-use Rattle.std.specs.Prelude.{◌==◌, map, Ok, None, Option}
+use Rattle.std.specs.Prelude.{◌==◌, map, Ok}
 use Rattle.std.specs.List.{range_with_len}
 use Rattle.std.proofs.lemmas.Bool.Decides.{nat_tests}
 use Rattle.std.proofs.lemmas.List.{append-nil, length-map}
@@ -8,7 +8,6 @@ use Rattle.booth_base.specs.Tree.{Ends}
 use Rattle.booth_conf.specs.Config.{ConfigSays}
 use Rattle.booth_wire.specs.Layout.{word_at}
 use Rattle.booth_host.specs.declared.entry.Entry.{Entry}
-use Rattle.booth_host.specs.declared.entry.Entry.TheVariants as calls
 use Rattle.booth_node.specs.declared.node.Turn.TheVariants.{Went}
 use Rattle.booth_node.specs.declared.node_config.NodeConfig.{NodeConfig}
 use Rattle.booth_node.specs.Laws.{ClientsAreAnswered, KeepsItsTickets, OpensWithItsTickets, OthersAreNotAnswered}
@@ -23,7 +22,7 @@ use Rattle.booth_world.proofs.LogSessions.{logs_are_sessions}
 use Rattle.booth_sim.specs.Drawing.{draw_of, keeps_fail, rise_of}
 use Rattle.booth_sim.specs.Happenings.{Happening, Turns, Restarts, happening, reading_at}
 use Rattle.booth_sim.specs.Kept.{all_kept}
-use Rattle.booth_sim.specs.Simulation.{IsHappening, IsSimulation, entry_at, made_at, node_in, start_at, starts, turn_calls}
+use Rattle.booth_sim.specs.Simulation.{IsHappening, IsSimulation, entry_at, made_at, node_in, start_at, turn_calls}
 use Rattle.booth_sim.proofs.Entries.{entries_join, stands_join}
 use Rattle.booth_sim.proofs.OwnSends.{turn_own}
 use Rattle.booth_sim.proofs.Sessions.{other_calls, own_calls}

@@ -1,5 +1,5 @@
 -- What happens in a simulation happens at a member.
-use Rattle.std.proofs.Common.{◌≡◌, ℕ, zero, suc, ◌<◌, ◌≤◌, Bool, true, false, List, [], ◌∷◌, length, drop, refl, sym, ap, ◌∙◌, subst, arith, if◌then◌else◌}
+use Rattle.std.proofs.Common.{◌≡◌, ℕ, zero, suc, ◌<◌, Bool, true, false, List, [], ◌∷◌, length, drop, refl, ap, subst, arith, if◌then◌else◌}
 use Rattle.std.specs.Prelude.{Option, Some, None, ◌==◌, ◌%◌, position, slice_get, option_map, is_some}
 use Rattle.std.specs.List.{cons_option}
 use Rattle.std.proofs.lemmas.List.Quantifiers.{position-Some}
@@ -8,9 +8,8 @@ use Rattle.booth_conf.specs.Config.{ConfigSays, file_fault}
 use Rattle.booth_conf.specs.Sound.{IsSound}
 use Rattle.booth_conf.specs.Rules.{is_at}
 use Rattle.booth_conf.specs.declared.members.Member.{Member}
-use Rattle.booth_host.specs.declared.entry.Entry.{Entry}
 use Rattle.booth_host.specs.declared.entry.Entry.TheVariants as calls
-use Rattle.booth_node.specs.Session.{SessionEntry, Starts, Makes, IsCut}
+use Rattle.booth_node.specs.Session.{SessionEntry, Makes}
 use Rattle.booth_node.specs.World.{WorldEntry}
 use Rattle.booth_sim.specs.declared.drawing.Draw.{Draw}
 use Rattle.booth_sim.specs.declared.drawing.Kind.{Kind}

@@ -1,5 +1,5 @@
 -- What is seen after one more deed of a member.
-use Rattle.std.proofs.Common.{◌≡◌, ℕ, ◌+◌, arith, Bool, false, List, [], ◌∷◌, ◌++◌, max, refl, sym, ap, ◌∙◌, subst}
+use Rattle.std.proofs.Common.{◌≡◌, ℕ, ◌+◌, arith, false, List, [], ◌∷◌, ◌++◌, max, refl, sym, ap, ◌∙◌, subst}
 use Rattle.std.specs.Prelude.{Option, Some, None, Result, Ok, Err, option_map}
 use Rattle.booth_base.specs.declared.address.Peer.{Peer}
 use Rattle.booth_conf.specs.Config.{ConfigSays}
@@ -8,7 +8,7 @@ use Rattle.booth_rec.specs.declared.record.Record.{Record}
 use Rattle.booth_host.specs.declared.host.Failed.{Failed}
 use Rattle.booth_host.specs.declared.entry.Entry.{Entry}
 use Rattle.booth_host.specs.declared.entry.Entry.TheVariants.{Keep, Send}
-use Rattle.booth_node.specs.Session.{SessionEntry, Makes}
+use Rattle.booth_node.specs.Session.{Makes}
 use Rattle.booth_node.specs.World.{WorldEntry}
 use Rattle.booth_sim.specs.declared.frames.SentFrame.{SentFrame}
 use Rattle.booth_sim.specs.declared.frames.TheConstants.{KEPT_FRAMES}

@@ -1,5 +1,5 @@
 -- What each member of a simulation does is its sessions, one after the other.
-use Rattle.std.proofs.Common.{◌≡◌, ◌≢◌, ℕ, zero, suc, Bool, true, false, List, [], ◌∷◌, ◌++◌, refl, sym, ap, ◌∙◌, subst, arith, if◌then◌else◌}
+use Rattle.std.proofs.Common.{◌≡◌, ◌≢◌, ℕ, zero, suc, Bool, true, false, List, [], ◌∷◌, refl, sym, ap, ◌∙◌, subst, arith, if◌then◌else◌}
 use Rattle.std.specs.Prelude.{◌==◌, ◌+◌, map, length}
 use Rattle.std.specs.List.{range_with_len}
 use Rattle.std.proofs.lemmas.Bool.Decides.{nat_tests}
@@ -17,7 +17,7 @@ use Rattle.booth_world.specs.Worlds.{made}
 use Rattle.booth_world.proofs.LogSessions.{logs_are_sessions}
 use Rattle.booth_sim.specs.Drawing.{draw_of, keeps_fail, rise_of}
 use Rattle.booth_sim.specs.Happenings.{Happening, Turns, Restarts, happening, reading_at}
-use Rattle.booth_sim.specs.Simulation.{IsHappening, IsSimulation, entry_at, made_at, node_in, start_at, starts, turn_calls}
+use Rattle.booth_sim.specs.Simulation.{IsHappening, IsSimulation, entry_at, made_at, node_in, start_at, turn_calls}
 use Rattle.booth_sim.proofs.Entries.{entries_join, entry_own, entry_other, sessions_join}
 
 pub own_calls : (place time : ℕ) (calls : List Entry) → entries_of place (made_at place time calls) ≡ made calls

@@ -1,5 +1,5 @@
 -- What the bytes of a message say of who sent it, and of what it is.
-use Rattle.std.proofs.Common.{◌≡◌, ℕ, ◌^◌, ◌<◌, Bool, true, false, List, [], Option, Some, None, Result, Ok, Err, refl, sym, ap, subst, ◌∙◌, if◌then◌else◌}
+use Rattle.std.proofs.Common.{◌≡◌, ℕ, ◌^◌, ◌<◌, Bool, true, false, List, Option, Some, None, Result, Ok, Err, refl, sym, ap, subst, ◌∙◌, if◌then◌else◌}
 use Rattle.std.specs.Prelude.{ok_or}
 use Rattle.std.proofs.lemmas.Nat.{from_be_bytes-to_be_bytes_4}
 use Rattle.booth_wire.specs.declared.command.Cmd.{Cmd}
@@ -10,7 +10,7 @@ use Rattle.booth_wire.specs.declared.message.FrameFault.TheVariants as faults
 use Rattle.booth_wire.specs.declared.message.Head.{Head}
 use Rattle.booth_wire.specs.Command.{cmd_of, direction_of, kind_of}
 use Rattle.booth_wire.specs.Layout.{word, word_at}
-use Rattle.booth_wire.specs.PlainMessage.{Content, PlainMessage}
+use Rattle.booth_wire.specs.PlainMessage.{PlainMessage}
 use Rattle.booth_wire.specs.Reading.{◌>>=◌, auth_in, body_read, content_in, decoded, head_at, head_read}
 use Rattle.booth_wire.specs.Spelling.{header}
 use Rattle.booth_auth.specs.Sealed.{sealed}

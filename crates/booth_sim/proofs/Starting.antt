@@ -1,6 +1,6 @@
 -- A member starts: its id is known, and its node is the one of its place.
-use Rattle.std.proofs.Common.{◌≡◌, ℕ, zero, suc, ◌<◌, Bool, true, List, [], ◌∷◌, length, get_or, replicate, refl, sym, ap, ◌∙◌, subst, arith, IfOk, IsSome, Result}
-use Rattle.std.specs.Prelude.{Option, Some, None, position, slice_get, ◌==◌}
+use Rattle.std.proofs.Common.{◌≡◌, ℕ, zero, suc, ◌<◌, true, List, [], ◌∷◌, length, get_or, replicate, refl, sym, ap, ◌∙◌, subst, arith, IfOk, IsSome, Result}
+use Rattle.std.specs.Prelude.{Option, Some, None, position, slice_get}
 use Rattle.std.specs.Option.{option_map_or}
 use Rattle.std.proofs.lemmas.Bool.Decides.{nat_tests}
 use Rattle.booth_base.specs.declared.address.MemberId.{MemberId}

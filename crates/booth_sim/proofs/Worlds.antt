@@ -1,6 +1,6 @@
 -- The entries of a simulation are a world.
-use Rattle.std.proofs.Common.{◌≡◌, ℕ, zero, suc, ◌+◌, ◌*◌, ◌^◌, ◌<◌, ◌≤◌, List, [], ◌∷◌, ◌++◌, length, refl, sym, ap, ◌∙◌, subst, arith}
-use Rattle.std.specs.Prelude.{map, slice_get, slice_index, Option, Some, None, Bool, true, false, ◌%◌, ◌==◌, if◌then◌else◌}
+use Rattle.std.proofs.Common.{◌≡◌, ℕ, zero, suc, ◌+◌, ◌*◌, ◌<◌, ◌≤◌, List, [], ◌∷◌, ◌++◌, length, refl, sym, ap, ◌∙◌, subst, arith}
+use Rattle.std.specs.Prelude.{map, Option, None, Bool, true, false, ◌==◌, if◌then◌else◌}
 use Rattle.std.specs.List.{range_with_len}
 use Rattle.std.proofs.lemmas.List.FromFn.{length-map-range_with_len}
 use Rattle.booth_base.specs.Crc.{CrcIsRemainder}
@@ -14,14 +14,14 @@ use Rattle.booth_rec.specs.Record.{no_record}
 use Rattle.booth_node.specs.Laws.{ClientsAreAnswered, KeepsItsTickets, OpensWithItsTickets, OthersAreNotAnswered}
 use Rattle.booth_node.specs.Records.{Has, record_at, may_after_all}
 use Rattle.booth_node.specs.Session.{SessionEntry, Starts, Makes, IsCut}
-use Rattle.booth_node.specs.World.{WorldEntry, World, last_time, entries_of, ticket_at, AtEach, HasConfiguration, HasForm, HasTrueClocks, HearsSent, IsWorld, ReadsClock, ReadsKept, clock_at, members_of, stand_after}
+use Rattle.booth_node.specs.World.{WorldEntry, World, last_time, entries_of, ticket_at, AtEach, HasConfiguration, HasForm, HasTrueClocks, HearsSent, IsWorld, ReadsClock, ReadsKept, clock_at, stand_after}
 use Rattle.booth_world.proofs.AlongWorlds.{Along, at_each}
 use Rattle.booth_sim.specs.declared.drawing.Draw.{Draw}
 use Rattle.booth_sim.specs.Drawing.{draw_of, keeps_fail, rise_of}
 use Rattle.booth_sim.specs.Happenings.{Happening, Turns, Restarts, happening, reading_at}
 use Rattle.booth_sim.specs.Kept.{all_kept, kept_after, kept_by}
 use Rattle.booth_sim.specs.Laws.{SimulationsAreWorlds, most_events}
-use Rattle.booth_sim.specs.Simulation.{IsEvent, IsHappening, IsSimulation, clock_of, entry_at, made_at, node_in, start_at, starts, turn_calls, world_of}
+use Rattle.booth_sim.specs.Simulation.{IsHappening, IsSimulation, entry_at, made_at, start_at, world_of}
 use Rattle.booth_sim.proofs.Clocks.{clock_drifts, reads_value}
 use Rattle.booth_sim.proofs.Entries.{along_events, along_left, along_right, along_weaker, entries_join, times_join, time_of_last}
 use Rattle.booth_sim.proofs.Follows.{Follows, ReadsAt, StartsKept, happening_follows}

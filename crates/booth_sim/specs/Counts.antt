@@ -1,12 +1,10 @@
 -- The eight numbers of a simulation, counted over its entries.
-use Rattle.std.specs.Prelude.{ℕ, ◌+◌, ◌++◌, ◌&&◌, ◌<◌, max, nat_lt, not, Bool, true, false, List, [], ◌∷◌, length, count_by, position, slice_get, Option, Some, None, is_some, Ok, if◌then◌else◌}
+use Rattle.std.specs.Prelude.{ℕ, ◌+◌, ◌++◌, ◌&&◌, max, nat_lt, Bool, true, false, List, [], ◌∷◌, length, count_by, position, Option, Some, None, is_some, Ok, if◌then◌else◌}
 use Rattle.std.specs.List.{range_with_len}
-use Rattle.std.specs.Option.{option_map_or}
 use Rattle.booth_conf.specs.Config.{ConfigSays}
 use Rattle.booth_conf.specs.Lookups.{is_called}
 use Rattle.booth_conf.specs.declared.tickets.TicketConf.{TicketConf}
 use Rattle.booth_rec.specs.declared.record.Lease.{Lease}
-use Rattle.booth_rec.specs.declared.record.Record.{Record}
 use Rattle.booth_rec.specs.Record.{record_or_none}
 use Rattle.booth_host.specs.declared.host.Arrival.TheVariants as arrivals
 use Rattle.booth_host.specs.declared.entry.Entry.TheVariants as calls

@@ -1,5 +1,5 @@
 -- The frames that members sent one another, of which one may arrive.
-use Rattle.std.specs.Prelude.{◌≡◌, ℕ, ◌-◌, ◌%◌, ◌==◌, min, List, length, drop, slice_get, position, Option, Some, None, option_map, if◌then◌else◌}
+use Rattle.std.specs.Prelude.{ℕ, ◌-◌, ◌%◌, ◌==◌, min, List, length, drop, slice_get, position, Option, None, option_map, if◌then◌else◌}
 use Rattle.std.specs.List.{filter_map}
 use Rattle.booth_base.specs.declared.address.Peer.{Peer}
 use Rattle.booth_conf.specs.Config.{ConfigSays}

@@ -1,19 +1,17 @@
 -- How the code's parts say what they carry along: what stands there is what the entries before leave.
-use Rattle.std.specs.Prelude.{◌≡◌, ◌≤◌, ◌++◌, ℕ, ◌+◌, List, [], ◌∷◌, length, Option, Ok, Result}
+use Rattle.std.specs.Prelude.{◌≡◌, ◌≤◌, ℕ, ◌+◌, List, [], ◌∷◌, length, Option, Ok}
 use Rattle.booth_base.specs.Tree.{Ends}
 use Rattle.booth_conf.specs.Config.{ConfigSays}
 use Rattle.booth_rec.specs.declared.record.Record.{Record}
-use Rattle.booth_host.specs.declared.host.Arrival.{Arrival}
 use Rattle.booth_host.specs.declared.entry.Entry.{Entry}
 use Rattle.booth_host.specs.declared.entry.Entry.TheVariants as calls
-use Rattle.booth_node.specs.declared.node.Node.{Node}
 use Rattle.booth_node.specs.declared.node_config.NodeConfig.{NodeConfig}
 use Rattle.booth_node.specs.Opening.{opened}
 use Rattle.booth_node.specs.Reaction.{IsTurn, turn_end}
-use Rattle.booth_node.specs.Session.{Doing, Makes}
+use Rattle.booth_node.specs.Session.{Doing}
 use Rattle.booth_node.specs.State.{State}
 use Rattle.booth_node.specs.View.{node_config, state_of}
-use Rattle.booth_node.specs.World.{WorldEntry, last_time, stand_after}
+use Rattle.booth_node.specs.World.{WorldEntry, stand_after}
 use Rattle.booth_sim.specs.declared.daemon.Coming.{Coming}
 use Rattle.booth_sim.specs.declared.daemon.Daemon.{Daemon}
 use Rattle.booth_sim.specs.declared.frames.SentFrame.{SentFrame}

@@ -1,5 +1,5 @@
 -- A keep that answered Ok changes a record, a send to a member a frame, and no other deed changes anything.
-use Rattle.std.proofs.Common.{◌≡◌, ◌∙◌, ap, refl, sym}
+use Rattle.std.proofs.Common.{◌∙◌, ap, refl, sym}
 use Rattle.booth_host.specs.declared.entry.Entry.TheVariants.{Keep, Send}
 use Rattle.booth_sim.proofs.Seen.{idle_deed, kept_seen, no_member, sent_seen}
 use Rattle.booth_sim.proofs.counting.count.Goals as goal

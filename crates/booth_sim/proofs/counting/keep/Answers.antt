@@ -1,5 +1,5 @@
 -- The record of the one ticket of the name is kept, and its lease is compared with the one before.
-use Rattle.std.proofs.Common.{◌≡◌, None, refl}
+use Rattle.std.proofs.Common.{None, refl}
 use Rattle.booth_sim.proofs.Keeps.{kept_found, kept_missing, counted_found, counted_missing}
 use Rattle.booth_sim.proofs.counting.keep.Goals as goal
 

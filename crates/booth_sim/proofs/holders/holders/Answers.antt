@@ -1,6 +1,6 @@
 -- One more daemon counts where its member holds the ticket.
-use Rattle.std.proofs.Common.{◌≡◌, ◌≤◌, ◌+◌, Bool, true, false, arith, refl}
-use Rattle.booth_sim.specs.Counts.{is_holder, one_if}
+use Rattle.std.proofs.Common.{true, false, arith, refl}
+use Rattle.booth_sim.specs.Counts.{is_holder}
 use Rattle.booth_sim.proofs.Daemons.{holder_more, stands, there}
 use Rattle.booth_sim.proofs.holders.holders.Goals as goal
 use Rattle.booth_sim.proofs.holders.holders.Goals.{then-is_holder, else-is_holder}

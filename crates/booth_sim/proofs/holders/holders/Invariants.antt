@@ -1,5 +1,5 @@
 -- So many of the daemons before hold the ticket.
-use Rattle.std.proofs.Common.{◌≡◌, ◌≤◌, List, length, Some, All}
+use Rattle.std.proofs.Common.{◌≡◌, ◌≤◌, List, Some}
 use Rattle.std.specs.Prelude.{count_by, slice_get}
 use Rattle.std.specs.List.{range_with_len}
 use Rattle.booth_conf.specs.declared.tickets.TicketConf.{TicketConf}

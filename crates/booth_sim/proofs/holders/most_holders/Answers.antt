@@ -1,7 +1,6 @@
 -- One ticket less is left, and its holders are among the most so far.
-use Rattle.std.proofs.Common.{◌≡◌, ◌+◌, Bool, true, false, List, drop, length, max, ap, refl, sym, ◌∙◌, arith}
+use Rattle.std.proofs.Common.{◌≡◌, true, false, length, ap, ◌∙◌, arith}
 use Rattle.std.specs.Prelude.{Some, slice_get}
-use Rattle.booth_sim.specs.Counts.{holders}
 use Rattle.booth_sim.proofs.Daemons.{holders_by_hand, holders_by_votes, most_more, there}
 use Rattle.booth_sim.proofs.holders.most_holders.Goals as goal
 use Rattle.booth_sim.proofs.holders.most_holders.Goals.{then-not-ticket, else-not-ticket}
