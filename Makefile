@@ -75,8 +75,8 @@ $(PROGRAMS:%=out/%):
 	@mkdir -p out
 	cp $< $@
 
-# rt run proves, builds and then runs a program, on words that do no harm: the program that it leaves tells whether it was
-# proved, and not its status. rt ci leaves the programs too.
+# rt run proves, builds and then runs a program, here without words, which is a usage error: so the program that it leaves
+# tells whether it was proved, and not its status. rt ci leaves the programs too.
 crates/boothd/out/boothd crates/booth/out/booth crates/geostore/out/geostore: $(SOURCES)
 	@$(NEEDS_RT)
 	@mkdir -p out
