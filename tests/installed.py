@@ -103,20 +103,20 @@ def pages_have_all_options(room):
             need(re.search(rf"^\.Cm {command}$", text, re.M), f"{program}.8 has no synopsis of {command}")
 
 
-def said_in(name):
-    """The texts that a file of the programs' words says on standard error."""
-    source = re.sub(r"\\\n\s*", "", read(f"{TOP}/crates/booth_cli/src/{name}"))
+def said_in(crate, name):
+    """The texts that a file of a crate says on standard error."""
+    source = re.sub(r"\\\n\s*", "", read(f"{TOP}/crates/{crate}/src/{name}"))
     return {text.strip() for text in re.findall(r'b"([^"]+)"', source)}
 
 
 def pages_have_all_texts(room):
     """each text that a program says of a refusal stands in a page"""
     daemon, clients = page("boothd.8"), page("booth.8") + page("geostore.8")
-    refusals = said_in("refusals.rt")
+    refusals = said_in("booth_clients", "refusals.rt")
     need("prerequisite not met" in refusals, f"no refusal was found in the program, but {sorted(refusals)}")
     missing = [text for text in refusals if not re.search(rf"^\.It {re.escape(text)}", clients, re.M)]
     need(not missing, f"not in booth.8 or geostore.8: {missing}")
-    faults = {text for text in said_in("texts.rt") if re.fullmatch("[a-z_ -]+", text) and text not in ("line", "ticket")}
+    faults = {text for text in said_in("booth_stages", "texts.rt") if re.fullmatch("[a-z_ -]+", text) and text not in ("line", "ticket")}
     need("misplaced key" in faults, f"no fault was found in the program, but {sorted(faults)}")
     # (what is wrong with the times of a ticket stands there in other words)
     faults -= {"renewal-freq is not below expire", "timeout and retries do not fit renewal-freq"}

@@ -1,7 +1,7 @@
 //! The program `booth`: its words over the real host.
 #![tactic(auto)]
 
-use booth_cli::{Outcome, booth};
+use booth_clients::{Outcome, booth};
 use booth_host::RealHost;
 use std::alloc::{AllocError, Global};
 use std::env;

@@ -21,7 +21,7 @@ mod transcript;
 mod words;
 
 use booth_base::{Address, ByteText, PathText, Peer};
-use booth_cli::{Outcome, boothd};
+use booth_daemon::{Outcome, boothd};
 use booth_host::{Arrival, Entry, Failed, Files, MemoryHost, Script, Step};
 use std::alloc::Global;
 use std::process::Abort;

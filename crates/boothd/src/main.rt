@@ -1,7 +1,7 @@
 //! The program `boothd`: its words over the real host.
 #![tactic(auto)]
 
-use booth_cli::{Outcome, boothd};
+use booth_daemon::{Outcome, boothd};
 use booth_host::RealHost;
 use std::alloc::{AllocError, Global};
 use std::env;

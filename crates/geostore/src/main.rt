@@ -1,7 +1,7 @@
 //! The program `geostore`: its words over the real host.
 #![tactic(auto)]
 
-use booth_cli::{Outcome, geostore};
+use booth_clients::{Outcome, geostore};
 use booth_host::RealHost;
 use std::alloc::{AllocError, Global};
 use std::env;

@@ -6,7 +6,7 @@ use super::scripts::{behind, host_of, number_of, step_of};
 use super::transcript::transcript;
 use super::{GOOD, check_kinds, good_and, good_host, host, scripted, strings};
 use booth_auth::KeyFault;
-use booth_cli::{Outcome, Word, booth};
+use booth_clients::{Outcome, Word, booth};
 use booth_conf::ConfFault;
 use booth_host::{Entry, MemoryHost};
 use clap::error::ErrorKind;

@@ -4,8 +4,8 @@ use super::{
     script, strings,
 };
 use booth_auth::KeyFault;
-use booth_cli::{Outcome, boothd};
 use booth_conf::{ConfFault, KeyNo};
+use booth_daemon::{Outcome, boothd};
 use std::alloc::Global;
 use std::process::Abort;
 

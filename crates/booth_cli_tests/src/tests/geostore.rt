@@ -5,7 +5,7 @@
 use super::client::last_bytes;
 use super::{GOOD, call, check_kinds, scripted, strings};
 use booth_base::{Address, ByteText, PathText, Peer};
-use booth_cli::{Outcome, Word, geostore};
+use booth_clients::{Outcome, Word, geostore};
 use booth_host::{Arrival, Entry, Files, MemoryHost, Script, Step};
 use std::alloc::Global;
 use std::process::Abort;

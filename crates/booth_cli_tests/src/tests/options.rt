@@ -1,6 +1,6 @@
 //! What the options of a daemon change, the look at a lock, and the texts of help.
 use super::{call, check_kinds, check_refused, good_host, run};
-use booth_cli::{Outcome, boothd};
+use booth_daemon::{Outcome, boothd};
 use booth_host::{Entry, MemoryHost};
 use clap::error::ErrorKind;
 use std::alloc::Global;

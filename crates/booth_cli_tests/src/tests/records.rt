@@ -2,7 +2,7 @@
 use super::hindered::Hindered;
 use super::scripts::{behind, calls_of, host_of};
 use super::{WORDS, check_kinds, check_said, strings};
-use booth_cli::{Outcome, boothd};
+use booth_daemon::{Outcome, boothd};
 use std::alloc::Global;
 use std::process::Abort;
 

@@ -2,7 +2,7 @@
 use super::hindered::Hindered;
 use super::scripts::step_of;
 use super::{WORDS, add, bytes_of, good_and, scripted, strings};
-use booth_cli::{Outcome, boothd};
+use booth_daemon::{Outcome, boothd};
 use booth_host::MemoryHost;
 use std::alloc::Global;
 use std::process::Abort;

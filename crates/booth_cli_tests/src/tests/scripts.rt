@@ -7,7 +7,7 @@
 use super::transcript::transcript;
 use super::{CLIENT, REQUEST, add, byte_text, run, scripted};
 use booth_base::{Address, ByteText, Name, Peer};
-use booth_cli::Outcome;
+use booth_daemon::Outcome;
 use booth_host::{Arrival, Failed, MemoryHost, Step};
 use booth_rec::{Lease, Record};
 use std::alloc::Global;

@@ -1,7 +1,7 @@
 //! Simulations from words to what is printed.
 use super::{check_kinds, check_refused, good_host, run};
-use booth_cli::{Outcome, Word};
 use booth_conf::ConfFault;
+use booth_daemon::{Outcome, Word};
 use booth_host::{Entry, MemoryHost};
 use std::alloc::Global;
 use std::process::Abort;

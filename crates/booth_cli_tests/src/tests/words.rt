@@ -1,6 +1,6 @@
 //! Words that ask for no daemon, or for one that does not open.
 use super::{check_kinds, check_refused, check_said, good_host, last_text, run, strings};
-use booth_cli::{Outcome, Word, boothd};
+use booth_daemon::{Outcome, Word, boothd};
 use clap::error::ErrorKind;
 use std::alloc::Global;
 use std::process::Abort;

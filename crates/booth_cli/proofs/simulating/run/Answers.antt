@@ -1,4 +1,0 @@
-use Rattle.booth_cli.proofs.simulating.run.Goals as goal
-
-pub returns-in-Ok-clause-outcome : goal.returns-in-Ok-clause-outcome
-returns-in-Ok-clause-outcome g c = c.print.ensures.outcome c.args.asked.now.conf

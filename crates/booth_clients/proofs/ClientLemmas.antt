@@ -1,0 +1,220 @@
+-- A client's calls from their parts.
+use Rattle.std.specs.Prelude.{Option, Some, None, Result, Ok, Err, codes}
+use Rattle.std.specs.List.{find, list_any}
+use Rattle.std.proofs.Common.{◌≡◌, ◌∙◌, ◌++◌, ℕ, Bool, true, false, List, [], ◌∷◌, append-nil, refl, sym, ap, subst, inl, inr}
+use Rattle.booth_base.specs.declared.address.Peer.{Peer}
+use Rattle.booth_conf.specs.Config.{ConfigSays, file_fault, is_site}
+use Rattle.booth_conf.specs.declared.members.Member.{Member}
+use Rattle.booth_conf.specs.declared.tickets.TicketConf.{TicketConf}
+use Rattle.booth_host.specs.declared.host.Failed.{Failed}
+use Rattle.booth_host.specs.declared.entry.Entry.{Entry}
+use Rattle.booth_host.specs.declared.entry.Entry.TheVariants.{Open, Now, ReadFile}
+use Rattle.booth_host.specs.Past.{GrewBy, GrewSome}
+use Rattle.booth_host.proofs.PastLemmas.{no_entry, one_more, some_joined, some_of, some_weaker, then_some}
+use Rattle.booth_client.specs.declared.order.Asking.{Asking}
+use Rattle.booth_client.specs.declared.wait.Waited.{Waited}
+use Rattle.booth_client.specs.Talk.{IsTalk}
+use Rattle.booth_stages.specs.declared.outcome.Ended.{Ended}
+use Rattle.booth_stages.specs.declared.outcome.Outcome.{Outcome}
+use Rattle.booth_stages.specs.declared.outcome.Outcome.TheVariants as outs
+use Rattle.booth_words.specs.declared.asking.ClientWords.{ClientWords}
+use Rattle.booth_clients.specs.declared.client.Cluster.{Cluster}
+use Rattle.booth_stages.specs.Outcomes.{IsServed}
+use Rattle.booth_stages.specs.Configuration.{IsConfigRead}
+use Rattle.booth_stages.specs.Keys.{IsKeyRead, HasKey, key_calls}
+use Rattle.booth_clients.specs.Client.{IsClusterRead, IsKeyed, IsTold, IsClientLog, EndsWith, Follows, Conversing, Socketless, destination}
+use Rattle.booth_clients.specs.Client.{Unread, Unkeyed, Asked}
+use Rattle.booth_clients.specs.ClientRun.{FitsClientWords, IsAnswered, IsClientMade, IsClientRun, Talked, Unasked}
+use Rattle.booth_words.specs.Asking.{Asks, AsksClient, IsClient, IsUntaken, IsUntakenFor}
+use Rattle.booth_stages.specs.Unasked.{IsTold as IsTold_, IsToldOutcome, IsUnasked}
+use Rattle.booth_stages.specs.Texts.{IsText}
+use Rattle.booth_words.specs.declared.asking.Asked.TheVariants.{Client}
+use Rattle.booth_words.specs.declared.program.Program.{Program}
+use Rattle.booth_words.specs.declared.program.Program.TheVariants.{Boothd}
+use Rattle.clap.specs.declared.error.kind.ErrorKind.{ErrorKind}
+use Rattle.booth_stages.proofs.UsageLemmas.{no_memory, unasked_of}
+use Rattle.booth_words.proofs.AskingLemmas.{untaken_of}
+
+-- ---- outcomes
+
+answered : (outcome : Outcome) → IsServed outcome → IsAnswered outcome
+answered (outs.Usage kind) served = absurd served
+answered (outs.BadWord word) served = absurd served
+answered outcome served = tt
+
+-- ---- the first site
+
+step_true : (m : Member) (members : List Member) → is_site m ≡ true → find is_site (m ∷ members) ≡ None → ⊥
+step_true m members is none = let here : find is_site (m ∷ members) ≡ Some m = rw is refl in cc
+
+is_some_site : (members : List Member) → list_any is_site members ≡ true → find is_site members ≡ None → ⊥
+is_some_site [] some none = absurd cc
+is_some_site (m ∷ members) some none = go (is_site m) refl (is_some_site members)
+  where
+    go : (b : Bool) → is_site m ≡ b → (list_any is_site members ≡ true → find is_site members ≡ None → ⊥) → ⊥
+    go true is others = step_true m members is none
+    go false is others =
+        let rest : find is_site (m ∷ members) ≡ find is_site members = rw is refl in
+        let later : list_any is_site (m ∷ members) ≡ list_any is_site members = rw is refl in
+        others (sym later ∙ some) (sym rest ∙ none)
+
+pub has_site : (members : List Member) (tickets : List TicketConf) → file_fault members tickets ≡ None → find is_site members ≡ None → ⊥
+has_site members tickets whole none = go (list_any is_site members) refl
+  where
+    go : (b : Bool) → list_any is_site members ≡ b → ⊥
+    go true is = is_some_site members is none
+    go false is = let bad = rw is at whole in absurd cc
+
+-- ---- configuration and key
+
+pub keyed : (config : ConfigSays) (cluster : Cluster) {a b : Option (List Entry)} → cluster.config ≡ config →
+    GrewSome (IsKeyRead config.authfile (Ok cluster.key)) a b → GrewSome (IsKeyed config (Ok cluster)) a b
+keyed config cluster same read =
+    some_weaker (IsKeyRead config.authfile (Ok cluster.key)) (IsKeyed config (Ok cluster)) (λ es h. (same, h.0, h.1, h.2)) read
+
+cluster_of : (path : List ℕ) (config : ConfigSays) (result : Result Cluster Ended) (xs ys : List Entry) → IsConfigRead path (Ok config) xs →
+    IsKeyed config result ys → IsClusterRead path result (xs ++ ys)
+cluster_of path config (Ok cluster) xs ys h k = (
+  record {
+    text = h.0;
+    says = subst (λ c. Rattle.booth_conf.specs.Says.Says h.0 c) (sym k.0) h.1;
+    key_text = k.1;
+    holds = subst (λ (c : ConfigSays). HasKey c.authfile k.1 cluster.key) (sym k.0) k.2;
+  },
+  ap (λ zs. zs ++ ys) h.2 ∙ ap (λ zs. ReadFile path (Ok h.0) ∷ zs) k.3
+      ∙ ap (λ (c : ConfigSays). ReadFile path (Ok h.0) ∷ key_calls c.authfile k.1) (sym k.0),
+)
+cluster_of path config (Err ended) xs ys h k =
+    inr (record { text = h.0; config = config; says = h.1; rest = ys; whole = ap (λ zs. zs ++ ys) h.2; here = k })
+
+pub read_both : (path : List ℕ) (config : ConfigSays) (result : Result Cluster Ended) {a b c : Option (List Entry)} →
+    GrewSome (IsConfigRead path (Ok config)) a b → GrewSome (IsKeyed config result) b c → GrewSome (IsClusterRead path result) a c
+read_both path config result read key =
+    some_joined (IsConfigRead path (Ok config)) (IsKeyed config result) (IsClusterRead path result) (λ xs ys h k. cluster_of path config result xs ys h k) read key
+
+pub not_read : (path : List ℕ) (ended : Ended) {a b : Option (List Entry)} → GrewSome (IsConfigRead path (Err ended)) a b →
+    GrewSome (IsClusterRead path (Err ended)) a b
+not_read path ended read = some_weaker (IsConfigRead path (Err ended)) (IsClusterRead path (Err ended)) (λ es h. inl h) read
+
+-- ---- the talk
+
+pub told : (asking : Asking) (to : Peer) (start : ℕ) (last : Result Waited Failed) (bytes held : List ℕ) (outcome : Outcome) (said : List ℕ) {a b c : Option (List Entry)} →
+    held ≡ bytes → GrewSome (IsTalk asking to start last bytes) a b → GrewSome (EndsWith asking.order last held outcome said) b c →
+    GrewSome (IsTold asking to start outcome said) a c
+told asking to start last bytes held outcome said same talk end =
+    some_joined (IsTalk asking to start last bytes) (EndsWith asking.order last held outcome said) (IsTold asking to start outcome said)
+    (λ xs ys h k. record {
+      last = last;
+      bytes = bytes;
+      early = xs;
+      late = ys;
+      whole = refl;
+      talk = h;
+      end = subst (λ b. EndsWith asking.order last b outcome said ys) same k;
+    }) talk end
+
+pub untold : (asking : Asking) (to : Peer) (start : ℕ) (failed : Failed) (bytes said : List ℕ) {a b : Option (List Entry)} → said ≡ codes "cannot send" →
+    GrewSome (IsTalk asking to start (Err failed) bytes) a b → GrewSome (IsTold asking to start outs.SendFault said) a b
+untold asking to start failed bytes said is talk =
+    some_weaker (IsTalk asking to start (Err failed) bytes) (IsTold asking to start outs.SendFault said)
+    (λ xs h. record {
+      last = Err failed;
+      bytes = bytes;
+      early = xs;
+      late = [];
+      whole = sym (append-nil xs);
+      talk = h;
+      end = record { is = refl; told = is; none = refl };
+    }) talk
+
+-- ---- the socket and the clock
+
+module _ (asked : ClientWords) (config : ConfigSays) (key : Option (List ℕ)) where
+  pub no_room : (said : List ℕ) {a : Option (List Entry)} → said ≡ Rattle.booth_stages.specs.Texts.out_of_memory_text →
+      GrewSome (Follows asked config key outs.OutOfMemory said) a a
+  no_room said is = some_of (Follows asked config key outs.OutOfMemory said) no_entry (Socketless (is, refl))
+
+  pub no_socket : (said : List ℕ) (failed : Failed) {a b : Option (List Entry)} → said ≡ codes "cannot open" →
+      GrewBy a b (Open None 0 [] [] (Err failed) ∷ []) → GrewSome (Follows asked config key outs.OpenFault said) a b
+  no_socket said failed is socket = some_of (Follows asked config key outs.OpenFault said) socket (Socketless (is, failed, refl))
+
+  pub conversed : (to : Peer) (start : ℕ) (outcome : Outcome) (said : List ℕ) {a b c d : Option (List Entry)} → destination asked.site config ≡ Some to →
+      GrewBy a b (Open None 0 [] [] (Ok tt) ∷ []) → GrewBy b c (Now start ∷ []) →
+      GrewSome (IsTold (record { order = asked.order; config = config; key = key }) to start outcome said) c d → GrewSome (Follows asked config key outcome said) a d
+  conversed to start outcome said named socket clock rest =
+      then_some (IsTold (record { order = asked.order; config = config; key = key }) to start outcome said) (Follows asked config key outcome said)
+      (one_more socket clock)
+      (λ ys h. Conversing (record { to = to; named = named; start = start; rest = ys; whole = refl; told = h })) rest
+
+-- ---- the whole
+
+pub asked_all : (asked : ClientWords) (cluster : Cluster) (outcome : Outcome) (said : List ℕ) {a b c : Option (List Entry)} →
+    GrewSome (IsClusterRead asked.conf (Ok cluster)) a b → GrewSome (Follows asked cluster.config cluster.key outcome said) b c →
+    GrewSome (IsClientLog asked outcome said) a c
+asked_all asked cluster outcome said read follows =
+    some_joined (IsClusterRead asked.conf (Ok cluster)) (Follows asked cluster.config cluster.key outcome said) (IsClientLog asked outcome said)
+    (λ xs ys h k. Asked (record {
+      config = cluster.config;
+      key = cluster.key;
+      cluster = h.0;
+      rest = ys;
+      whole = ap (λ zs. zs ++ ys) h.1;
+      here = k;
+    })) read follows
+
+pub not_asked : (asked : ClientWords) (ended : Ended) {a b : Option (List Entry)} → GrewSome (IsClusterRead asked.conf (Err ended)) a b →
+    GrewSome (IsClientLog asked ended.outcome ended.said) a b
+not_asked asked ended read = some_weaker (IsClusterRead asked.conf (Err ended)) (IsClientLog asked ended.outcome ended.said) (λ es h. go es h) read
+  where
+    go : (es : List Entry) → IsClusterRead asked.conf (Err ended) es → IsClientLog asked ended.outcome ended.said es
+    go es (inl un) = Unread un
+    go es (inr un) = Unkeyed un
+
+-- ---- the words
+
+pub talked_made : {a b : Option (List Entry)} (program : Program) (words : List (List ℕ)) (asked : ClientWords) (outcome : Outcome) (said : List ℕ) → AsksClient program words asked →
+    GrewSome (IsClientLog asked outcome said) a b → GrewSome (IsClientMade program words outcome said) a b
+talked_made program words asked outcome said asks log =
+    some_weaker (IsClientLog asked outcome said) (IsClientMade program words outcome said) (λ es is. Talked asked asks is) log
+
+pub told_client : {a b : Option (List Entry)} (program : Program) (words : List (List ℕ)) (kind : ErrorKind) (outcome : Outcome) (said : List ℕ) →
+    IsUntakenFor program words kind → IsToldOutcome kind outcome → GrewSome (IsTold_ kind outcome said) a b → GrewSome (IsClientMade program words outcome said) a b
+told_client program words kind outcome said un out told =
+    some_weaker (IsTold_ kind outcome said) (IsClientMade program words outcome said) (λ es is. Unasked (unasked_of program words kind outcome said es un out is)) told
+
+pub unasked_client : {a : Option (List Entry)} (program : Program) (words : List (List ℕ)) (outcome : Outcome) (said : List ℕ) → IsUnasked program words outcome said [] →
+    GrewSome (IsClientMade program words outcome said) a a
+unasked_client program words outcome said is = some_of (IsClientMade program words outcome said) no_entry (Unasked is)
+
+pub fits_untaken : (program : Program) (words : List (List ℕ)) (kind : ErrorKind) (outcome : Outcome) → IsUntakenFor program words kind → IsToldOutcome kind outcome →
+    FitsClientWords program words outcome
+fits_untaken program words kind (outs.Usage (Some told)) un out = subst (λ k. IsUntaken program words k) (sym out.0) (untaken_of program words kind out.1 un)
+fits_untaken program words kind outs.PrintFault un out = λ none.
+    let is = untaken_of program words kind (no_memory kind out) un in
+    let named = is.named in
+    cc
+fits_untaken program words kind outs.OutOfMemory un out = tt
+fits_untaken program words kind outcome un out = absurd out
+
+pub asks_client : (program : Program) (words : List (List ℕ)) (asked : ClientWords) (all : Rattle.booth_words.specs.declared.asking.Asked.Asked) → Asks program words (Ok all) →
+    all ≡ Client asked → AsksClient program words asked
+asks_client program words asked all asks same =
+    let is : Asks program words (Ok (Client asked)) = subst (λ x. Asks program words (Ok x)) same asks in is.1
+
+pub fits_answered : (program : Program) (words : List (List ℕ)) (asked : ClientWords) (outcome : Outcome) → AsksClient program words asked → IsAnswered outcome → FitsClientWords program words outcome
+fits_answered program words asked (outs.Usage kind) asks is = absurd is
+fits_answered program words asked (outs.BadWord word) asks is = absurd is
+fits_answered program words asked outs.PrintFault asks is = λ none. let named = asks.asks.named in cc
+fits_answered program words asked outs.OutOfMemory asks is = tt
+fits_answered program words asked outcome asks is = record { asked = asked; asks = asks }
+
+-- the calls up to the outcome, and then what is said
+pub client_run_of : {a b c : Option (List Entry)} (program : Program) (words : List (List ℕ)) (outcome : Outcome) (said : List ℕ) →
+    GrewSome (IsClientMade program words outcome said) a b → GrewSome (IsText program said) b c → GrewSome (IsClientRun program words outcome) a c
+client_run_of program words outcome said body last =
+    some_joined (IsClientMade program words outcome said) (IsText program said) (IsClientRun program words outcome)
+    (λ xs ys made told. record { said = said; body = xs; last = ys; whole = refl; made = made; told = told }) body last
+
+-- a client's words ask for no daemon, and for no look at a lock
+pub no_daemon_asked : (program : Program) → IsClient program → program ≡ Boothd → ⊥
+no_daemon_asked program client is = subst IsClient is client

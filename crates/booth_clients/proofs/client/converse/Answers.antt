@@ -1,0 +1,12 @@
+use Rattle.booth_clients.proofs.ClientLemmas.{conversed, no_room}
+use Rattle.booth_clients.proofs.client.converse.Goals as goal
+
+pub returns-in_default-clause-past : goal.returns-in_default-clause-past
+returns-in_default-clause-past g c =
+    no_room c.args.asked c.args.cluster.config c.args.cluster.key c.out_of_memory_text.result c.out_of_memory_text.ensures
+
+pub returns-clause-past : goal.returns-clause-past
+returns-clause-past g c =
+    conversed c.args.asked c.args.cluster.config c.args.cluster.key c.destination-to.result c.now-start.result
+    c.ask_and_tell.result.outcome c.ask_and_tell.result.said c.destination-to.ensures
+    c.in-Ok-open_socket.ensures.past c.now-start.ensures.past c.ask_and_tell.ensures.past

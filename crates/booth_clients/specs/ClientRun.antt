@@ -1,0 +1,98 @@
+-- The calls of a whole run of booth or geostore.
+use Rattle.std.specs.Prelude.{◌≡◌, ◌++◌, ℕ, List, [], ◌∷◌, Option, Some, None, Ok, Err, Contains, codes, if◌then◌else◌}
+use Rattle.std.specs.Str.{bytes_eq}
+use Rattle.booth_host.specs.declared.entry.Entry.{Entry}
+use Rattle.booth_words.specs.declared.program.Program.{Program}
+use Rattle.booth_stages.specs.declared.outcome.Outcome.{Outcome}
+use Rattle.booth_stages.specs.declared.outcome.Outcome.TheVariants.{Usage, BadWord, PrintFault, OutOfMemory, Report, Refused}
+use Rattle.booth_stages.specs.declared.outcome.Outcome.TheVariants.{NoReply}
+use Rattle.booth_words.specs.declared.asking.ClientWords.{ClientWords}
+use Rattle.booth_words.specs.Commands.{verb_in}
+use Rattle.booth_words.specs.Asking.{AsksClient, IsUntaken, HasBadWord}
+use Rattle.booth_stages.specs.Unasked.{IsUnasked}
+use Rattle.booth_clients.specs.Client.{IsClientLog}
+use Rattle.booth_stages.specs.Texts.{IsText}
+use Rattle.booth_base.specs.declared.address.Address.{Address}
+use Rattle.booth_base.specs.declared.address.Peer.{Peer}
+use Rattle.booth_conf.specs.Config.{ConfigSays}
+use Rattle.booth_conf.specs.Says.{Says}
+use Rattle.booth_host.specs.declared.host.Failed.{Failed}
+use Rattle.booth_host.specs.declared.host.ReadFault.TheVariants as reads
+use Rattle.booth_host.specs.declared.entry.Entry.TheVariants.{Open, ReadFile, Send, Out}
+use Rattle.booth_words.specs.declared.command.Verb.{Verb}
+use Rattle.booth_words.specs.Valid.{AreValid}
+use Rattle.booth_stages.specs.Keys.{IsKeyFile}
+
+-- one leading `client` is passed over
+abbrev pub passed : List (List ℕ) → List (List ℕ)
+passed [] = []
+passed (word ∷ words) = if bytes_eq word (codes "client") then words else word ∷ words
+
+-- the calls up to where the outcome is decided, by what the words ask for
+pub data IsClientMade (program : Program) (words : List (List ℕ)) (outcome : Outcome) (said : List ℕ)
+    (entries : List Entry) : Type 0 where
+  Unasked : IsUnasked program words outcome said entries → IsClientMade program words outcome said entries
+  Talked : (asked : ClientWords) → AsksClient program words asked → IsClientLog asked outcome said entries →
+      IsClientMade program words outcome said entries
+
+-- all calls of a run on these words, the last of which says how it ended
+pub record IsClientRun (program : Program) (words : List (List ℕ)) (outcome : Outcome) (entries : List Entry)
+    : Type 0 where
+  pub said : List ℕ
+  pub body : List Entry
+  pub last : List Entry
+  pub whole : entries ≡ body ++ last
+  pub made : IsClientMade program words outcome said body
+  pub told : IsText program said last
+
+-- ---- over every host
+
+-- an outcome of a client that was asked for
+abbrev pub IsAnswered : Outcome → Type 0
+IsAnswered (Usage kind) = ⊥
+IsAnswered (BadWord word) = ⊥
+IsAnswered outcome = Unit {0}
+
+-- the words ask for a client, whatever they say of it
+pub record AskForClient (program : Program) (words : List (List ℕ)) : Type 0 where
+  pub asked : ClientWords
+  pub asks : AsksClient program words asked
+
+-- Usage comes only for words that are not taken, and BadWord exactly where that word is the first refused
+abbrev pub FitsClientWords : Program → List (List ℕ) → Outcome → Type 0
+FitsClientWords program words (Usage None) = verb_in program words ≡ None
+FitsClientWords program words (Usage (Some kind)) = IsUntaken program words kind
+FitsClientWords program words (BadWord word) = HasBadWord program words word
+FitsClientWords program words PrintFault = verb_in program words ≡ None → ⊥
+FitsClientWords program words OutOfMemory = Unit {0}
+FitsClientWords program words outcome = AskForClient program words
+
+-- ---- where nothing fails
+
+-- No file, no socket, no send and no print failed; what was read at the path says a configuration, and what was
+-- read at its `authfile` holds a key.
+pub record IsUnhindered (asked : ClientWords) (entries : List Entry) : Type 0 where
+  pub read : (file : List ℕ) → Contains entries (ReadFile file (Err reads.Failed)) → ⊥
+  pub valid : (text : List ℕ) → Contains entries (ReadFile asked.conf (Ok text)) →
+      (config : ConfigSays) × Says text config
+  pub keyed : (text file key_text : List ℕ) (config : ConfigSays) → Contains entries
+      (ReadFile asked.conf (Ok text)) → Says text config →
+      config.authfile ≡ Some file → Contains entries (ReadFile file (Ok key_text)) → IsKeyFile key_text
+  pub opened : (local : Option Address) (port : ℕ) (records conf : List ℕ) (failed : Failed) →
+      Contains entries (Open local port records conf (Err failed)) → ⊥
+  pub sent : (to : Peer) (bytes : List ℕ) (failed : Failed) → Contains entries (Send to bytes (Err failed)) → ⊥
+  pub printed : (text : List ℕ) (failed : Failed) → Contains entries (Out text (Err failed)) → ⊥
+
+-- the outcomes that are no one's fault here
+abbrev pub IsTalked : Outcome → Type 0
+IsTalked Report = Unit {0}
+IsTalked (Refused result) = Unit {0}
+IsTalked NoReply = Unit {0}
+IsTalked OutOfMemory = Unit {0}
+IsTalked outcome = ⊥
+
+-- Valid words, a valid file and key and an outside that does not fail give Report, Refused, NoReply or OutOfMemory.
+abbrev pub FaultlessTalks : Type 0
+FaultlessTalks = (program : Program) (words : List (List ℕ)) (verb : Verb) (outcome : Outcome) (entries : List Entry) →
+    AreValid program words verb → IsClientRun program words outcome entries →
+    ((asked : ClientWords) → AsksClient program words asked → IsUnhindered asked entries) → IsTalked outcome

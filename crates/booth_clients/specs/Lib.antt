@@ -1,0 +1,5 @@
+pub mod Client
+pub mod ClientRun
+pub use Rattle.booth_host.specs.Past
+pub use Rattle.booth_host.specs.Causes
+pub use Rattle.booth_host.specs.Memory

@@ -1,0 +1,12 @@
+//! The programs `booth` and `geostore` over any host: words in, calls on the host, texts and outcome out.
+#![tactic(auto)]
+
+mod client;
+mod client_run;
+pub mod laws;
+mod refusals;
+mod replies;
+
+pub use booth_client::report;
+pub use booth_stages::{Outcome, Word};
+pub use client_run::{booth, geostore, quiet_booth, quiet_geostore};

@@ -1,0 +1,131 @@
+//! How a talk ends: with the report of a good reply, with a refusal, or without a reply.
+ghost use Rattle.std.specs.Prelude.{◌≡◌, ◌≤◌, Ok};
+ghost use Rattle.booth_host.specs.Past.{GrewSome};
+ghost use Rattle.booth_client.specs.declared.wait.Waited.{Waited};
+ghost use Rattle.booth_client.specs.Talk.{IsHeld};
+ghost use Rattle.booth_stages.specs.Outcomes.{HasBlame};
+ghost use Rattle.booth_clients.specs.Client.{EndsWith, IsPrinted, IsReported, IsTold, is_good};
+ghost use Rattle.booth_clients.specs.ClientRun.{IsAnswered};
+
+use crate::refusals::refused_text;
+use booth_base::Peer;
+use booth_client::{Asking, Reply, Room, Waited, is_begun, report_of, talk};
+use booth_host::{Failed, Host};
+use booth_stages::{Ended, ErrorLine, Outcome, texts};
+use std::alloc::Global;
+
+fn is_good(reply: &Reply) -> bool
+    ensures { result ≡ is_good reply.now }
+{
+    reply.result == 0 || is_begun(reply)
+}
+
+// Prints what a good reply says, whose bytes these are.
+fn print<H: Host>(
+    alloc: Global,
+    asking: &Asking,
+    reply: &Reply,
+    reading: u64,
+    bytes: &[u8],
+    host: &mut H,
+) -> Ended
+    requires { IsHeld asking.now (Waited.Came reply.now reading) bytes.now }
+    ensures past { GrewSome (IsPrinted asking.now.order bytes.now result.outcome result.said)
+        (H.past host.old) (H.past host.new) }
+    ensures served { IsAnswered result.outcome }
+    ensures blame { HasBlame result.outcome (H.faults host.old) (H.faults host.new) }
+    ensures later { H.faults host.old ≤ H.faults host.new }
+{
+    let Ok(report) = report_of(alloc, asking, reply, reading, bytes) else {
+        return Ended {
+            outcome: Outcome::OutOfMemory,
+            said: texts::out_of_memory_text(),
+        };
+    };
+    match host.out(report.bytes()) {
+        Ok(()) => Ended {
+            outcome: Outcome::Report,
+            said: ErrorLine::none(),
+        },
+        Err(Failed) => Ended {
+            outcome: Outcome::PrintFault,
+            said: texts::unprinted_text(),
+        },
+    }
+}
+
+// Tells what a good reply says, whose bytes these are, where something is printed of it.
+fn report<H: Host>(
+    alloc: Global,
+    asking: &Asking,
+    reply: &Reply,
+    reading: u64,
+    bytes: &[u8],
+    host: &mut H,
+) -> Ended
+    requires { IsHeld asking.now (Waited.Came reply.now reading) bytes.now }
+    ensures past { GrewSome (IsReported asking.now.order bytes.now result.outcome result.said)
+        (H.past host.old) (H.past host.new) }
+    ensures served { IsAnswered result.outcome }
+    ensures blame { HasBlame result.outcome (H.faults host.old) (H.faults host.new) }
+    ensures later { H.faults host.old ≤ H.faults host.new }
+{
+    if asking.order.is_silent() {
+        return Ended {
+            outcome: Outcome::Report,
+            said: ErrorLine::none(),
+        };
+    }
+    print(alloc, asking, reply, reading, bytes, host)
+}
+
+// How a talk ends whose requests were sent; the bytes of the last reply are these.
+fn end<H: Host>(alloc: Global, asking: &Asking, last: &Waited, bytes: &[u8], host: &mut H) -> Ended
+    requires { IsHeld asking.now last.now bytes.now }
+    ensures past { GrewSome (EndsWith asking.now.order (Ok last.now) bytes.now result.outcome result.said)
+        (H.past host.old) (H.past host.new) }
+    ensures served { IsAnswered result.outcome }
+    ensures blame { HasBlame result.outcome (H.faults host.old) (H.faults host.new) }
+    ensures later { H.faults host.old ≤ H.faults host.new }
+{
+    match last {
+        Waited::Came { reply, reading } => {
+            if is_good(reply) {
+                report(alloc, asking, reply, *reading, bytes, host)
+            } else {
+                Ended {
+                    outcome: Outcome::Refused(reply.result),
+                    said: refused_text(reply.result),
+                }
+            }
+        }
+        Waited::Over => Ended {
+            outcome: Outcome::NoReply,
+            said: texts::line_of(b"no reply"),
+        },
+    }
+}
+
+/// Asks this peer, at this reading, and tells what came of it.
+pub(crate) fn ask_and_tell<H: Host>(
+    alloc: Global,
+    asking: &Asking,
+    to: &Peer,
+    start: u64,
+    room: &mut Room,
+    host: &mut H,
+) -> Ended
+    ensures past { GrewSome (IsTold asking.now to.now start result.outcome result.said)
+        (H.past host.old) (H.past host.new) }
+    ensures served { IsAnswered result.outcome }
+    ensures blame { HasBlame result.outcome (H.faults host.old) (H.faults host.new) }
+    ensures later { H.faults host.old ≤ H.faults host.new }
+{
+    match talk(asking, to, start, room, host) {
+        Ok(last) => end(alloc, asking, &last, room.datagram.bytes(), host),
+        Err(Failed) => Ended {
+            outcome: Outcome::SendFault,
+            said: texts::line_of(b"cannot send"),
+        },
+    }
+}

@@ -1,0 +1,105 @@
+-- A whole run from its parts.
+use Rattle.std.specs.Prelude.{Option, Some, Ok}
+use Rattle.std.proofs.Common.{◌≡◌, ℕ, List, [], refl, sym}
+use Rattle.std.proofs.Common.{subst, inl, inr}
+use Rattle.clap.specs.declared.error.kind.ErrorKind.{ErrorKind}
+use Rattle.booth_host.specs.declared.entry.Entry.{Entry}
+use Rattle.booth_host.specs.Past.{GrewSome}
+use Rattle.booth_host.proofs.PastLemmas.{no_entry, some_of, some_joined, some_weaker}
+use Rattle.booth_stages.specs.declared.outcome.Outcome.{Outcome}
+use Rattle.booth_stages.specs.declared.outcome.Outcome.TheVariants.{Done, Usage, BadWord, LockFault, NotRunning}
+use Rattle.booth_stages.specs.declared.outcome.Outcome.TheVariants.{PrintFault, OutOfMemory, Report, Refused, NoReply}
+use Rattle.booth_stages.specs.declared.outcome.Outcome.TheVariants.{SendFault, ConfUnread, ConfBad}
+use Rattle.booth_words.specs.declared.program.Program.TheVariants.{Boothd}
+use Rattle.booth_words.specs.declared.asking.DaemonWords.{DaemonWords}
+use Rattle.booth_words.specs.declared.asking.SimulationWords.{SimulationWords}
+use Rattle.booth_words.specs.declared.asking.Asked.{Asked}
+use Rattle.booth_words.specs.declared.asking.Asked.TheVariants.{Daemon, Status, Simulation}
+use Rattle.booth_words.specs.Asking.{Asks, AsksDaemon, AsksSimulation, AsksStatus, IsUntaken, IsUntakenFor}
+use Rattle.booth_words.proofs.AskingLemmas.{untaken_of}
+use Rattle.booth_stages.proofs.UsageLemmas.{no_memory, unasked_of}
+use Rattle.booth_stages.specs.Unasked.{IsTold, IsToldOutcome, IsUnasked}
+use Rattle.booth_daemon.specs.Serving.{IsServing}
+use Rattle.booth_stages.specs.Outcomes.{IsServed}
+use Rattle.booth_daemon.specs.Status.{IsStatus, IsStatusOutcome}
+use Rattle.booth_daemon.specs.Simulating.{IsSimulated}
+use Rattle.booth_stages.specs.Texts.{IsText}
+use Rattle.booth_daemon.specs.Run.{IsMade, Unasked, Served, Summed, Looked, IsRun, FitsWords}
+
+-- ---- words that ask for nothing
+
+pub told_made : {a b : Option (List Entry)} (words : List (List ℕ)) (kind : ErrorKind) (outcome : Outcome) (said : List ℕ) →
+    IsUntakenFor Boothd words kind → IsToldOutcome kind outcome → GrewSome (IsTold kind outcome said) a b → GrewSome (IsMade words outcome said) a b
+told_made words kind outcome said un out told =
+    some_weaker (IsTold kind outcome said) (IsMade words outcome said) (λ es is. Unasked (unasked_of Boothd words kind outcome said es un out is)) told
+
+pub unasked_made : {a : Option (List Entry)} (words : List (List ℕ)) (outcome : Outcome) (said : List ℕ) → IsUnasked Boothd words outcome said [] →
+    GrewSome (IsMade words outcome said) a a
+unasked_made words outcome said is = some_of (IsMade words outcome said) no_entry (Unasked is)
+
+pub fits_told : (words : List (List ℕ)) (kind : ErrorKind) (outcome : Outcome) → IsUntakenFor Boothd words kind → IsToldOutcome kind outcome → FitsWords words outcome
+fits_told words kind (Usage (Some told)) un out = subst (λ k. IsUntaken Boothd words k) (sym out.0) (untaken_of Boothd words kind out.1 un)
+fits_told words kind PrintFault un out = λ none.
+    let is = untaken_of Boothd words kind (no_memory kind out) un in
+    let named = is.named in
+    cc
+fits_told words kind OutOfMemory un out = tt
+fits_told words kind outcome un out = absurd out
+
+-- ---- words that ask for something
+
+pub asks_daemon : (words : List (List ℕ)) (asked : DaemonWords) (all : Asked) → Asks Boothd words (Ok all) → all ≡ Daemon asked → AsksDaemon words asked
+asks_daemon words asked all asks same = let is : Asks Boothd words (Ok (Daemon asked)) = subst (λ x. Asks Boothd words (Ok x)) same asks in is.1
+
+pub asks_status : (words : List (List ℕ)) (lock : List ℕ) (all : Asked) → Asks Boothd words (Ok all) → all ≡ Status lock → AsksStatus words lock
+asks_status words lock all asks same = let is : Asks Boothd words (Ok (Status lock)) = subst (λ x. Asks Boothd words (Ok x)) same asks in is.1
+
+pub asks_simulation : (words : List (List ℕ)) (asked : SimulationWords) (all : Asked) → Asks Boothd words (Ok all) → all ≡ Simulation asked → AsksSimulation words asked
+asks_simulation words asked all asks same = let is : Asks Boothd words (Ok (Simulation asked)) = subst (λ x. Asks Boothd words (Ok x)) same asks in is.1
+
+pub served_made : {a b : Option (List Entry)} (words : List (List ℕ)) (asked : DaemonWords) (outcome : Outcome) (said : List ℕ) → AsksDaemon words asked →
+    GrewSome (IsServing asked outcome said) a b → GrewSome (IsMade words outcome said) a b
+served_made words asked outcome said asks served =
+    some_weaker (IsServing asked outcome said) (IsMade words outcome said) (λ es is. Served asked asks is) served
+
+pub summed_made : {a b : Option (List Entry)} (words : List (List ℕ)) (asked : SimulationWords) (outcome : Outcome) (said : List ℕ) → AsksSimulation words asked →
+    GrewSome (IsSimulated asked outcome said) a b → GrewSome (IsMade words outcome said) a b
+summed_made words asked outcome said asks simulated =
+    some_weaker (IsSimulated asked outcome said) (IsMade words outcome said) (λ es is. Summed asked asks is) simulated
+
+pub looked_made : {a b : Option (List Entry)} (words : List (List ℕ)) (lock : List ℕ) (outcome : Outcome) (said : List ℕ) → AsksStatus words lock →
+    GrewSome (IsStatus lock outcome said) a b → GrewSome (IsMade words outcome said) a b
+looked_made words lock outcome said asks looked =
+    some_weaker (IsStatus lock outcome said) (IsMade words outcome said) (λ es is. Looked lock asks is) looked
+
+pub fits_served : (words : List (List ℕ)) (asked : DaemonWords) (outcome : Outcome) → AsksDaemon words asked → IsServed outcome → FitsWords words outcome
+fits_served words asked (Usage kind) asks served = absurd served
+fits_served words asked (BadWord word) asks served = absurd served
+fits_served words asked NotRunning asks served = absurd served
+fits_served words asked PrintFault asks served = absurd served
+fits_served words asked Report asks served = absurd served
+fits_served words asked (Refused result) asks served = absurd served
+fits_served words asked NoReply asks served = absurd served
+fits_served words asked SendFault asks served = absurd served
+fits_served words asked Done asks served = inl (record { asked = asked; asks = asks })
+fits_served words asked LockFault asks served = inl (record { asked = asked; asks = asks })
+fits_served words asked OutOfMemory asks served = tt
+fits_served words asked ConfUnread asks served = inl (record { asked = asked; asks = asks })
+fits_served words asked (ConfBad fault) asks served = inl (record { asked = asked; asks = asks })
+fits_served words asked outcome asks served = record { asked = asked; asks = asks }
+
+pub fits_looked : (words : List (List ℕ)) (lock : List ℕ) (outcome : Outcome) → AsksStatus words lock → IsStatusOutcome outcome → FitsWords words outcome
+fits_looked words lock Done asks is = inr (inl (record { lock = lock; asks = asks }))
+fits_looked words lock LockFault asks is = inr (record { lock = lock; asks = asks })
+fits_looked words lock NotRunning asks is = record { lock = lock; asks = asks }
+fits_looked words lock PrintFault asks is = λ none. let named = asks.asks.named in cc
+fits_looked words lock outcome asks is = absurd is
+
+-- ---- the whole run
+
+-- the calls up to the outcome, and then what is said
+pub run_of : {a b c : Option (List Entry)} (words : List (List ℕ)) (outcome : Outcome) (said : List ℕ) → GrewSome (IsMade words outcome said) a b →
+    GrewSome (IsText Boothd said) b c → GrewSome (IsRun words outcome) a c
+run_of words outcome said body last =
+    some_joined (IsMade words outcome said) (IsText Boothd said) (IsRun words outcome)
+    (λ xs ys made told. record { said = said; body = xs; last = ys; whole = refl; made = made; told = told }) body last

@@ -1,0 +1,29 @@
+-- A simulation from its parts.
+use Rattle.std.specs.Prelude.{Option, None, Result, Ok, Err, IfErr, IfOk}
+use Rattle.std.proofs.Common.{◌≡◌, ℕ, List, [], refl, sym, subst}
+use Rattle.booth_conf.specs.Config.{ConfigSays}
+use Rattle.booth_conf.specs.Says.{Says}
+use Rattle.booth_host.specs.declared.entry.Entry.{Entry}
+use Rattle.booth_host.specs.Past.{GrewSome}
+use Rattle.booth_host.proofs.PastLemmas.{no_entry, some_of, some_joined}
+use Rattle.booth_words.specs.declared.asking.SimulationWords.{SimulationWords}
+use Rattle.booth_stages.specs.declared.outcome.Ended.{Ended}
+use Rattle.booth_stages.specs.declared.outcome.Outcome.{Outcome}
+use Rattle.booth_daemon.specs.Simulating.{HasNoMemory, IsConfigChosen, IsSimulated, IsSummed, Simulated, example_text}
+
+example_is : (r : Result ConfigSays Ended) → IfOk r (λ config. Says example_text config) → IfErr r HasNoMemory → IsConfigChosen None r []
+example_is (Ok config) says memory = (says, refl)
+example_is (Err ended) says memory = (memory.outcome, memory.said, refl)
+
+-- the example is chosen without a call
+pub example : {a : Option (List Entry)} (conf : Option (List ℕ)) (r : Result ConfigSays Ended) → conf ≡ None →
+    IfOk r (λ config. Says example_text config) → IfErr r HasNoMemory → GrewSome (IsConfigChosen conf r) a a
+example conf r none says memory =
+    some_of (IsConfigChosen conf r) no_entry (subst (λ conf. IsConfigChosen conf r []) (sym none) (example_is r says memory))
+
+-- the configuration, and what the cluster became
+pub simulated : {a b c : Option (List Entry)} (asked : SimulationWords) (config : ConfigSays) (outcome : Outcome) (said : List ℕ) →
+    GrewSome (IsConfigChosen asked.conf (Ok config)) a b → GrewSome (IsSummed config asked outcome said) b c → GrewSome (IsSimulated asked outcome said) a c
+simulated asked config outcome said chosen summed =
+    some_joined (IsConfigChosen asked.conf (Ok config)) (IsSummed config asked outcome said) (IsSimulated asked outcome said)
+    (λ xs ys is sum. Simulated config xs ys is sum refl) chosen summed

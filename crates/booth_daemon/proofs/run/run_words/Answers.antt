@@ -1,0 +1,18 @@
+use Rattle.std.proofs.Common.{map, rules, string_bytes}
+use Rattle.booth_daemon.proofs.RunLemmas.{asks_daemon, asks_simulation, asks_status, looked_made, served_made, summed_made}
+use Rattle.booth_daemon.proofs.run.run_words.Goals as goal
+
+pub returns-in-Ok-Daemon-clause-past : goal.returns-in-Ok-Daemon-clause-past
+returns-in-Ok-Daemon-clause-past g c =
+    served_made (map string_bytes c.args.words.now) c.in-Ok-Daemon.asked c.serve.result.outcome c.serve.result.said
+    (asks_daemon (map string_bytes c.args.words.now) c.in-Ok-Daemon.asked c.in-Ok-Daemon.field-0 c.in-Ok-Daemon.ensures (search rules)) c.serve.ensures.past
+
+pub returns-in-Ok-Status-clause-past : goal.returns-in-Ok-Status-clause-past
+returns-in-Ok-Status-clause-past g c =
+    looked_made (map string_bytes c.args.words.now) c.in-Ok-Status.lock c.status.result.outcome c.status.result.said
+    (asks_status (map string_bytes c.args.words.now) c.in-Ok-Status.lock c.in-Ok-Status.field-0 c.in-Ok-Status.ensures (search rules)) c.status.ensures.past
+
+pub returns-in-Ok-Simulation-clause-past : goal.returns-in-Ok-Simulation-clause-past
+returns-in-Ok-Simulation-clause-past g c =
+    summed_made (map string_bytes c.args.words.now) c.in-Ok-Simulation.asked c.simulate.result.outcome c.simulate.result.said
+    (asks_simulation (map string_bytes c.args.words.now) c.in-Ok-Simulation.asked c.in-Ok-Simulation.field-0 c.in-Ok-Simulation.ensures (search rules)) c.simulate.ensures.past

@@ -1,0 +1,100 @@
+-- Runs in which the outside does not fail, and words and files are as they must be.
+use Rattle.std.specs.Prelude.{◌≡◌, ℕ, true, List, Contains, Option, Some, Ok, Err, false}
+use Rattle.booth_base.specs.declared.address.Address.{Address}
+use Rattle.booth_conf.specs.Config.{ConfigSays}
+use Rattle.booth_conf.specs.Says.{Says}
+use Rattle.booth_host.specs.declared.host.Failed.{Failed}
+use Rattle.booth_host.specs.declared.host.ReadFault.TheVariants as reads
+use Rattle.booth_host.specs.declared.entry.Entry.{Entry}
+use Rattle.booth_host.specs.declared.entry.Entry.TheVariants.{Open, ReadFile, Lock, Kept, Out}
+use Rattle.booth_words.specs.declared.command.Verb.TheVariants as verbs
+use Rattle.booth_stages.specs.declared.outcome.Outcome.{Outcome}
+use Rattle.booth_stages.specs.declared.outcome.Outcome.TheVariants.{Done, TurnsSpent, NotRunning}
+use Rattle.booth_stages.specs.declared.outcome.Outcome.TheVariants.{OutOfMemory}
+use Rattle.booth_words.specs.declared.asking.DaemonWords.{DaemonWords}
+use Rattle.booth_words.specs.declared.asking.SimulationWords.{SimulationWords}
+use Rattle.booth_words.specs.declared.program.Program.TheVariants.{Boothd}
+use Rattle.booth_words.specs.Asking.{AsksDaemon, AsksSimulation}
+use Rattle.booth_words.specs.Valid.{AreValid}
+use Rattle.booth_stages.specs.Keys.{IsKeyFile}
+use Rattle.booth_daemon.specs.Fitness.{has_member}
+use Rattle.booth_daemon.specs.Run.{IsRun}
+
+-- ---- a daemon
+
+-- the text says a configuration, which has a member at this address
+pub record IsValid (address : Address) (text : List ℕ) : Type 0 where
+  pub config : ConfigSays
+  pub says : Says text config
+  pub member : has_member config address ≡ true
+
+-- No file, no lock, no socket and no record failed, and the lock was free; what was read at the path says a
+-- configuration with this member, and what was read at its `authfile` holds a key.
+pub record IsFaultless (asked : DaemonWords) (entries : List Entry) : Type 0 where
+  pub read : (file : List ℕ) → Contains entries (ReadFile file (Err reads.Failed)) → ⊥
+  pub valid : (text : List ℕ) → Contains entries (ReadFile asked.conf (Ok text)) →
+      IsValid asked.site text
+  pub keyed : (text file key_text : List ℕ) (config : ConfigSays) → Contains entries
+      (ReadFile asked.conf (Ok text)) → Says text config →
+      config.authfile ≡ Some file → Contains entries (ReadFile file (Ok key_text)) → IsKeyFile key_text
+  pub locked : (lock : List ℕ) (failed : Failed) → Contains entries (Lock lock (Err failed)) → ⊥
+  pub free : (lock : List ℕ) → Contains entries (Lock lock (Ok false)) → ⊥
+  pub opened : (local : Option Address) (port : ℕ) (records conf : List ℕ) (failed : Failed) →
+      Contains entries (Open local port records conf (Err failed)) → ⊥
+  pub kept : (ticket : List ℕ) (failed : Failed) → Contains entries (Kept ticket (Err failed)) → ⊥
+
+-- the outcomes that are no one's fault
+abbrev pub EndsWell : Outcome → Type 0
+EndsWell Done = Unit {0}
+EndsWell TurnsSpent = Unit {0}
+EndsWell OutOfMemory = Unit {0}
+EndsWell outcome = ⊥
+
+-- the same of what the words ask for
+abbrev pub AreFaultless : List (List ℕ) → List Entry → Type 0
+AreFaultless words entries = (asked : DaemonWords) → AsksDaemon words asked → IsFaultless asked entries
+
+-- Valid words, valid files, a free lock and an outside that does not fail give Done, TurnsSpent or
+-- OutOfMemory.
+abbrev pub FaultlessRuns : Type 0
+FaultlessRuns = (words : List (List ℕ)) (outcome : Outcome) (entries : List Entry) →
+    AreValid Boothd words verbs.Daemon → IsRun words outcome entries → AreFaultless words entries →
+    EndsWell outcome
+
+-- ---- a simulation
+
+-- what was read at the path of the configuration says one, and neither a read nor a print failed
+pub record IsFaultlessFor (asked : SimulationWords) (entries : List Entry) : Type 0 where
+  pub read : (file : List ℕ) → Contains entries (ReadFile file (Err reads.Failed)) → ⊥
+  pub valid : (path text : List ℕ) → asked.conf ≡ Some path → Contains entries (ReadFile path (Ok text)) →
+      (config : ConfigSays) × Says text config
+  pub printed : (text : List ℕ) (failed : Failed) → Contains entries (Out text (Err failed)) → ⊥
+
+abbrev pub Sums : Outcome → Type 0
+Sums Done = Unit {0}
+Sums OutOfMemory = Unit {0}
+Sums outcome = ⊥
+
+-- Valid words, a valid file and an outside that does not fail give Done or OutOfMemory.
+abbrev pub FaultlessSimulations : Type 0
+FaultlessSimulations = (words : List (List ℕ)) (outcome : Outcome) (entries : List Entry) →
+    AreValid Boothd words verbs.Simulate → IsRun words outcome entries →
+    ((asked : SimulationWords) → AsksSimulation words asked → IsFaultlessFor asked entries) → Sums outcome
+
+-- ---- a look at the lock
+
+-- neither the lock nor a print failed
+pub record IsUnfailing (entries : List Entry) : Type 0 where
+  pub locked : (lock : List ℕ) (failed : Failed) → Contains entries (Lock lock (Err failed)) → ⊥
+  pub printed : (text : List ℕ) (failed : Failed) → Contains entries (Out text (Err failed)) → ⊥
+
+abbrev pub Tells : Outcome → Type 0
+Tells Done = Unit {0}
+Tells NotRunning = Unit {0}
+Tells OutOfMemory = Unit {0}
+Tells outcome = ⊥
+
+-- Valid words and an outside that does not fail give Done, NotRunning or OutOfMemory.
+abbrev pub FaultlessLooks : Type 0
+FaultlessLooks = (words : List (List ℕ)) (outcome : Outcome) (entries : List Entry) →
+    AreValid Boothd words verbs.Status → IsRun words outcome entries → IsUnfailing entries → Tells outcome

@@ -1,0 +1,14 @@
+pub mod Status
+pub mod Simulating
+pub mod Fitness
+pub mod Records
+pub mod Opening
+pub mod Serving
+pub mod Run
+pub mod Headline
+pub mod Faultless
+pub mod Ending
+pub use Rattle.booth_host.specs.Past
+pub use Rattle.booth_sim.specs.Laws
+pub use Rattle.booth_host.specs.Causes
+pub use Rattle.booth_host.specs.Memory

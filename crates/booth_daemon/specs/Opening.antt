@@ -1,0 +1,113 @@
+-- The opening of a daemon, in the order of its stages: each by its calls, or by how the daemon ends there.
+use Rattle.std.specs.Prelude.{◌≡◌, ◌++◌, ℕ, true, false, List, [], ◌∷◌, Option, Some}
+use Rattle.std.specs.Prelude.{Result, Ok, Err, codes}
+use Rattle.booth_base.specs.declared.address.Address.{Address}
+use Rattle.booth_base.specs.Address.{id_of}
+use Rattle.booth_conf.specs.Config.{ConfigSays}
+use Rattle.booth_rec.specs.declared.record.Record.{Record}
+use Rattle.booth_host.specs.declared.host.Failed.{Failed}
+use Rattle.booth_host.specs.declared.entry.Entry.{Entry}
+use Rattle.booth_host.specs.declared.entry.Entry.TheVariants.{Open, Now, ReadFile, Lock}
+use Rattle.booth_node.specs.declared.node_config.NodeConfig.{NodeConfig}
+use Rattle.booth_node.specs.declared.node.Node.{Node}
+use Rattle.booth_node.specs.View.{node_config, state_of}
+use Rattle.booth_node.specs.Opening.{opened as start_state}
+use Rattle.booth_stages.specs.declared.outcome.Outcome.{Outcome}
+use Rattle.booth_stages.specs.declared.outcome.Outcome.TheVariants.{LockFault, Running, OpenFault, RecordUnread}
+use Rattle.booth_stages.specs.declared.outcome.Outcome.TheVariants.{OutOfMemory}
+use Rattle.booth_stages.specs.declared.outcome.Ended.{Ended}
+use Rattle.booth_words.specs.declared.asking.DaemonWords.{DaemonWords}
+use Rattle.booth_stages.specs.Texts.{unlocked_text}
+use Rattle.booth_stages.specs.Texts.{out_of_memory_text}
+use Rattle.booth_stages.specs.Keys.{HasKey, key_calls}
+use Rattle.booth_daemon.specs.Fitness.{IsFit}
+use Rattle.booth_daemon.specs.Records.{AreKept, AreNoneOrAll, IsRecordUnread}
+
+-- ---- configuration and key
+
+-- configuration and key, and the texts from which they were read
+pub record IsReady (address : Address) (config : ConfigSays) (key : Option (List ℕ)) : Type 0 where
+  pub text : List ℕ
+  pub fit : IsFit address text config
+  pub key_text : List ℕ
+  pub holds : HasKey config.authfile key_text key
+
+-- the calls up to the key
+abbrev pub reads_of : {address : Address} {config : ConfigSays} {key : Option (List ℕ)} → List ℕ →
+    IsReady address config key → List Entry
+reads_of {address} {config} path ready = ReadFile path
+    (Ok ready.text) ∷ key_calls config.authfile ready.key_text
+
+-- ---- the lock
+
+-- the lock is another's, or failed
+abbrev pub IsLockless : List ℕ → Outcome → List ℕ → List Entry → Type 0
+IsLockless lock Running said entries = (said ≡ codes "already running")
+    × (entries ≡ Lock lock (Ok false) ∷ [])
+IsLockless lock LockFault said entries = (said ≡ unlocked_text lock)
+    × (failed : Failed) × (entries ≡ Lock lock (Err failed) ∷ [])
+IsLockless lock outcome said entries = ⊥
+
+-- the one call for the lock
+abbrev pub IsLocked : List ℕ → Result (Unit {0}) Ended → List Entry → Type 0
+IsLocked lock (Ok done) entries = entries ≡ Lock lock (Ok true) ∷ []
+IsLocked lock (Err ended) entries = IsLockless lock ended.outcome ended.said entries
+
+-- ---- the clock, the socket, the records and the node
+
+-- the calls behind the reads; the socket's answer is the last
+abbrev pub opened : DaemonWords → ConfigSays → ℕ → Result (Unit {0}) Failed → List Entry
+opened asked config reading answer = Lock asked.lock (Ok true) ∷ Now reading
+    ∷ Open (Some asked.site) config.port asked.records asked.conf answer ∷ []
+
+-- the socket was opened, and then these calls were made
+pub record IsBehindSocket (asked : DaemonWords) (config : ConfigSays) (after : List Entry → Type 0)
+    (entries : List Entry) : Type 0 where
+  pub reading : ℕ
+  pub rest : List Entry
+  pub whole : entries ≡ opened asked config reading (Ok tt) ++ rest
+  pub here : after rest
+
+-- the socket failed, or a record could not be read, or there is no memory for the records or for the node
+abbrev pub IsUnopened : DaemonWords → ConfigSays → Outcome → List ℕ → List Entry → Type 0
+IsUnopened asked config OpenFault said entries = (said ≡ codes "cannot open")
+    × (reading : ℕ) × (failed : Failed) × (entries ≡ opened asked config reading (Err failed))
+IsUnopened asked config RecordUnread said entries =
+    IsBehindSocket asked config (IsRecordUnread config.tickets said) entries
+IsUnopened asked config OutOfMemory said entries = (said ≡ out_of_memory_text)
+    × IsBehindSocket asked config (AreNoneOrAll config.tickets) entries
+IsUnopened asked config outcome said entries = ⊥
+
+-- the node of this member
+abbrev pub member_config : Address → ConfigSays → Option (List ℕ) → NodeConfig
+member_config address config key = record { config = config; key = key; me = record { 0 = id_of address } }
+
+-- this node has just been opened, with these records, at this reading
+pub record IsFresh (address : Address) (config : ConfigSays) (key : Option (List ℕ))
+    (records : List (Option Record)) (reading : ℕ) (node : Node) : Type 0 where
+  pub own : node_config node ≡ member_config address config key
+  pub state : state_of node ≡ start_state (member_config address config key) records reading
+
+-- the calls behind the reads, up to the last record, and the node
+pub record IsStarted (asked : DaemonWords) (config : ConfigSays) (key : Option (List ℕ)) (node : Node)
+    (entries : List Entry) : Type 0 where
+  pub reading : ℕ
+  pub records : List (Option Record)
+  pub kept : List Entry
+  pub read : AreKept config.tickets records kept
+  pub fresh : IsFresh asked.site config key records reading node
+  pub whole : entries ≡ opened asked config reading (Ok tt) ++ kept
+
+-- the calls behind the lock, and the node
+abbrev pub IsNodeOpened : DaemonWords → ConfigSays → Option (List ℕ) → Result Node Ended →
+    List Entry → Type 0
+IsNodeOpened asked config key (Ok node) entries =
+    IsStarted asked config key node (Lock asked.lock (Ok true) ∷ entries)
+IsNodeOpened asked config key (Err ended) entries =
+    IsUnopened asked config ended.outcome ended.said (Lock asked.lock (Ok true) ∷ entries)
+
+-- a fit configuration and its key were read
+pub record AreRead (address : Address) (path : List ℕ) (config : ConfigSays) (key : Option (List ℕ))
+    (entries : List Entry) : Type 0 where
+  pub ready : IsReady address config key
+  pub whole : entries ≡ reads_of path ready

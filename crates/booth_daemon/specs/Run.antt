@@ -1,0 +1,78 @@
+-- The calls of a whole run of boothd.
+use Rattle.std.specs.Prelude.{◌≡◌, ◌++◌, ◌⊎◌, ℕ, List, Some, None, IsSome}
+use Rattle.booth_host.specs.declared.entry.Entry.{Entry}
+use Rattle.booth_stages.specs.declared.outcome.Outcome.{Outcome}
+use Rattle.booth_stages.specs.declared.outcome.Outcome.TheVariants.{Done, Usage, BadWord, LockFault, NotRunning}
+use Rattle.booth_stages.specs.declared.outcome.Outcome.TheVariants.{PrintFault, OutOfMemory, Report, Refused, NoReply}
+use Rattle.booth_stages.specs.declared.outcome.Outcome.TheVariants.{SendFault, ConfUnread, ConfBad}
+use Rattle.booth_words.specs.declared.program.Program.TheVariants.{Boothd}
+use Rattle.booth_words.specs.declared.asking.DaemonWords.{DaemonWords}
+use Rattle.booth_words.specs.declared.asking.SimulationWords.{SimulationWords}
+use Rattle.booth_words.specs.Commands.{verb_in}
+use Rattle.booth_words.specs.Asking.{AsksDaemon, AsksSimulation, AsksStatus, IsUntaken, HasBadWord}
+use Rattle.booth_stages.specs.Texts.{IsText}
+use Rattle.booth_stages.specs.Unasked.{IsUnasked}
+use Rattle.booth_daemon.specs.Serving.{IsServing}
+use Rattle.booth_daemon.specs.Status.{IsStatus}
+use Rattle.booth_daemon.specs.Simulating.{IsSimulated}
+
+-- the calls up to where the outcome is decided, by what the words ask for
+pub data IsMade (words : List (List ℕ)) (outcome : Outcome) (said : List ℕ)
+    (entries : List Entry) : Type 0 where
+  Unasked : IsUnasked Boothd words outcome said entries → IsMade words outcome said entries
+  Served : (asked : DaemonWords) → AsksDaemon words asked → IsServing asked outcome said entries →
+      IsMade words outcome said entries
+  Summed : (asked : SimulationWords) → AsksSimulation words asked → IsSimulated asked outcome said entries →
+      IsMade words outcome said entries
+  Looked : (lock : List ℕ) → AsksStatus words lock → IsStatus lock outcome said entries →
+      IsMade words outcome said entries
+
+-- all calls of a run on these words, the last of which says how it ended
+pub record IsRun (words : List (List ℕ)) (outcome : Outcome) (entries : List Entry) : Type 0 where
+  pub said : List ℕ
+  pub body : List Entry
+  pub last : List Entry
+  pub whole : entries ≡ body ++ last
+  pub made : IsMade words outcome said body
+  pub told : IsText Boothd said last
+
+-- ---- over every host
+
+-- the words ask for a daemon, whatever they say of it
+pub record AskForDaemon (words : List (List ℕ)) : Type 0 where
+  pub asked : DaemonWords
+  pub asks : AsksDaemon words asked
+
+-- the words ask whether a daemon runs, by whatever lock
+pub record AskForStatus (words : List (List ℕ)) : Type 0 where
+  pub lock : List ℕ
+  pub asks : AsksStatus words lock
+
+-- the words ask for a simulation, whatever they say of it
+pub record AskForSimulation (words : List (List ℕ)) : Type 0 where
+  pub asked : SimulationWords
+  pub asks : AsksSimulation words asked
+
+-- the words ask for a simulation of a configuration that they name
+pub record AskForNamed (words : List (List ℕ)) : Type 0 where
+  pub asked : SimulationWords
+  pub asks : AsksSimulation words asked
+  pub named : IsSome asked.conf
+
+-- Usage comes only for words that are not taken, and BadWord exactly where that word is the first refused
+abbrev pub FitsWords : List (List ℕ) → Outcome → Type 0
+FitsWords words (Usage None) = verb_in Boothd words ≡ None
+FitsWords words (Usage (Some kind)) = IsUntaken Boothd words kind
+FitsWords words (BadWord word) = HasBadWord Boothd words word
+FitsWords words Done = AskForDaemon words ⊎ (AskForStatus words ⊎ AskForSimulation words)
+FitsWords words LockFault = AskForDaemon words ⊎ AskForStatus words
+FitsWords words NotRunning = AskForStatus words
+FitsWords words PrintFault = verb_in Boothd words ≡ None → ⊥
+FitsWords words OutOfMemory = Unit {0}
+FitsWords words ConfUnread = AskForDaemon words ⊎ AskForNamed words
+FitsWords words (ConfBad fault) = AskForDaemon words ⊎ AskForNamed words
+FitsWords words Report = ⊥
+FitsWords words (Refused result) = ⊥
+FitsWords words NoReply = ⊥
+FitsWords words SendFault = ⊥
+FitsWords words outcome = AskForDaemon words

@@ -1,0 +1,47 @@
+-- The calls of `boothd status`, and what it then says on standard error.
+use Rattle.std.specs.Prelude.{◌≡◌, ℕ, Bool, true, false, List, [], ◌∷◌, Ok, Err, codes}
+use Rattle.booth_host.specs.declared.host.Failed.{Failed}
+use Rattle.booth_host.specs.declared.entry.Entry.{Entry}
+use Rattle.booth_host.specs.declared.entry.Entry.TheVariants.{Lock, Out}
+use Rattle.booth_stages.specs.declared.outcome.Outcome.{Outcome}
+use Rattle.booth_stages.specs.declared.outcome.Outcome.TheVariants.{Done, NotRunning, LockFault, PrintFault}
+use Rattle.booth_stages.specs.Texts.{unlocked_text, unprinted_text}
+
+-- what is printed of a lock that was free, or was another's
+abbrev pub status_text : Bool → List ℕ
+status_text true = codes "booth daemon is not running\n"
+status_text false = codes "booth daemon is running\n"
+
+-- The one call for the lock, and the one print of what it answered: Done exactly where it was another's
+-- and NotRunning exactly where it was free, and that was printed.
+abbrev pub IsStatus : List ℕ → Outcome → List ℕ → List Entry → Type 0
+IsStatus lock Done said entries = (said ≡ [])
+    × (entries ≡ Lock lock (Ok false) ∷ Out (status_text false) (Ok tt) ∷ [])
+IsStatus lock NotRunning said entries = (said ≡ [])
+    × (entries ≡ Lock lock (Ok true) ∷ Out (status_text true) (Ok tt) ∷ [])
+IsStatus lock LockFault said entries = (said ≡ unlocked_text lock)
+    × (failed : Failed) × (entries ≡ Lock lock (Err failed) ∷ [])
+IsStatus lock PrintFault said entries = (said ≡ unprinted_text) × (free : Bool) × (failed : Failed)
+    × (entries ≡ Lock lock (Ok free) ∷ Out (status_text free) (Err failed) ∷ [])
+IsStatus lock outcome said entries = ⊥
+
+-- the outcomes of a look at a lock
+abbrev pub IsStatusOutcome : Outcome → Type 0
+IsStatusOutcome Done = Unit {0}
+IsStatusOutcome NotRunning = Unit {0}
+IsStatusOutcome LockFault = Unit {0}
+IsStatusOutcome PrintFault = Unit {0}
+IsStatusOutcome outcome = ⊥
+
+-- ---- in the code
+
+abbrev pub found : Bool → Outcome
+found true = NotRunning
+found false = Done
+
+-- the print behind the lock's answer
+abbrev pub IsPrinted : Bool → Outcome → List ℕ → List Entry → Type 0
+IsPrinted free PrintFault said entries = (said ≡ unprinted_text) × (failed : Failed)
+    × (entries ≡ Out (status_text free) (Err failed) ∷ [])
+IsPrinted free outcome said entries = (outcome ≡ found free) × (said ≡ [])
+    × (entries ≡ Out (status_text free) (Ok tt) ∷ [])

@@ -1,0 +1,36 @@
+//! Whether a configuration can be served: it has this member.
+ghost use Rattle.std.specs.Prelude.{◌≡◌, ℕ, IfErr};
+ghost use Rattle.booth_conf.specs.Rules.{is_at};
+ghost use Rattle.booth_stages.specs.Outcomes.{HasBlame, IsServed};
+ghost use Rattle.booth_daemon.specs.Fitness.{IsAdmitted, has_member};
+
+use booth_base::Address;
+use booth_conf::{Config, Member};
+use booth_stages::{Ended, Outcome, texts};
+
+fn is_at(address: &Address, member: &Member) -> bool
+    ensures { result ≡ is_at address.now member.now }
+{
+    *address == member.address
+}
+
+fn has_member(config: &Config, address: &Address) -> bool
+    ensures { result ≡ has_member config.now address.now }
+{
+    config.members().iter().any(|member| is_at(address, member))
+}
+
+/// Lets a configuration be served at this address, or says how the daemon ends.
+pub(crate) fn admit(config: &Config, address: &Address) -> Result<(), Ended>
+    ensures admitted { IsAdmitted address.now config.now result }
+    ensures served { IfErr result (λ ended. IsServed ended.outcome) }
+    ensures blame { IfErr result (λ ended. (before after : ℕ) → HasBlame ended.outcome before after) }
+{
+    if !has_member(config, address) {
+        return Err(Ended {
+            outcome: Outcome::NotMember,
+            said: texts::not_member_text(address),
+        });
+    }
+    Ok(())
+}

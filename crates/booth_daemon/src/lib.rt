@@ -1,0 +1,15 @@
+//! The program `boothd` over any host: words in, calls on the host, texts and outcome out.
+#![tactic(auto)]
+
+mod fitness;
+pub mod laws;
+mod opening;
+mod records;
+mod run;
+mod serving;
+mod simulating;
+mod status;
+mod summary_text;
+
+pub use booth_stages::{Outcome, Word};
+pub use run::{boothd, quiet_boothd};

@@ -1,0 +1,76 @@
+//! The program `boothd` over any host.
+ghost use Rattle.std.specs.Prelude.{◌≤◌, map, string_bytes};
+ghost use Rattle.booth_host.specs.Past.{GrewSome};
+ghost use Rattle.booth_host.specs.Memory.{quiet_past};
+ghost use Rattle.booth_stages.specs.Outcomes.{HasBlame, IsBlameless};
+ghost use Rattle.booth_daemon.specs.Headline.{IsSafe};
+ghost use Rattle.booth_daemon.specs.Run.{FitsWords, IsMade, IsRun};
+
+use crate::serving::serve;
+use crate::simulating::simulate;
+use crate::status::status;
+use booth_host::{Host, QuietHost};
+use booth_stages::{Ended, Outcome, tell, tell_error, texts};
+use booth_words::{Asked, Program, Refusal, ask};
+use booth_world::laws;
+use std::alloc::Global;
+
+// The calls of a run up to where its outcome is decided.
+fn run_words<H: Host>(alloc: Global, words: &[String], host: &mut H) -> Ended
+    ensures past { GrewSome (IsMade (map string_bytes words.now) result.outcome result.said)
+        (H.past host.old) (H.past host.new) }
+    ensures words { FitsWords (map string_bytes words.now) result.outcome }
+    ensures blame { HasBlame result.outcome (H.faults host.old) (H.faults host.new) }
+    ensures later { H.faults host.old ≤ H.faults host.new }
+{
+    match ask(alloc, Program::Boothd, words) {
+        Ok(Asked::Daemon(asked)) => serve(alloc, &asked, host),
+        Ok(Asked::Status(lock)) => status(&lock, host),
+        Ok(Asked::Simulation(asked)) => simulate(alloc, &asked, host),
+        Ok(Asked::Client(_)) => unreachable!(),
+        Err(Refusal::Untaken(error)) => tell_error(alloc, &error, host),
+        Err(Refusal::NoCommand) => Ended {
+            outcome: Outcome::Usage(None),
+            said: texts::usage_text(Program::Boothd),
+        },
+        Err(Refusal::Bad(word)) => Ended {
+            outcome: Outcome::BadWord(word),
+            said: texts::bad_word_text(word),
+        },
+    }
+}
+
+/// Runs `boothd` with these words, without the program's name, over this host.
+///
+/// `daemon` reads the configuration, its key where `authfile` is set, takes the lock, opens its socket, reads
+/// the record of each ticket, and makes turns at the member's address until the host says `Stop` or the
+/// turns that were asked for are made. `status` says whether a daemon holds the lock. `sim` runs a whole cluster in
+/// memory through generated events, and prints what was counted. Help and version are printed; of all other words it is said what is wrong with them.
+pub fn boothd<H: Host>(alloc: Global, words: &[String], host: &mut H) -> Outcome
+    // Where the host tells its calls: exactly these, by how the run ended.
+    ensures past { GrewSome (IsRun (map string_bytes words.now) result) (H.past host.old) (H.past host.new) }
+
+    // In every world that this run is a part of: no automatic ticket is held at two sites, and no kept term falls.
+    ensures worlds { GrewSome (IsSafe (map string_bytes words.now) result) (H.past host.old) (H.past host.new) }
+
+    // Over every host.
+    ensures words { FitsWords (map string_bytes words.now) result }
+    ensures blame { HasBlame result (H.faults host.old) (H.faults host.new) }
+    ensures later { H.faults host.old ≤ H.faults host.new }
+{
+    laws::one_holder();
+    laws::terms();
+    let ended = run_words(alloc, words, host);
+    tell(Program::Boothd, &ended.said, host);
+    ended.outcome
+}
+
+/// Runs `boothd` over a host without failures: no failure is ever answered.
+pub fn quiet_boothd(alloc: Global, words: &[String], host: &mut QuietHost) -> Outcome
+    ensures past { GrewSome (IsRun (map string_bytes words.now) result) (quiet_past host.old)
+        (quiet_past host.new) }
+    ensures words { FitsWords (map string_bytes words.now) result }
+    ensures blameless { IsBlameless result }
+{
+    boothd(alloc, words, host)
+}

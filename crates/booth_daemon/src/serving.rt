@@ -1,0 +1,91 @@
+//! The daemon: its opening, and then its turns.
+ghost use Rattle.std.specs.Prelude.{◌≤◌, ℕ};
+ghost use Rattle.booth_host.specs.Past.{GrewSome};
+ghost use Rattle.booth_node.specs.View.{node_config, state_of};
+ghost use Rattle.booth_node.specs.Log.{IsNodeLog};
+ghost use Rattle.booth_stages.specs.Outcomes.{HasBlame, IsServed};
+ghost use Rattle.booth_daemon.specs.Ending.{MatchEnding};
+ghost use Rattle.booth_daemon.specs.Serving.{AreSpent, IsNodeRun, IsServing, IsStoppedWithin};
+
+use crate::opening::open;
+use booth_host::Host;
+use booth_node::{Node, Turn};
+use booth_stages::{Ended, ErrorLine, Outcome, texts};
+use booth_words::DaemonWords;
+use std::alloc::Global;
+
+/// How many turns a daemon makes at most, where none are asked for.
+const TURNS: u64 = 1 << 62;
+
+/// How a row of turns ended.
+enum Ending {
+    /// The last turn stopped.
+    Stopped,
+    /// All turns were made, and none stopped.
+    Spent,
+}
+
+// So many turns, or those up to the first that stops.
+fn make_turns<H: Host>(node: &mut Node, count: u64, host: &mut H) -> Ending
+    ensures past { MatchEnding result
+        (GrewSome (λ es. IsStoppedWithin (node_config node.old) (state_of node.old) count
+        (state_of node.new) es) (H.past host.old) (H.past host.new))
+        (GrewSome (λ es. IsNodeLog (node_config node.old) (state_of node.old) count
+        (state_of node.new) es) (H.past host.old) (H.past host.new)) }
+    ensures later { H.faults host.old ≤ H.faults host.new }
+{
+    for _turn in 0..count {
+        match node.turn(host) {
+            Turn::Stopped => return Ending::Stopped,
+            Turn::Went => {}
+        }
+    }
+    Ending::Spent
+}
+
+// How a daemon ends that made all its turns.
+fn spent(turns: Option<u64>) -> Ended
+    ensures { AreSpent turns result.outcome result.said }
+{
+    match turns {
+        Some(_) => Ended {
+            outcome: Outcome::Done,
+            said: ErrorLine::none(),
+        },
+        None => Ended {
+            outcome: Outcome::TurnsSpent,
+            said: texts::line_of(b"turns spent"),
+        },
+    }
+}
+
+// The turns of a node, as many as were asked for, and how the daemon ends with them.
+fn run_node<H: Host>(node: &mut Node, turns: Option<u64>, host: &mut H) -> Ended
+    ensures past { GrewSome (IsNodeRun (node_config node.old) turns (state_of node.old)
+        (state_of node.new) result.outcome result.said) (H.past host.old) (H.past host.new) }
+    ensures served { IsServed result.outcome }
+    ensures blame { (before after : ℕ) → HasBlame result.outcome before after }
+    ensures later { H.faults host.old ≤ H.faults host.new }
+{
+    match make_turns(node, turns.unwrap_or(TURNS), host) {
+        Ending::Stopped => Ended {
+            outcome: Outcome::Done,
+            said: ErrorLine::none(),
+        },
+        Ending::Spent => spent(turns),
+    }
+}
+
+/// The calls of the daemon that was asked for, up to where its outcome is decided.
+pub(crate) fn serve<H: Host>(alloc: Global, asked: &DaemonWords, host: &mut H) -> Ended
+    ensures past { GrewSome (IsServing asked.now result.outcome result.said)
+        (H.past host.old) (H.past host.new) }
+    ensures served { IsServed result.outcome }
+    ensures blame { HasBlame result.outcome (H.faults host.old) (H.faults host.new) }
+    ensures later { H.faults host.old ≤ H.faults host.new }
+{
+    match open(alloc, asked, host) {
+        Ok(mut node) => run_node(&mut node, asked.turns, host),
+        Err(ended) => ended,
+    }
+}

@@ -1,0 +1,5 @@
+mod TextLemmas
+mod TellingLemmas
+mod ConfigurationLemmas
+pub mod UsageLemmas
+pub mod CallLemmas

@@ -1,0 +1,57 @@
+-- Words that ask for nothing, and how that is told: help and version by an out, all else by an err.
+use Rattle.std.specs.Prelude.{◌≡◌, ℕ, Bool, true, false, List, [], ◌∷◌, Some, None, Result, Ok}
+use Rattle.std.specs.Prelude.{Err}
+use Rattle.clap.specs.declared.error.kind.ErrorKind.{ErrorKind}
+use Rattle.clap.specs.declared.error.kind.ErrorKind.TheVariants.{DisplayHelp, DisplayVersion}
+use Rattle.clap.specs.declared.error.kind.ErrorKind.TheVariants.{OutOfMemory as NoMemory}
+use Rattle.booth_host.specs.declared.host.Failed.{Failed}
+use Rattle.booth_host.specs.declared.entry.Entry.{Entry}
+use Rattle.booth_host.specs.declared.entry.Entry.TheVariants as calls
+use Rattle.booth_stages.specs.declared.outcome.Outcome.{Outcome}
+use Rattle.booth_stages.specs.declared.outcome.Outcome.TheVariants.{Usage, BadWord, PrintFault, OutOfMemory}
+use Rattle.booth_words.specs.declared.program.Program.{Program}
+use Rattle.booth_words.specs.Commands.{verb_in}
+use Rattle.booth_words.specs.Asking.{IsUntaken, HasBadWord}
+use Rattle.booth_stages.specs.Texts.{usage_text, bad_word_text, unprinted_text, out_of_memory_text}
+
+-- the kind answers a request, and is no mistake
+abbrev pub is_request : ErrorKind → Bool
+is_request DisplayHelp = true
+is_request DisplayVersion = true
+is_request kind = false
+
+-- one out of some text where it was asked for, and else one err of it
+abbrev pub IsShown : Bool → List Entry → Type 0
+IsShown true entries = (text : List ℕ) × (entries ≡ calls.Out text (Ok tt) ∷ [])
+IsShown false entries = (text : List ℕ) × (answer : Result (Unit {0}) Failed)
+    × (entries ≡ calls.Err text answer ∷ [])
+
+-- what is told of an error of this kind of `clap`'s
+abbrev pub IsTold : ErrorKind → Outcome → List ℕ → List Entry → Type 0
+IsTold kind (Usage (Some told)) said entries = (told ≡ kind) × (said ≡ [])
+    × IsShown (is_request kind) entries
+IsTold kind PrintFault said entries = (is_request kind ≡ true) × (said ≡ unprinted_text)
+    × (text : List ℕ) × (failed : Failed) × (entries ≡ calls.Out text (Err failed) ∷ [])
+IsTold kind OutOfMemory said entries = (said ≡ out_of_memory_text) × (entries ≡ [])
+IsTold kind outcome said entries = ⊥
+
+-- the outcomes of an error of this kind
+abbrev pub IsToldOutcome : ErrorKind → Outcome → Type 0
+IsToldOutcome kind (Usage (Some told)) = (told ≡ kind) × (kind ≡ NoMemory → ⊥)
+IsToldOutcome kind PrintFault = is_request kind ≡ true
+IsToldOutcome kind OutOfMemory = Unit {0}
+IsToldOutcome kind outcome = ⊥
+
+-- the words ask this program for nothing, by the outcome that this has
+abbrev pub IsUnasked : Program → List (List ℕ) → Outcome → List ℕ → List Entry → Type 0
+IsUnasked program words (Usage None) said entries = (verb_in program words ≡ None)
+    × (said ≡ usage_text program) × (entries ≡ [])
+IsUnasked program words (Usage (Some kind)) said entries = IsUntaken program words kind × (said ≡ [])
+    × IsShown (is_request kind) entries
+IsUnasked program words (BadWord word) said entries = HasBadWord program words word
+    × (said ≡ bad_word_text word) × (entries ≡ [])
+IsUnasked program words PrintFault said entries = (kind : ErrorKind) × IsUntaken program words kind
+    × (is_request kind ≡ true) × (said ≡ unprinted_text)
+    × (text : List ℕ) × (failed : Failed) × (entries ≡ calls.Out text (Err failed) ∷ [])
+IsUnasked program words OutOfMemory said entries = (said ≡ out_of_memory_text) × (entries ≡ [])
+IsUnasked program words outcome said entries = ⊥

@@ -1,0 +1,64 @@
+//! The key, from its file.
+ghost use Rattle.std.specs.Prelude.{◌≤◌, ℕ, IfErr};
+ghost use Rattle.booth_host.specs.Past.{GrewSome};
+ghost use Rattle.booth_stages.specs.Outcomes.{HasBlame, IsServed};
+ghost use Rattle.booth_stages.specs.Keys.{IsFileKey, IsFromFile, IsKeyRead};
+
+use crate::outcome::Ended;
+use crate::{Outcome, texts};
+use booth_auth::Key;
+use booth_base::PathText;
+use booth_conf::Config;
+use booth_host::{Host, ReadFault};
+use std::alloc::Global;
+
+// The key in a key file's bytes.
+fn file_key(bytes: &[u8]) -> Result<Key, Ended>
+    ensures key { IsFileKey bytes.now result }
+    ensures served { IfErr result (λ ended. IsServed ended.outcome) }
+    ensures blame { IfErr result (λ ended. (before after : ℕ) → HasBlame ended.outcome before after) }
+{
+    match Key::read(bytes) {
+        Ok(key) => Ok(key),
+        Err(fault) => Err(Ended {
+            outcome: Outcome::KeyBad(fault),
+            said: texts::key_fault_text(fault),
+        }),
+    }
+}
+
+// The key in the file at this path.
+fn from_file<H: Host>(alloc: Global, path: &PathText, host: &mut H) -> Result<Key, Ended>
+    ensures past { GrewSome (IsFromFile path.now result) (H.past host.old) (H.past host.new) }
+    ensures served { IfErr result (λ ended. IsServed ended.outcome) }
+    ensures blame { IfErr result (λ ended. HasBlame ended.outcome (H.faults host.old) (H.faults host.new)) }
+    ensures later { H.faults host.old ≤ H.faults host.new }
+{
+    match host.read_file(alloc, path.as_str()) {
+        Ok(text) => file_key(text.bytes()),
+        Err(ReadFault::Failed) => Err(Ended {
+            outcome: Outcome::KeyUnread,
+            said: texts::unread_text(path),
+        }),
+        Err(ReadFault::NoMemory) => Err(Ended {
+            outcome: Outcome::OutOfMemory,
+            said: texts::out_of_memory_text(),
+        }),
+    }
+}
+
+/// The key, where the configuration names its file.
+pub fn read_key<H: Host>(alloc: Global, config: &Config, host: &mut H) -> Result<Option<Key>, Ended>
+    ensures past { GrewSome (IsKeyRead config.now.authfile result) (H.past host.old) (H.past host.new) }
+    ensures served { IfErr result (λ ended. IsServed ended.outcome) }
+    ensures blame { IfErr result (λ ended. HasBlame ended.outcome (H.faults host.old) (H.faults host.new)) }
+    ensures later { H.faults host.old ≤ H.faults host.new }
+{
+    let Some(path) = config.authfile() else {
+        return Ok(None);
+    };
+    match from_file(alloc, path, host) {
+        Ok(key) => Ok(Some(key)),
+        Err(ended) => Err(ended),
+    }
+}

@@ -1,0 +1,83 @@
+//! How a run ends: the outcome and its exit status.
+ghost use Rattle.std.specs.Prelude.{◌≡◌};
+ghost use Rattle.booth_stages.specs.Texts.{status_of};
+
+use crate::error_line::ErrorLine;
+use booth_auth::KeyFault;
+use booth_conf::ConfFault;
+use booth_words::Word;
+use clap::error::ErrorKind;
+
+/// How a run ended.
+#[derive(Clone, Copy, Debug, PartialEq, Eq)]
+pub enum Outcome {
+    /// The end was asked for, or the turns that were asked for were made; or a daemon runs, and that was
+    /// printed.
+    Done,
+    /// A daemon did or began what it was asked for, and that was printed.
+    Report,
+    /// A daemon refused, with this result.
+    Refused(u32),
+    /// No daemon answered in time.
+    NoReply,
+    /// A request could not be sent.
+    SendFault,
+    /// The words are none that are taken, or ask for help. The kind is none where there is no command in
+    /// them.
+    Usage(Option<ErrorKind>),
+    /// This word is not of its form.
+    BadWord(Word),
+    /// The configuration could not be read.
+    ConfUnread,
+    /// The configuration is faulty.
+    ConfBad(ConfFault),
+    /// No member of the configuration has the address.
+    NotMember,
+    /// The key file could not be read.
+    KeyUnread,
+    /// The key file holds no key.
+    KeyBad(KeyFault),
+    /// The lock file could not be locked.
+    LockFault,
+    /// Another daemon holds the lock.
+    Running,
+    /// No daemon runs, and that was printed.
+    NotRunning,
+    /// The socket or the directory of the records could not be opened.
+    OpenFault,
+    /// The record of a ticket could not be read.
+    RecordUnread,
+    /// 2^62 turns were made, and no count of them was asked for.
+    TurnsSpent,
+    /// What was asked for could not be printed.
+    PrintFault,
+    /// There was no memory; at a daemon, before the first turn.
+    OutOfMemory,
+}
+
+impl Outcome {
+    /// The exit status of the program.
+    pub fn status(&self) -> u8
+        ensures { result ≡ status_of self.now }
+    {
+        match self {
+            Outcome::Done | Outcome::Report => 0,
+            Outcome::NotRunning => 7,
+            Outcome::Usage(Some(ErrorKind::DisplayHelp | ErrorKind::DisplayVersion)) => 0,
+            Outcome::Usage(_) | Outcome::BadWord(_) => 1,
+            Outcome::ConfUnread | Outcome::ConfBad(_) | Outcome::NotMember => 1,
+            Outcome::KeyUnread | Outcome::KeyBad(_) => 1,
+            Outcome::LockFault | Outcome::Running | Outcome::OpenFault => 1,
+            Outcome::RecordUnread => 1,
+            Outcome::Refused(_) | Outcome::NoReply | Outcome::SendFault => 1,
+            Outcome::TurnsSpent | Outcome::PrintFault | Outcome::OutOfMemory => 1,
+        }
+    }
+}
+
+/// An outcome, and what is said of it on standard error: nothing or one line.
+#[derive(Drop)]
+pub struct Ended {
+    pub outcome: Outcome,
+    pub said: ErrorLine,
+}

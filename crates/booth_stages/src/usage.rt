@@ -1,0 +1,108 @@
+//! How it is told that words ask for nothing: help and version by an out, all else by an err.
+ghost use Rattle.std.specs.Prelude.{◌≡◌, ◌≤◌, true, false};
+ghost use Rattle.clap.specs.Words.{kind_of};
+ghost use Rattle.booth_host.specs.Past.{GrewSome};
+ghost use Rattle.booth_stages.specs.Outcomes.{HasBlame};
+ghost use Rattle.booth_stages.specs.Texts.{out_of_memory_text};
+ghost use Rattle.booth_stages.specs.Unasked.{IsTold, IsToldOutcome, is_request};
+
+use crate::error_line::ErrorLine;
+use crate::outcome::Ended;
+use crate::{Outcome, texts};
+use booth_host::{Failed, Host};
+use clap::Error;
+use clap::error::ErrorKind;
+use std::alloc::{AllocError, Global};
+
+fn is_request(kind: ErrorKind) -> bool
+    ensures { result ≡ is_request kind }
+{
+    match kind {
+        ErrorKind::DisplayHelp => true,
+        ErrorKind::DisplayVersion => true,
+        _ => false,
+    }
+}
+
+fn text_of(alloc: Global, error: &Error) -> Result<String, AllocError> {
+    format!(in alloc; "{error}")
+}
+
+// Prints what was asked for.
+fn print<H: Host>(kind: ErrorKind, text: &str, host: &mut H) -> Ended
+    requires request { is_request kind ≡ true }
+    requires no_memory { kind ≡ ErrorKind.OutOfMemory → ⊥ }
+    ensures past { GrewSome (IsTold kind result.outcome result.said) (H.past host.old) (H.past host.new) }
+    ensures outcome { IsToldOutcome kind result.outcome }
+    ensures blame { HasBlame result.outcome (H.faults host.old) (H.faults host.new) }
+    ensures later { H.faults host.old ≤ H.faults host.new }
+{
+    match host.out(text.as_bytes()) {
+        Ok(()) => Ended {
+            outcome: Outcome::Usage(Some(kind)),
+            said: ErrorLine::none(),
+        },
+        Err(Failed) => Ended {
+            outcome: Outcome::PrintFault,
+            said: texts::unprinted_text(),
+        },
+    }
+}
+
+// Says what is wrong, whether or not it can be said.
+fn complain<H: Host>(kind: ErrorKind, text: &str, host: &mut H) -> Ended
+    requires mistake { is_request kind ≡ false }
+    requires no_memory { kind ≡ ErrorKind.OutOfMemory → ⊥ }
+    ensures past { GrewSome (IsTold kind result.outcome result.said) (H.past host.old) (H.past host.new) }
+    ensures outcome { IsToldOutcome kind result.outcome }
+    ensures blame { HasBlame result.outcome (H.faults host.old) (H.faults host.new) }
+    ensures later { H.faults host.old ≤ H.faults host.new }
+{
+    let _ = host.err(text.as_bytes());
+    Ended {
+        outcome: Outcome::Usage(Some(kind)),
+        said: ErrorLine::none(),
+    }
+}
+
+fn out_of_memory() -> Ended
+    ensures outcome { result.outcome ≡ Outcome.OutOfMemory }
+    ensures said { result.said ≡ out_of_memory_text }
+{
+    Ended {
+        outcome: Outcome::OutOfMemory,
+        said: texts::out_of_memory_text(),
+    }
+}
+
+// Tells an error of this kind.
+fn tell_kind<H: Host>(alloc: Global, error: &Error, kind: ErrorKind, host: &mut H) -> Ended
+    requires { kind ≡ ErrorKind.OutOfMemory → ⊥ }
+    ensures past { GrewSome (IsTold kind result.outcome result.said) (H.past host.old) (H.past host.new) }
+    ensures outcome { IsToldOutcome kind result.outcome }
+    ensures blame { HasBlame result.outcome (H.faults host.old) (H.faults host.new) }
+    ensures later { H.faults host.old ≤ H.faults host.new }
+{
+    let Ok(text) = text_of(alloc, error) else {
+        return out_of_memory();
+    };
+    if is_request(kind) {
+        print(kind, text.as_str(), host)
+    } else {
+        complain(kind, text.as_str(), host)
+    }
+}
+
+/// Tells what `clap` has to say, and how the run ends with it.
+pub fn tell_error<H: Host>(alloc: Global, error: &Error, host: &mut H) -> Ended
+    ensures past { GrewSome (IsTold (kind_of error.now) result.outcome result.said) (H.past host.old)
+        (H.past host.new) }
+    ensures outcome { IsToldOutcome (kind_of error.now) result.outcome }
+    ensures blame { HasBlame result.outcome (H.faults host.old) (H.faults host.new) }
+    ensures later { H.faults host.old ≤ H.faults host.new }
+{
+    match error.kind() {
+        ErrorKind::OutOfMemory => out_of_memory(),
+        kind => tell_kind(alloc, error, kind, host),
+    }
+}

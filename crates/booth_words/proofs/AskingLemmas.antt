@@ -1,0 +1,161 @@
+-- What the words ask for, from what was read of them.
+use Rattle.std.specs.Prelude.{Ok}
+use Rattle.std.proofs.Common.{◌≡◌, ℕ, Bool, true, false, cond, List, [], ◌∷◌, Option, Some, None, is_some, refl, subst}
+use Rattle.std.proofs.Common.{inl, inr, ◌⊎◌}
+use Rattle.clap.specs.Words.{IsAmong, fault_of, takes}
+use Rattle.clap.specs.declared.error.kind.ErrorKind.{ErrorKind}
+use Rattle.clap.specs.declared.error.kind.ErrorKind.TheVariants as kinds
+use Rattle.booth_base.specs.declared.address.Address.{Address}
+use Rattle.booth_words.specs.declared.command.Verb.{Verb}
+use Rattle.booth_words.specs.declared.command.Verb.TheVariants as verbs
+use Rattle.booth_words.specs.declared.reading.Read.{Read}
+use Rattle.booth_words.specs.declared.asking.Asked.{Asked}
+use Rattle.booth_words.specs.declared.asking.Asked.TheVariants.{Daemon, Status, Simulation, Client}
+use Rattle.booth_words.specs.declared.asking.ClientWords.{ClientWords}
+use Rattle.booth_words.specs.declared.program.Program.{Program}
+use Rattle.booth_words.specs.declared.program.Program.TheVariants.{Boothd, Booth, Geostore}
+use Rattle.booth_words.specs.Commands.{app_for, verb_in}
+use Rattle.booth_words.specs.Given.{Texts, HasAttribute, HasNeeded, found_in}
+use Rattle.booth_words.specs.Reading.{HasAddress, HasName, IsRead}
+use Rattle.booth_words.specs.Asking.{Asks, AreTaken, AttributeRead, HasWords, IsAskedBy, IsClient, IsClientOf, IsUntaken, IsUntakenFor}
+
+-- where there is a word there is an address
+has_address : (word : Option (List ℕ)) (read : Option Address) → HasAddress word read → is_some word ≡ true → is_some read ≡ true
+has_address (Some text) (Some address) has some = refl
+has_address (Some text) None has some = absurd has
+has_address None read has some = cc
+
+has_name : (word : Option (List ℕ)) (read : Option (List ℕ)) → HasName word read → is_some word ≡ true → is_some read ≡ true
+has_name (Some text) (Some name) has some = refl
+has_name (Some text) None has some = absurd has
+has_name None read has some = cc
+
+has_attribute : (t : Texts) (read : Read) → HasAttribute t → IsRead t read → AttributeRead read
+has_attribute t read needed is =
+    record { ticket = has_name t.ticket read.ticket is.ticket needed.ticket; name = has_name t.name read.name is.name needed.name }
+
+pub has_words : (verb : Verb) (t : Texts) (read : Read) → HasNeeded verb t → IsRead t read → HasWords verb read
+has_words verbs.Daemon t read needed is = has_address t.site read.site is.site needed
+has_words verbs.Grant t read needed is = has_name t.ticket read.ticket is.ticket needed
+has_words verbs.Revoke t read needed is = has_name t.ticket read.ticket is.ticket needed
+has_words verbs.SetAttribute t read needed is = (has_attribute t read needed.0 is, has_name t.value read.value is.value needed.1)
+has_words verbs.GetAttribute t read needed is = has_attribute t read needed is
+has_words verbs.DeleteAttribute t read needed is = has_attribute t read needed is
+has_words verbs.ListAttributes t read needed is = has_name t.ticket read.ticket is.ticket needed
+has_words verbs.Status t read needed is = tt
+has_words verbs.Simulate t read needed is = tt
+has_words verbs.List t read needed is = tt
+has_words verbs.Peers t read needed is = tt
+
+-- ---- whose command it is
+
+-- a command of boothd
+abbrev IsBoothds : Verb → Type 0
+IsBoothds verbs.Daemon = Unit {0}
+IsBoothds verbs.Status = Unit {0}
+IsBoothds verbs.Simulate = Unit {0}
+IsBoothds verb = ⊥
+
+same_owner : (one verb : Verb) → Some one ≡ Some verb → IsBoothds verb → IsBoothds one
+same_owner one verb same own = let e : verb ≡ one = cc in subst IsBoothds e own
+
+boothds_own : (one verb : Verb) → Some one ≡ Some verb → IsBoothds one → IsBoothds verb
+boothds_own one verb same own = let e : one ≡ verb = cc in subst IsBoothds e own
+
+no_daemon : (a b c d : Bool) (verb : Verb) →
+    cond a (Some verbs.List) (cond b (Some verbs.Peers) (cond c (Some verbs.Grant) (cond d (Some verbs.Revoke) None))) ≡ Some verb → IsBoothds verb → ⊥
+no_daemon true b c d verb h own = same_owner verbs.List verb h own
+no_daemon false true c d verb h own = same_owner verbs.Peers verb h own
+no_daemon false false true d verb h own = same_owner verbs.Grant verb h own
+no_daemon false false false true verb h own = same_owner verbs.Revoke verb h own
+no_daemon false false false false verb h own = cc
+
+no_attributes_daemon : (a b c d : Bool) (verb : Verb) →
+    cond a (Some verbs.SetAttribute) (cond b (Some verbs.GetAttribute) (cond c (Some verbs.DeleteAttribute) (cond d (Some verbs.ListAttributes) None)))
+    ≡ Some verb → IsBoothds verb → ⊥
+no_attributes_daemon true b c d verb h own = same_owner verbs.SetAttribute verb h own
+no_attributes_daemon false true c d verb h own = same_owner verbs.GetAttribute verb h own
+no_attributes_daemon false false true d verb h own = same_owner verbs.DeleteAttribute verb h own
+no_attributes_daemon false false false true verb h own = same_owner verbs.ListAttributes verb h own
+no_attributes_daemon false false false false verb h own = cc
+
+no_client : (a b c : Bool) (verb : Verb) → cond a (Some verbs.Daemon) (cond b (Some verbs.Status) (cond c (Some verbs.Simulate) None)) ≡ Some verb → IsBoothds verb
+no_client true b c verb h = boothds_own verbs.Daemon verb h tt
+no_client false true c verb h = boothds_own verbs.Status verb h tt
+no_client false false true verb h = boothds_own verbs.Simulate verb h tt
+no_client false false false verb h = absurd cc
+
+daemons_own : (program : Program) (words : List (List ℕ)) (verb : Verb) → verb_in program words ≡ Some verb → IsBoothds verb → program ≡ Boothd
+daemons_own Boothd words verb named own = refl
+daemons_own Booth [] verb named own = absurd cc
+daemons_own Booth (word ∷ words) verb named own = absurd (no_daemon _ _ _ _ verb named own)
+daemons_own Geostore [] verb named own = absurd cc
+daemons_own Geostore (word ∷ words) verb named own = absurd (no_attributes_daemon _ _ _ _ verb named own)
+
+clients_own : (program : Program) (words : List (List ℕ)) (verb : Verb) → verb_in program words ≡ Some verb → (IsBoothds verb → ⊥) → IsClient program
+clients_own Booth words verb named other = tt
+clients_own Geostore words verb named other = tt
+clients_own Boothd [] verb named other = absurd cc
+clients_own Boothd (word ∷ words) verb named other = absurd (other (no_client _ _ _ verb named))
+
+-- a client's command is no daemon's
+is_clients : (verb : Verb) (read : Read) (asked : ClientWords) → IsClientOf verb read asked → IsBoothds verb → ⊥
+is_clients verbs.Daemon read asked is own = is.order
+is_clients verbs.Status read asked is own = is.order
+is_clients verbs.Simulate read asked is own = is.order
+is_clients verb read asked is own = absurd own
+
+client_asked : (program : Program) (words : List (List ℕ)) (verb : Verb) (read : Read) (asked : ClientWords) → AreTaken program words verb read →
+    IsClientOf verb read asked → Asks program words (Ok (Client asked))
+client_asked program words verb read asked taken is =
+    (clients_own program words verb taken.named (is_clients verb read asked is), record { verb = verb; all = read; asks = taken; same = is })
+
+asked_by : (program : Program) (words : List (List ℕ)) (verb : Verb) (read : Read) (asked : Asked) → AreTaken program words verb read → IsAskedBy verb read asked →
+    Asks program words (Ok asked)
+asked_by program words verbs.Daemon read (Client asked) taken is = client_asked program words verbs.Daemon read asked taken is
+asked_by program words verbs.Status read (Client asked) taken is = client_asked program words verbs.Status read asked taken is
+asked_by program words verbs.Simulate read (Client asked) taken is = client_asked program words verbs.Simulate read asked taken is
+asked_by program words verbs.List read (Client asked) taken is = client_asked program words verbs.List read asked taken is
+asked_by program words verbs.Peers read (Client asked) taken is = client_asked program words verbs.Peers read asked taken is
+asked_by program words verbs.Grant read (Client asked) taken is = client_asked program words verbs.Grant read asked taken is
+asked_by program words verbs.Revoke read (Client asked) taken is = client_asked program words verbs.Revoke read asked taken is
+asked_by program words verbs.SetAttribute read (Client asked) taken is = client_asked program words verbs.SetAttribute read asked taken is
+asked_by program words verbs.GetAttribute read (Client asked) taken is = client_asked program words verbs.GetAttribute read asked taken is
+asked_by program words verbs.DeleteAttribute read (Client asked) taken is = client_asked program words verbs.DeleteAttribute read asked taken is
+asked_by program words verbs.ListAttributes read (Client asked) taken is = client_asked program words verbs.ListAttributes read asked taken is
+asked_by program words verbs.Daemon read (Daemon asked) taken is =
+    let own : program ≡ Boothd = daemons_own program words verbs.Daemon taken.named tt in
+    (own, record { all = read; asks = subst (λ p. AreTaken p words verbs.Daemon read) own taken; same = is })
+asked_by program words verbs.Status read (Status lock) taken is =
+    let own : program ≡ Boothd = daemons_own program words verbs.Status taken.named tt in
+    (own, record { all = read; asks = subst (λ p. AreTaken p words verbs.Status read) own taken; same = is })
+asked_by program words verbs.Simulate read (Simulation asked) taken is =
+    let own : program ≡ Boothd = daemons_own program words verbs.Simulate taken.named tt in
+    (own, record { all = read; asks = subst (λ p. AreTaken p words verbs.Simulate read) own taken; same = is })
+asked_by program words verb read asked taken is = absurd is
+
+-- words that were taken and read
+pub asks : (program : Program) (words : List (List ℕ)) (verb : Verb) (t : Texts) (read : Read) (asked : Asked) → verb_in program words ≡ Some verb →
+    fault_of (app_for verb) words ≡ [] → t ≡ found_in verb words → IsRead t read → IsAskedBy verb read asked →
+    Asks program words (Ok asked)
+asks program words verb t read asked named taken same is by =
+    asked_by program words verb read asked (record { named = named; taken = taken; says = subst (λ t. IsRead t read) same is }) by
+
+-- words that a command does not take, or for which there was no memory
+pub untaken : (program : Program) (words : List (List ℕ)) (verb : Verb) (kind : ErrorKind) → verb_in program words ≡ Some verb →
+    (kind ≡ kinds.OutOfMemory) ⊎ IsAmong kind (fault_of (app_for verb) words) →
+    (takes (app_for verb) words ≡ true → kind ≡ kinds.OutOfMemory) → IsUntakenFor program words kind
+untaken program words verb kinds.OutOfMemory named among passes = tt
+untaken program words verb kind named (inl memory) passes = cc
+untaken program words verb kind named (inr among) passes = record {
+  verb = verb;
+  named = named;
+  among = among;
+  untaken = λ takes. let memory = passes takes in cc;
+}
+
+-- what is no want of memory is a fault of the words
+pub untaken_of : (program : Program) (words : List (List ℕ)) (kind : ErrorKind) → (kind ≡ kinds.OutOfMemory → ⊥) → IsUntakenFor program words kind →
+    IsUntaken program words kind
+untaken_of program words kinds.OutOfMemory not un = absurd (not refl)
+untaken_of program words kind not un = un

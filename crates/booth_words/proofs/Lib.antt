@@ -1,0 +1,5 @@
+mod RequiredLemmas
+mod GivenLemmas
+mod ReadingLemmas
+pub mod AskingLemmas
+pub mod ValidLemmas

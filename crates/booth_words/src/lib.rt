@@ -1,0 +1,17 @@
+//! What the words of a command line ask for, or why they ask for nothing.
+#![tactic(auto)]
+
+mod asking;
+mod attribute_command;
+mod client_command;
+mod command;
+mod given;
+mod program;
+mod reading;
+mod word;
+
+pub use asking::{Asked, ClientWords, DaemonWords, Refusal, SimulationWords, ask};
+pub use command::Verb;
+pub use program::Program;
+pub use reading::MOST_EVENTS;
+pub use word::Word;
