@@ -1,5 +1,5 @@
 //! A request and the wait for its answer, and the one redirection of a revoke.
-ghost use Rattle.std.specs.Prelude.{◌≡◌, ◌≤◌, Ok};
+ghost use Rattle.std.specs.Prelude.{◌≡◌, ◌≤◌, [], IfOk, Ok};
 ghost use Rattle.booth_host.specs.Past.{GrewSome};
 ghost use Rattle.booth_host.specs.Causes.{HasCause};
 ghost use Rattle.booth_client.specs.Talk.{AsksOn, GoesOn, IsAnswerHeld, IsAsking, IsHeld, IsTalk, IsWait, is_revoke, redirected};
@@ -21,8 +21,10 @@ pub struct Room {
 }
 
 impl Room {
-    /// All memory that a talk takes.
-    pub fn new(alloc: Global) -> Result<Room, AllocError> {
+    /// All memory that a talk takes. Nothing has arrived.
+    pub fn new(alloc: Global) -> Result<Room, AllocError>
+        ensures { IfOk result (λ room. room.datagram ≡ []) }
+    {
         let frame = Frame::new(alloc)?;
         let datagram = Datagram::new(alloc)?;
         Ok(Room { frame, datagram })

@@ -19,9 +19,8 @@ use Rattle.booth_stages.specs.declared.outcome.Outcome.{Outcome}
 use Rattle.booth_stages.specs.declared.outcome.Outcome.TheVariants as outs
 use Rattle.booth_words.specs.declared.asking.ClientWords.{ClientWords}
 use Rattle.booth_clients.specs.declared.client.Cluster.{Cluster}
-use Rattle.booth_stages.specs.Outcomes.{IsServed}
-use Rattle.booth_stages.specs.Configuration.{IsConfigRead}
-use Rattle.booth_stages.specs.Keys.{IsKeyRead, HasKey, key_calls}
+use Rattle.booth_stages.specs.Configuration.{IsConfigRead, IsUnreadOutcome}
+use Rattle.booth_stages.specs.Keys.{IsKeyRead, HasKey, IsKeylessOutcome, key_calls}
 use Rattle.booth_clients.specs.Client.{IsClusterRead, IsKeyed, IsTold, IsClientLog, EndsWith, Follows, Conversing, Socketless, destination}
 use Rattle.booth_clients.specs.Client.{Unread, Unkeyed, Asked}
 use Rattle.booth_clients.specs.ClientRun.{FitsClientWords, IsAnswered, IsClientMade, IsClientRun, Talked, Unasked}
@@ -37,10 +36,17 @@ use Rattle.booth_words.proofs.AskingLemmas.{untaken_of}
 
 -- ---- outcomes
 
-answered : (outcome : Outcome) → IsServed outcome → IsAnswered outcome
-answered (outs.Usage kind) served = absurd served
-answered (outs.BadWord word) served = absurd served
-answered outcome served = tt
+pub unread_answered : (outcome : Outcome) → IsUnreadOutcome outcome → IsAnswered outcome
+unread_answered outs.ConfUnread unread = tt
+unread_answered (outs.ConfBad fault) unread = tt
+unread_answered outs.OutOfMemory unread = tt
+unread_answered outcome unread = absurd unread
+
+pub keyless_answered : (outcome : Outcome) → IsKeylessOutcome outcome → IsAnswered outcome
+keyless_answered outs.KeyUnread keyless = tt
+keyless_answered (outs.KeyBad fault) keyless = tt
+keyless_answered outs.OutOfMemory keyless = tt
+keyless_answered outcome keyless = absurd keyless
 
 -- ---- the first site
 
@@ -189,10 +195,8 @@ unasked_client program words outcome said is = some_of (IsClientMade program wor
 pub fits_untaken : (program : Program) (words : List (List ℕ)) (kind : ErrorKind) (outcome : Outcome) → IsUntakenFor program words kind → IsToldOutcome kind outcome →
     FitsClientWords program words outcome
 fits_untaken program words kind (outs.Usage (Some told)) un out = subst (λ k. IsUntaken program words k) (sym out.0) (untaken_of program words kind out.1 un)
-fits_untaken program words kind outs.PrintFault un out = λ none.
-    let is = untaken_of program words kind (no_memory kind out) un in
-    let named = is.named in
-    cc
+fits_untaken program words kind outs.PrintFault un out =
+    inr (record { kind = kind; untaken = untaken_of program words kind (no_memory kind out) un; is = out })
 fits_untaken program words kind outs.OutOfMemory un out = tt
 fits_untaken program words kind outcome un out = absurd out
 
@@ -204,9 +208,9 @@ asks_client program words asked all asks same =
 pub fits_answered : (program : Program) (words : List (List ℕ)) (asked : ClientWords) (outcome : Outcome) → AsksClient program words asked → IsAnswered outcome → FitsClientWords program words outcome
 fits_answered program words asked (outs.Usage kind) asks is = absurd is
 fits_answered program words asked (outs.BadWord word) asks is = absurd is
-fits_answered program words asked outs.PrintFault asks is = λ none. let named = asks.asks.named in cc
+fits_answered program words asked outs.PrintFault asks is = inl (record { asked = asked; asks = asks })
 fits_answered program words asked outs.OutOfMemory asks is = tt
-fits_answered program words asked outcome asks is = record { asked = asked; asks = asks }
+fits_answered program words asked outcome asks is = (record { asked = asked; asks = asks }, is)
 
 -- the calls up to the outcome, and then what is said
 pub client_run_of : {a b c : Option (List Entry)} (program : Program) (words : List (List ℕ)) (outcome : Outcome) (said : List ℕ) →

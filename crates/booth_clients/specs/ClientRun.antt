@@ -1,15 +1,15 @@
 -- The calls of a whole run of booth or geostore.
-use Rattle.std.specs.Prelude.{◌≡◌, ◌++◌, ℕ, List, [], ◌∷◌, Option, Some, None, Ok, Err, Contains, codes, if◌then◌else◌}
+use Rattle.std.specs.Prelude.{◌≡◌, ◌⊎◌, ◌++◌, ℕ, List, [], ◌∷◌, Option, Some, None, Ok, Err, Contains, codes, if◌then◌else◌}
 use Rattle.std.specs.Str.{bytes_eq}
 use Rattle.booth_host.specs.declared.entry.Entry.{Entry}
 use Rattle.booth_words.specs.declared.program.Program.{Program}
 use Rattle.booth_stages.specs.declared.outcome.Outcome.{Outcome}
-use Rattle.booth_stages.specs.declared.outcome.Outcome.TheVariants.{Usage, BadWord, PrintFault, OutOfMemory, Report, Refused}
-use Rattle.booth_stages.specs.declared.outcome.Outcome.TheVariants.{NoReply}
+use Rattle.booth_stages.specs.declared.outcome.Outcome.TheVariants.{Usage, BadWord, ConfUnread, ConfBad, KeyUnread, KeyBad}
+use Rattle.booth_stages.specs.declared.outcome.Outcome.TheVariants.{OpenFault, SendFault, NoReply, Report, Refused, PrintFault, OutOfMemory}
 use Rattle.booth_words.specs.declared.asking.ClientWords.{ClientWords}
 use Rattle.booth_words.specs.Commands.{verb_in}
 use Rattle.booth_words.specs.Asking.{AsksClient, IsUntaken, HasBadWord}
-use Rattle.booth_stages.specs.Unasked.{IsUnasked}
+use Rattle.booth_stages.specs.Unasked.{IsRequest, IsUnasked}
 use Rattle.booth_clients.specs.Client.{IsClientLog}
 use Rattle.booth_stages.specs.Texts.{IsText}
 use Rattle.booth_base.specs.declared.address.Address.{Address}
@@ -49,23 +49,33 @@ pub record IsClientRun (program : Program) (words : List (List ℕ)) (outcome : 
 
 -- an outcome of a client that was asked for
 abbrev pub IsAnswered : Outcome → Type 0
-IsAnswered (Usage kind) = ⊥
-IsAnswered (BadWord word) = ⊥
-IsAnswered outcome = Unit {0}
+IsAnswered ConfUnread = Unit {0}
+IsAnswered (ConfBad fault) = Unit {0}
+IsAnswered KeyUnread = Unit {0}
+IsAnswered (KeyBad fault) = Unit {0}
+IsAnswered OpenFault = Unit {0}
+IsAnswered SendFault = Unit {0}
+IsAnswered NoReply = Unit {0}
+IsAnswered Report = Unit {0}
+IsAnswered (Refused result) = Unit {0}
+IsAnswered PrintFault = Unit {0}
+IsAnswered OutOfMemory = Unit {0}
+IsAnswered outcome = ⊥
 
 -- the words ask for a client, whatever they say of it
 pub record AskForClient (program : Program) (words : List (List ℕ)) : Type 0 where
   pub asked : ClientWords
   pub asks : AsksClient program words asked
 
--- Usage comes only for words that are not taken, and BadWord exactly where that word is the first refused
+-- Usage comes only for words that are not taken, and BadWord exactly where that word is the first refused; all that a
+-- client may come to only where the words ask for one
 abbrev pub FitsClientWords : Program → List (List ℕ) → Outcome → Type 0
 FitsClientWords program words (Usage None) = verb_in program words ≡ None
 FitsClientWords program words (Usage (Some kind)) = IsUntaken program words kind
 FitsClientWords program words (BadWord word) = HasBadWord program words word
-FitsClientWords program words PrintFault = verb_in program words ≡ None → ⊥
+FitsClientWords program words PrintFault = AskForClient program words ⊎ IsRequest program words
 FitsClientWords program words OutOfMemory = Unit {0}
-FitsClientWords program words outcome = AskForClient program words
+FitsClientWords program words outcome = AskForClient program words × IsAnswered outcome
 
 -- ---- where nothing fails
 

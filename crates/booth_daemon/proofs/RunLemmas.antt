@@ -39,10 +39,8 @@ unasked_made words outcome said is = some_of (IsMade words outcome said) no_entr
 
 pub fits_told : (words : List (List ℕ)) (kind : ErrorKind) (outcome : Outcome) → IsUntakenFor Boothd words kind → IsToldOutcome kind outcome → FitsWords words outcome
 fits_told words kind (Usage (Some told)) un out = subst (λ k. IsUntaken Boothd words k) (sym out.0) (untaken_of Boothd words kind out.1 un)
-fits_told words kind PrintFault un out = λ none.
-    let is = untaken_of Boothd words kind (no_memory kind out) un in
-    let named = is.named in
-    cc
+fits_told words kind PrintFault un out =
+    inr (inr (record { kind = kind; untaken = untaken_of Boothd words kind (no_memory kind out) un; is = out }))
 fits_told words kind OutOfMemory un out = tt
 fits_told words kind outcome un out = absurd out
 
@@ -92,7 +90,7 @@ pub fits_looked : (words : List (List ℕ)) (lock : List ℕ) (outcome : Outcome
 fits_looked words lock Done asks is = inr (inl (record { lock = lock; asks = asks }))
 fits_looked words lock LockFault asks is = inr (record { lock = lock; asks = asks })
 fits_looked words lock NotRunning asks is = record { lock = lock; asks = asks }
-fits_looked words lock PrintFault asks is = λ none. let named = asks.asks.named in cc
+fits_looked words lock PrintFault asks is = inl (record { lock = lock; asks = asks })
 fits_looked words lock outcome asks is = absurd is
 
 -- ---- the whole run

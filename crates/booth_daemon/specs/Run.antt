@@ -11,7 +11,7 @@ use Rattle.booth_words.specs.declared.asking.SimulationWords.{SimulationWords}
 use Rattle.booth_words.specs.Commands.{verb_in}
 use Rattle.booth_words.specs.Asking.{AsksDaemon, AsksSimulation, AsksStatus, IsUntaken, HasBadWord}
 use Rattle.booth_stages.specs.Texts.{IsText}
-use Rattle.booth_stages.specs.Unasked.{IsUnasked}
+use Rattle.booth_stages.specs.Unasked.{IsRequest, IsUnasked}
 use Rattle.booth_daemon.specs.Serving.{IsServing}
 use Rattle.booth_daemon.specs.Status.{IsStatus}
 use Rattle.booth_daemon.specs.Simulating.{IsSimulated}
@@ -67,7 +67,7 @@ FitsWords words (BadWord word) = HasBadWord Boothd words word
 FitsWords words Done = AskForDaemon words ⊎ (AskForStatus words ⊎ AskForSimulation words)
 FitsWords words LockFault = AskForDaemon words ⊎ AskForStatus words
 FitsWords words NotRunning = AskForStatus words
-FitsWords words PrintFault = verb_in Boothd words ≡ None → ⊥
+FitsWords words PrintFault = AskForStatus words ⊎ (AskForSimulation words ⊎ IsRequest Boothd words)
 FitsWords words OutOfMemory = Unit {0}
 FitsWords words ConfUnread = AskForDaemon words ⊎ AskForNamed words
 FitsWords words (ConfBad fault) = AskForDaemon words ⊎ AskForNamed words

@@ -40,6 +40,13 @@ IsKeyless authfile OutOfMemory said entries =
     × (entries ≡ ReadFile file (Err reads.NoMemory) ∷ [])
 IsKeyless authfile outcome said entries = ⊥
 
+-- the outcomes of a key that did not come
+abbrev pub IsKeylessOutcome : Outcome → Type 0
+IsKeylessOutcome KeyUnread = Unit {0}
+IsKeylessOutcome (KeyBad fault) = Unit {0}
+IsKeylessOutcome OutOfMemory = Unit {0}
+IsKeylessOutcome outcome = ⊥
+
 -- the read of the key file, where one is set, and the key that it holds
 abbrev pub IsKeyRead : Option (List ℕ) → Result (Option (List ℕ)) Ended → List Entry → Type 0
 IsKeyRead authfile (Ok key) entries = (text : List ℕ) × HasKey authfile text key

@@ -42,6 +42,12 @@ IsToldOutcome kind PrintFault = is_request kind ≡ true
 IsToldOutcome kind OutOfMemory = Unit {0}
 IsToldOutcome kind outcome = ⊥
 
+-- help or the version was asked for
+pub record IsRequest (program : Program) (words : List (List ℕ)) : Type 0 where
+  pub kind : ErrorKind
+  pub untaken : IsUntaken program words kind
+  pub is : is_request kind ≡ true
+
 -- the words ask this program for nothing, by the outcome that this has
 abbrev pub IsUnasked : Program → List (List ℕ) → Outcome → List ℕ → List Entry → Type 0
 IsUnasked program words (Usage None) said entries = (verb_in program words ≡ None)

@@ -2,7 +2,7 @@
 ghost use Rattle.std.specs.Prelude.{◌≤◌, ℕ, IfErr};
 ghost use Rattle.booth_host.specs.Past.{GrewSome};
 ghost use Rattle.booth_stages.specs.Outcomes.{HasBlame, IsServed};
-ghost use Rattle.booth_stages.specs.Keys.{IsFileKey, IsFromFile, IsKeyRead};
+ghost use Rattle.booth_stages.specs.Keys.{IsFileKey, IsFromFile, IsKeyRead, IsKeylessOutcome};
 
 use crate::outcome::Ended;
 use crate::{Outcome, texts};
@@ -15,6 +15,7 @@ use std::alloc::Global;
 // The key in a key file's bytes.
 fn file_key(bytes: &[u8]) -> Result<Key, Ended>
     ensures key { IsFileKey bytes.now result }
+    ensures keyless { IfErr result (λ ended. IsKeylessOutcome ended.outcome) }
     ensures served { IfErr result (λ ended. IsServed ended.outcome) }
     ensures blame { IfErr result (λ ended. (before after : ℕ) → HasBlame ended.outcome before after) }
 {
@@ -30,6 +31,7 @@ fn file_key(bytes: &[u8]) -> Result<Key, Ended>
 // The key in the file at this path.
 fn from_file<H: Host>(alloc: Global, path: &PathText, host: &mut H) -> Result<Key, Ended>
     ensures past { GrewSome (IsFromFile path.now result) (H.past host.old) (H.past host.new) }
+    ensures keyless { IfErr result (λ ended. IsKeylessOutcome ended.outcome) }
     ensures served { IfErr result (λ ended. IsServed ended.outcome) }
     ensures blame { IfErr result (λ ended. HasBlame ended.outcome (H.faults host.old) (H.faults host.new)) }
     ensures later { H.faults host.old ≤ H.faults host.new }
@@ -50,6 +52,7 @@ fn from_file<H: Host>(alloc: Global, path: &PathText, host: &mut H) -> Result<Ke
 /// The key, where the configuration names its file.
 pub fn read_key<H: Host>(alloc: Global, config: &Config, host: &mut H) -> Result<Option<Key>, Ended>
     ensures past { GrewSome (IsKeyRead config.now.authfile result) (H.past host.old) (H.past host.new) }
+    ensures keyless { IfErr result (λ ended. IsKeylessOutcome ended.outcome) }
     ensures served { IfErr result (λ ended. IsServed ended.outcome) }
     ensures blame { IfErr result (λ ended. HasBlame ended.outcome (H.faults host.old) (H.faults host.new)) }
     ensures later { H.faults host.old ≤ H.faults host.new }
