@@ -57,7 +57,22 @@ pub(crate) fn hear(setup: &Setup, view: &mut ManualView, head: &Head, part: &Tic
             learned(setup, view, part.leader);
             Say::Nothing
         }
-        // (rounds and their answers, and what clients ask and are answered)
-        _ => Say::Nothing,
+        // (rounds and their answers)
+        Cmd::RVot | Cmd::VtFr | Cmd::HrtB | Cmd::Ack | Cmd::Rjc => Say::Nothing,
+        // (what clients ask and are answered)
+        Cmd::CLst
+        | Cmd::Peer
+        | Cmd::CGnt
+        | Cmd::CRvk
+        | Cmd::ASet
+        | Cmd::AGet
+        | Cmd::ADel
+        | Cmd::ALst
+        | Cmd::RLst
+        | Cmd::RPer
+        | Cmd::RALs
+        | Cmd::RGnt
+        | Cmd::RRvk
+        | Cmd::RAtr => Say::Nothing,
     }
 }
