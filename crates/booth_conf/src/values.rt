@@ -3,7 +3,7 @@ ghost use Rattle.std.specs.Prelude.{◌≡◌, true, bytes_eq, option_map};
 ghost use Rattle.std.specs.List.{list_all};
 ghost use Rattle.booth_conf.specs.Grammar.{is_value_byte};
 ghost use Rattle.booth_conf.specs.Keys.{number_of};
-ghost use Rattle.booth_conf.specs.ValueReader.{extra_in, kind_in, mode_in, prereq_in, setting_in, test_in, ticket_in, transport_in};
+ghost use Rattle.booth_conf.specs.ValueReader.{extra_in, kind_in, mode_in, prereq_in, setting_in, test_in, ticket_in};
 
 use crate::digits::number_within;
 use crate::keys::ConfKey;
@@ -18,10 +18,10 @@ use crate::words::{four_words, is_either};
 /// The name of the `ticket` line whose values are the defaults.
 const DEFAULTS: &str = "__default__";
 
-fn transport(bytes: &[u8]) -> Option<Transport>
-    ensures { result ≡ transport_in bytes.now }
+fn transport(bytes: &[u8]) -> Option<Setting>
+    ensures { result ≡ setting_in ConfKey.Transport bytes.now }
 {
-    is_either(bytes, "UDP", "udp").then_some(Transport::Udp)
+    is_either(bytes, "UDP", "udp").then_some(Setting::File(FileSetting::Transport(Transport::Udp)))
 }
 
 fn mode(bytes: &[u8]) -> Option<GrantKind>
@@ -107,12 +107,8 @@ impl ConfKey {
     {
         match self {
             ConfKey::Port => port(value),
-            ConfKey::Transport => transport(value).map(|t| Setting::File(FileSetting::Transport(
-                t,
-            ))),
-            ConfKey::Authfile => text(value, 1).map(|text| Setting::File(FileSetting::Authfile(
-                text,
-            ))),
+            ConfKey::Transport => transport(value),
+            ConfKey::Authfile => text(value, 1).map(FileSetting::Authfile).map(Setting::File),
             ConfKey::Maxtimeskew => {
                 number_within(value, 1, SECONDS).map(|n| Setting::File(FileSetting::Skew(n)))
             }
