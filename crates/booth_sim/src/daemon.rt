@@ -98,7 +98,14 @@ fn is_answered(call: &Entry, keeps_fail: bool) -> bool
         Entry::Keep { answer, .. } => answer.is_err() == keeps_fail,
         Entry::Send { answer, .. } => answer.is_ok(),
         Entry::Start { answer, .. } => answer.is_ok(),
-        _ => true,
+        Entry::Open { .. }
+        | Entry::Next { .. }
+        | Entry::Now { .. }
+        | Entry::ReadFile { .. }
+        | Entry::Lock { .. }
+        | Entry::Kept { .. }
+        | Entry::Out { .. }
+        | Entry::Err { .. } => true,
     }
 }
 
@@ -113,23 +120,25 @@ fn are_answered(calls: &[Entry], keeps_fail: bool) -> bool
 fn brought(call: &Entry, coming: &Coming<'_>) -> bool
     ensures { IsTrue result → Brought coming.now call.now }
 {
-    match call {
-        Entry::Next { answer, bytes, .. } => match answer {
-            Ok(arrival) => *arrival == coming.arrival && bytes.bytes() == coming.bytes,
-            Err(_) => false,
-        },
-        _ => false,
-    }
+    let Entry::Next {
+        answer: Ok(arrival),
+        bytes,
+        ..
+    } = call
+    else {
+        return false;
+    };
+    *arrival == coming.arrival && bytes.bytes() == coming.bytes
 }
 
 // Whether a call is this reading.
 fn is_reading(call: &Entry, reading: u64) -> bool
     ensures { IsTrue result → call.now ≡ Entry.Now reading }
 {
-    match call {
-        Entry::Now { reading: told } => *told == reading,
-        _ => false,
-    }
+    let Entry::Now { reading: told } = call else {
+        return false;
+    };
+    *told == reading
 }
 
 // The deeds of a turn of these calls, where it met this.
