@@ -1,8 +1,10 @@
 //! The rule for other messages, and which rule a command is heard by.
-ghost use Rattle.std.specs.Prelude.{◌≡◌, ◌<◌, ◌^◌};
+ghost use Rattle.std.specs.Prelude.{◌≡◌, ◌<◌, ◌^◌, ◌==◌, not};
 ghost use Rattle.std.specs.Option.{ForSome};
+ghost use Rattle.booth_raft.specs.Messages.{answer_cmd, round_cmd};
 ghost use Rattle.booth_raft.specs.OtherMessages.{freed, given_back, handed_on, hear, is_owner, left_alone, revoked};
 ghost use Rattle.booth_raft.specs.Sound.{IsSound};
+ghost use Rattle.booth_raft.specs.declared.view.RoundKind.{RoundKind};
 
 use crate::deed::{Deed, Told};
 use crate::messages::tells_state;
@@ -76,6 +78,65 @@ fn revoked(setup: &Setup, view: &mut View, head: &Head, term: u32, now: u64)
     }
 }
 
+// Whether a number is that of a round of this kind.
+fn is_number_of(kind: RoundKind, number: u32) -> bool
+    ensures election { kind ≡ RoundKind.Election → result ≡ (number == 0) }
+    ensures renewal { kind ≡ RoundKind.Renewal → result ≡ not (number == 0) }
+{
+    match kind {
+        RoundKind::Election => number == 0,
+        RoundKind::Renewal => number != 0,
+    }
+}
+
+// A round is heard, where its number is one of its kind: an election has number 0, and a renewal another.
+fn hear_numbered_round(
+    setup: &Setup,
+    view: &mut View,
+    kind: RoundKind,
+    head: &Head,
+    part: &TicketPart,
+    now: u64,
+) -> Deed
+    requires sound { IsSound setup.now }
+    requires early { now < 2 ^ 62 }
+    // (a round is heard alike from each place)
+    ensures view { view.new ≡ (hear setup.now view.old 0 head.now part.now now (round_cmd kind)).view }
+    ensures deed { result ≡ (hear setup.now view.old 0 head.now part.now now (round_cmd kind)).deed }
+{
+    with_seen(view, part.term);
+    if is_number_of(kind, head.options) {
+        hear_round(setup, view, kind, head, part, now)
+    } else {
+        Deed::quiet()
+    }
+}
+
+// An answer of the member at a place is heard, where its number is that of a round of its kind.
+fn hear_numbered_answer(
+    setup: &Setup,
+    view: &mut View,
+    place: u32,
+    kind: RoundKind,
+    head: &Head,
+    part: &TicketPart,
+    now: u64,
+) -> Deed
+    requires sound { IsSound setup.now }
+    requires early { now < 2 ^ 62 }
+    requires place { place < setup.now.members }
+    requires opened { ForSome view.old.round (λ round. round.opened < 2 ^ 62) }
+    ensures view { view.new ≡ (hear setup.now view.old place head.now part.now now (answer_cmd kind)).view }
+    ensures deed { result ≡ (hear setup.now view.old place head.now part.now now (answer_cmd kind)).deed }
+{
+    with_seen(view, part.term);
+    if is_number_of(kind, head.options) {
+        hear_answer(setup, view, place, head, part, now)
+    } else {
+        Deed::quiet()
+    }
+}
+
 // A message of the member at a place is heard.
 pub(crate) fn hear(
     setup: &Setup,
@@ -92,40 +153,11 @@ pub(crate) fn hear(
     ensures view { view.new ≡ (hear setup.now view.old place head.now part.now now head.now.cmd).view }
     ensures deed { result ≡ (hear setup.now view.old place head.now part.now now head.now.cmd).deed }
 {
-    let elects = head.options == 0;
     match head.cmd {
-        Cmd::RVot => {
-            with_seen(view, part.term);
-            if elects {
-                hear_round(setup, view, RoundKind::Election, head, part, now)
-            } else {
-                Deed::quiet()
-            }
-        }
-        Cmd::HrtB => {
-            with_seen(view, part.term);
-            if !elects {
-                hear_round(setup, view, RoundKind::Renewal, head, part, now)
-            } else {
-                Deed::quiet()
-            }
-        }
-        Cmd::VtFr => {
-            with_seen(view, part.term);
-            if elects {
-                hear_answer(setup, view, place, head, part, now)
-            } else {
-                Deed::quiet()
-            }
-        }
-        Cmd::Ack => {
-            with_seen(view, part.term);
-            if !elects {
-                hear_answer(setup, view, place, head, part, now)
-            } else {
-                Deed::quiet()
-            }
-        }
+        Cmd::RVot => hear_numbered_round(setup, view, RoundKind::Election, head, part, now),
+        Cmd::HrtB => hear_numbered_round(setup, view, RoundKind::Renewal, head, part, now),
+        Cmd::VtFr => hear_numbered_answer(setup, view, place, RoundKind::Election, head, part, now),
+        Cmd::Ack => hear_numbered_answer(setup, view, place, RoundKind::Renewal, head, part, now),
         Cmd::Stat => {
             learned(setup, view, part, now);
             Deed::saying(tells_state(setup, view, head, now), Told::Nothing)
@@ -140,6 +172,19 @@ pub(crate) fn hear(
             Deed::quiet()
         }
         // (what clients ask and are answered)
-        _ => Deed::quiet(),
+        Cmd::CLst
+        | Cmd::Peer
+        | Cmd::CGnt
+        | Cmd::CRvk
+        | Cmd::ASet
+        | Cmd::AGet
+        | Cmd::ADel
+        | Cmd::ALst
+        | Cmd::RLst
+        | Cmd::RPer
+        | Cmd::RALs
+        | Cmd::RGnt
+        | Cmd::RRvk
+        | Cmd::RAtr => Deed::quiet(),
     }
 }
