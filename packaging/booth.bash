@@ -21,10 +21,25 @@ _booth_values() {
   done 2>/dev/null <"$(_booth_conf)"
 }
 
-# what stands in a list and begins with the word
+# The lines of a list that begin with the word, as a shell reads them. What stands there comes from a file, so nothing of it is
+# expanded, neither here, as compgen -W would, nor once it is on the command line.
 _booth_reply() {
-  local IFS=$'\n'
-  COMPREPLY=($(compgen -W "$1" -- "$2"))
+  local each
+  COMPREPLY=()
+  while IFS= read -r each; do
+    [[ -n $each && $each == "$2"* ]] || continue
+    printf -v each %q "$each"
+    COMPREPLY+=("$each")
+  done <<<"$1"
+}
+
+# the files and directories that begin with the word
+_booth_files() {
+  local each
+  while IFS= read -r each; do
+    printf -v each %q "$each"
+    COMPREPLY+=("$each")
+  done < <(compgen "$@")
 }
 
 _booth_complete() {
@@ -52,12 +67,13 @@ _booth_complete() {
   fi
   case $before in
     -c)
-      _booth_reply "$(cd /etc/booth 2>/dev/null && for f in *.conf; do [[ -e $f ]] && echo "${f%.conf}"; done)" "$word"
-      COMPREPLY+=($(compgen -f -X '!*.conf' -- "$word") $(compgen -d -S / -- "$word"))
+      _booth_reply "$(cd /etc/booth 2>/dev/null && for f in *.conf; do [[ -e $f ]] && printf '%s\n' "${f%.conf}"; done)" "$word"
+      _booth_files -f -X '!*.conf' -- "$word"
+      _booth_files -d -S / -- "$word"
       return ;;
     -s) _booth_reply "$(_booth_values site arbitrator)" "$word"; return ;;
     -t) _booth_reply "$(_booth_values ticket)" "$word"; return ;;
-    -l | -d) COMPREPLY=($(compgen -f -- "$word")); return ;;
+    -l | -d) COMPREPLY=(); _booth_files -f -- "$word"; return ;;
     -n | -e | -r) return ;;
   esac
   if [[ $word == -* ]]; then

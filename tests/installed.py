@@ -237,7 +237,7 @@ def completed(*words):
     )
     done = run("bash", "-c", script, "bash", *words)
     need(not done.stderr, done.stderr)
-    return done.stdout.split()
+    return done.stdout.splitlines() if done.stdout.strip() else []
 
 
 def completion_offers(room):
@@ -270,6 +270,15 @@ def completion_offers(room):
     for words, offered in cases:
         got = completed(*words)
         need(got == offered, f"{' '.join(words)}: {got}")
+    # a name is no program, wherever it stands: nothing of it is expanded, also once it is on the command line
+    names = [f"$(touch {room}/ran)", f"`touch {room}/ran`", f"$(touch${{IFS}}{room}/ran)", "it's", 'two" words', "*"]
+    odd = f"{room}/odd.conf"
+    with open(odd, "w", encoding="utf-8") as file:
+        file.writelines(f"ticket = '{name}'\n" if "'" not in name else f'ticket = "{name}"\n' for name in names)
+    got = completed("booth", "grant", "-c", odd, "")
+    need(not os.path.exists(f"{room}/ran"), "a name of a configuration was run as a program")
+    shell = run("bash", "-c", f"printf '%s\\n' {' '.join(got)}")
+    need(shell.stdout.splitlines() == names, f"{got} is read as {shell.stdout}{shell.stderr}")
     return None
 
 
