@@ -226,7 +226,11 @@ def keys_are_made_once(room):
     need(done.returncode == 1 and "is there already" in done.stderr, f"status {done.returncode}: {done.stderr}")
     with open(key, "rb") as file:
         need(file.read() == first, "the key was changed")
-    need(run(f"{TOP}/packaging/booth-keygen", f"{room}/none/key").returncode == 1, "a directory that is missing")
+    os.symlink(f"{room}/nowhere", f"{room}/link")
+    done = run(f"{TOP}/packaging/booth-keygen", f"{room}/link")
+    need(done.returncode == 1 and "is there already" in done.stderr, f"a link to nothing: {done.stderr}")
+    done = run(f"{TOP}/packaging/booth-keygen", f"{room}/none/key")
+    need(done.returncode == 1 and "cannot be made" in done.stderr, f"a directory that is missing: {done.stderr}")
 
 
 def completed(*words):
