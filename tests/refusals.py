@@ -348,8 +348,10 @@ def each_kind_is_served(room):
     ):
         with room.serving(station, here(room, text)) as daemon, Asker(daemon) as asker:
             asker.asks("CLst")
-    example = f"{TOP}/examples/booth.conf"
-    room.refuses(room.words(example, "147.4.215.19"), b"cannot read /etc/booth/authkey")
+    missing = b"%s/missing" % room.folder.encode()
+    with open(f"{TOP}/examples/booth.conf", "rb") as file:
+        example = room.file(file.read().replace(b"/etc/booth/authkey", missing), "example.conf")
+    room.refuses(room.words(example, "192.0.2.10"), b"cannot read " + missing)
 
 
 def with_key(room, path):
