@@ -3,10 +3,9 @@
 
 Run it as `python3 bench/run.py [--quick] [PROGRAM]`, PROGRAM being what `make build` leaves where
 it is left out. It prints one table, and has the status 1 where a mark is missed by more than a
-tenth. It builds its four helpers with cc, needs Linux's /proc and the right to write what boothd
-locks, and takes half a minute; --quick takes some seconds. A speed is that of the best of many
-short rounds, since other work on the machine spoils some of them; for the same reason the lowest
-start may tell more than the median.
+tenth. It builds its four programs in C with cc, needs Linux's /proc, and takes half a minute;
+--quick takes some seconds. A speed is that of the best of many short rounds, since other work on
+the machine spoils some of them; for the same reason the lowest start may tell more than the median.
 """
 
 import hmac
@@ -25,8 +24,7 @@ sys.path.insert(0, f"{HERE}/../tools")
 
 import frames
 from frames import MEMBERS_SAY, NO_ONE, member_id, request_now
-from serving import NotServing, Server, boothd, built_program, end_by_signals, lock_trouble
-from serving import own_addresses, turn
+from serving import NotServing, Server, boothd, built_program, end_by_signals, own_addresses
 from texts import long_text, many_tickets, one_ticket
 
 KEY = b"k" * 32
@@ -104,10 +102,11 @@ class Bench:
         text = text.replace(b"@", self.address.encode())
         if key:
             text += b"authfile = %s\n" % self.key_file.encode()
-        return boothd(self.program, self.file("booth.conf", text), self.address, key=key)
+        places = ("-l", f"{self.folder}/lock", "-d", f"{self.folder}/records")
+        return boothd(self.program, self.file("booth.conf", text), self.address, key=key, options=places)
 
     def said(self, *words):
-        """The numbers that a helper prints, the first of them as seconds."""
+        """The numbers that a program in C prints, the first of them as seconds."""
         ran = subprocess.run(words, stdout=subprocess.PIPE, check=True)
         took, *others = map(int, ran.stdout.split())
         return [took / 1e9, *others]
@@ -393,10 +392,7 @@ def main(words):
     if program is None:
         sys.exit("run.py: boothd is not built: run make build")
     parts = (speed_rows, full_rows, start_rows, client_rows, idle_rows, member_rows, hostile_rows, parse_rows)
-    with turn("run.py"), tempfile.TemporaryDirectory(prefix="booth-bench-") as folder:
-        trouble = lock_trouble()
-        if trouble:
-            sys.exit(f"run.py: {trouble}")
+    with tempfile.TemporaryDirectory(prefix="booth-bench-") as folder:
         load = os.getloadavg()[0]
         try:
             bench = Bench(os.path.abspath(program), folder, effort)

@@ -1,6 +1,6 @@
 /* Draws the words of a simulation's events and does nothing with them: what `boothd sim` cannot be faster than.
  *
- * PCG32 as its paper has it: a state of 64 bits, a stream of which the increment is made, and a rotation of what is left. */
+ * PCG32 as it is defined: a state of 64 bits, a stream of which the increment is made, and a rotation of what is left. */
 #include <inttypes.h>
 #include <stdint.h>
 #include <stdio.h>

@@ -4,7 +4,7 @@
 Run it as `python3 tests/loopback.py [PROGRAM [WORD]]`, PROGRAM being what `make build` leaves where
 it is left out; with WORD only the checks with it in their sentences run. It prints a line for each
 check, ends all that it started, and has the status 1 where a check failed. Where boothd is not
-built, or this user may not open what it locks, it checks nothing, with status 0.
+built it checks nothing, with status 0. Its daemons have locks and directories of their own.
 
 The checks stand in replies.py and refusals.py. What they expect is written by hand or computed by
 Python's standard library, and never the program's own output.
@@ -22,7 +22,7 @@ sys.path[:0] = [HERE, f"{HERE}/../tools"]
 import refusals
 import replies
 from room import Room, Wrong, checks
-from serving import LOCK, RECORDS, built_program, end_by_signals, lock_trouble, turn
+from serving import built_program, end_by_signals, turn
 
 
 def passes(check, room):
@@ -48,13 +48,6 @@ def run(program, word):
     return failed
 
 
-def may_open(path, access):
-    """Whether this user may open what boothd opens, or makes where it is missing."""
-    if os.path.exists(path):
-        return os.access(path, access)
-    return os.access(os.path.dirname(path), os.W_OK)
-
-
 def main(words):
     end_by_signals()
     program = words[0] if words else built_program()
@@ -63,14 +56,8 @@ def main(words):
         return 0
     if not os.access(program, os.X_OK):
         sys.exit(f"loopback.py: cannot run {program}")
-    for path, access in ((LOCK, os.R_OK), (RECORDS, os.W_OK)):
-        if not may_open(path, access):
-            print(f"loopback: skipped, since this user may not open {path}, as boothd does")
-            return 0
+    # (one of its checks looks at the usual lock)
     with turn("loopback"):
-        trouble = lock_trouble()
-        if trouble:
-            sys.exit(f"loopback.py: {trouble}")
         return 1 if run(program, words[1] if len(words) > 1 else "") else 0
 
 

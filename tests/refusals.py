@@ -14,7 +14,7 @@ import subprocess
 import frames
 from gate import Station
 from room import Asker, check, require
-from serving import LOCK, RECORDS, TOP
+from serving import LOCK, TOP
 
 # a file that is served, line by line, with this machine's address as @
 FILE = b"""site = "@"
@@ -381,21 +381,22 @@ def bad_keys(room):
 @check
 def already_running(room):
     """one daemon has a lock, and a second one is told so, after its own files were read"""
-    with room.usual_daemon() as daemon, Asker(daemon) as asker:
+    places = room.own_places("running")
+    with room.serving(options=places) as daemon, Asker(daemon) as asker:
         words = daemon.server.words[1:]
         room.refuses(words, b"already running")
         # at another address too
         other = room.file(LEAST.replace(b"10.0.0.1", b"127.0.0.1"), "other.conf")
-        room.refuses(room.words(other, "127.0.0.1"), b"already running")
+        room.refuses([*room.words(other, "127.0.0.1"), *places], b"already running")
         missing = f"{room.folder}/missing"
-        room.refuses(room.words(missing), b"cannot read %s" % missing.encode())
-        room.refuses(room.words(other, "10.0.0.1"), b"10.0.0.1 is not a member")
+        room.refuses([*room.words(missing), *places], b"cannot read %s" % missing.encode())
+        room.refuses([*room.words(other, "10.0.0.1"), *places], b"10.0.0.1 is not a member")
         short = with_key(room, room.file(b"x", "key"))
-        room.refuses(room.words(short), b"key too short")
+        room.refuses([*room.words(short), *places], b"key too short")
         asker.asks("CLst")
         asker.asks("Peer")
     # (the file is left behind, and no lock any more)
-    with room.usual_daemon() as daemon, Asker(daemon) as asker:
+    with room.serving(options=places) as daemon, Asker(daemon) as asker:
         asker.asks("CLst")
 
 
@@ -414,6 +415,41 @@ def two_daemons(room):
         asker.asks("CLst")
 
 
+@contextlib.contextmanager
+def locked(path):
+    """The lock of this file, as another program holds it."""
+    with open(path, "rb") as file:
+        fcntl.flock(file, fcntl.LOCK_EX | fcntl.LOCK_NB)
+        yield
+
+
+def is_locked(path):
+    """Whether another program holds the lock of this file."""
+    try:
+        with locked(path):
+            return False
+    except FileNotFoundError:
+        return False
+    except BlockingIOError:
+        return True
+
+
+def may_open(path):
+    """Whether this user may open a lock file, or make it where it is missing."""
+    return os.access(path, os.R_OK) if os.path.exists(path) else os.access(os.path.dirname(path), os.W_OK)
+
+
+@contextlib.contextmanager
+def left_as_it_was(path):
+    """A `with` block behind which a file is gone that was not there before."""
+    was_there = os.path.exists(path)
+    try:
+        yield
+    finally:
+        if not was_there and os.path.exists(path):
+            os.remove(path)
+
+
 @check
 def status(room):
     """status says whether a daemon holds the lock, and its exit status says it too"""
@@ -424,7 +460,11 @@ def status(room):
     require(room.ended(look) == stopped, "a daemon is said to run before it was started")
     with room.serving(options=options) as daemon, Asker(daemon) as asker:
         require(room.ended(look) == running, "a daemon that runs is not said to run")
-        require(room.ended(["status"]) == stopped, "a daemon is said to hold the lock of no other")
+        # the usual lock is that of no daemon here, but one of this machine may have it
+        if may_open(LOCK):
+            with left_as_it_was(LOCK):
+                usual = running if is_locked(LOCK) else stopped
+                require(room.ended(["status"]) == usual, "a daemon is said to hold the lock of no other")
         asker.asks("CLst")
     require(room.ended(look) == stopped, "a daemon is said to run after its end")
     missing = f"{room.folder}/missing/lock"
@@ -442,21 +482,15 @@ def counted_turns(room):
 @check
 def port_in_use(room):
     """a port in use, and an address of another machine, cannot be opened"""
-    path = room.file(here(room, FILE) + SITE)
+    # (an address that is kept for documents, and so no machine's)
+    path, elsewhere = room.file(here(room, FILE) + b"site = 192.0.2.1\n"), "192.0.2.1"
+    places = room.own_places("port")
     with socket.socket(socket.AF_INET, socket.SOCK_DGRAM) as holder:
         holder.bind((room.address, frames.PORT))
-        room.refuses(room.words(path), b"cannot open")
-    room.refuses(room.words(path, "10.0.0.1"), b"cannot open")
-    with room.usual_daemon() as daemon, Asker(daemon) as asker:
+        room.refuses([*room.words(path), *places], b"cannot open")
+    room.refuses([*room.words(path, elsewhere), *places], b"cannot open")
+    with room.serving(options=places) as daemon, Asker(daemon) as asker:
         asker.asks("CLst")
-
-
-@contextlib.contextmanager
-def locked(path):
-    """The lock of this file, as another program holds it."""
-    with open(path, "rb") as file:
-        fcntl.flock(file, fcntl.LOCK_EX | fcntl.LOCK_NB)
-        yield
 
 
 def mode(path):
@@ -466,30 +500,29 @@ def mode(path):
 @check
 def own_lock_files(room):
     """the lock files that it makes are its user's alone, since whoever opens one can hold its lock"""
-    with room.usual_daemon():
-        pass
-    path = f"{RECORDS}/booth.lock"
-    for path in (LOCK, path) if os.access(os.path.dirname(LOCK), os.W_OK) else (path,):
-        with locked(path):
-            os.remove(path)
-        with room.usual_daemon():
+    places = room.own_places("locks")
+    paths = places[1], f"{places[3]}/booth.lock"
+    with room.serving(options=places):
+        for path in paths:
             require(mode(path) == 0o600, f"{path} has the mode {mode(path):o}")
-        # one that is there stays as it is
+    # those that are there stay as they are
+    for path in paths:
         os.chmod(path, 0o640)
-        with room.usual_daemon():
+    with room.serving(options=places):
+        for path in paths:
             require(mode(path) == 0o640, f"the mode of {path} was changed to {mode(path):o}")
-        os.chmod(path, 0o600)
 
 
 @check
 def one_daemon_for_records(room):
     """where another program has the directory of the records, nothing is opened"""
-    path = room.file(here(room, FILE) + SITE)
-    with room.usual_daemon():
+    places = room.own_places("taken")
+    with room.serving(options=places):
         pass
-    with locked(f"{RECORDS}/booth.lock"):
-        room.refuses(room.words(path), b"cannot open")
-    with room.usual_daemon() as daemon, Asker(daemon) as asker:
+    path = room.file(here(room, FILE) + SITE)
+    with locked(f"{places[3]}/booth.lock"):
+        room.refuses([*room.words(path), *places], b"cannot open")
+    with room.serving(options=places) as daemon, Asker(daemon) as asker:
         asker.asks("CLst")
 
 
@@ -517,12 +550,11 @@ def unread_standard_error(room):
 @check
 def closed_standard_error(room):
     """where standard error is closed, what is said goes nowhere, and not into the lock file"""
-    path = room.file(here(room, FILE) + SITE)
-    before = os.path.getsize(LOCK) if os.path.exists(LOCK) else 0
+    path, places = room.file(here(room, FILE) + SITE), room.own_places("closed")
     streams = {"stdin": subprocess.DEVNULL, "stdout": subprocess.DEVNULL, "timeout": 5}
     with socket.socket(socket.AF_INET, socket.SOCK_DGRAM) as holder:
         holder.bind((room.address, frames.PORT))
-        words = [room.program, *room.words(path)]
+        words = [room.program, *room.words(path), *places]
         ran = subprocess.run(words, preexec_fn=lambda: os.close(2), **streams)
     require(ran.returncode == 1, f"the run had status {ran.returncode}")
-    require(os.path.getsize(LOCK) == before, "something was written into the lock file")
+    require(os.path.getsize(places[1]) == 0, "something was written into the lock file")

@@ -269,10 +269,6 @@ class Room:
         """The options of a daemon with a lock and a directory of its own."""
         return ["-l", f"{self.folder}/{name}.lock", "-d", f"{self.folder}/{name}"]
 
-    def usual_daemon(self):
-        """A daemon with the usual lock and directory, and a ticket that no earlier daemon has granted."""
-        return self.serving(self.station(tickets=(b"loopback",)), options=())
-
     def words(self, path, address=None):
         return ["daemon", "-c", path, "-s", address or self.address]
 

@@ -1,7 +1,7 @@
 """Starts boothd, waits until it answers, and ends it whatever comes, for the Python programs here.
 
-It is imported by tools/demo.py, tests/loopback.py and bench/run.py, and not run by itself. The
-daemons that they start lock one file, where they are given no other: so these programs take turns.
+It is imported by tools/demo.py and the programs in tests/ and bench/, and not run by itself. Each daemon is given a
+lock, a directory and mostly an address of its own; programs that share something take turns.
 """
 
 import contextlib
@@ -20,16 +20,13 @@ SECONDS_TO_START = 5
 
 TOP = os.path.dirname(os.path.dirname(os.path.abspath(__file__)))
 
-# what boothd locks while it runs, and the directory that it keeps its records in, which it locks too
+# what boothd locks where no other file is named
 LOCK = "/var/run/booth.lock"
-RECORDS = "/var/lib/booth"
 
 # what may help, by what boothd said
 HINTS = {
-    "already running": f"another boothd of this machine holds {LOCK}: end it first",
-    f"cannot lock {LOCK}": "boothd makes or opens that file, so run it as a user who may, as root",
-    "cannot open": "its port is in use, the address is none of this machine, or the user may not make"
-    f" or lock {RECORDS}, or another boothd has",
+    "already running": "another boothd holds its lock: end that one first",
+    "cannot open": "its port is in use, the address is none of this machine, or another boothd has its directory of records",
 }
 
 
@@ -70,18 +67,6 @@ def turn(name):
         yield
     finally:
         os.close(folder)
-
-
-def lock_trouble():
-    """Why boothd cannot take its lock here now, with a hint, or None where it can."""
-    try:
-        with open(LOCK, "rb" if os.path.exists(LOCK) else "ab") as file:
-            fcntl.flock(file, fcntl.LOCK_EX | fcntl.LOCK_NB)
-    except BlockingIOError:
-        return HINTS["already running"]
-    except OSError as error:
-        return f"{LOCK}: {error.strerror}: {HINTS[f'cannot lock {LOCK}']}"
-    return None
 
 
 class NotServing(Exception):
