@@ -58,7 +58,7 @@ uninstall:
 deb: $(PACKAGE)
 
 $(PACKAGE): build $(wildcard packaging/*)
-	@rm -rf out/deb
+	@rm -rf out/deb out/booth-proved_*.deb
 	@$(MAKE) --no-print-directory install PREFIX=/usr DESTDIR=out/deb
 	@# (the code stays as it was proved: names alone go)
 	@strip $(PROGRAMS:%=out/deb/usr/sbin/%) 2>/dev/null || true

@@ -15,6 +15,7 @@ the whole run, and never from what a daemon says of itself.
 
 import os
 import shutil
+import subprocess
 import sys
 import tempfile
 import time
@@ -271,7 +272,7 @@ def run(program, client, geostore):
                     printed = [member.printed() for member in cluster.members]
                     require(not any(printed), f"a daemon printed {printed}")
                     passed(f"no two held at one moment of {cluster.watch.looks} ({function.__doc__})")
-                except (Wrong, NotServing, OSError) as why:
+                except (Wrong, NotServing, OSError, subprocess.TimeoutExpired) as why:
                     print(f"FAILED  {function.__doc__}: {why}", flush=True)
                     failed += 1
                 looks += cluster.watch.looks

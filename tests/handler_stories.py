@@ -7,7 +7,7 @@ import os
 import subprocess
 import time
 
-from members import MANUAL, Ran, now, wait_for
+from members import MANUAL, SECONDS_OF_BOOTH, Ran, now, wait_for
 from stories import BY_HAND, NAME, SLACK, abstains, is_held_by, passed, require, says, story
 
 # What a site's handler does: it notes each run and its descriptors, and then sleeps or fails where a file says so.
@@ -67,9 +67,10 @@ class Handler:
 
 def answered_meanwhile(member, asker):
     """Asks for the list until this run of booth is over. The longest that an answer took."""
-    longest = 0
+    longest, end = 0, time.monotonic() + SECONDS_OF_BOOTH
     while asker.poll() is None:
         asked = time.monotonic()
+        require(asked < end, "a grant that waits does not end")
         require(member.ask("CLst") is not None, "a list is not answered while the handler runs")
         longest = max(longest, time.monotonic() - asked)
         time.sleep(0.01)
@@ -95,9 +96,13 @@ def sites_with_a_handler(cluster):
     first.set("sleeps", "2")
     asked = now()
     words = [cluster.client, "grant", "-w", NAME, "-c", cluster.conf, "-s", one.address]
-    asker = subprocess.Popen(words, stdin=subprocess.DEVNULL, stdout=subprocess.PIPE, text=True)
-    longest = answered_meanwhile(one, asker)
-    require((asker.wait(), asker.communicate()[0]) == (0, f"ticket {NAME} granted\n"), "the grant failed")
+    with subprocess.Popen(words, stdin=subprocess.DEVNULL, stdout=subprocess.PIPE, text=True) as asker:
+        try:
+            longest = answered_meanwhile(one, asker)
+            printed = asker.communicate(timeout=SECONDS_OF_BOOTH)[0]
+        finally:
+            asker.kill()
+    require((asker.returncode, printed) == (0, f"ticket {NAME} granted\n"), "the grant failed")
     require(now() - asked > 2, "the grant did not wait for its handler")
     require(longest < SLACK, f"a list took {longest:.2f} s")
     first.clear("sleeps")

@@ -10,11 +10,13 @@ import gzip
 import os
 import re
 import shutil
+import signal
 import socket
 import stat
 import subprocess
 import sys
 import tempfile
+import threading
 import time
 
 HERE = os.path.dirname(os.path.abspath(__file__))
@@ -22,7 +24,7 @@ TOP = os.path.dirname(HERE)
 sys.path[:0] = [HERE, f"{TOP}/tools"]
 
 from frames import PORT
-from serving import built_program, own_addresses
+from serving import built_program, end_by_signals, own_addresses, turn
 
 # each program with its commands; one that is not built yet is left out
 PROGRAMS = {
@@ -32,6 +34,8 @@ PROGRAMS = {
 }
 # how exposed the service may be at most, as `systemd-analyze security` counts it
 MOST_EXPOSED = 2.0
+# how long the walk through the first cluster may take
+SECONDS_OF_A_WALK = 120
 
 
 class Wrong(Exception):
@@ -307,8 +311,9 @@ def package_is_whole(room):
 
 def package():
     """The path of the package that was built."""
-    (built,) = [f"{TOP}/out/{name}" for name in os.listdir(f"{TOP}/out") if name.endswith(".deb")]
-    return built
+    built = [f"{TOP}/out/{name}" for name in os.listdir(f"{TOP}/out") if re.fullmatch(r"booth-proved_.*\.deb", name)]
+    need(len(built) == 1, f"out/ has the packages {built}")
+    return built[0]
 
 
 def package_has_no_fault(room):
@@ -432,26 +437,38 @@ def walked(text, room):
     os.makedirs(folder)
     with subprocess.Popen(
         ["bash"], cwd=folder, stdin=subprocess.PIPE, stdout=subprocess.PIPE, stderr=subprocess.DEVNULL, text=True,
-        env={**os.environ, "PATH": f"{room}/kept/usr/sbin:{os.environ['PATH']}"},
+        env={**os.environ, "PATH": f"{room}/kept/usr/sbin:{os.environ['PATH']}"}, start_new_session=True,
     ) as shell:
-        for command, wanted in steps:
-            command = command.replace("/usr/share/doc/booth-proved", f"{room}/kept/usr/share/doc/booth-proved")
-            shell.stdin.write(f"{command}\necho end-of-step\n")
-            shell.stdin.flush()
-            got = list(iter(lambda: shell.stdout.readline().rstrip("\n") or None, "end-of-step"))
-            need(got == wanted, f"{command}: {got} in place of {wanted}")
-        shell.stdin.close()
+        # (all that it started is of its group, whose number is nobody else's until the shell is waited for)
+        end = lambda: os.killpg(shell.pid, signal.SIGKILL)
+        bound = threading.Timer(SECONDS_OF_A_WALK, end)
+        bound.start()
+        try:
+            for command, wanted in steps:
+                command = command.replace("/usr/share/doc/booth-proved", f"{room}/kept/usr/share/doc/booth-proved")
+                shell.stdin.write(f"{command}\necho end-of-step\n")
+                shell.stdin.flush()
+                got = list(step_lines(shell))
+                need(got == wanted, f"{command}: {got} in place of {wanted}")
+        finally:
+            bound.cancel()
+            end()
+
+
+def step_lines(shell):
+    """The lines that a step prints."""
+    for line in shell.stdout:
+        if line == "end-of-step\n":
+            return
+        yield line.rstrip("\n")
+    raise Wrong("the shell ended")
 
 
 def first_cluster_is_as_written(room):
     """the first cluster of docs/OPERATING.md prints what stands there"""
-    try:
+    # (its addresses and its port stand in the example)
+    with turn("installed"):
         walked(read(f"{TOP}/docs/OPERATING.md"), room)
-    finally:
-        # the daemons that a failed walk left
-        for name in ("a.pid", "b.pid", "c.pid"):
-            if os.path.exists(f"{room}/walk/{name}"):
-                subprocess.run(["kill", "-9", read(f"{room}/walk/{name}").strip()], capture_output=True, check=False)
 
 
 CHECKS = [
@@ -484,6 +501,7 @@ def passes(check, room):
 
 
 def main():
+    end_by_signals()
     if built_program() is None:
         print("installed: boothd is not built (make build), so nothing is checked")
         return 0

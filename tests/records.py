@@ -19,12 +19,18 @@ import tempfile
 import time
 
 TOP = os.path.dirname(os.path.dirname(os.path.abspath(__file__)))
+sys.path.insert(0, f"{TOP}/tools")
+
+from serving import end_by_signals
+
 PROGRAM = f"{TOP}/crates/keeps/out/keeps"
 FILE = b"ticket-db8".hex() + ".rec"
 
 KILLS, SECONDS = 2_000, 55
 # the longest time from a start to its end, in seconds; a run gets to some keeps in it
 LONGEST = 0.02
+# how long a run to its end may take
+SECONDS_OF_A_RUN = 60
 SEED = 9929
 
 
@@ -52,7 +58,7 @@ def said(output):
 
 def run(program, directory, count, **more):
     """What a run to its end said, and its status."""
-    done = subprocess.run([program, directory, str(count)], stdout=subprocess.PIPE, stderr=subprocess.PIPE, **more)
+    done = subprocess.run([program, directory, str(count)], capture_output=True, timeout=SECONDS_OF_A_RUN, **more)
     return *said(done.stdout), done.returncode
 
 
@@ -60,8 +66,10 @@ def killed(program, directory, seconds):
     """What a run said that was ended after so many seconds."""
     words = [program, directory, "1000000"]
     with subprocess.Popen(words, stdout=subprocess.PIPE, stderr=subprocess.DEVNULL) as process:
-        time.sleep(seconds)
-        process.send_signal(signal.SIGKILL)
+        try:
+            time.sleep(seconds)
+        finally:
+            process.kill()
         return said(process.stdout.read())
 
 
@@ -117,7 +125,8 @@ def small_disk(folder):
         yield place if mounted else None
     finally:
         if mounted:
-            subprocess.run(["umount", place], check=True)
+            # (as soon as nobody is in it)
+            subprocess.run(["umount", "-l", place], check=False)
 
 
 def a_full_disk_keeps_nothing_until_there_is_room(program, folder):
@@ -161,6 +170,7 @@ CHECKS = (
 
 
 def main(words):
+    end_by_signals()
     program = os.path.abspath(words[0] if words else PROGRAM)
     if not os.access(program, os.X_OK):
         print(f"tests/records.py: {program} is not built, so nothing was checked")
@@ -171,7 +181,7 @@ def main(words):
             name = check.__name__.replace("_", " ")
             try:
                 print(f"ok: {name}: {check(program, folder)}", flush=True)
-            except Wrong as why:
+            except (Wrong, subprocess.TimeoutExpired) as why:
                 wrong = 1
                 print(f"WRONG: {name}: {why}", flush=True)
     return wrong
