@@ -80,7 +80,7 @@ $(PROGRAMS:%=out/%):
 crates/boothd/out/boothd crates/booth/out/booth crates/geostore/out/geostore: $(SOURCES)
 	@$(NEEDS_RT)
 	@mkdir -p out
-	@echo "proving and building $(notdir $@), some minutes at first (out/build.log)"
+	@echo "proving and building $(notdir $@), half an hour or more at first (out/build.log)"
 	@rm -f $@
 	@(cd crates/$(notdir $@) && rt run) 2>&1 </dev/null | tee out/build.log | tools/progress.sh; \
 	  test -x $@ || { tail -n 30 out/build.log; exit 1; }
