@@ -17,9 +17,13 @@ use Rattle.booth_client.specs.Waiting.{IsFirstWait, IsFinalWait, is_begun}
 
 -- ---- what a datagram holds
 
--- the reply that came is what these bytes are to a request of this order
+-- the reply is what these bytes are to a request of this order
+abbrev pub IsReplyIn : Asking → Reply → List ℕ → Type 0
+IsReplyIn asking reply bytes = (start : ℕ) × (reply_in asking start bytes ≡ Some reply)
+
+-- the bytes are those of the reply that came
 abbrev pub IsHeld : Asking → Waited → List ℕ → Type 0
-IsHeld asking (Came reply reading) bytes = (start : ℕ) × (reply_in asking start bytes ≡ Some reply)
+IsHeld asking (Came reply reading) bytes = IsReplyIn asking reply bytes
 IsHeld asking Over bytes = Unit {0}
 
 abbrev pub IsAnswerHeld : Asking → Result Waited Failed → List ℕ → Type 0

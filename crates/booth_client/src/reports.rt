@@ -1,8 +1,7 @@
 //! What is printed of a reply.
 ghost use Rattle.std.specs.Prelude.{◌≡◌, ◌++◌, ℕ, List, codes, IfOk, MatchOption};
 ghost use Rattle.booth_wire.specs.PlainMessage.{content_of, plain_of};
-ghost use Rattle.booth_client.specs.declared.wait.Waited.{Waited};
-ghost use Rattle.booth_client.specs.Talk.{IsHeld};
+ghost use Rattle.booth_client.specs.Talk.{IsReplyIn};
 ghost use Rattle.booth_client.specs.Report.{IsReport, IsReportOf, IsShown, grant_text, revoke_text, text_in, ticket_in, value_in};
 
 use crate::lines::{Form, shown_lines};
@@ -115,10 +114,9 @@ pub fn report_of(
     alloc: Global,
     asking: &Asking,
     reply: &Reply,
-    reading: u64,
     bytes: &[u8],
 ) -> Result<ByteText, AllocError>
-    requires { IsHeld asking.now (Waited.Came reply.now reading) bytes.now }
+    requires { IsReplyIn asking.now reply.now bytes.now }
     ensures { IfOk result (λ report. IsReportOf asking.now.order bytes.now report) }
 {
     match decode(bytes) {

@@ -1,8 +1,7 @@
 //! How a talk ends: with the report of a good reply, with a refusal, or without a reply.
 ghost use Rattle.std.specs.Prelude.{◌≡◌, ◌≤◌, Ok};
 ghost use Rattle.booth_host.specs.Past.{GrewSome};
-ghost use Rattle.booth_client.specs.declared.wait.Waited.{Waited};
-ghost use Rattle.booth_client.specs.Talk.{IsHeld};
+ghost use Rattle.booth_client.specs.Talk.{IsHeld, IsReplyIn};
 ghost use Rattle.booth_stages.specs.Outcomes.{HasBlame};
 ghost use Rattle.booth_clients.specs.Client.{EndsWith, IsPrinted, IsReported, IsTold, is_good};
 ghost use Rattle.booth_clients.specs.ClientRun.{IsAnswered};
@@ -25,18 +24,17 @@ fn print<H: Host>(
     alloc: Global,
     asking: &Asking,
     reply: &Reply,
-    reading: u64,
     bytes: &[u8],
     host: &mut H,
 ) -> Ended
-    requires { IsHeld asking.now (Waited.Came reply.now reading) bytes.now }
+    requires { IsReplyIn asking.now reply.now bytes.now }
     ensures past { GrewSome (IsPrinted asking.now.order bytes.now result.outcome result.said)
         (H.past host.old) (H.past host.new) }
     ensures served { IsAnswered result.outcome }
     ensures blame { HasBlame result.outcome (H.faults host.old) (H.faults host.new) }
     ensures later { H.faults host.old ≤ H.faults host.new }
 {
-    let Ok(report) = report_of(alloc, asking, reply, reading, bytes) else {
+    let Ok(report) = report_of(alloc, asking, reply, bytes) else {
         return Ended {
             outcome: Outcome::OutOfMemory,
             said: texts::out_of_memory_text(),
@@ -59,11 +57,10 @@ fn report<H: Host>(
     alloc: Global,
     asking: &Asking,
     reply: &Reply,
-    reading: u64,
     bytes: &[u8],
     host: &mut H,
 ) -> Ended
-    requires { IsHeld asking.now (Waited.Came reply.now reading) bytes.now }
+    requires { IsReplyIn asking.now reply.now bytes.now }
     ensures past { GrewSome (IsReported asking.now.order bytes.now result.outcome result.said)
         (H.past host.old) (H.past host.new) }
     ensures served { IsAnswered result.outcome }
@@ -76,7 +73,7 @@ fn report<H: Host>(
             said: ErrorLine::none(),
         };
     }
-    print(alloc, asking, reply, reading, bytes, host)
+    print(alloc, asking, reply, bytes, host)
 }
 
 // How a talk ends whose requests were sent; the bytes of the last reply are these.
@@ -89,9 +86,9 @@ fn end<H: Host>(alloc: Global, asking: &Asking, last: &Waited, bytes: &[u8], hos
     ensures later { H.faults host.old ≤ H.faults host.new }
 {
     match last {
-        Waited::Came { reply, reading } => {
+        Waited::Came { reply, .. } => {
             if is_good(reply) {
-                report(alloc, asking, reply, *reading, bytes, host)
+                report(alloc, asking, reply, bytes, host)
             } else {
                 Ended {
                     outcome: Outcome::Refused(reply.result),
