@@ -340,8 +340,7 @@ module _ (node : NodeConfig) (moment : ℕ) (state : State) (from : Peer) (lette
       (is_ready node state.attributes place) (job_at node place state.common) moment acted.did
       request acted.leads in
       let last : Act = reply_act ticket.setup request (reply_cmd request.wish) says.result says.part says.ok in
-      let own : ticket.setup.me ≡ node.me = ap (λ (s : Setup). s.me)
-      (set_up_at node state place ticket set_up there).2 in
+      let own = set_up_at node state place ticket set_up there in
       let parts =
       seen_parts node moment ticket.setup.ticket says.before (last ∷ []) es
       (subst (λ (l : List Act). Seen node moment ticket.setup.ticket l es) says.whole acted.seen) in
@@ -358,9 +357,15 @@ module _ (node : NodeConfig) (moment : ℕ) (state : State) (from : Peer) (lette
             (sent.2 ∙ ap (λ (l : List Entry). calls.Send request.from (sealed node.key reply) sent.0 ∷ l)
             sent.3
             ∙ ap (λ (p : Peer). calls.Send p (sealed node.key reply) sent.0 ∷ []) same_from);
-        replies = record { cmd = answer; request = same_number; options = refl; reason = refl; from = own };
-        among = all_among node moment ticket.setup.ticket ticket.setup own state.waiters place says.before
-            parts.0 says.among parts.3;
+        replies = record {
+          cmd = answer;
+          request = same_number;
+          options = refl;
+          reason = refl;
+          from = ap (λ (s : Setup). s.me) own.2;
+        };
+        among = all_among node moment ticket.setup.ticket ticket.setup place own state.waiters says.before parts.0
+            says.among parts.3;
         set_up = acted_set_up node moment state place (Asked request) ticket es after set_up there acted;
       }
 

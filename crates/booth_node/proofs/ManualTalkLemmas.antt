@@ -48,7 +48,7 @@ module _ (setup : Setup) (waiters : List Waiter) (left : ManualLeft) where
       → Tells setup waiters left.waiters acts
   told_end known told view acts talks =
       let end : ManualLeft = record { known = record known { view = view; job = None }; waiters = staying told waiters } in
-      let done = told_last setup waiters left (manual_state setup view) told end acts talks in
+      let done = told_last setup waiters left (manual_state setup view) told end acts refl talks in
       subst (λ (l : ManualLeft). Tells setup waiters l.waiters acts) (sym done.1) done.0
 
   -- a record is kept, and what follows of the answer is said

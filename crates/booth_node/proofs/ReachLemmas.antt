@@ -8,12 +8,14 @@ use Rattle.booth_base.specs.declared.address.Peer.{Peer}
 use Rattle.booth_base.specs.Tree.{Deeds, Ends, Does, Leads}
 use Rattle.booth_wire.specs.declared.command.Cmd.{Cmd}
 use Rattle.booth_wire.specs.declared.command.Cmd.TheVariants.{RGnt}
+use Rattle.booth_wire.specs.declared.codes.results.TheConstants.{PEND}
 use Rattle.booth_wire.specs.declared.message.Head.{Head}
 use Rattle.booth_wire.specs.declared.message.TicketPart.{TicketPart}
 use Rattle.booth_wire.specs.declared.message.Setup.{Setup}
 use Rattle.booth_wire.specs.declared.message.Say.{Say as Words}
 use Rattle.booth_wire.specs.declared.message.Say.TheVariants as words
 use Rattle.booth_raft.specs.declared.deed.Told.{Told}
+use Rattle.booth_raft.specs.declared.deed.Told.TheVariants as tells
 use Rattle.booth_raft.specs.Messages.{head_of}
 use Rattle.booth_raft.specs.Speech.{IsOwn, IsSpeech}
 use Rattle.booth_raft.proofs.FactsLemmas.{on_cond}
@@ -23,18 +25,20 @@ use Rattle.booth_ticket.specs.declared.waiters.Waiter.{Waiter}
 use Rattle.booth_ticket.specs.Acts.{Ask, Keep, Start, Say, Act, IsAct}
 use Rattle.booth_ticket.specs.Saying.{others, places_in, say, say_back, say_each}
 use Rattle.booth_ticket.specs.Waiting.{joined, joins, result_for, staying, tell_each, tell_one, waiter_of}
-use Rattle.booth_node.specs.Calls.{IsAmong, IsOutcome}
+use Rattle.booth_node.specs.Calls.{EndsGrant, IsAmong, IsOutcome}
 use Rattle.booth_node.proofs.DueLemmas.{Each}
 use Rattle.booth_node.proofs.PathLemmas.{at_end}
 
--- one of these clients that wait is told what became of its grant
-pub record TellsOne (setup : Setup) (waiters : List Waiter) (peer : Peer) (head : Head) : Type 0 where
+-- one of these clients that wait is told what became of its grant of the ticket
+pub record TellsOne (setup : Setup) (waiters : List Waiter) (peer : Peer) (head : Head) (part : TicketPart)
+    : Type 0 where
   pub waiter : Waiter
   pub waits : IsAmong waiter waiters
   pub to : waiter.from ≡ peer
   pub outcome : IsOutcome setup.me waiter head
+  pub ticket : part.ticket ≡ setup.ticket
 
--- one of these acts tells this client that waits what became of its grant
+-- one of these acts tells this client that waits what became of its grant of the ticket
 pub record IsTold (setup : Setup) (waiter : Waiter) (acts : List Act) : Type 0 where
   pub before : List Act
   pub head : Head
@@ -43,6 +47,29 @@ pub record IsTold (setup : Setup) (waiter : Waiter) (acts : List Act) : Type 0 w
   pub after : List Act
   pub whole : acts ≡ before ++ record { ask = Say (Client waiter.from) head part; ok = ok } ∷ after
   pub outcome : IsOutcome setup.me waiter head
+  pub ticket : part.ticket ≡ setup.ticket
+
+-- the result that a client is told, where it is told one, ends its grant
+abbrev MayBeTold : Waiter → Option ℕ → Type 0
+MayBeTold waiter None = Unit {0}
+MayBeTold waiter (Some result) = EndsGrant waiter result
+
+-- so does what it is told of each outcome
+may_be_told : (told : Told) (waiter : Waiter) → MayBeTold waiter (result_for told waiter)
+may_be_told tells.Nothing waiter = tt
+may_be_told (tells.Gained true) waiter = inl refl
+may_be_told (tells.Gained false) waiter = by_commit waiter.commit refl
+  where
+    by_commit : (commit : Bool) → waiter.commit ≡ commit
+        → MayBeTold waiter (if commit then None else Some PEND)
+    by_commit true same = tt
+    by_commit false same = inr (inr (inr (refl, same)))
+may_be_told tells.RoundFailed waiter = inr (inl refl)
+may_be_told tells.AskFailed waiter = inr (inl refl)
+may_be_told tells.Released waiter = inr (inl refl)
+may_be_told tells.ReleaseFailed waiter = tt
+may_be_told tells.Lost waiter = inr (inl refl)
+may_be_told tells.HandlerFailed waiter = inr (inr (inl refl))
 
 pub told_behind : (setup : Setup) (waiter : Waiter) (first later acts : List Act) → acts ≡ first ++ later
     → IsTold setup waiter later → IsTold setup waiter acts
@@ -56,6 +83,7 @@ told_behind setup waiter first later acts whole told = record {
       ∙ sym (append_assoc first told.before
       (record { ask = Say (Client waiter.from) told.head told.part; ok = told.ok } ∷ told.after));
   outcome = told.outcome;
+  ticket = told.ticket;
 }
 
 -- who waited is left, or one of these acts tells it
@@ -68,7 +96,7 @@ abbrev pub Among : Setup → List Waiter → Ask → Type 0
 Among setup waiters (Keep tried) = Unit {0}
 Among setup waiters (Start job expires) = Unit {0}
 Among setup waiters (Say (Member place) head part) = IsOwn setup head part
-Among setup waiters (Say (Client peer) head part) = TellsOne setup waiters peer head
+Among setup waiters (Say (Client peer) head part) = TellsOne setup waiters peer head part
 
 abbrev pub AllAmong : Setup → List Waiter → List Act → Type 0
 AllAmong setup waiters acts = Each (λ act. Among setup waiters act.ask) acts
@@ -174,12 +202,12 @@ module _ {S : Type 0} (setup : Setup) (waiters : List Waiter) (left : S) where
 
   -- those that wait are told
   told_one : (part : TicketPart) (waiter : Waiter) (result : Option ℕ) (rest : Deeds Ask S)
-      (acts : List Act) → IsAmong waiter waiters
+      (acts : List Act) → part.ticket ≡ setup.ticket → MayBeTold waiter result → IsAmong waiter waiters
       → Leads IsAct (tell_one setup part waiter result rest) acts (Ends left)
       → Talks setup waiters acts rest left
-  told_one part waiter None rest acts waits leads = talks_none rest acts leads
-  told_one part waiter (Some result) rest [] waits leads = absurd cc
-  told_one part waiter (Some result) rest (act ∷ acts) waits leads =
+  told_one part waiter None rest acts names may waits leads = talks_none rest acts leads
+  told_one part waiter (Some result) rest [] names may waits leads = absurd cc
+  told_one part waiter (Some result) rest (act ∷ acts) names may waits leads =
       let said_so : Ask = Say (Client waiter.from) (head_of setup RGnt waiter.number 0 0 result) part in
       talks_more rest act acts
       (same_ask said_so said_so leads.0 act leads.1
@@ -187,49 +215,53 @@ module _ {S : Type 0} (setup : Setup) (waiters : List Waiter) (left : S) where
         waiter = waiter;
         waits = waits;
         to = refl;
-        outcome = record { cmd = refl; request = refl; options = refl; reason = refl; from = refl };
+        outcome = record { cmd = refl; request = refl; options = refl; reason = refl; result = may; from = refl };
+        ticket = names;
       }))
       (talks_none rest acts leads.2)
 
   pub told_each : (part : TicketPart) (told : Told) (ws : List Waiter) (rest : Deeds Ask S)
-      (acts : List Act) → Fewer waiters ws
+      (acts : List Act) → part.ticket ≡ setup.ticket → Fewer waiters ws
       → Leads IsAct (tell_each setup part told ws rest) acts (Ends left)
       → Talks setup waiters acts rest left
-  told_each part told [] rest acts are leads = talks_none rest acts leads
-  told_each part told (w ∷ ws) rest acts are leads =
+  told_each part told [] rest acts names are leads = talks_none rest acts leads
+  told_each part told (w ∷ ws) rest acts names are leads =
       let mid : Deeds Ask S = tell_each setup part told ws rest in
       let one : Talks setup waiters acts mid left =
-      told_one part w (result_for told w) mid acts (are w (inl refl)) leads in
+      told_one part w (result_for told w) mid acts names (may_be_told told w) (are w (inl refl)) leads in
       talks_on mid rest acts one
-      (told_each part told ws rest one.later (λ v h. are v (inr h)) one.leads)
+      (told_each part told ws rest one.later names (λ v h. are v (inr h)) one.leads)
 
   -- each is told, or stays
   one_remembered : (part : TicketPart) (waiter : Waiter) (result : Option ℕ) (rest : Deeds Ask S)
-      (acts : List Act) → Leads IsAct (tell_one setup part waiter result rest) acts (Ends left)
+      (acts : List Act) → part.ticket ≡ setup.ticket → MayBeTold waiter result
+      → Leads IsAct (tell_one setup part waiter result rest) acts (Ends left)
       → (is_none result ≡ true) ⊎ IsTold setup waiter acts
-  one_remembered part waiter None rest acts leads = inl refl
-  one_remembered part waiter (Some result) rest [] leads = absurd cc
-  one_remembered part waiter (Some result) rest (act ∷ acts) leads = inr (record {
+  one_remembered part waiter None rest acts names may leads = inl refl
+  one_remembered part waiter (Some result) rest [] names may leads = absurd cc
+  one_remembered part waiter (Some result) rest (act ∷ acts) names may leads = inr (record {
     before = [];
     head = head_of setup RGnt waiter.number 0 0 result;
     part = part;
     ok = leads.0;
     after = acts;
     whole = ap (λ (a : Act). a ∷ acts) leads.1;
-    outcome = record { cmd = refl; request = refl; options = refl; reason = refl; from = refl };
+    outcome = record { cmd = refl; request = refl; options = refl; reason = refl; result = may; from = refl };
+    ticket = names;
   })
 
   pub all_remembered : (part : TicketPart) (told : Told) (ws : List Waiter) (rest : Deeds Ask S)
-      (acts : List Act) → Fewer waiters ws
+      (acts : List Act) → part.ticket ≡ setup.ticket → Fewer waiters ws
       → Leads IsAct (tell_each setup part told ws rest) acts (Ends left)
       → Remembers setup ws (staying told ws) acts
-  all_remembered part told [] rest acts are leads w h = absurd h
-  all_remembered part told (x ∷ ws) rest acts are leads w h =
+  all_remembered part told [] rest acts names are leads w h = absurd h
+  all_remembered part told (x ∷ ws) rest acts names are leads w h =
       let mid : Deeds Ask S = tell_each setup part told ws rest in
+      let may : MayBeTold x (result_for told x) = may_be_told told x in
       let one : Talks setup waiters acts mid left =
-      told_one part x (result_for told x) mid acts (are x (inl refl)) leads in
-      by_place h (one_remembered part x (result_for told x) mid acts leads)
-      (all_remembered part told ws rest one.later (λ v g. are v (inr g)) one.leads w)
+      told_one part x (result_for told x) mid acts names may (are x (inl refl)) leads in
+      by_place h (one_remembered part x (result_for told x) mid acts names may leads)
+      (all_remembered part told ws rest one.later names (λ v g. are v (inr g)) one.leads w)
       (λ told_later. told_behind setup w one.first one.later acts one.whole told_later)
     where
       stays_too : (b : Bool) → IsAmong w (staying told ws)
@@ -271,16 +303,17 @@ module _ {S : Type 0} (setup : Setup) (waiters : List Waiter) (left : S) where
 
   -- those that wait are told, and nothing follows
   pub told_last : (part : TicketPart) (told : Told) (end : S) (acts : List Act)
+      → part.ticket ≡ setup.ticket
       → Talks setup waiters acts (tell_each setup part told waiters (Ends end)) left
       → Tells setup waiters (staying told waiters) acts × (left ≡ end)
-  told_last part told end acts talks =
+  told_last part told end acts names talks =
       let done = done_last end acts (talks_on (tell_each setup part told waiters (Ends end)) (Ends end) acts talks
-      (told_each part told waiters (Ends end) talks.later (λ w h. h) talks.leads)) in (
+      (told_each part told waiters (Ends end) talks.later names (λ w h. h) talks.leads)) in (
         record {
           among = done.0;
           fewer = filtered (λ w. is_none (result_for told w)) waiters;
           remembers = λ w h. behind w
-              (all_remembered part told waiters (Ends end) talks.later (λ v g. g) talks.leads w h);
+              (all_remembered part told waiters (Ends end) talks.later names (λ v g. g) talks.leads w h);
         },
         done.1,
       )

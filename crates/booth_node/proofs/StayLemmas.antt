@@ -28,7 +28,7 @@ use Rattle.booth_node.specs.declared.node.Turn.{Turn}
 use Rattle.booth_node.specs.declared.node.Turn.TheVariants.{Went, Stopped}
 use Rattle.booth_node.specs.declared.node_config.NodeConfig.{NodeConfig}
 use Rattle.booth_node.specs.declared.state.Common.{Common}
-use Rattle.booth_node.specs.Calls.{IsAmong, IsToldIn, ReachesWaiters}
+use Rattle.booth_node.specs.Calls.{IsAmong, IsToldIn, NamesTicket, ReachesWaiters}
 use Rattle.booth_node.specs.Jobs.{job_at}
 use Rattle.booth_node.specs.Opening.{AreSetUp, setup_of, setups_from, started_from}
 use Rattle.booth_node.specs.AttributeRequests.{is_ready}
@@ -74,11 +74,14 @@ set_up_from node index (c ∷ confs) (x ∷ tickets) (suc place) t same there =
     let found = set_up_from node (index + 1) confs tickets place t rest there in
     (found.0, found.1, found.2 ∙ ap (λ (n : ℕ). setup_of node n found.0) (omega arith))
 
+-- the setup is that of the ticket at a place of the configuration
+abbrev pub IsSetUpAt : NodeConfig → ℕ → Setup → Type 0
+IsSetUpAt node place setup =
+    (conf : TicketConf) × (slice_get node.config.tickets place ≡ Some conf) × (setup ≡ setup_of node place conf)
+
 -- the setup of the ticket at a place is that of the configuration
 pub set_up_at : (node : NodeConfig) (state : State) (place : ℕ) (t : TicketState) → AreSetUp node state
-    → slice_get state.tickets place ≡ Some t
-    → (conf : TicketConf) × (slice_get node.config.tickets place ≡ Some conf)
-    × (t.setup ≡ setup_of node place conf)
+    → slice_get state.tickets place ≡ Some t → IsSetUpAt node place t.setup
 set_up_at node state place t same there =
     let found = set_up_from node 0 node.config.tickets state.tickets place t same.0 there in
     (found.0, found.1, found.2 ∙ ap (λ (n : ℕ). setup_of node n found.0) (omega arith))
@@ -109,8 +112,22 @@ set_up_kept node state place before after common same there kept = (
 
 -- ---- calls to members and to those that wait
 
-module _ (node : NodeConfig) (moment : ℕ) (name : List ℕ) (setup : Setup) (ours : setup.me ≡ node.me)
-    (waiters : List (List Waiter)) (list : ℕ) where
+module _ (node : NodeConfig) (moment : ℕ) (name : List ℕ) (setup : Setup) (list : ℕ)
+    (set_up : IsSetUpAt node list setup) (waiters : List (List Waiter)) where
+  ours : setup.me ≡ node.me
+  ours = ap (λ (s : Setup). s.me) set_up.2
+
+  -- what is said under the setup's ticket names the one at its place
+  names : (head : Head) (part : TicketPart) → part.ticket ≡ setup.ticket
+      → NamesTicket node list (sent_as node moment head part).content
+  names head part same = record {
+    part = part;
+    ticket = set_up.0;
+    says = refl;
+    there = set_up.1;
+    named = same ∙ ap (λ (s : Setup). s.ticket) set_up.2;
+  }
+
   abbrev Reaches : List Entry → Type 0
   Reaches es = Each (ReachesWaiters node waiters) es
 
@@ -165,8 +182,10 @@ module _ (node : NodeConfig) (moment : ℕ) (name : List ℕ) (setup : Setup) (o
             request = among.outcome.request;
             options = among.outcome.options;
             reason = among.outcome.reason;
+            result = among.outcome.result;
             from = among.outcome.from ∙ ours;
           };
+          about = names head part among.ticket;
         }),
         later first.1.1 first.1.3,
       )
@@ -180,7 +199,7 @@ module _ (node : NodeConfig) (moment : ℕ) (name : List ℕ) (setup : Setup) (o
 
   -- a client that one of the acts tells is told by one of these calls
   pub told_in : (waiter : Waiter) (xs : List Act) (es : List Entry) → IsTold setup waiter xs
-      → Seen node moment name xs es → IsToldIn node waiter es
+      → Seen node moment name xs es → IsToldIn node list waiter es
   told_in waiter xs es told seen =
       let act : Act = record { ask = Say (Client waiter.from) told.head told.part; ok = told.ok } in
       let parts =
@@ -198,21 +217,23 @@ module _ (node : NodeConfig) (moment : ℕ) (name : List ℕ) (setup : Setup) (o
           request = told.outcome.request;
           options = told.outcome.options;
           reason = told.outcome.reason;
+          result = told.outcome.result;
           from = told.outcome.from ∙ ours;
         };
+        about = names told.head told.part told.ticket;
       }
 
 -- ---- those that wait, from one state to another
 
--- who waited for a ticket does so still, or one of these calls tells it
+-- who waited for a ticket does so still, or one of these calls tells it of that ticket
 abbrev pub AllRemember : NodeConfig → List (List Waiter) → List (List Waiter) → List Entry → Type 0
 AllRemember node before after es =
     (place : ℕ) (waiter : Waiter) → IsAmong waiter (waiting_at before place)
-    → IsAmong waiter (waiting_at after place) ⊎ IsToldIn node waiter es
+    → IsAmong waiter (waiting_at after place) ⊎ IsToldIn node place waiter es
 
-told_before : (node : NodeConfig) (waiter : Waiter) (xs ys es : List Entry) → es ≡ xs ++ ys
-    → IsToldIn node waiter xs → IsToldIn node waiter es
-told_before node waiter xs ys es whole told = record {
+told_before : (node : NodeConfig) (place : ℕ) (waiter : Waiter) (xs ys es : List Entry) → es ≡ xs ++ ys
+    → IsToldIn node place waiter xs → IsToldIn node place waiter es
+told_before node place waiter xs ys es whole told = record {
   before = told.before;
   letter = told.letter;
   answer = told.answer;
@@ -221,11 +242,12 @@ told_before node waiter xs ys es whole told = record {
       ∙ append_assoc told.before (calls.Send waiter.from (sealed node.key told.letter) told.answer ∷ told.after)
       ys;
   outcome = told.outcome;
+  about = told.about;
 }
 
-told_after : (node : NodeConfig) (waiter : Waiter) (xs ys es : List Entry) → es ≡ xs ++ ys
-    → IsToldIn node waiter ys → IsToldIn node waiter es
-told_after node waiter xs ys es whole told = record {
+told_after : (node : NodeConfig) (place : ℕ) (waiter : Waiter) (xs ys es : List Entry) → es ≡ xs ++ ys
+    → IsToldIn node place waiter ys → IsToldIn node place waiter es
+told_after node place waiter xs ys es whole told = record {
   before = xs ++ told.before;
   letter = told.letter;
   answer = told.answer;
@@ -234,34 +256,34 @@ told_after node waiter xs ys es whole told = record {
       ∙ sym (append_assoc xs told.before
       (calls.Send waiter.from (sealed node.key told.letter) told.answer ∷ told.after));
   outcome = told.outcome;
+  about = told.about;
 }
 
 pub remember_on : (node : NodeConfig) (a b c : List (List Waiter)) (xs ys es : List Entry) → es ≡ xs ++ ys
     → AllRemember node a b xs → AllRemember node b c ys → AllRemember node a c es
 remember_on node a b c xs ys es whole first later place w h = by_first (first place w h) (later place w)
   where
-    by_later : IsAmong w (waiting_at c place) ⊎ IsToldIn node w ys
-        → IsAmong w (waiting_at c place) ⊎ IsToldIn node w es
+    by_later : IsAmong w (waiting_at c place) ⊎ IsToldIn node place w ys
+        → IsAmong w (waiting_at c place) ⊎ IsToldIn node place w es
     by_later (inl g) = inl g
-    by_later (inr told) = inr (told_after node w xs ys es whole told)
+    by_later (inr told) = inr (told_after node place w xs ys es whole told)
 
-    by_first : IsAmong w (waiting_at b place) ⊎ IsToldIn node w xs
-        → (IsAmong w (waiting_at b place) → IsAmong w (waiting_at c place) ⊎ IsToldIn node w ys)
-        → IsAmong w (waiting_at c place) ⊎ IsToldIn node w es
+    by_first : IsAmong w (waiting_at b place) ⊎ IsToldIn node place w xs
+        → (IsAmong w (waiting_at b place) → IsAmong w (waiting_at c place) ⊎ IsToldIn node place w ys)
+        → IsAmong w (waiting_at c place) ⊎ IsToldIn node place w es
     by_first (inl g) more = by_later (more g)
-    by_first (inr told) more = inr (told_before node w xs ys es whole told)
+    by_first (inr told) more = inr (told_before node place w xs ys es whole told)
 
 -- one ticket's list is another
-remember_at : (node : NodeConfig) (lists : List (List Waiter)) (place : ℕ) (stay : List Waiter)
-    (es : List Entry)
-    → ((w : Waiter) → IsAmong w (waiting_at lists place) → IsAmong w stay ⊎ IsToldIn node w es)
-    → AllRemember node lists (set lists place stay) es
-remember_at node [] place stay es kept p w h = inl h
-remember_at node (ws ∷ lists) zero stay es kept zero w h = kept w h
-remember_at node (ws ∷ lists) zero stay es kept (suc p) w h = inl h
-remember_at node (ws ∷ lists) (suc place) stay es kept zero w h = inl h
-remember_at node (ws ∷ lists) (suc place) stay es kept (suc p) w h =
-    remember_at node lists place stay es kept p w h
+remember_at : (Told : ℕ → Waiter → Type 0) (lists : List (List Waiter)) (place : ℕ) (stay : List Waiter)
+    → ((w : Waiter) → IsAmong w (waiting_at lists place) → IsAmong w stay ⊎ Told place w)
+    → (p : ℕ) (w : Waiter) → IsAmong w (waiting_at lists p) → IsAmong w (waiting_at (set lists place stay) p) ⊎ Told p w
+remember_at Told [] place stay kept p w h = inl h
+remember_at Told (ws ∷ lists) zero stay kept zero w h = kept w h
+remember_at Told (ws ∷ lists) zero stay kept (suc p) w h = inl h
+remember_at Told (ws ∷ lists) (suc place) stay kept zero w h = inl h
+remember_at Told (ws ∷ lists) (suc place) stay kept (suc p) w h =
+    remember_at (λ n. Told (suc n)) lists place stay kept p w h
 
 -- who waits in one state waited for the same ticket in the other
 abbrev pub AllFewer : List (List Waiter) → List (List Waiter) → Type 0
@@ -289,6 +311,7 @@ reaches_fewer node before after fewer (calls.Send peer bytes answer) (inr tells_
       to = tells_one.to;
       spelled = tells_one.spelled;
       outcome = tells_one.outcome;
+      about = tells_one.about;
     })
 reaches_fewer node before after fewer e r = absurd r
 
@@ -394,16 +417,15 @@ pub acted_remember : (node : NodeConfig) (moment : ℕ) (state : State) (place :
     → AllRemember node state.waiters after.waiters es
 acted_remember node moment state place event ticket es after set_up is acted remembers =
     subst (λ (s : State). AllRemember node state.waiters s.waiters es) (sym acted.is)
-    (remember_at node state.waiters place acted.left.waiters es (λ w h. seen_so w (remembers w h)))
+    (remember_at (λ p w. IsToldIn node p w es) state.waiters place acted.left.waiters
+    (λ w h. seen_so w (remembers w h)))
   where
-    ours : ticket.setup.me ≡ node.me
-    ours = ap (λ (s : Setup). s.me) (set_up_at node state place ticket set_up is).2
-
     seen_so : (w : Waiter) → IsAmong w acted.left.waiters ⊎ IsTold ticket.setup w acted.did
-        → IsAmong w acted.left.waiters ⊎ IsToldIn node w es
+        → IsAmong w acted.left.waiters ⊎ IsToldIn node place w es
     seen_so w (inl h) = inl h
     seen_so w (inr told) =
-        inr (told_in node moment ticket.setup.ticket ticket.setup ours state.waiters place w acted.did es told
+        inr (told_in node moment ticket.setup.ticket ticket.setup place (set_up_at node state place ticket set_up is)
+        state.waiters w acted.did es told
         acted.seen)
 
 -- what befalls a ticket reaches members and those that wait for it alone
@@ -435,8 +457,8 @@ acts_stay node moment state place event es after talks set_up leads = by_ticket
         record {
           set_up = acted_set_up node moment state place event ticket es after set_up is acted;
           undropped = acted_undropped node moment state place event ticket es after acted;
-          among = all_among node moment ticket.setup.ticket ticket.setup (ap (λ (s : Setup). s.me) own.2)
-              state.waiters place acted.did es told.among acted.seen;
+          among = all_among node moment ticket.setup.ticket ticket.setup place own state.waiters acted.did es told.among
+              acted.seen;
           fewer = subst (λ (s : State). AllFewer state.waiters s.waiters) (sym acted.is)
               (fewer_at state.waiters place acted.left.waiters told.fewer);
           remember = acted_remember node moment state place event ticket es after set_up is acted told.remembers;

@@ -97,7 +97,7 @@ module _ (setup : Setup) (waiters : List Waiter) (left : Left) where
       let stay : List Waiter = staying outcome.deed.told waiters in
       let done =
       told_last setup waiters left (state_part setup outcome.view now) outcome.deed.told
-      (record { view = outcome.view; waiters = stay }) acts talks in
+      (record { view = outcome.view; waiters = stay }) acts refl talks in
       subst (λ (l : Left). Tells setup waiters l.waiters acts) (sym done.1) done.0
 
   heard_talks : (view : View) (from : ℕ) (head : Head) (part : TicketPart) (now : ℕ) (acts : List Act)
@@ -262,10 +262,10 @@ module _ (setup : Setup) (waiters : List Waiter) (left : Left) (request : Reques
       let last : Deeds Ask Left = reply setup request cmd result outcome.view now stay in
       replied result outcome.view stay acts
       (talks_on setup waiters left (replies setup waiters request cmd now result outcome) last acts talks
-      (told_each setup waiters left (state_part setup outcome.view now) outcome.deed.told waiters last talks.later (λ w h. h)
+      (told_each setup waiters left (state_part setup outcome.view now) outcome.deed.told waiters last talks.later refl (λ w h. h)
       talks.leads))
       (λ w h. behind w
-      (all_remembered setup waiters left (state_part setup outcome.view now) outcome.deed.told waiters last talks.later (λ v g. g)
+      (all_remembered setup waiters left (state_part setup outcome.view now) outcome.deed.told waiters last talks.later refl (λ v g. g)
       talks.leads w h))
     where
       behind : (w : Waiter)

@@ -1,14 +1,17 @@
 -- The calls of a turn, as what tickets do and as what members say to one another.
-use Rattle.std.specs.Prelude.{◌≡◌, ◌⊎◌, ℕ, Bool, true, List, [], ◌∷◌, ◌++◌, Some, Result, Ok, is_ok, slice_get}
+use Rattle.std.specs.Prelude.{◌≡◌, ◌⊎◌, ℕ, Bool, true, false, List, [], ◌∷◌, ◌++◌, Some, Result, Ok, is_ok, slice_get}
 use Rattle.booth_base.specs.declared.address.MemberId.{MemberId}
 use Rattle.booth_base.specs.declared.address.Peer.{Peer}
 use Rattle.booth_base.specs.Tree.{Ends, Leads}
+use Rattle.booth_conf.specs.declared.tickets.TicketConf.{TicketConf}
+use Rattle.booth_wire.specs.declared.codes.results.TheConstants.{SUCCESS, FAIL, PEND, XPRG}
 use Rattle.booth_wire.specs.declared.command.Cmd.TheVariants.{RGnt}
 use Rattle.booth_wire.specs.declared.command.Direction.TheVariants.{BetweenMembers}
 use Rattle.booth_wire.specs.declared.message.Head.{Head}
 use Rattle.booth_wire.specs.declared.message.Setup.{Setup}
+use Rattle.booth_wire.specs.declared.message.TicketPart.{TicketPart}
 use Rattle.booth_wire.specs.Command.{direction_of}
-use Rattle.booth_wire.specs.PlainMessage.{PlainMessage}
+use Rattle.booth_wire.specs.PlainMessage.{PlainMessage, Content, Ticket}
 use Rattle.booth_auth.specs.Sealed.{sealed}
 use Rattle.booth_auth.specs.Verdict.{verdict}
 use Rattle.booth_host.specs.declared.host.Arrival.TheVariants as arrivals
@@ -75,16 +78,31 @@ pub record IsBetweenMembers (node : NodeConfig) (peer : Peer) (bytes : List ℕ)
   pub between : direction_of letter.head.cmd ≡ BetweenMembers
   pub from : letter.head.from ≡ node.me
 
--- this message tells a client that waits what became of its grant: with its number and neither options nor a reason,
--- from this member
+-- What a client that waits may be told of its grant: that it was done, that it failed, that the handler did, or, where
+-- the client does not wait for the keep, that the record is not kept yet. To wait on is none of these.
+abbrev pub EndsGrant : Waiter → ℕ → Type 0
+EndsGrant waiter result =
+    (result ≡ SUCCESS) ⊎ (result ≡ FAIL) ⊎ (result ≡ XPRG) ⊎ ((result ≡ PEND) × (waiter.commit ≡ false))
+
+-- this message tells a client that waits what became of its grant: how it ended, with its number and neither options nor
+-- a reason, from this member
 pub record IsOutcome (me : MemberId) (waiter : Waiter) (head : Head) : Type 0 where
   pub cmd : head.cmd ≡ RGnt
   pub request : head.request ≡ waiter.number
   pub options : head.options ≡ 0
   pub reason : head.reason ≡ 0
+  pub result : EndsGrant waiter head.result
   pub from : head.from ≡ me
 
--- these bytes, to this peer, tell one of these clients that wait what became of its grant
+-- this is said of the ticket at a place of the configuration
+pub record NamesTicket (node : NodeConfig) (place : ℕ) (content : Content) : Type 0 where
+  pub part : TicketPart
+  pub ticket : TicketConf
+  pub says : content ≡ Ticket part
+  pub there : slice_get node.config.tickets place ≡ Some ticket
+  pub named : part.ticket ≡ ticket.name
+
+-- these bytes, to this peer, tell one of these clients that wait what became of its grant of the ticket that it waits for
 pub record TellsWaiter (node : NodeConfig) (waiters : List (List Waiter)) (peer : Peer) (bytes : List ℕ)
     : Type 0 where
   pub place : ℕ
@@ -94,15 +112,17 @@ pub record TellsWaiter (node : NodeConfig) (waiters : List (List Waiter)) (peer 
   pub to : waiter.from ≡ peer
   pub spelled : bytes ≡ sealed node.key letter
   pub outcome : IsOutcome node.me waiter letter.head
+  pub about : NamesTicket node place letter.content
 
--- one of these calls tells this client that waits what became of its grant
-pub record IsToldIn (node : NodeConfig) (waiter : Waiter) (entries : List Entry) : Type 0 where
+-- one of these calls tells this client that waits what became of its grant of the ticket at this place
+pub record IsToldIn (node : NodeConfig) (place : ℕ) (waiter : Waiter) (entries : List Entry) : Type 0 where
   pub before : List Entry
   pub letter : PlainMessage
   pub answer : Result (Unit {0}) Failed
   pub after : List Entry
   pub whole : entries ≡ before ++ calls.Send waiter.from (sealed node.key letter) answer ∷ after
   pub outcome : IsOutcome node.me waiter letter.head
+  pub about : NamesTicket node place letter.content
 
 -- a record is kept, a handler is started, or something is said between members or to one of these clients that wait: no other
 -- client is reached

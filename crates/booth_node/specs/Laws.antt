@@ -154,11 +154,12 @@ OthersAreNotAnswered =
     → Leads (IsDone node.key) (react node old moment arrival bytes) entries (Ends new)
     → request_of node moment arrival bytes ≡ None → All (ReachesWaiters node old.waiters) entries
 
--- No client that waits is forgotten: after each turn it waits for the same ticket still, or it was told in the turn.
+-- No client that waits is forgotten: after each turn it waits for the same ticket still, or it was told in the turn what
+-- became of its grant of that ticket.
 abbrev pub NobodyIsForgotten : Type 0
 NobodyIsForgotten =
     (node : NodeConfig) (old new : State) (moment : ℕ) (arrival : Result Arrival Failed) (bytes : List ℕ)
     (entries : List Entry) → AreSetUp node old
     → Leads (IsDone node.key) (react node old moment arrival bytes) entries (Ends new)
     → (place : ℕ) (waiter : Waiter) → IsAmong waiter (waiting_at old.waiters place)
-    → IsAmong waiter (waiting_at new.waiters place) ⊎ IsToldIn node waiter entries
+    → IsAmong waiter (waiting_at new.waiters place) ⊎ IsToldIn node place waiter entries

@@ -37,7 +37,7 @@ pub fn others_are_not_answered()
     ensures { OthersAreNotAnswered }
 {}
 
-/// A client that waits does so after the turn too, or was told in it.
+/// A client that waits does so after the turn too, or was told in it what became of its grant of that ticket.
 pub fn nobody_is_forgotten()
     ensures { NobodyIsForgotten }
 {}
