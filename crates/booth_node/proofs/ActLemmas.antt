@@ -1,6 +1,6 @@
 -- What a ticket did is what the node does at its host.
-use Rattle.std.specs.Prelude.{Option, None, Some, Result, is_ok}
-use Rattle.std.proofs.Common.{◌≡◌, ℕ, ◌≤◌, slice_get, set, Bool, true, List, [], ◌∷◌, refl, sym, ap, ◌∙◌, subst}
+use Rattle.std.specs.Prelude.{Option, None, Some, Result, Ok, Err, is_ok}
+use Rattle.std.proofs.Common.{◌≡◌, ℕ, ◌≤◌, slice_get, set, Bool, true, false, List, [], ◌∷◌, refl, sym, ap, ◌∙◌, subst}
 use native.Mathlib.Nat.{le_refl, le_trans}
 use Rattle.booth_base.specs.declared.address.Peer.{Peer}
 use Rattle.booth_base.specs.Tree.{Deeds, Ends, Does, Leads}
@@ -14,6 +14,7 @@ use Rattle.booth_host.specs.declared.entry.Entry.{Entry}
 use Rattle.booth_host.specs.declared.entry.Entry.TheVariants as calls
 use Rattle.booth_host.specs.declared.host.Failed.{Failed}
 use Rattle.booth_host.specs.declared.host.Job.{Job}
+use Rattle.booth_host.specs.Causes.{HasCause, Rose}
 use Rattle.booth_host.specs.Past.{GrewBy, GrewSome}
 use Rattle.booth_host.proofs.PastLemmas.{no_entry, some_of, then_some}
 use Rattle.booth_ticket.specs.declared.hands.To.{To}
@@ -31,6 +32,12 @@ use Rattle.booth_node.specs.Counting.{accepted, with_send}
 use Rattle.booth_node.specs.Jobs.{job_at, job_of, with_start}
 use Rattle.booth_node.specs.Reaction.{Ask, Keep, Start, IsDone, peer_of, sent_as, sends, lifted, befalls, acts_as, acts}
 use Rattle.booth_node.specs.State.{State, with_ticket}
+
+-- a call that failed has a fault to blame
+pub blamed : (before now : ℕ) (answer : Result (Unit {0}) Failed) (ok : Bool) → HasCause before now answer
+    → ok ≡ is_ok answer → ok ≡ false → Rose before now
+blamed before now (Ok done) ok cause is failed = absurd cc
+blamed before now (Err fault) ok cause is failed = cause.failed
 
 -- what no act changes
 pub stays : {X T : Type 0} (did : X → Act → X → Type 0) (tag : X → T)

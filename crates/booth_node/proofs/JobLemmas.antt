@@ -7,6 +7,7 @@ use Rattle.booth_base.proofs.TreeLemmas.{leads_on, next_leads}
 use Rattle.booth_host.specs.declared.entry.Entry.{Entry}
 use Rattle.booth_host.specs.declared.host.Failed.{Failed}
 use Rattle.booth_host.specs.declared.host.Job.{Job}
+use Rattle.booth_host.specs.Causes.{HasCause}
 use Rattle.booth_host.specs.Past.{GrewBy, GrewSome}
 use Rattle.booth_host.proofs.PastLemmas.{no_entry, some_joined, some_of}
 use Rattle.booth_ticket.specs.declared.handling.Service.{Service}
@@ -17,15 +18,18 @@ use Rattle.booth_node.specs.Acting.{IsAskDone, Scene}
 use Rattle.booth_node.specs.Jobs.{job_of, start_call, with_start}
 use Rattle.booth_node.specs.Reaction.{Ask, IsDone, acts, each_over}
 use Rattle.booth_node.specs.State.{State}
+use Rattle.booth_node.proofs.ActLemmas.{blamed}
 
 -- a start that the hands made
 pub started_as : (x y : Scene) (number expires : ℕ) (job : Job) (answer : Result (Unit {0}) Failed) (ok : Bool)
     → job ≡ job_of x.node x.name number expires
     → GrewBy x.past y.past (start_call job answer ∷ [])
+    → HasCause x.faults y.faults answer
     → y.common ≡ with_start x.common → ok ≡ is_ok answer → IsAskDone (Start number expires) ok x y
-started_as x y number expires job answer ok is grew used_up ok_is = record {
+started_as x y number expires job answer ok is grew cause used_up ok_is = record {
   answer = answer;
   is = ok_is;
+  blame = blamed x.faults y.faults answer ok cause ok_is;
   past = subst (λ (j : Job). GrewBy x.past y.past (start_call j answer ∷ [])) is grew;
   common = used_up;
 }

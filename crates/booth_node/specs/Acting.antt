@@ -1,5 +1,5 @@
 -- What one act of a ticket is at the host, and what may befall a ticket.
-use Rattle.std.specs.Prelude.{◌≡◌, ◌≢◌, ◌≤◌, ◌<◌, ℕ, Bool, true, List, [], ◌∷◌, slice_get, slice_set, Option, None, Some, Result, is_ok}
+use Rattle.std.specs.Prelude.{◌≡◌, ◌≢◌, ◌≤◌, ◌<◌, ℕ, Bool, true, false, List, [], ◌∷◌, slice_get, slice_set, Option, None, Some, Result, is_ok}
 use Rattle.booth_base.specs.declared.address.Peer.{Peer}
 use Rattle.booth_rec.specs.declared.record.Record.{Record}
 use Rattle.booth_wire.specs.PlainMessage.{PlainMessage}
@@ -8,6 +8,7 @@ use Rattle.booth_auth.specs.Sealed.{sealed}
 use Rattle.booth_host.specs.declared.host.Failed.{Failed}
 use Rattle.booth_host.specs.declared.entry.Entry.{Entry}
 use Rattle.booth_host.specs.declared.entry.Entry.TheVariants as calls
+use Rattle.booth_host.specs.Causes.{Rose}
 use Rattle.booth_host.specs.Past.{GrewBy}
 use Rattle.booth_ticket.specs.declared.hands.To.{To}
 use Rattle.booth_ticket.specs.Acts.{Ask, Keep, Start, Say, Act}
@@ -35,15 +36,19 @@ pub record IsSent (to : To) (peer : Peer) (letter : PlainMessage) (old new : Sce
   pub past : GrewBy old.past new.past (calls.Send peer (sealed old.node.key letter) answer ∷ [])
   pub common : new.common ≡ with_send old.common to (is_ok answer)
 
+-- the record is kept, or that failed, which it does only where the count of faults rose, over each host
 pub record IsKept (tried : Record) (ok : Bool) (old new : Scene) : Type 0 where
   pub answer : Result (Unit {0}) Failed
   pub is : ok ≡ is_ok answer
+  pub blame : ok ≡ false → Rose old.faults new.faults
   pub past : GrewBy old.past new.past (calls.Keep old.name tried answer ∷ [])
   pub common : new.common ≡ old.common
 
+-- the handler is started, or that failed, which it does only where the count of faults rose, over each host
 pub record IsStarted (number expires : ℕ) (ok : Bool) (old new : Scene) : Type 0 where
   pub answer : Result (Unit {0}) Failed
   pub is : ok ≡ is_ok answer
+  pub blame : ok ≡ false → Rose old.faults new.faults
   pub past : GrewBy old.past new.past (start_call (job_of old.node old.name number expires) answer ∷ [])
   pub common : new.common ≡ with_start old.common
 

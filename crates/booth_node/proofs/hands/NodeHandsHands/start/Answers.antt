@@ -33,7 +33,7 @@ returns g c =
           name = refl;
           faults = c.start-answer.ensures.cause.later;
           done = started_as before after c.args.job c.args.expires c.job_of-job.result c.start-answer.result c.is_ok.result
-              c.job_of-job.ensures c.start-answer.ensures.past c.with_start-self.ensures c.is_ok.ensures.value;
+              c.job_of-job.ensures c.start-answer.ensures.past c.start-answer.ensures.cause c.with_start-self.ensures c.is_ok.ensures.value;
         },
       );
     }
