@@ -12,9 +12,12 @@ use Rattle.booth_wire.specs.declared.message.Head.{Head}
 use Rattle.booth_wire.specs.declared.message.TicketPart.{TicketPart}
 use Rattle.booth_wire.specs.PlainMessage.{PlainMessage}
 use Rattle.booth_auth.specs.Sealed.{stamped_head}
+use Rattle.booth_raft.specs.declared.view.View.{View}
 use Rattle.booth_node.specs.Held.{Moment, may_at}
 use Rattle.booth_node.specs.Records.{Has as Holds}
-use Rattle.booth_node.specs.World.{WorldEntry, World, members_of, id_at, entries_of, clock_at, IsWorld}
+use Rattle.booth_node.specs.Session.{Stand, Down, Doing, Hearing}
+use Rattle.booth_node.specs.State.{State}
+use Rattle.booth_node.specs.World.{WorldEntry, World, members_of, id_at, entries_of, clock_at, stand_after, IsWorld}
 use Rattle.booth_world.specs.Facts.{Has, Release, Facts}
 use Rattle.booth_world.specs.Messages.{IsFact}
 use Rattle.booth_world.specs.States.{WorldState}
@@ -22,12 +25,13 @@ use Rattle.booth_world.specs.Steps.{world_of}
 use Rattle.booth_world.specs.Cores.{Cores, opening_cores, cores_after}
 use Rattle.booth_world.specs.Turns.{Keeps, TurnTree}
 use Rattle.booth_world.specs.Hosts.{Hosts, opening_hosts, pending}
-use Rattle.booth_world.specs.Shadows.{IsComing, TakesReading, IsReadIn, IsSentIn, records_of, WorldsHaveShadows}
+use Rattle.booth_world.specs.Shadows.{IsComing, RestsIn, TakesReading, IsReadIn, IsSentIn, records_of, Knows, WorldsHaveShadows}
 use Rattle.booth_world.proofs.CoreSteps.{CoresHold, opens}
 use Rattle.booth_world.proofs.CoreReads.{opening_read, all_read, ReadsIn}
 use Rattle.booth_world.proofs.CoreRuns.{runs_of, held, all_released}
 use Rattle.booth_world.proofs.HostSteps.{HostsHold, follow_all, opens_hosts, host_held}
-use Rattle.booth_world.proofs.WorldSteps.{Reads, Setting, cluster, cast}
+use Rattle.booth_world.proofs.WorldSteps.{Reads, Setting, cluster, setup_at, cast, StandsAt}
+use Rattle.booth_world.proofs.NodeTurns.{IsPlacedAt}
 use Rattle.booth_world.proofs.Configured.{setting_of}
 use Rattle.booth_world.proofs.WorldEntries.{has_clocks}
 use Rattle.booth_world.proofs.WorldHosts.{has_here, after_hosts, may_of, Shadows}
@@ -64,6 +68,37 @@ module _ (w : World) (is_world : IsWorld w) (place : ℕ) (ticket : TicketConf) 
           inr (subst (λ (r : Record). IsComing ticket.name (entries_of m moment.before) r) e (shadow.coming m below kept go is))
       by_tree (Some (Does (Keeps kept) go)) is (inr g) = inl (of_may g)
       by_tree (Some (Does ask go)) is g = inl (of_may g)
+
+  -- where a node rests its host is at its end, and there the core's view is that of the steps' member
+  knows_at : (cores : Cores) (state : WorldState)
+      → HostsHold (cluster w place ticket setting) (cast w place ticket setting) hosts cores
+      → CoresHold (cluster w place ticket setting) (cast w place ticket setting) cores state
+      → (m : ℕ) → m < members_of w → (stand : Stand) → StandsAt w place ticket setting m stand (hosts.place m) hosts.sent
+      → (resting : State) → RestsIn stand resting → Knows w place ticket m resting state
+  knows_at cores state hold core_hold m below = by_stand
+    where
+      by_view : (view : View) (resting : State) → (hosts.place m).tree ≡ Some (Ends view)
+          → IsPlacedAt (setup_at w place ticket setting m) place view resting.tickets → resting.last_reading ≡ (hosts.place m).reading
+          → Knows w place ticket m resting state
+      by_view view resting is at reading =
+          let idle = ((hold.each m below).stands_at (Ends view) is).0 in
+          record {
+            view = view;
+            known = at.own;
+            none_waits = idle.at_rest;
+            reading = reading ∙ sym idle.at_reading ∙ sym (core_hold.each m below).same_reading;
+            agrees = (core_hold.each m below).agrees view idle.shows;
+          }
+
+      by_stand : (stand : Stand) → StandsAt w place ticket setting m stand (hosts.place m) hosts.sent
+          → (resting : State) → RestsIn stand resting → Knows w place ticket m resting state
+      by_stand (Doing node (Ends here)) x resting rests =
+          subst (λ (s : State). Knows w place ticket m s state) rests
+          (by_view x.5.view here (x.3 ∙ ap (λ (t : TurnTree). Some t) x.5.ended) x.5.at x.5.moment_is)
+      by_stand (Doing node (Does ask go)) x resting rests = absurd rests
+      by_stand (Hearing node old answer bytes) x resting rests =
+          subst (λ (s : State). Knows w place ticket m s state) rests (by_view x.1 old x.2 x.3 x.4)
+      by_stand Down x resting rests = absurd rests
 
   -- a message that was sent says a fact, where the steps' world has what the hosts have sent
   said_at : (cores : Cores) (state : WorldState)
@@ -117,6 +152,9 @@ worlds_have_shadows w is_world place ticket automatic moment =
           ((f.2.each m below).only kept
           (subst (λ (rs : List Record). Has rs kept) (runs.early_holds.each m below).same_may
           (has_here (records_of w (world_of c runs.first) m) kept h)));
+      knows = λ m below resting rests.
+          knows_at w is_world place ticket setting moment hosts r.shadow cores (world_of c runs.first) f.2 runs.early_holds m below
+          (stand_after m moment.before) (r.shadow.each m below).stands resting rests;
       releases = λ release h.
           ⊎_elim (λ (none : ⊥). absurd none) (λ in_entries. r.released release (f.3 release in_entries))
           (all_released c k clocks seated (opening_cores c) f.0 [] release tt (opens c k clocks seated) f.1

@@ -1,5 +1,5 @@
 -- Every world has a shadow: at each moment, for each automatic ticket, a list of the world's steps.
-use Rattle.std.specs.Prelude.{◌≡◌, ◌≢◌, ◌⊎◌, ℕ, ◌<◌, Bool, List, [], ◌∷◌, Ok, None}
+use Rattle.std.specs.Prelude.{◌≡◌, ◌≢◌, ◌⊎◌, ℕ, ◌<◌, Bool, List, [], ◌∷◌, slice_get, Ok, Some, None}
 use Rattle.booth_base.specs.Tree.{Deeds, Ends, Does}
 use Rattle.booth_conf.specs.declared.tickets.TicketConf.{TicketConf}
 use Rattle.booth_rec.specs.declared.record.Record.{Record}
@@ -8,14 +8,17 @@ use Rattle.booth_wire.specs.declared.message.TicketPart.{TicketPart}
 use Rattle.booth_wire.specs.Command.{direction_of}
 use Rattle.booth_wire.specs.PlainMessage.{PlainMessage, Ticket}
 use Rattle.booth_wire.specs.Reading.{decoded}
+use Rattle.booth_raft.specs.declared.view.View.{View}
 use Rattle.booth_host.specs.declared.entry.Entry.TheVariants as calls
+use Rattle.booth_ticket.specs.Ticket.{Automatic}
+use Rattle.booth_node.specs.Opening.{setup_of}
 use Rattle.booth_node.specs.Reaction.{Ask, Send, Keep, Start}
 use Rattle.booth_node.specs.Records.{Has}
-use Rattle.booth_node.specs.Session.{SessionEntry, Starts, Makes, IsCut, Stand, Down, Doing, after_entry}
+use Rattle.booth_node.specs.Session.{SessionEntry, Starts, Makes, IsCut, Stand, Down, Doing, Hearing, after_entry}
 use Rattle.booth_node.specs.State.{State}
-use Rattle.booth_node.specs.World.{WorldEntry, World, members_of, id_at, entries_of, IsSend, IsWorld, cluster_of}
+use Rattle.booth_node.specs.World.{WorldEntry, World, members_of, id_at, node_at, entries_of, IsSend, stand_after, IsWorld, cluster_of}
 use Rattle.booth_node.specs.Held.{Moment, IsAutomatic, may_at, Holds}
-use Rattle.booth_world.specs.Agreement.{records_in}
+use Rattle.booth_world.specs.Agreement.{records_in, Agrees}
 use Rattle.booth_world.specs.Facts.{Round, Answer, Release, Has as HasFact}
 use Rattle.booth_world.specs.Held.{Held}
 use Rattle.booth_world.specs.Messages.{IsFact}
@@ -52,6 +55,13 @@ GivesTermBack name m (Makes (calls.Keep ticket rec (Ok done))) release =
     (ticket ≡ name) × (rec.lease ≡ None) × (release.site ≡ m) × (release.term ≡ rec.term)
 GivesTermBack name m what release = ⊥
 
+-- the node has this state, and no deed of a turn is left: it stands between two turns, or has the answer of a next and is
+-- to read its clock
+abbrev pub RestsIn : Stand → State → Type 0
+RestsIn (Doing node (Ends state)) resting = state ≡ resting
+RestsIn (Hearing node old answer bytes) resting = old ≡ resting
+RestsIn stand resting = ⊥
+
 -- the clock was read so, in a turn or at a start
 abbrev pub TakesReading : SessionEntry → ℕ → Type 0
 TakesReading (Starts node reading records) taken = reading ≡ taken
@@ -84,10 +94,21 @@ pub record IsSentIn (name : List ℕ) (before : List WorldEntry) (m : ℕ) (lett
 abbrev pub records_of : World → WorldState → ℕ → List Record
 records_of w state m = records_in (id_at w) (state.member m).may
 
+-- What a node in this state knows of the ticket is what the steps' member is: its view agrees with the member, no keep
+-- waits for its answer, and the last reading is the member's.
+pub record Knows (w : World) (place : ℕ) (ticket : TicketConf) (m : ℕ) (resting : State) (state : WorldState) : Type 0 where
+  pub view : View
+  pub known : slice_get resting.tickets place
+      ≡ Some (record { setup = setup_of (node_at w m) place ticket; known = Automatic view })
+  pub none_waits : view.waiting ≡ None
+  pub reading : resting.last_reading ≡ (state.member m).reading
+  pub agrees : Agrees (cluster_of w ticket.times) (id_at w) state.facts m view (state.member m)
+
 -- Steps from the opening state up to this moment. After them the records that a member may have kept are the entries',
--- and that which the member's turn is to keep next; each release is an entry's; each round was opened, and each answer
--- given, at a reading that is an entry's, by the member that took it; each message that an entry sent says a fact: that
--- a round was opened, or answered, or a term released; and the ticket is held at each member that holds it.
+-- and that which the member's turn is to keep next; where a node rests between its turns, what it knows of the ticket is
+-- what its member is; each release is an entry's; each round was opened, and each answer given, at a reading that is an
+-- entry's, by the member that took it; each message that an entry sent says a fact: that a round was opened, or answered,
+-- or a term released; and the ticket is held at each member that holds it.
 pub record HasShadow (w : World) (place : ℕ) (ticket : TicketConf) (moment : Moment w) : Type 0 where
   pub steps : List WorldStep
   pub run : IsRun (cluster_of w ticket.times) (opening (cluster_of w ticket.times)) steps
@@ -97,6 +118,8 @@ pub record HasShadow (w : World) (place : ℕ) (ticket : TicketConf) (moment : M
   pub no_more : (m : ℕ) → m < members_of w → (kept : Record)
       → Has (records_of w (world_of (cluster_of w ticket.times) steps) m) kept
       → Has (may_at w place ticket m moment) kept ⊎ IsComing ticket.name (entries_of m moment.before) kept
+  pub knows : (m : ℕ) → m < members_of w → (resting : State) → RestsIn (stand_after m moment.before) resting
+      → Knows w place ticket m resting (world_of (cluster_of w ticket.times) steps)
   pub releases : (release : Release) → HasFact (world_of (cluster_of w ticket.times) steps).facts.releases release
       → (entry : WorldEntry) × Has moment.before entry × GivesTermBack ticket.name entry.member entry.what release
   pub rounds : (round : Round) → HasFact (world_of (cluster_of w ticket.times) steps).facts.rounds round
