@@ -1,6 +1,6 @@
 -- Releases are the entries', and the three laws hold of entries of the cores.
 use Rattle.std.proofs.Common.{◌≡◌, ◌⊎◌, ℕ, ◌<◌, ◌≤◌, List, [], ◌∷◌, ◌++◌, Bool, true, false, refl, sym, ap, ◌∙◌, subst, inl, inr, ⊎_elim, arith}
-use Rattle.std.specs.Prelude.{Option, Some, None}
+use Rattle.std.specs.Prelude.{Option, Some, None, IsSomeAnd}
 use Rattle.booth_rec.specs.declared.record.Record.{Record}
 use Rattle.booth_rec.specs.Record.{plain, IsInForce}
 use Rattle.booth_wire.specs.declared.message.Setup.{Setup}
@@ -18,7 +18,7 @@ use Rattle.booth_world.specs.Held.{IsHeldBy, Held, AreApart, IsApart, GivesBackL
 use Rattle.booth_world.specs.Agreement.{record_in}
 use Rattle.booth_world.specs.Gives.{released_by, releases_answered}
 use Rattle.booth_world.specs.Cores.{CoreEntry, ReadsTime, CallsCore, HasAnswer, Stops, StartsWith, Cores, opening_cores, Cast, IsCast, MayEnter, after_call, after_answer, mark_in, entered, AreEntered, cores_after, TimePasses}
-use Rattle.booth_world.specs.CoreLaws.{IsReleaseAt, IsReleaseIn, CoreHoldsBy, CoreHolds, CoreCourse, early_cores, late_cores, CoresHoldOne, CoresAreApart, CoreTermsNeverFall}
+use Rattle.booth_world.specs.CoreLaws.{IsReleasing, IsReleaseAt, IsReleaseIn, CoreHoldsBy, CoreHolds, CoreCourse, early_cores, late_cores, CoresHoldOne, CoresAreApart, CoreTermsNeverFall}
 use Rattle.booth_world.proofs.Views.{kept_of, record_has}
 use Rattle.booth_world.proofs.KeptSteps.{the_value}
 use Rattle.booth_world.proofs.Runs.{runs_hold_one, runs_hold_apart, runs_keep_terms}
@@ -29,24 +29,24 @@ module _ (c : Cluster) (cast : Cast) (clocks : HasClocks c) (is_cast : IsCast c 
   one_released : (setup : Setup) (view : View) (w : Waiting) (m now : ℕ) (kept : Record) (releases : List Release) (z : Release) → w.tried ≡ kept
       → Tries setup view.term view.kept view.round w.rule w.tried
       → Has (released_by w.rule (record { site = m; term = w.tried.term; at = now }) releases) z
-      → Has releases z ⊎ ((z ≡ record { site = m; term = kept.term; at = now }) × (kept.lease ≡ None))
+      → Has releases z ⊎ ((z ≡ record { site = m; term = kept.term; at = now }) × (kept.lease ≡ None) × IsReleasing w.rule)
   one_released setup view w m now kept releases z same tries has = by_rule w.rule refl
     where
-      is_new : w.tried ≡ plain view.term None → Has (record { site = m; term = w.tried.term; at = now } ∷ releases) z
-          → Has releases z ⊎ ((z ≡ record { site = m; term = kept.term; at = now }) × (kept.lease ≡ None))
-      is_new free h = ⊎_elim
+      is_new : IsReleasing w.rule → w.tried ≡ plain view.term None → Has (record { site = m; term = w.tried.term; at = now } ∷ releases) z
+          → Has releases z ⊎ ((z ≡ record { site = m; term = kept.term; at = now }) × (kept.lease ≡ None) × IsReleasing w.rule)
+      is_new gives free h = ⊎_elim
           (λ (e : record { site = m; term = w.tried.term; at = now } ≡ z).
-          inr (sym e ∙ ap (λ (k : Record). let r : Release = record { site = m; term = k.term; at = now } in r) same, ap (λ (k : Record). k.lease) (sym same ∙ free)))
+          inr (sym e ∙ ap (λ (k : Record). let r : Release = record { site = m; term = k.term; at = now } in r) same, ap (λ (k : Record). k.lease) (sym same ∙ free), gives))
           (λ (old : Has releases z). inl old) h
 
-      by_rule : (rule : Rule) → w.rule ≡ rule → Has releases z ⊎ ((z ≡ record { site = m; term = kept.term; at = now }) × (kept.lease ≡ None))
+      by_rule : (rule : Rule) → w.rule ≡ rule → Has releases z ⊎ ((z ≡ record { site = m; term = kept.term; at = now }) × (kept.lease ≡ None) × IsReleasing w.rule)
       by_rule rules.Gain e = inl (subst (λ (r : Rule). Has (released_by r (record { site = m; term = w.tried.term; at = now }) releases) z) e has)
       by_rule (rules.Ask reason) e = inl (subst (λ (r : Rule). Has (released_by r (record { site = m; term = w.tried.term; at = now }) releases) z) e has)
       by_rule (rules.Release reason) e =
-          is_new (subst (λ (r : Rule). Tries setup view.term view.kept view.round r w.tried) e tries)
+          is_new (subst (λ (r : Rule). IsReleasing r) (sym e) tt) (subst (λ (r : Rule). Tries setup view.term view.kept view.round r w.tried) e tries)
           (subst (λ (r : Rule). Has (released_by r (record { site = m; term = w.tried.term; at = now }) releases) z) e has)
       by_rule rules.EndRound e =
-          is_new (subst (λ (r : Rule). Tries setup view.term view.kept view.round r w.tried) e tries)
+          is_new (subst (λ (r : Rule). IsReleasing r) (sym e) tt) (subst (λ (r : Rule). Tries setup view.term view.kept view.round r w.tried) e tries)
           (subst (λ (r : Rule). Has (released_by r (record { site = m; term = w.tried.term; at = now }) releases) z) e has)
 
   answer_released : (cores : Cores) (w : WorldState) (m : ℕ) (kept : Record) (ok : Bool) (z : Release) → CoresHold c cast cores w → MayEnter c cast cores (HasAnswer m kept ok)
@@ -54,15 +54,24 @@ module _ (c : Cluster) (cast : Cast) (clocks : HasClocks c) (is_cast : IsCast c 
   answer_released cores w m kept ok z i may has =
       let v = the_value _ (cores.place m).view may.1 in
       let t = the_value _ (v.0).waiting v.2 in
-      by_answer ok v.0 t.0 ((i.each m may.0).view_facts v.0 v.1) t.1 t.2
+      by_answer ok v.0 t.0 ((i.each m may.0).view_facts v.0 v.1) v.1 t.1 t.2
       (subst (λ (o : Option View). Has (after_answer cast cores m ok o).releases z) v.1 has)
     where
-      by_answer : (ok : Bool) (view : View) (waits : Waiting) → ViewFacts (cast.setup m) view → view.waiting ≡ Some waits → waits.tried ≡ kept
+      by_answer : (ok : Bool) (view : View) (waits : Waiting) → ViewFacts (cast.setup m) view → (cores.place m).view ≡ Some view → view.waiting ≡ Some waits
+          → waits.tried ≡ kept
           → Has (releases_answered (mark_in cores m) view.waiting ok cores.releases) z → Has cores.releases z ⊎ IsReleaseAt cores (HasAnswer m kept ok) z
-      by_answer false view waits facts e same h = inl (subst (λ (o : Option Waiting). Has (releases_answered (mark_in cores m) o false cores.releases) z) e h)
-      by_answer true view waits facts e same h =
-          one_released (cast.setup m) view waits m cores.now kept cores.releases z same (facts.tried waits e)
-          (subst (λ (o : Option Waiting). Has (releases_answered (mark_in cores m) o true cores.releases) z) e h)
+      by_answer false view waits facts shows e same h = inl (subst (λ (o : Option Waiting). Has (releases_answered (mark_in cores m) o false cores.releases) z) e h)
+      by_answer true view waits facts shows e same h =
+          ⊎_elim
+          (λ (old : Has cores.releases z). inl old)
+          (λ new. inr (
+            new.0,
+            new.1,
+            subst (λ (o : Option View). IsSomeAnd o (λ v. IsSomeAnd v.waiting (λ x. IsReleasing x.rule))) (sym shows)
+                (subst (λ (o : Option Waiting). IsSomeAnd o (λ x. IsReleasing x.rule)) (sym e) new.2),
+          ))
+          (one_released (cast.setup m) view waits m cores.now kept cores.releases z same (facts.tried waits e)
+          (subst (λ (o : Option Waiting). Has (releases_answered (mark_in cores m) o true cores.releases) z) e h))
 
   entry_released : (cores : Cores) (w : WorldState) (entry : CoreEntry) (z : Release) → CoresHold c cast cores w → MayEnter c cast cores entry
       → Has (entered c cast cores entry).releases z → Has cores.releases z ⊎ IsReleaseAt cores entry z
@@ -169,7 +178,7 @@ core_terms c cast early late course s term below at k has =
     subst (λ (k : Record). term ≤ k.term) one.2 l
 
 -- a record that is tried is of its rule's term
-tries_term : (setup : Setup) (term : ℕ) (kept : Record) (round : Option ViewRound) (rule : Rule) (tried : Record)
+pub tries_term : (setup : Setup) (term : ℕ) (kept : Record) (round : Option ViewRound) (rule : Rule) (tried : Record)
     → Tries setup term kept round rule tried → tried.term ≡ term
 tries_term setup term kept None rules.Gain tried t = absurd t.1
 tries_term setup term kept (Some round) rules.Gain tried t = ap (λ (k : Record). k.term) t.1.1

@@ -14,6 +14,7 @@ use Rattle.booth_wire.specs.declared.message.Say.TheVariants as words
 use Rattle.booth_wire.specs.declared.message.Setup.{Setup}
 use Rattle.booth_wire.specs.Command.{direction_of}
 use Rattle.booth_raft.specs.declared.view.View.{View}
+use Rattle.booth_raft.specs.declared.view.Waiting.{Waiting}
 use Rattle.booth_base.specs.declared.limits.TheConstants.{MEMBERS}
 use Rattle.booth_raft.specs.AskAndRenew.{finish}
 use Rattle.booth_raft.specs.Outcome.{Outcome}
@@ -24,7 +25,11 @@ use Rattle.booth_ticket.specs.Keeping.{keep_of, keep_once, say_last, carry_out}
 use Rattle.booth_ticket.specs.Saying.{others, places_in, say_each, say}
 use Rattle.booth_world.specs.Facts.{Has, count_below}
 use Rattle.booth_world.specs.Rules.{MemberLetter}
-use Rattle.booth_world.specs.Turns.{Keeps, AsksElse, TurnTree, sends, bits_set, says_of, keeps_of, says_last, deeds_of}
+use Rattle.booth_world.specs.Turns.{Keeps, Sends, AsksElse, TurnTree, sends, bits_set, says_of, keeps_of, says_last, deeds_of}
+use Rattle.booth_world.proofs.Lists.{none_is}
+use Rattle.booth_world.proofs.TurnKeeps.{IsGainAtMost, second_gains, third_keeps_nothing}
+use Rattle.booth_world.proofs.TurnPlaces.{sends_first}
+use Rattle.booth_world.proofs.RuleKeeps.{Awaits, answer_awaits, IsSaidToAll, KeepsOrSays, done_tells, awaited}
 use Rattle.booth_world.proofs.Mirrors.{skip, sent_by, later, SentMore, grows, sent_more, IsNoLess, IsKept, no_less_on}
 
 -- ---- lists of places
@@ -37,6 +42,26 @@ passes {A} p (y ∷ ys) x h = by_test (p y) refl (passes p ys x) h
     by_test true e rest (inl same) = subst (λ (z : A). p z ≡ true) same e
     by_test true e rest (inr h) = rest h
     by_test false e rest h = rest h
+
+-- what passes is in the list
+kept_in : {A : Type 0} (p : A → Bool) (xs : List A) (x : A) → Has (filter p xs) x → Has xs x
+kept_in p [] x h = absurd h
+kept_in {A} p (y ∷ ys) x h = by_test (p y) (kept_in p ys x) h
+  where
+    by_test : (b : Bool) → (Has (filter p ys) x → Has ys x) → Has (if b then y ∷ filter p ys else filter p ys) x → Has (y ∷ ys) x
+    by_test true rest (inl same) = inl same
+    by_test true rest (inr h) = inr (rest h)
+    by_test false rest h = inr (rest h)
+
+below_end : (first n x : ℕ) → Has (range_with_len first n) x → x < first + n
+below_end first zero x h = absurd h
+below_end first (suc n) x (inl e) = omega (arith, e)
+below_end first (suc n) x (inr h) = let q = below_end (first + 1) n x h in omega (arith, q)
+
+-- the others are members
+pub others_below : (s : Setup) (place : ℕ) → Has (others s) place → place < s.members
+others_below s place h =
+    let q = below_end 0 s.members place (kept_in (λ p. not (p == s.place)) (range_with_len 0 s.members) place h) in omega (arith, q)
 
 pub some_below : (n k : ℕ) (test : ℕ → Bool) → k < n → test k ≡ true → 0 < count_below n test
 some_below zero k test below e = absurd (omega arith)
@@ -63,11 +88,38 @@ module _ (s : Setup) where
   reaches_more sent sent' (Member place) head part more r = λ below. more (own_letter head part) (r below)
   reaches_more sent sent' (Client peer) head part more r = r
 
+  -- the ticket's deeds begin with this, to each of these members
+  abbrev pub SaysEach : {V : Type 0} → List ℕ → Head → TicketPart → Deeds Ask V → Type 0
+  SaysEach [] head part deeds = Unit {0}
+  SaysEach (place ∷ places) head part (Does (Say to said_head said_part) go) =
+      (to ≡ Member place) × (said_head ≡ head) × (said_part ≡ part) × SaysEach places head part (go true)
+  SaysEach (place ∷ places) head part deeds = ⊥
+
+  says_each : {V : Type 0} (places : List ℕ) (head : Head) (part : TicketPart) (rest : Deeds Ask V) → SaysEach places head part (say_each places head part rest)
+  says_each [] head part rest = tt
+  says_each (place ∷ places) head part rest = (refl, refl, refl, says_each places head part rest)
+
+  says_next : {V W : Type 0} (places : List ℕ) (head : Head) (part : TicketPart) (f : V → Deeds Ask W) (deeds : Deeds Ask V)
+      → SaysEach places head part deeds → SaysEach places head part (next deeds f)
+  says_next [] head part f deeds x = tt
+  says_next (place ∷ places) head part f (Does (Say to said_head said_part) go) x = (x.0, x.1, x.2, says_next places head part f (go true) x.3)
+  says_next (place ∷ places) head part f (Does (Keep tried) go) x = absurd x
+  says_next (place ∷ places) head part f (Does (Start job expires) go) x = absurd x
+  says_next (place ∷ places) head part f (Ends left) x = absurd x
+
+  -- After a keep that was done: what the host's tree says first is about the ticket, and the ticket's deeds begin with it,
+  -- to each other member.
+  abbrev pub Tells : {V : Type 0} → TurnTree → Deeds Ask V → Type 0
+  Tells rest deeds =
+      1 < s.members → (letter : MemberLetter) (more : Bool → TurnTree) → rest ≡ Does (Sends letter) more
+      → (letter.part.ticket ≡ s.ticket) × SaysEach (others s) letter.head letter.part deeds
+
   abbrev pub Echoes : {V : Type 0} → (List MemberLetter → V → TurnTree → Type 0) → List MemberLetter → Deeds Ask V → TurnTree → Type 0
   Echoes P sent (Ends left) tree = P sent left tree
   Echoes P sent (Does (Say to head part) go) tree = Reaches (sent_by tree sent) to head part × Echoes P sent (go true) tree
   Echoes P sent (Does (Keep tried) go) tree =
       (rest : Bool → TurnTree) × (skip tree ≡ Does (Keeps tried) rest) × ((ok : Bool) → Echoes P (sent_by tree sent) (go ok) (rest ok))
+      × Tells (rest true) (go true)
   Echoes P sent (Does (Start job expires) go) tree =
       (rest : Bool → TurnTree) × (skip tree ≡ Does AsksElse rest)
       × ((ok : Bool) → (answers : List Bool) × Echoes P (sent_by tree sent) (go ok) (later answers (rest ok)))
@@ -80,8 +132,9 @@ module _ (s : Setup) where
   echoes_kept P (Does (Keep tried) go) kept sent sent' tree tree' x m = (
     m.0,
     sym x.same ∙ m.1,
-    λ ok. echoes_kept P (go ok) kept (sent_by tree sent) (sent_by tree' sent') (m.0 ok) (m.0 ok)
-        (no_less_on sent sent' tree tree' (m.0 ok) x) (m.2 ok),
+    (λ ok. echoes_kept P (go ok) kept (sent_by tree sent) (sent_by tree' sent') (m.0 ok) (m.0 ok)
+        (no_less_on sent sent' tree tree' (m.0 ok) x) (m.2 ok)),
+    m.3,
   )
   echoes_kept P (Does (Start job expires) go) kept sent sent' tree tree' x m = (
     m.0,
@@ -101,8 +154,14 @@ module _ (s : Setup) where
       → Echoes P sent deeds tree → Echoes Q sent (next deeds (λ left. Ends (f left))) tree
   echoes_as P Q f sent (Ends left) tree gives m = gives sent left tree m
   echoes_as P Q f sent (Does (Say to head part) go) tree gives m = (m.0, echoes_as P Q f sent (go true) tree gives m.1)
-  echoes_as P Q f sent (Does (Keep tried) go) tree gives m =
-      (m.0, m.1, λ ok. echoes_as P Q f (sent_by tree sent) (go ok) (m.0 ok) gives (m.2 ok))
+  echoes_as P Q f sent (Does (Keep tried) go) tree gives m = (
+    m.0,
+    m.1,
+    (λ ok. echoes_as P Q f (sent_by tree sent) (go ok) (m.0 ok) gives (m.2 ok)),
+    λ others_are letter more is.
+        let told = m.3 others_are letter more is in
+        (told.0, says_next (others s) letter.head letter.part (λ left. Ends (f left)) (go true) told.1),
+  )
   echoes_as P Q f sent (Does (Start job expires) go) tree gives m = (
     m.0,
     m.1,
@@ -176,19 +235,64 @@ module _ (s : Setup) where
 
     -- ---- what is kept
 
+    never_sends : (tried : Record) (rest more : Bool → TurnTree) (letter : MemberLetter) → Does (Keeps tried) rest ≡ Does (Sends letter) more → ⊥
+    never_sends tried rest more letter e = cc
+
+    same_letter : (a b : MemberLetter) (f h : Bool → TurnTree) → Does (Sends a) f ≡ Does (Sends b) h → a ≡ b
+    same_letter a b f h e = cc
+
+    says_tells : (from : Option ℕ) (rule_words : Words) (view : View) (rest : Deeds Ask V) → IsSaidToAll s rule_words
+        → Tells (next (says_of s rule_words (Ends view)) g) (say s from rule_words rest)
+    says_tells from words.Nothing view rest about = absurd about
+    says_tells from (words.Reply head part) view rest about = absurd about
+    says_tells from (words.Unanswered head part bits) view rest about = absurd about
+    says_tells from (words.All head part) view rest about = λ others_are letter more is.
+        let first = sends_first (s.members - 1) (own_letter head part) (Ends view) (omega (arith, others_are)) in
+        let same : own_letter head part ≡ letter =
+        same_letter (own_letter head part) letter (λ ok. next (first.0 ok) g) more (sym (ap (λ (t : TurnTree). next t g) first.1) ∙ is) in
+        subst (λ (l : MemberLetter). (l.part.ticket ≡ s.ticket) × SaysEach (others s) l.head l.part (say_each (others s) head part rest)) same
+        (about, says_each (others s) head part rest)
+
+    keep_tells : (from : Option ℕ) (now : ℕ) (outcome : Outcome) (rest : Outcome → Deeds Ask V) (keep : Option Record) → KeepsOrSays s keep outcome.deed.say
+        → Tells (next (keeps_of s now keep outcome (says_last s)) g) (keep_of s now keep outcome (say_last s from rest))
+    keep_tells from now outcome rest None says = says_tells from outcome.deed.say outcome.view (rest outcome) says
+    keep_tells from now outcome rest (Some tried) says = λ others_are letter more is. absurd (never_sends tried _ more letter is)
+
+    -- what is kept second is a gain's
+    abbrev IsSecond : Outcome → Type 0
+    IsSecond o =
+        (tried : Record) → o.deed.keep ≡ Some tried → (waits : Waiting) × (o.view.waiting ≡ Some waits) × IsGainAtMost o.view.waiting
+
     kept_of : (now : ℕ) (keep : Option Record) (outcome : Outcome) (f : Outcome → Deeds Ask V) (h : Outcome → TurnTree) (sent : List MemberLetter)
-        → ((o : Outcome) (sent' : List MemberLetter) → Echoes P sent' (f o) (next (h o) g))
+        (R : Outcome → Type 0) → (keep ≡ None → R outcome) → ((ok : Bool) → R (finish s outcome.view now ok))
+        → ((tried : Record) → keep ≡ Some tried → Tells (next (h (finish s outcome.view now true)) g) (f (finish s outcome.view now true)))
+        → ((o : Outcome) (sent' : List MemberLetter) → R o → Echoes P sent' (f o) (next (h o) g))
         → Echoes P sent (keep_of s now keep outcome f) (next (keeps_of s now keep outcome h) g)
-    kept_of now None outcome f h sent on = on outcome sent
-    kept_of now (Some tried) outcome f h sent on =
-        ((λ ok. next (h (finish s outcome.view now ok)) g), refl, λ ok. on (finish s outcome.view now ok) sent)
+    kept_of now None outcome f h sent R none done tells on = on outcome sent (none refl)
+    kept_of now (Some tried) outcome f h sent R none done tells on =
+        ((λ ok. next (h (finish s outcome.view now ok)) g), refl, (λ ok. on (finish s outcome.view now ok) sent (done ok)), tells tried refl)
 
     -- all deeds of an outcome, and then the rest
-    pub carried : (from : Option ℕ) (now : ℕ) (outcome : Outcome) (rest : Outcome → Deeds Ask V) (sent : List MemberLetter)
+    pub carried : (from : Option ℕ) (now : ℕ) (outcome : Outcome) (rest : Outcome → Deeds Ask V) (sent : List MemberLetter) → Awaits outcome
         → ((o : Outcome) (sent' : List MemberLetter) → Echoes P sent' (rest o) (g o.view))
         → Echoes P sent (carry_out s from now outcome rest) (next (deeds_of s now outcome) g)
-    carried from now outcome rest sent on =
+    carried from now outcome rest sent awaits on =
         kept_of now outcome.deed.keep outcome (λ first. keep_once s now first (say_last s from rest))
-        (λ second. keeps_of s now second.deed.keep second (says_last s)) sent
-        (λ o sent'. kept_of now o.deed.keep o (say_last s from rest) (says_last s) sent'
-        (λ last sent''. said from last.deed.say sent'' last.view (rest last) (on last sent'')))
+        (λ second. keeps_of s now second.deed.keep second (says_last s)) sent IsSecond
+        (λ none tried is. absurd (none_is tried (sym none ∙ is)))
+        (λ ok tried is.
+        let waits = awaited (finish s outcome.view now ok) (answer_awaits s outcome.view now ok) tried is in
+        (waits.0, waits.1, second_gains s outcome.view now ok))
+        (λ tried is.
+        let waits = awaited outcome awaits tried is in
+        let then_so : Outcome = finish s outcome.view now true in
+        keep_tells from now then_so rest then_so.deed.keep (done_tells s outcome.view now waits.0 waits.1))
+        (λ o sent' second. kept_of now o.deed.keep o (say_last s from rest) (says_last s) sent' (λ last. Unit {0})
+        (λ none. tt) (λ ok. tt)
+        (λ tried is.
+        let so = second tried is in
+        let last : Outcome = finish s o.view now true in
+        says_tells from last.deed.say last.view (rest last)
+        (subst (λ (k : Option Record). KeepsOrSays s k last.deed.say) (third_keeps_nothing s o.view now true so.2)
+        (done_tells s o.view now so.0 so.1)))
+        (λ last sent'' any. said from last.deed.say sent'' last.view (rest last) (on last sent'')))

@@ -21,13 +21,13 @@ use Rattle.booth_world.specs.CoreLaws.{CoreHoldsBy, CoreCourse, early_cores, lat
 use Rattle.booth_world.specs.Held.{AreApart, GivesBackLease}
 use Rattle.booth_world.specs.Turns.{TicketAsk, Keeps, Sends, AsksElse, TurnTree, Plan, turn_tree, MayTurn}
 use Rattle.booth_world.specs.Hosts.{MayBegin, HostEntry, LetsPass, BeginsTurn, DoesAsk, Halts, Boots, HostPlace, Hosts, opening_hosts, pending_in, pending, IsNextAsk, MayHost, begun, went_on, may_left, hosted, AreHosted, hosts_after}
-use Rattle.booth_world.specs.HostLaws.{IsHostReleaseAt, IsHostReleaseIn, host_may, HostHoldsBy, HostCourse, early_hosts, late_hosts, HostsHoldOne, HostsAreApart, HostTermsNeverFall}
+use Rattle.booth_world.specs.HostLaws.{RevokesAfter, IsHostReleaseAt, IsHostReleaseIn, host_may, HostHoldsBy, HostCourse, early_hosts, late_hosts, HostsHoldOne, HostsAreApart, HostTermsNeverFall}
 use Rattle.booth_world.proofs.Lists.{none_is, some_same, put_all}
 use Rattle.booth_world.proofs.KeptSteps.{the_value}
 use Rattle.booth_world.proofs.CallSteps.{put_same}
 use Rattle.booth_world.proofs.CoreRuns.{cores_hold_one, cores_are_apart, core_terms, tried_is_highest}
 use Rattle.booth_world.proofs.CoreReads.{ReadsAt, ReadsIn, HasRead, AreReadBy, calls_read, read_more, read_join}
-use Rattle.booth_world.proofs.TurnPlaces.{IsOwn, own_given, put_other, MayMore, more_after, IsUp, up_given, IsLater, IsIdle, IsLed, At, Soon, at_later, at_no_more, release_split, entries_join, plan_at, heard_at}
+use Rattle.booth_world.proofs.TurnPlaces.{IsOwn, own_given, put_other, MayMore, more_after, IsUp, up_given, IsLater, IsIdle, IsLed, IsToldAfter, IsSeatedAt, At, Soon, at_later, at_no_more, release_split, entries_join, plan_at, heard_at}
 
 -- ---- the relation
 
@@ -103,8 +103,8 @@ module _ (c : Cluster) (cast : Cast) (clocks : HasClocks c) (is_cast : IsCast c 
       by_tree None more = more
       by_tree (Some t) more = by_pending t more
 
-  own_place : (m : ℕ) → m < c.members → (cast.setup m).place ≡ m
-  own_place m below = ap (λ (s : Setup). s.place) (is_cast.seated m below)
+  own_place : (m : ℕ) → m < c.members → IsSeatedAt c cast m
+  own_place m below = (ap (λ (s : Setup). s.place) (is_cast.seated m below), ap (λ (s : Setup). s.members) (is_cast.seated m below))
 
   small : (m time : ℕ) → m < c.members → time < c.span → reads c m time < 2 ^ 62
   small m time below within = let e = clocks.long m below in (clocks.clocks m below).small time (omega arith)
@@ -129,12 +129,12 @@ module _ (c : Cluster) (cast : Cast) (clocks : HasClocks c) (is_cast : IsCast c 
       heard_at c cast m (reads c m time) below (small m time below within) (own_place m below) letter plan base view cores idle only (l.0, l.1, timely) may
 
   begins : (hosts : Hosts) (cores : Cores) (m time : ℕ) (came : Option MemberLetter) (plan : View → Plan) → HostsHold c cast hosts cores → MayHost c cast hosts (BeginsTurn m time came plan)
-      → Follows c cast (hosted c cast hosts (BeginsTurn m time came plan)) cores (IsHostReleaseAt hosts (BeginsTurn m time came plan)) (ReadsAt (BeginsTurn m time came plan))
+      → Follows c cast (hosted c cast hosts (BeginsTurn m time came plan)) cores (IsHostReleaseAt c hosts (BeginsTurn m time came plan)) (ReadsAt (BeginsTurn m time came plan))
   begins hosts cores m time came plan i may =
       let p = the_value _ (hosts.place m).tree may.3 in
       by_tree p.0 p.1 p.2
     where
-      by_tree : (t : TurnTree) → (hosts.place m).tree ≡ Some t → MayBegin (cast.setup m) (reads c m time) came plan t → Follows c cast (hosted c cast hosts (BeginsTurn m time came plan)) cores (IsHostReleaseAt hosts (BeginsTurn m time came plan)) (ReadsAt (BeginsTurn m time came plan))
+      by_tree : (t : TurnTree) → (hosts.place m).tree ≡ Some t → MayBegin (cast.setup m) (reads c m time) came plan t → Follows c cast (hosted c cast hosts (BeginsTurn m time came plan)) cores (IsHostReleaseAt c hosts (BeginsTurn m time came plan)) (ReadsAt (BeginsTurn m time came plan))
       by_tree (Does ask g) e none = absurd none
       by_tree (Ends view) e turns =
           let now = reads c m time in
@@ -188,7 +188,7 @@ module _ (c : Cluster) (cast : Cast) (clocks : HasClocks c) (is_cast : IsCast c 
       (own_given cores m (answer_given cast cores m ok v.0), up_given cores m (answer_given cast cores m ok v.0))
 
   asks : (hosts : Hosts) (cores : Cores) (m : ℕ) (ask : TicketAsk) (ok : Bool) → HostsHold c cast hosts cores → MayHost c cast hosts (DoesAsk m ask ok)
-      → Follows c cast (hosted c cast hosts (DoesAsk m ask ok)) cores (IsHostReleaseAt hosts (DoesAsk m ask ok)) (ReadsAt (DoesAsk m ask ok))
+      → Follows c cast (hosted c cast hosts (DoesAsk m ask ok)) cores (IsHostReleaseAt c hosts (DoesAsk m ask ok)) (ReadsAt (DoesAsk m ask ok))
   asks hosts cores m ask ok i may =
       let p = the_value _ (hosts.place m).tree may.1 in
       by_tree p.0 p.1 p.2
@@ -196,20 +196,27 @@ module _ (c : Cluster) (cast : Cast) (clocks : HasClocks c) (is_cast : IsCast c 
       here : PlaceHolds c cast m cores (hosts.place m)
       here = i.each m may.0
 
-      answer_frees : (kept : Record) (ok : Bool) (z : Release) → IsReleaseAt cores (HasAnswer m kept ok) z → IsHostReleaseAt hosts (DoesAsk m (Keeps kept) ok) z
-      answer_frees kept true z h = (h.0 ∙ ap (λ (t : ℕ). let r : Release = record { site = m; term = kept.term; at = t } in r) i.same_now, h.1)
-      answer_frees kept false z h = h
+      answer_frees : (kept : Record) (g : Bool → TurnTree) (ok : Bool) (z : Release) → (hosts.place m).tree ≡ Some (Does (Keeps kept) g)
+          → IsToldAfter c.members (cores.place m) kept (g true) → IsReleaseAt cores (HasAnswer m kept ok) z → IsHostReleaseAt c hosts (DoesAsk m (Keeps kept) ok) z
+      answer_frees kept g true z e tells h =
+          let v = the_value _ (cores.place m).view h.2 in
+          let waits = the_value _ (v.0).waiting v.2 in (
+            h.0 ∙ ap (λ (t : ℕ). let r : Release = record { site = m; term = kept.term; at = t } in r) i.same_now,
+            h.1,
+            subst (λ (o : Option TurnTree). IsSomeAnd o (RevokesAfter c.members kept.term)) (sym e) (tells v.0 v.1 waits.0 waits.1 waits.2),
+          )
+      answer_frees kept g false z e tells h = h
 
-      by_tree : (t : TurnTree) → (hosts.place m).tree ≡ Some t → IsNextAsk ask t → Follows c cast (hosted c cast hosts (DoesAsk m ask ok)) cores (IsHostReleaseAt hosts (DoesAsk m ask ok)) (ReadsAt (DoesAsk m ask ok))
+      by_tree : (t : TurnTree) → (hosts.place m).tree ≡ Some t → IsNextAsk ask t → Follows c cast (hosted c cast hosts (DoesAsk m ask ok)) cores (IsHostReleaseAt c hosts (DoesAsk m ask ok)) (ReadsAt (DoesAsk m ask ok))
       by_tree (Ends view) e none = absurd none
       by_tree (Does (Keeps kept) g) e same =
-          let h = here.stands_at (Does (Keeps kept) g) e in
-          let q = h.2 ok cores (record { same = refl; said_still = λ l h. h }) in
+          let h_at = here.stands_at (Does (Keeps kept) g) e in
+          let q = h_at.2 ok cores (record { same = refl; said_still = λ l h. h }) in
           let one = entered c cast cores (HasAnswer m kept ok) in
           let end = cores_after c cast one q.1.0 in
           let led : IsLed c cast m (hosts.place m).reading one q.1.0 = q.1.2 in
           let own = answer_own cores m kept ok q.0 in
-          subst (λ (a : TicketAsk). Follows c cast (hosted c cast hosts (DoesAsk m a ok)) cores (IsHostReleaseAt hosts (DoesAsk m a ok)) (ReadsAt (DoesAsk m a ok))) same (
+          subst (λ (a : TicketAsk). Follows c cast (hosted c cast hosts (DoesAsk m a ok)) cores (IsHostReleaseAt c hosts (DoesAsk m a ok)) (ReadsAt (DoesAsk m a ok))) same (
             HasAnswer m kept ok ∷ q.1.0,
             (q.0, q.1.1),
             moved hosts cores end m hosts.now _ hosts.sent i (led.own.same_time ∙ own.0.same_time ∙ i.same_now)
@@ -220,7 +227,7 @@ module _ (c : Cluster) (cast : Cast) (clocks : HasClocks c) (is_cast : IsCast c 
                 (λ k h. led.more k (answer_may cores m kept ok (hosts.place m).may q.0 (still m (hosts.place m) cores here) (here.stands_at (Does (Keeps kept) g) e).0 k h)))
                 (λ l h. led.own.said_on l (own.0.said_on l (i.said l h))),
             λ z h. ⊎_elim
-                (λ (n : IsReleaseAt cores (HasAnswer m kept ok) z). answer_frees kept ok z n)
+                (λ (n : IsReleaseAt cores (HasAnswer m kept ok) z). answer_frees kept g ok z e h_at.3 n)
                 (λ (n : IsReleaseIn c cast one q.1.0 z). absurd (led.unreleased z n)) h,
             (tt, calls_read c cast (ReadsAt (DoesAsk m (Keeps kept) ok)) one q.1.0 led.are_calls),
           )
@@ -229,7 +236,7 @@ module _ (c : Cluster) (cast : Cast) (clocks : HasClocks c) (is_cast : IsCast c 
           let q = h.2 ok cores (record { same = refl; said_still = λ l h. h }) in
           let end = cores_after c cast cores q.0 in
           let led : IsLed c cast m (hosts.place m).reading cores q.0 = q.2 in
-          subst (λ (a : TicketAsk). Follows c cast (hosted c cast hosts (DoesAsk m a ok)) cores (IsHostReleaseAt hosts (DoesAsk m a ok)) (ReadsAt (DoesAsk m a ok))) same (
+          subst (λ (a : TicketAsk). Follows c cast (hosted c cast hosts (DoesAsk m a ok)) cores (IsHostReleaseAt c hosts (DoesAsk m a ok)) (ReadsAt (DoesAsk m a ok))) same (
             q.0,
             q.1,
             moved hosts cores end m hosts.now _ (letter ∷ hosts.sent) i (led.own.same_time ∙ i.same_now)
@@ -247,7 +254,7 @@ module _ (c : Cluster) (cast : Cast) (clocks : HasClocks c) (is_cast : IsCast c 
           let q = h.1 ok cores (record { same = refl; said_still = λ l h. h }) in
           let end = cores_after c cast cores q.0 in
           let led : IsLed c cast m (hosts.place m).reading cores q.0 = q.2 in
-          subst (λ (a : TicketAsk). Follows c cast (hosted c cast hosts (DoesAsk m a ok)) cores (IsHostReleaseAt hosts (DoesAsk m a ok)) (ReadsAt (DoesAsk m a ok))) same (
+          subst (λ (a : TicketAsk). Follows c cast (hosted c cast hosts (DoesAsk m a ok)) cores (IsHostReleaseAt c hosts (DoesAsk m a ok)) (ReadsAt (DoesAsk m a ok))) same (
             q.0,
             q.1,
             moved hosts cores end m hosts.now _ hosts.sent i (led.own.same_time ∙ i.same_now)
@@ -263,7 +270,7 @@ module _ (c : Cluster) (cast : Cast) (clocks : HasClocks c) (is_cast : IsCast c 
 
   -- ---- lives
 
-  halts : (hosts : Hosts) (cores : Cores) (m : ℕ) → HostsHold c cast hosts cores → MayHost c cast hosts (Halts m) → Follows c cast (hosted c cast hosts (Halts m)) cores (IsHostReleaseAt hosts (Halts m)) (ReadsAt (Halts m))
+  halts : (hosts : Hosts) (cores : Cores) (m : ℕ) → HostsHold c cast hosts cores → MayHost c cast hosts (Halts m) → Follows c cast (hosted c cast hosts (Halts m)) cores (IsHostReleaseAt c hosts (Halts m)) (ReadsAt (Halts m))
   halts hosts cores m i may =
       let p = the_value _ (hosts.place m).tree may.1 in
       let here = i.each m may.0 in
@@ -286,7 +293,7 @@ module _ (c : Cluster) (cast : Cast) (clocks : HasClocks c) (is_cast : IsCast c 
       )
 
   boots : (hosts : Hosts) (cores : Cores) (m time : ℕ) (kept : Record) → HostsHold c cast hosts cores → MayHost c cast hosts (Boots m time kept)
-      → Follows c cast (hosted c cast hosts (Boots m time kept)) cores (IsHostReleaseAt hosts (Boots m time kept)) (ReadsAt (Boots m time kept))
+      → Follows c cast (hosted c cast hosts (Boots m time kept)) cores (IsHostReleaseAt c hosts (Boots m time kept)) (ReadsAt (Boots m time kept))
   boots hosts cores m time kept i may =
       let here = i.each m may.0 in
       let now = reads c m time in
@@ -331,7 +338,7 @@ module _ (c : Cluster) (cast : Cast) (clocks : HasClocks c) (is_cast : IsCast c 
         ),
       )
 
-  passes : (hosts : Hosts) (cores : Cores) (time : ℕ) → HostsHold c cast hosts cores → MayHost c cast hosts (LetsPass time) → Follows c cast (hosted c cast hosts (LetsPass time)) cores (IsHostReleaseAt hosts (LetsPass time)) (ReadsAt (LetsPass time))
+  passes : (hosts : Hosts) (cores : Cores) (time : ℕ) → HostsHold c cast hosts cores → MayHost c cast hosts (LetsPass time) → Follows c cast (hosted c cast hosts (LetsPass time)) cores (IsHostReleaseAt c hosts (LetsPass time)) (ReadsAt (LetsPass time))
   passes hosts cores time i may = (
     TimePasses time ∷ [],
     (((let t = i.same_now in let l = may.0 in omega (arith, t, l)), may.1), tt),
@@ -346,7 +353,7 @@ module _ (c : Cluster) (cast : Cast) (clocks : HasClocks c) (is_cast : IsCast c 
 
   -- ---- all entries
 
-  follows : (hosts : Hosts) (cores : Cores) (entry : HostEntry) → HostsHold c cast hosts cores → MayHost c cast hosts entry → Follows c cast (hosted c cast hosts entry) cores (IsHostReleaseAt hosts entry) (ReadsAt entry)
+  follows : (hosts : Hosts) (cores : Cores) (entry : HostEntry) → HostsHold c cast hosts cores → MayHost c cast hosts entry → Follows c cast (hosted c cast hosts entry) cores (IsHostReleaseAt c hosts entry) (ReadsAt entry)
   follows hosts cores (LetsPass time) i may = passes hosts cores time i may
   follows hosts cores (BeginsTurn m time came plan) i may = begins hosts cores m time came plan i may
   follows hosts cores (DoesAsk m ask ok) i may = asks hosts cores m ask ok i may

@@ -30,6 +30,7 @@ pub mod TurnKeeps
 pub mod TurnPlaces
 pub mod CoreReads
 pub mod HostSteps
+pub mod RuleKeeps
 pub mod Mirrors
 pub mod Echoes
 pub mod Plans

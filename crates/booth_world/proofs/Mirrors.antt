@@ -1,6 +1,8 @@
 -- When a tree of the node's deeds does for one ticket what a host's tree does.
-use Rattle.std.proofs.Common.{◌≡◌, ◌≢◌, ◌⊎◌, inl, inr, ℕ, Bool, true, List, [], ◌∷◌, refl, sym, ◌∙◌}
+use Rattle.std.proofs.Common.{◌≡◌, ◌≢◌, ◌⊎◌, inl, inr, ℕ, ◌<◌, Bool, true, List, [], ◌∷◌, refl, sym, ◌∙◌}
+use Rattle.std.specs.Prelude.{is_some}
 use Rattle.booth_base.specs.Tree.{Deeds, Ends, Does, next}
+use Rattle.booth_conf.specs.Config.{ConfigSays}
 use Rattle.booth_wire.specs.declared.command.Direction.TheVariants.{BetweenMembers}
 use Rattle.booth_wire.specs.declared.message.Head.{Head}
 use Rattle.booth_wire.specs.declared.message.TicketPart.{TicketPart}
@@ -8,9 +10,12 @@ use Rattle.booth_wire.specs.declared.message.Setup.{Setup}
 use Rattle.booth_wire.specs.Command.{direction_of}
 use Rattle.booth_wire.specs.PlainMessage.{PlainMessage, Ticket}
 use Rattle.booth_auth.specs.Sealed.{stamped_head}
+use Rattle.booth_ticket.specs.Saying.{others}
+use Rattle.booth_node.specs.declared.node_config.NodeConfig.{NodeConfig}
 use Rattle.booth_node.specs.Reaction.{Ask, Send, Keep, Start}
 use Rattle.booth_world.specs.Facts.{Has}
 use Rattle.booth_world.specs.Rules.{MemberLetter}
+use Rattle.booth_world.specs.Revocations.{SendsEach}
 use Rattle.booth_world.specs.Turns.{Keeps, Sends, AsksElse, TurnTree}
 
 -- ---- a host's tree, with all behind it that is said before the next keep or start
@@ -69,14 +74,34 @@ no_less_on sent sent' tree tree' rest x =
 
 -- ---- the node's deeds against it
 
-module _ (auth : Bool) (s : Setup) where
+-- a message repeats a host's letter
+abbrev pub Repeats : MemberLetter → PlainMessage → Type 0
+Repeats letter plain = (plain.head.cmd ≡ letter.head.cmd) × (plain.content ≡ Ticket letter.part)
+
+-- what is done later changes nothing of what comes first
+pub sends_next : {S T : Type 0} (config : ConfigSays) (places : List ℕ) (P : PlainMessage → Type 0) (f : S → Deeds Ask T) (deeds : Deeds Ask S)
+    → SendsEach config places P deeds → SendsEach config places P (next deeds f)
+sends_next config [] P f deeds x = tt
+sends_next config (place ∷ places) P f (Does (Send peer letter) go) x = (x.0, x.1, λ ok. sends_next config places P f (go ok) (x.2 ok))
+sends_next config (place ∷ places) P f (Does (Keep name tried) go) x = absurd x
+sends_next config (place ∷ places) P f (Does (Start job) go) x = absurd x
+sends_next config (place ∷ places) P f (Ends state) x = absurd x
+
+module _ (node : NodeConfig) (s : Setup) where
+  -- After a keep that was done: what the host's tree says first is about the ticket, and the node's deeds begin with it,
+  -- to each other member.
+  abbrev pub IsTold : {S : Type 0} → TurnTree → Deeds Ask S → Type 0
+  IsTold rest deeds =
+      1 < s.members → (letter : MemberLetter) (more : Bool → TurnTree) → rest ≡ Does (Sends letter) more
+      → (letter.part.ticket ≡ s.ticket) × SendsEach node.config (others s) (Repeats letter) deeds
+
   -- What is sent says truly whether there is a key; and where it is a member's message about this ticket, the host's
   -- tree has said it, but for its stamp.
   pub record IsSpoken (sent : List MemberLetter) (letter : PlainMessage) : Type 0 where
-    pub truly : letter.head.auth ≡ auth
+    pub truly : letter.head.auth ≡ is_some node.key
     pub spoken : (part : TicketPart) → direction_of letter.head.cmd ≡ BetweenMembers → letter.content ≡ Ticket part
         → part.ticket ≡ s.ticket
-        → (head : Head) × (now : ℕ) × (letter.head ≡ stamped_head auth now head)
+        → (head : Head) × (now : ℕ) × (letter.head ≡ stamped_head (is_some node.key) now head)
         × Has sent (record { sender = s.place; head = head; part = part })
 
   pub spoken_more : (sent sent' : List MemberLetter) (letter : PlainMessage) → SentMore sent sent' → IsSpoken sent letter → IsSpoken sent' letter
@@ -95,7 +120,7 @@ module _ (auth : Bool) (s : Setup) where
   Mirrors Q sent (Does (Keep name tried) go) tree =
       ((name ≢ s.ticket) × ((ok : Bool) → Mirrors Q sent (go ok) tree))
       ⊎ ((name ≡ s.ticket) × (rest : Bool → TurnTree) × (skip tree ≡ Does (Keeps tried) rest)
-      × ((ok : Bool) → Mirrors Q (sent_by tree sent) (go ok) (rest ok)))
+      × ((ok : Bool) → Mirrors Q (sent_by tree sent) (go ok) (rest ok)) × IsTold (rest true) (go true))
   Mirrors Q sent (Does (Start job) go) tree =
       ((ok : Bool) → Mirrors Q sent (go ok) tree)
       ⊎ ((rest : Bool → TurnTree) × (skip tree ≡ Does AsksElse rest)
@@ -113,8 +138,9 @@ module _ (auth : Bool) (s : Setup) where
         m.0,
         m.1,
         sym x.same ∙ m.2,
-        λ ok. mirrors_kept Q (go ok) kept (sent_by tree sent) (sent_by tree' sent') (m.1 ok) (m.1 ok)
-            (no_less_on sent sent' tree tree' (m.1 ok) x) (m.3 ok),
+        (λ ok. mirrors_kept Q (go ok) kept (sent_by tree sent) (sent_by tree' sent') (m.1 ok) (m.1 ok)
+            (no_less_on sent sent' tree tree' (m.1 ok) x) (m.3 ok)),
+        m.4,
       )
   mirrors_kept Q (Does (Start job) go) kept sent sent' tree tree' x (inl m) =
       inl (λ ok. mirrors_kept Q (go ok) kept sent sent' tree tree' x (m ok))
@@ -139,7 +165,15 @@ module _ (auth : Bool) (s : Setup) where
   mirrors_next P Q f sent (Does (Send peer letter) go) tree on m = (m.0, λ ok. mirrors_next P Q f sent (go ok) tree on (m.1 ok))
   mirrors_next P Q f sent (Does (Keep name tried) go) tree on (inl m) = inl (m.0, λ ok. mirrors_next P Q f sent (go ok) tree on (m.1 ok))
   mirrors_next P Q f sent (Does (Keep name tried) go) tree on (inr m) =
-      inr (m.0, m.1, m.2, λ ok. mirrors_next P Q f (sent_by tree sent) (go ok) (m.1 ok) on (m.3 ok))
+      inr (
+        m.0,
+        m.1,
+        m.2,
+        (λ ok. mirrors_next P Q f (sent_by tree sent) (go ok) (m.1 ok) on (m.3 ok)),
+        λ others_are letter rest is.
+            let told = m.4 others_are letter rest is in
+            (told.0, sends_next node.config (others s) (Repeats letter) f (go true) told.1),
+      )
   mirrors_next P Q f sent (Does (Start job) go) tree on (inl m) = inl (λ ok. mirrors_next P Q f sent (go ok) tree on (m ok))
   mirrors_next P Q f sent (Does (Start job) go) tree on (inr m) =
       inr (

@@ -211,7 +211,7 @@ module _ (s : Setup) (place : ℕ) (node : NodeConfig) (moment : ℕ) (all : s.m
 
     left_kept : (state : State) → IsKept (LeftThen state)
     left_kept state left sent sent' tree tree' x m =
-        λ counted few_now. mirrors_kept (is_some node.key) s (IsOver s place node moment all) (dues node moment turn (with_ticket state place counted (left_as s moment left)))
+        λ counted few_now. mirrors_kept node s (IsOver s place node moment all) (dues node moment turn (with_ticket state place counted (left_as s moment left)))
         (over_kept s place node moment all) sent sent' tree tree' x (m counted few_now)
 
     left_dues : (state : State) (view : View) → IsPlacedAt s place view state.tickets → state.last_reading ≡ moment
@@ -220,9 +220,9 @@ module _ (s : Setup) (place : ℕ) (node : NodeConfig) (moment : ℕ) (all : s.m
         λ counted few_now. then_dues (with_ticket state place counted (left_as s moment left)) left.view sent (own_set s place view left.view state.tickets at) last_is few_now
 
     joined : (deeds : Deeds Ask State) (sent : List MemberLetter) (tree : TurnTree)
-        → Mirrors (is_some node.key) s Then sent deeds tree → Over s place node moment all sent (next deeds (dues node moment turn)) tree
+        → Mirrors node s Then sent deeds tree → Over s place node moment all sent (next deeds (dues node moment turn)) tree
     joined deeds sent tree m =
-        mirrors_next (is_some node.key) s Then (IsOver s place node moment all) (dues node moment turn) sent deeds tree (λ sent' state' tree' x. x) m
+        mirrors_next node s Then (IsOver s place node moment all) (dues node moment turn) sent deeds tree (λ sent' state' tree' x. x) m
 
     hears_own : (state : State) (view : View) (member : ℕ) (head : Head) (part : TicketPart) → IsPlacedAt s place view state.tickets
         → state.last_reading ≡ moment → IsFew state.common → Unstamped member head part
@@ -235,7 +235,7 @@ module _ (s : Setup) (place : ℕ) (node : NodeConfig) (moment : ℕ) (all : s.m
           (after_may s place node moment all own most enough (ready_at state) turn);
       good = one_letter Good _ plain.4;
       over = λ sent. joined (acts node moment state place (is_told member head part)) sent (heard_tree plain.0)
-          (subst (λ (h : Head). Mirrors (is_some node.key) s Then sent (acts node moment state place (is_told member h part)) (heard_tree plain.0))
+          (subst (λ (h : Head). Mirrors node s Then sent (acts node moment state place (is_told member h part)) (heard_tree plain.0))
           (sym plain.3)
           (own_acts s place node moment all Then state view (is_told member (stamped_head plain.1 plain.2 plain.0) part) sent (heard_tree plain.0) few at.own
           (echoes_as s (LeftThen state) (λ sent' left tree'. (counted : Common) → IsFew counted → Then sent' (with_ticket state place counted left) tree') (left_as s moment)
@@ -345,7 +345,7 @@ module _ (s : Setup) (place : ℕ) (node : NodeConfig) (moment : ℕ) (all : s.m
 
     module _ (job : ℕ) (service : Service) where
       abbrev Told : List MemberLetter → Deeds Ask State → TurnTree → Type 0
-      Told sent deeds tree = Mirrors (is_some node.key) s Then sent deeds tree
+      Told sent deeds tree = Mirrors node s Then sent deeds tree
 
       abbrev after_tree : View → Bool → TurnTree
       after_tree view ready = plan_tree s moment view (after_plan s place node moment all own most enough ready turn view)
@@ -368,7 +368,7 @@ module _ (s : Setup) (place : ℕ) (node : NodeConfig) (moment : ℕ) (all : s.m
       others_over zero from state view ready sent behind at last_is few ready_is =
           subst (λ (b : Bool). Then sent state (after_tree view b)) ready_is (then_dues state view sent at last_is few)
       others_over (suc n) from state view ready sent behind at last_is few ready_is =
-          mirrors_next (is_some node.key) s (StandsSo (after_tree view ready) view ready) Then
+          mirrors_next node s (StandsSo (after_tree view ready) view ready) Then
           (each_over node moment job service (range_with_len (from + 1) n)) sent (acts node moment state from (ends_job job service)) (after_tree view ready)
           (λ sent' state' tree' m. subst (λ (t : TurnTree). Told sent' (each_over node moment job service (range_with_len (from + 1) n) state') t) (sym m.same)
           (others_over n (from + 1) state' view ready sent' (omega (arith, behind)) m.placed_at m.moment_is m.few m.ready_is))
@@ -386,12 +386,12 @@ module _ (s : Setup) (place : ℕ) (node : NodeConfig) (moment : ℕ) (all : s.m
 
       then_kept : IsKept Then
       then_kept state sent sent' tree tree' x m =
-          mirrors_kept (is_some node.key) s (IsOver s place node moment all) (dues node moment turn state) (over_kept s place node moment all) sent sent' tree
+          mirrors_kept node s (IsOver s place node moment all) (dues node moment turn state) (over_kept s place node moment all) sent sent' tree
           tree' x m
 
       over_left : (n : ℕ) (state : State) → IsKept (LeftOver n state)
       over_left n state left sent sent' tree tree' x m =
-          λ counted few_now. mirrors_kept (is_some node.key) s Then
+          λ counted few_now. mirrors_kept node s Then
           (each_over node moment job service (range_with_len (place + 1) n) (with_ticket state place counted (left_as s moment left))) then_kept sent sent' tree
           tree' x (m counted few_now)
 
@@ -400,7 +400,7 @@ module _ (s : Setup) (place : ℕ) (node : NodeConfig) (moment : ℕ) (all : s.m
           → Told sent (next (acts node moment state place (ends_job job service)) (each_over node moment job service (range_with_len (place + 1) n)))
           (plan_tree s moment view (tells_plan (ready_at state) view))
       own_over n state view sent at last_is few =
-          mirrors_next (is_some node.key) s Next Then (each_over node moment job service (range_with_len (place + 1) n)) sent
+          mirrors_next node s Next Then (each_over node moment job service (range_with_len (place + 1) n)) sent
           (acts node moment state place (ends_job job service)) tree (λ sent' state' tree' m. m)
           (own_acts s place node moment all Next state view (ends_job job service) sent tree few at.own
           (echoes_as s (LeftOver n state) (λ sent' left tree'. (counted : Common) → IsFew counted → Next sent' (with_ticket state place counted left) tree')
@@ -443,7 +443,7 @@ module _ (s : Setup) (place : ℕ) (node : NodeConfig) (moment : ℕ) (all : s.m
               (next (acts node moment state place (ends_job job service)) (each_over node moment job service (range_with_len (place + 1) n)))
               (plan_tree s moment view (tells_plan b view))) ready_is (own_over n state view sent at last_is few))
           by_place (inr ne) rest =
-              mirrors_next (is_some node.key) s (StandsSo tree view ready) Then (each_over node moment job service (range_with_len (from + 1) n)) sent
+              mirrors_next node s (StandsSo tree view ready) Then (each_over node moment job service (range_with_len (from + 1) n)) sent
               (acts node moment state from (ends_job job service)) tree
               (λ sent' state' tree' m.
               subst (λ (t : TurnTree). Told sent' (each_over node moment job service (range_with_len (from + 1) n) state') t) (sym m.same)

@@ -1,8 +1,8 @@
 -- A ticket's tree of deeds in the node's: its own, and another ticket's, which passes by.
-use Rattle.std.proofs.Common.{◌≡◌, ◌≢◌, inl, inr, ℕ, ◌+◌, ◌-◌, ◌^◌, ◌<◌, Bool, true, false, List, [], ◌∷◌, length, refl, sym, ap, ◌∙◌, subst, arith}
+use Rattle.std.proofs.Common.{◌≡◌, ◌≢◌, inl, inr, ⊎_elim, ℕ, ◌+◌, ◌-◌, ◌^◌, ◌<◌, Bool, true, false, List, [], ◌∷◌, length, refl, sym, ap, ◌∙◌, subst, arith}
 use Rattle.std.specs.Prelude.{◌&&◌, ◌==◌, nat_le, Option, Some, None, is_some, slice_get, if◌then◌else◌}
 use Rattle.std.proofs.lemmas.Bool.Decides.{nat_tests}
-use Rattle.std.proofs.lemmas.Option.{slice_get_within}
+use Rattle.std.proofs.lemmas.Option.{slice_get_within, slice_get_cases}
 use Rattle.booth_base.specs.declared.address.Peer.{Peer}
 use Rattle.booth_base.specs.Tree.{Deeds, Ends, Does, next}
 use Rattle.booth_conf.specs.Config.{ConfigSays}
@@ -68,10 +68,11 @@ use Rattle.booth_node.specs.Jobs.{job_of, number_after, with_start}
 use Rattle.booth_node.specs.Reaction.{Ask, peer_at, peer_of, sent_as, sends, lifted}
 use Rattle.booth_world.specs.Facts.{Has}
 use Rattle.booth_world.specs.Rules.{MemberLetter}
+use Rattle.booth_world.specs.Revocations.{SendsEach}
 use Rattle.booth_world.specs.Turns.{TurnTree}
 use Rattle.booth_world.proofs.Lists.{none_is}
-use Rattle.booth_world.proofs.Mirrors.{later, sent_by, IsSpoken, Mirrors}
-use Rattle.booth_world.proofs.Echoes.{Echoes, Reaches}
+use Rattle.booth_world.proofs.Mirrors.{later, sent_by, Repeats, IsSpoken, Mirrors}
+use Rattle.booth_world.proofs.Echoes.{Echoes, Reaches, SaysEach, others_below}
 
 -- a stamp changes nothing of what the rules hear
 pub same_heard : (s : Setup) (view : View) (from : ℕ) (auth : Bool) (time : ℕ) (head : Head) (part : TicketPart) (now : ℕ)
@@ -88,6 +89,18 @@ is_member config place peer is = by_member (slice_get config.members place) refl
     by_member : (o : Option MemberConf) → slice_get config.members place ≡ o → peer_at config o ≡ Some peer → place < length config.members
     by_member None e is = absurd (none_is peer is)
     by_member (Some member) e is = slice_get_within config.members place member e
+
+-- and a member has a place where messages go
+has_peer : (config : ConfigSays) (place : ℕ) → place < length config.members → peer_of config (Member place) ≡ None → ⊥
+has_peer config place below is = by_member (slice_get config.members place) refl is
+  where
+    by_member : (o : Option MemberConf) → slice_get config.members place ≡ o → peer_at config o ≡ None → ⊥
+    by_member None e none =
+        ⊎_elim
+        (λ some. none_is some.0 (sym e ∙ some.2))
+        (λ past. let out = past.0 in absurd (omega (arith, out, below)))
+        (slice_get_cases config.members place).1
+    by_member (Some member) e none = none_is _ (sym none)
 
 -- ---- another ticket's deeds
 
@@ -386,10 +399,10 @@ few_after n few = by_test (n == 2 ^ 64 - 1) refl
 
 module _ (s : Setup) (node : NodeConfig) (moment : ℕ) {S : Type 0} (Q : List MemberLetter → S → TurnTree → Type 0) where
   abbrev Mirror : List MemberLetter → Deeds Ask S → TurnTree → Type 0
-  Mirror sent deeds tree = Mirrors (is_some node.key) s Q sent deeds tree
+  Mirror sent deeds tree = Mirrors node s Q sent deeds tree
 
   said_own : (sent : List MemberLetter) (head : Head) (part : TicketPart) → Has sent (record { sender = s.place; head = head; part = part })
-      → IsSpoken (is_some node.key) s sent (sent_as node moment head part)
+      → IsSpoken node s sent (sent_as node moment head part)
   said_own sent head part h = record {
     truly = refl;
     spoken = λ other between is named. (
@@ -401,19 +414,46 @@ module _ (s : Setup) (node : NodeConfig) (moment : ℕ) {S : Type 0} (Q : List M
   }
 
   said_client : (sent : List MemberLetter) (head : Head) (part : TicketPart) → direction_of head.cmd ≡ ToClient
-      → IsSpoken (is_some node.key) s sent (sent_as node moment head part)
+      → IsSpoken node s sent (sent_as node moment head part)
   said_client sent head part client = record { truly = refl; spoken = λ other between is named. absurd (never (sym client ∙ between)) }
     where
       never : ToClient ≡ BetweenMembers → ⊥
       never e = cc
 
   said_other : (sent : List MemberLetter) (head : Head) (part : TicketPart) (name : List ℕ) → name ≢ s.ticket → part.ticket ≡ name
-      → IsSpoken (is_some node.key) s sent (sent_as node moment head part)
+      → IsSpoken node s sent (sent_as node moment head part)
   said_other sent head part name other about = record {
     truly = refl;
     spoken = λ (p : TicketPart) between is named.
         absurd (other (sym about ∙ ap (λ (q : TicketPart). q.ticket) (same_part part p is) ∙ named));
   }
+
+  -- what the ticket says to each of these members, the node sends to each
+  lifted_says : (places : List ℕ) (common : Common) (letter : MemberLetter) (deeds : Deeds TicketAsk TicketLeft) (rest : Common → TicketLeft → Deeds Ask S)
+      → ((place : ℕ) → Has places place → place < length node.config.members)
+      → SaysEach s places letter.head letter.part deeds
+      → SendsEach node.config places (Repeats letter) (lifted node moment s.ticket common deeds rest)
+  lifted_says [] common letter deeds rest below x = tt
+  lifted_says (place ∷ places) common letter (Ends left) rest below x = absurd x
+  lifted_says (place ∷ places) common letter (Does (KeepsRecord tried) go) rest below x = absurd x
+  lifted_says (place ∷ places) common letter (Does (StartsJob job expires) go) rest below x = absurd x
+  lifted_says (place ∷ places) common letter (Does (Say to head part) go) rest below x =
+      subst (λ (t : To). SendsEach node.config (place ∷ places) (Repeats letter)
+      (sends (peer_of node.config t) (sent_as node moment head part) common t (λ counted. lifted node moment s.ticket counted (go true) rest))) (sym x.0)
+      (by_peer (peer_of node.config (Member place)) refl
+      (λ ok. lifted_says places (with_send common (Member place) ok) letter (go true) rest (λ p h. below p (inr h)) x.3))
+    where
+      by_peer : (o : Option Peer) → peer_of node.config (Member place) ≡ o
+          → ((ok : Bool) → SendsEach node.config places (Repeats letter)
+          (lifted node moment s.ticket (with_send common (Member place) ok) (go true) rest))
+          → SendsEach node.config (place ∷ places) (Repeats letter)
+          (sends o (sent_as node moment head part) common (Member place) (λ counted. lifted node moment s.ticket counted (go true) rest))
+      by_peer None is others_too = absurd (has_peer node.config place (below place (inl refl)) is)
+      by_peer (Some peer) is others_too = (
+        is,
+        (ap (λ (h : Head). h.cmd) x.1, ap (λ (p : TicketPart). Ticket p) x.2),
+        others_too,
+      )
 
   pub own_lifted : s.members ≡ length node.config.members → (common : Common) → IsFew common → (sent : List MemberLetter)
       (deeds : Deeds TicketAsk TicketLeft) (tree : TurnTree) (rest : Common → TicketLeft → Deeds Ask S)
@@ -421,7 +461,18 @@ module _ (s : Setup) (node : NodeConfig) (moment : ℕ) {S : Type 0} (Q : List M
       → Mirror sent (lifted node moment s.ticket common deeds rest) tree
   own_lifted all common few sent (Ends left) tree rest m = m common few
   own_lifted all common few sent (Does (KeepsRecord tried) go) tree rest m =
-      inr (refl, m.0, m.1, λ ok. own_lifted all common few (sent_by tree sent) (go ok) (m.0 ok) rest (m.2 ok))
+      inr (
+        refl,
+        m.0,
+        m.1,
+        (λ ok. own_lifted all common few (sent_by tree sent) (go ok) (m.0 ok) rest (m.2 ok)),
+        λ others_are letter more is.
+            let told = m.3 others_are letter more is in (
+              told.0,
+              lifted_says (others s) common letter (go true) rest
+                  (λ place h. subst (λ (n : ℕ). place < n) all (others_below s place h)) told.1,
+            ),
+      )
   own_lifted all common few sent (Does (StartsJob job expires) go) tree rest m =
       inr (
         m.0,
@@ -436,7 +487,7 @@ module _ (s : Setup) (node : NodeConfig) (moment : ℕ) {S : Type 0} (Q : List M
       by_peer (peer_of node.config to) refl (λ counted few_now. own_lifted all counted few_now sent (go true) tree rest m.1)
     where
       spoken_to : (t : To) (peer : Peer) → peer_of node.config t ≡ Some peer → Reaches s (sent_by tree sent) t head part
-          → IsSpoken (is_some node.key) s (sent_by tree sent) (sent_as node moment head part)
+          → IsSpoken node s (sent_by tree sent) (sent_as node moment head part)
       spoken_to (Member place) peer is reaches =
           said_own (sent_by tree sent) head part
           (reaches (subst (λ (n : ℕ). place < n) (sym all) (is_member node.config place peer is)))
@@ -461,7 +512,7 @@ module _ (s : Setup) (node : NodeConfig) (moment : ℕ) {S : Type 0} (Q : List M
   other_lifted name other common few sent P (Does (Say to head part) go) tree rest m on =
       by_peer (peer_of node.config to) (λ counted few_now. other_lifted name other counted few_now sent P (go true) tree rest m.1 on)
     where
-      spoken_to : (t : To) → IsAbout name t head part → IsSpoken (is_some node.key) s (sent_by tree sent) (sent_as node moment head part)
+      spoken_to : (t : To) → IsAbout name t head part → IsSpoken node s (sent_by tree sent) (sent_as node moment head part)
       spoken_to (Member place) about = said_other (sent_by tree sent) head part name other about
       spoken_to (Client from) client = said_client (sent_by tree sent) head part client
 

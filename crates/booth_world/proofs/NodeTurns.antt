@@ -1,6 +1,6 @@
 -- A turn of the node, for one ticket of it: an arrival, and then the deadlines, as a plan.
 use Rattle.std.proofs.Common.{◌≡◌, ◌≢◌, ◌⊎◌, inl, inr, ℕ, zero, suc, ◌+◌, ◌^◌, ◌<◌, ◌≤◌, Bool, true, false, List, [], ◌∷◌, length, map, set, get_or, slice_get, refl, sym, ap, ◌∙◌, subst, arith, if◌then◌else◌}
-use Rattle.std.specs.Prelude.{Option, Some, None, is_some, nat_le, IsSomeAnd}
+use Rattle.std.specs.Prelude.{Option, Some, None, nat_le, IsSomeAnd}
 use Rattle.std.proofs.lemmas.Bool.Decides.{nat_tests}
 use Rattle.std.proofs.lemmas.Option.{slice_get_within}
 use Rattle.booth_base.specs.Tree.{Deeds, Ends, next}
@@ -157,14 +157,14 @@ module _ (s : Setup) (place : ℕ) (node : NodeConfig) (moment : ℕ) (all : s.m
     pub few : IsFew state.common
 
   abbrev pub Over : List MemberLetter → Deeds Ask State → TurnTree → Type 0
-  Over sent deeds tree = Mirrors (is_some node.key) s IsOver sent deeds tree
+  Over sent deeds tree = Mirrors node s IsOver sent deeds tree
 
   pub over_kept : IsKept IsOver
   over_kept state sent sent' tree tree' x m = record { view = m.view; ended = sym x.same ∙ m.ended; at = m.at; moment_is = m.moment_is; few = m.few }
 
   module _ (Q : List MemberLetter → State → TurnTree → Type 0) where
     abbrev Here : List MemberLetter → Deeds Ask State → TurnTree → Type 0
-    Here sent deeds tree = Mirrors (is_some node.key) s Q sent deeds tree
+    Here sent deeds tree = Mirrors node s Q sent deeds tree
 
     -- the ticket's own deeds
     pub own_acts : (state : State) (view : View) (event : Befalling) (sent : List MemberLetter) (tree : TurnTree) → IsFew state.common
@@ -220,7 +220,7 @@ module _ (s : Setup) (place : ℕ) (node : NodeConfig) (moment : ℕ) (all : s.m
         → IsOver sent state tree → Over sent (each_due node moment places state) tree
     passing [] state sent tree none over = over
     passing (p ∷ places) state sent tree none over =
-        mirrors_next (is_some node.key) s IsOver IsOver (each_due node moment places) sent (acts node moment state p comes_due) tree
+        mirrors_next node s IsOver IsOver (each_due node moment places) sent (acts node moment state p comes_due) tree
         (λ sent' state' tree' m. passing places state' sent' tree' (λ h. none (inr h)) m)
         (other_acts IsOver state over.view p comes_due sent tree over.at (λ e. none (inl e)) over.few
         (λ t waiters spare ready job. minds_due t.setup moment t.known waiters (ready Auto) job)
@@ -266,13 +266,13 @@ module _ (s : Setup) (place : ℕ) (node : NodeConfig) (moment : ℕ) (all : s.m
             → Over sent (next (acts node moment state p comes_due) (each_due node moment places)) (due_tree view ready)
         by_place (inl e) rest =
             subst (λ (q : ℕ). Over sent (next (acts node moment state q comes_due) (each_due node moment places)) (due_tree view ready)) (sym e)
-            (mirrors_next (is_some node.key) s IsOver IsOver (each_due node moment places) sent (acts node moment state place comes_due)
+            (mirrors_next node s IsOver IsOver (each_due node moment places) sent (acts node moment state place comes_due)
             (due_tree view ready)
             (λ sent' state' tree' m. passing places state' sent' tree'
             (λ g. each_has (λ y. p ≢ y) places place once.0 g e) m)
             (subst (λ (b : Bool). Over sent (acts node moment state place comes_due) (due_tree view b)) ready_is (own_due state view sent at last_is few)))
         by_place (inr ne) rest =
-            mirrors_next (is_some node.key) s (IsAhead view ready) IsOver (each_due node moment places) sent (acts node moment state p comes_due)
+            mirrors_next node s (IsAhead view ready) IsOver (each_due node moment places) sent (acts node moment state p comes_due)
             (due_tree view ready)
             (λ sent' state' tree' m. subst (λ (t : TurnTree). Over sent' (each_due node moment places state') t) (sym m.ahead)
             (rest state' sent' (still ne h) m.placed_at m.moment_is m.few m.ready_is))

@@ -46,6 +46,7 @@ use Rattle.booth_ticket.specs.declared.waiters.Waiter.{Waiter}
 use Rattle.booth_ticket.specs.Waiting.{joined, result_for, staying, tell_each, tell_one, waits}
 use Rattle.booth_world.specs.Rules.{MemberLetter, Asks, Hears, Greets, MeetsDeadline, MakesNote, RenewsLease, GivesBack}
 use Rattle.booth_world.specs.Turns.{AsksElse, TurnTree, keeps_of, says_last, says_of, deeds_of, call_tree, Plan, Calls, Waits, plan_tree, LeavesAlways, MayPlan}
+use Rattle.booth_world.proofs.RuleKeeps.{Awaits, hear_awaits, due_awaits, renew_awaits}
 use Rattle.booth_world.proofs.Mirrors.{IsKept, later}
 use Rattle.booth_world.proofs.Echoes.{Echoes, said, carried}
 
@@ -441,11 +442,11 @@ module _ (s : Setup) (now most : ℕ) where
         by_result (Some result) more = (refl, more)
 
     -- a call's outcome is carried out, and then what follows it
-    called : (from : Option ℕ) (outcome : Outcome) (rest : Outcome → Deeds Ask Left) (sent : List MemberLetter) (follows : View → Plan)
+    called : (from : Option ℕ) (outcome : Outcome) (rest : Outcome → Deeds Ask Left) (sent : List MemberLetter) (follows : View → Plan) → Awaits outcome
         → ((o : Outcome) (sent' : List MemberLetter) → Echoes s P sent' (rest o) (plan_tree s now o.view (follows o.view)))
         → Echoes s P sent (carry_out s from now outcome rest) (next (deeds_of s now outcome) (λ left. plan_tree s now left (follows left)))
-    called from outcome rest sent follows then_so =
-        carried s own P kept (λ left. plan_tree s now left (follows left)) from now outcome rest sent then_so
+    called from outcome rest sent follows awaits then_so =
+        carried s own P kept (λ left. plan_tree s now left (follows left)) from now outcome rest sent awaits then_so
 
     -- what an outcome leads to
     abbrev ThenSo : (Outcome → Deeds Ask Left) → Type 0
@@ -463,7 +464,7 @@ module _ (s : Setup) (now most : ℕ) where
             → Echoes s P sent (carry_out s None now (if b then telling (acquisition_failed s view now) tells.AskFailed else ask view reason now) rest)
             (plan_tree s now view (if b then Calls (MakesNote notes.AskFailed) go else Calls (Asks reason) go))
         by_test true = then_so (telling (acquisition_failed s view now) tells.AskFailed) sent
-        by_test false = called None (ask view reason now) rest sent go then_so
+        by_test false = called None (ask view reason now) rest sent go tt then_so
 
     -- a handler is started, and the plan is told its number
     started_so : (h : List ℕ) (expires : ℕ) (view : View) (outcome : Bool → Outcome) (starts : ℕ → Plan) (fails : Plan) (rest : Outcome → Deeds Ask Left)
@@ -500,12 +501,12 @@ module _ (s : Setup) (now most : ℕ) where
       where
         by_handler : (h : Option (List ℕ))
             → Echoes s P sent (renews_by s view (option_map (λ words_of. number) h) now (carries rest)) (plan_tree s now view (renews_plan most h go))
-        by_handler None = called None (renew s view now) rest sent go then_so
+        by_handler None = called None (renew s view now) rest sent go (renew_awaits s view now) then_so
         by_handler (Some h) =
             started_so h (own_end view / 1000) view (checks s view number now) (λ job. Calls (MakesNote (notes.JobStarted job RACQ)) go)
             (Calls (GivesBack LOCF) go) rest sent
             (λ sent'. then_so (quiet (noted s view now (notes.JobStarted number RACQ))) sent')
-            (λ sent'. called None (release view LOCF now) rest sent' go then_so)
+            (λ sent'. called None (release view LOCF now) rest sent' go tt then_so)
 
         by_site : (b : Bool)
             → Echoes s P sent (renews_by s view (if b then job_now else None) now (carries rest)) (plan_tree s now view (renews_plan most (if b then handler else None) go))
@@ -522,7 +523,7 @@ module _ (s : Setup) (now most : ℕ) where
         → Echoes s P sent (hear_message s view waiters from head part now)
         (next (call_tree s now view (Hears (record { sender = from; head = head; part = part }))) (λ left. plan_tree s now left (go left)))
     heard view waiters from head part sent =
-        called (Some from) (hear s view from head part now head.cmd) (ends s now waiters) sent go (ended waiters)
+        called (Some from) (hear s view from head part now head.cmd) (ends s now waiters) sent go (hear_awaits s view from head part now head.cmd) (ended waiters)
 
     taken_over : (view : View) (ready : Bool) (rest : Outcome → Deeds Ask Left) (sent : List MemberLetter) → ThenSo rest
         → Echoes s P sent (take_over s view ready job_now now (carries rest)) (plan_tree s now view (take_over_plan most ready handler go view))
@@ -532,7 +533,7 @@ module _ (s : Setup) (now most : ℕ) where
     want_due : (view : View) (waiters : List Waiter) (ready : Bool) (want : Want) (sent : List MemberLetter) → WantsWell s (due_now s view now) want
         → Echoes s P sent (follow s (due_now s view now) want ready job_now now (carries (ends s now waiters)))
         (plan_tree s now view (want_plan s most ready handler go want))
-    want_due view waiters ready wants.Nothing sent w = called None (due_now s view now) (ends s now waiters) sent go (ended waiters)
+    want_due view waiters ready wants.Nothing sent w = called None (due_now s view now) (ends s now waiters) sent go (due_awaits s view now) (ended waiters)
     want_due view waiters ready wants.Renew sent w =
         subst (λ (t : TurnTree). Echoes s P sent (renews_with s (due_now s view now).view job_now now (carries (ends s now waiters)))
         (next t (λ left. plan_tree s now left (renew_plan s most handler go left)))) (sym (no_deeds s now (due_now s view now) w.0 w.1))
@@ -575,8 +576,8 @@ module _ (s : Setup) (now most : ℕ) where
 
     goes_so : (service : Service) (view : View) (rest : Outcome → Deeds Ask Left) (sent : List MemberLetter) → ThenSo rest
         → Echoes s P sent (carries rest (renews_or_releases s view service now)) (plan_tree s now view (goes_on_plan service go))
-    goes_so CanRun view rest sent then_so = called None (renew s view now) rest sent go then_so
-    goes_so CannotRun view rest sent then_so = called None (release view LOCF now) rest sent go then_so
+    goes_so CanRun view rest sent then_so = called None (renew s view now) rest sent go (renew_awaits s view now) then_so
+    goes_so CannotRun view rest sent then_so = called None (release view LOCF now) rest sent go tt then_so
 
     led_on : (service : Service) (view : View) (rest : Outcome → Deeds Ask Left) (sent : List MemberLetter) → ThenSo rest → view.role ≡ Leader
         → Echoes s P sent (carries rest (leads_with s view service now)) (plan_tree s now view (leads_plan now service go view))
@@ -600,7 +601,7 @@ module _ (s : Setup) (now most : ℕ) where
             (plan_tree s now view (if b then Calls MeetsDeadline go else goes_on_plan service go))
         by_test true over =
             subst (λ (o : Outcome). Echoes s P sent (carries rest lost_now) (next (deeds_of s now o) (λ left. plan_tree s now left (go left)))) (sym (is_lost over))
-            (called None lost_now rest sent go then_so)
+            (called None lost_now rest sent go tt then_so)
         by_test false over = goes_so service view rest sent then_so
 
     pub job_ended : (view : View) (waiters : List Waiter) (job : ℕ) (service : Service) (sent : List MemberLetter)
@@ -649,7 +650,7 @@ module _ (s : Setup) (now most : ℕ) where
     revoked view waiters request (Some result) sent = replied waiters request RRvk result (quiet view) sent refl
     revoked view waiters request None sent =
         called None (release view ADMN now)
-        (λ o. replies s waiters request RRvk now (revoke_result o.deed.told) o) sent go
+        (λ o. replies s waiters request RRvk now (revoke_result o.deed.told) o) sent go tt
         (λ o sent'. replied waiters request RRvk (revoke_result o.deed.told) o sent' refl)
 
     wished : (view : View) (waiters : List Waiter) (spare : ℕ) (ready : Bool) (request : Request) (w : Wish) (sent : List MemberLetter)

@@ -8,7 +8,14 @@ use Rattle.booth_wire.specs.declared.message.Say.TheVariants as says
 use Rattle.booth_wire.specs.declared.message.Setup.{Setup}
 use Rattle.booth_raft.specs.declared.view.View.{View}
 use Rattle.booth_raft.specs.declared.view.Waiting.{Waiting}
-use Rattle.booth_raft.specs.AskAndRenew.{finish}
+use Rattle.booth_raft.specs.declared.view.Rule.{Rule}
+use Rattle.booth_raft.specs.declared.view.Rule.TheVariants as rules
+use Rattle.booth_raft.specs.AskAndRenew.{finish, goes_on}
+use Rattle.booth_raft.specs.Messages.{head_of, part_of, revokes}
+use Rattle.booth_raft.proofs.FactsLemmas.{on_option}
+use Rattle.booth_base.specs.declared.address.TheConstants.{NO_ONE}
+use Rattle.booth_wire.specs.declared.codes.reasons.TheConstants.{SPLT}
+use Rattle.booth_wire.specs.declared.command.Cmd.TheVariants.{Revk}
 use Rattle.booth_raft.specs.Facts.{ViewFacts, KeepWaits, Leaves}
 use Rattle.booth_raft.specs.Outcome.{Outcome}
 use Rattle.booth_raft.specs.declared.deed.Note.{Note}
@@ -24,7 +31,8 @@ use Rattle.booth_world.specs.States.{put}
 use Rattle.booth_world.specs.Gives.{Given, may_after, may_answered}
 use Rattle.booth_world.specs.Rules.{MemberLetter, CoreCall, Asks, Hears, Greets, MeetsDeadline, MakesNote, RenewsLease, GivesBack, lease_call}
 use Rattle.booth_world.specs.Cores.{CoreEntry, CallsCore, HasAnswer, CorePlace, Cores, Cast, MayCallAlone, MayCallCore, MayEnter, said_more, has_given, call_given, after_call, answer_given, after_answer, entered, AreEntered, cores_after}
-use Rattle.booth_world.specs.CoreLaws.{IsReleaseAt, IsReleaseIn}
+use Rattle.booth_world.specs.CoreLaws.{IsReleasing, IsReleaseAt, IsReleaseIn}
+use Rattle.booth_world.specs.HostLaws.{Revokes}
 use Rattle.booth_world.specs.Turns.{Keeps, Sends, AsksElse, TurnTree, sends, bits_set, says_of, keeps_of, says_last, deeds_of, call_tree, Plan, Rests, Calls, Waits, plan_tree, LeavesAlways, MayPlan}
 use Rattle.booth_world.specs.Hosts.{may_left, pending_in}
 use Rattle.std.proofs.lemmas.Bool.Decides.{nat_tests}
@@ -32,6 +40,7 @@ use Rattle.booth_world.proofs.Lists.{none_is, some_same}
 use Rattle.booth_world.proofs.Views.{on_cond}
 use Rattle.booth_world.proofs.KeptSteps.{the_value}
 use Rattle.booth_world.proofs.CallSteps.{put_same}
+use Rattle.booth_world.proofs.CoreRuns.{tries_term}
 use Rattle.booth_world.proofs.TurnKeeps.{IsGainAtMost, second_gains, third_keeps_nothing}
 
 -- ---- a place in the tree, and the core's entries
@@ -121,6 +130,55 @@ both_calls (CallsCore k call ∷ a) b x y = both_calls a b x y
 both_calls (HasAnswer k kept ok ∷ a) b x y = both_calls a b x y
 both_calls (entry ∷ a) b x y = absurd x
 
+-- ---- what is said after a keep that gave a term back
+
+pub sends_first : (n : ℕ) (letter : MemberLetter) (tree : TurnTree) → 0 < n
+    → (go : Bool → TurnTree) × (sends n letter tree ≡ Does (Sends letter) go)
+sends_first zero letter tree some = absurd (omega (arith, some))
+sends_first (suc n) letter tree some = ((λ ok. sends n letter tree), refl)
+
+-- the others are told, whatever follows
+pub revokes_next : (term : ℕ) (tree : TurnTree) (f : View → TurnTree) → Revokes term tree → Revokes term (next tree f)
+revokes_next term tree f r = record {
+  letter = r.letter;
+  go = λ ok. next (r.go ok) f;
+  next_is = ap (λ (t : TurnTree). next t f) r.next_is;
+  revokes = r.revokes;
+  same_term = r.same_term;
+}
+
+revokes_after : (s : Setup) (view : View) (now : ℕ) (waits : Waiting) (term : ℕ) → view.waiting ≡ Some waits → IsReleasing waits.rule → view.term ≡ term
+    → 1 < s.members
+    → Revokes term (keeps_of s now (finish s view now true).deed.keep (finish s view now true) (says_last s))
+revokes_after s view now waits term is gives same others =
+    on_option (λ (o : Outcome). Revokes term (keeps_of s now o.deed.keep o (says_last s))) view.waiting _ _
+    (λ none. absurd (none_is waits (sym none ∙ is)))
+    (λ w e. by_rule w.rule w.tried (subst (λ (x : Waiting). IsReleasing x.rule) (some_same waits w (sym is ∙ e)) gives))
+  where
+    told : (left : View) (reason : ℕ) → Revokes term (says_of s (revokes s view.term reason) (Ends left))
+    told left reason =
+        let letter : MemberLetter = record { sender = s.place; head = head_of s Revk 0 0 reason 0; part = part_of s NO_ONE view.term 0 } in
+        let first = sends_first (s.members - 1) letter (Ends left) (omega (arith, others)) in
+        record { letter = letter; go = first.0; next_is = first.1; revokes = refl; same_term = same }
+
+    by_rule : (rule : Rule) (tried : Record) → IsReleasing rule
+        → Revokes term (keeps_of s now (goes_on s (record view { waiting = None }) rule tried now true).deed.keep
+        (goes_on s (record view { waiting = None }) rule tried now true) (says_last s))
+    by_rule rules.Gain tried g = absurd g
+    by_rule (rules.Ask reason) tried g = absurd g
+    by_rule (rules.Release reason) tried g = told _ reason
+    by_rule rules.EndRound tried g = told _ SPLT
+
+-- where the core gives its term back by the keep that it waits for, and it is done, the others are told
+abbrev pub IsToldAfter : ℕ → CorePlace → Record → TurnTree → Type 0
+IsToldAfter members place kept rest =
+    (view : View) → place.view ≡ Some view → (waits : Waiting) → view.waiting ≡ Some waits → IsReleasing waits.rule
+    → 1 < members → Revokes kept.term rest
+
+-- the member's setup is of its place, among all members
+abbrev pub IsSeatedAt : Cluster → Cast → ℕ → Type 0
+IsSeatedAt c cast m = ((cast.setup m).place ≡ m) × ((cast.setup m).members ≡ c.members)
+
 module _ (c : Cluster) (cast : Cast) (m now : ℕ) where
   -- entries of the core lead on to a cores of which this is true, with all records that may be kept
   pub record IsLed (cores : Cores) (entries : List CoreEntry) : Type 0 where
@@ -147,6 +205,7 @@ module _ (c : Cluster) (cast : Cast) (m now : ℕ) where
       × ((entries : List CoreEntry) × AreEntered c cast (entered c cast cores' (HasAnswer m kept ok)) entries
       × IsLed (entered c cast cores' (HasAnswer m kept ok)) entries
       × At (may_left (Keeps kept) ok base) (g ok) (cores_after c cast (entered c cast cores' (HasAnswer m kept ok)) entries)))
+      × IsToldAfter c.members (cores.place m) kept (g true)
   At base (Does (Sends letter) g) cores =
       (Has cores.said letter) × MayMore (cores.place m).may base
       × ((ok : Bool) (cores' : Cores) → IsLater m cores cores'
@@ -192,7 +251,8 @@ module _ (c : Cluster) (cast : Cast) (m now : ℕ) where
   at_later base (Does (Keeps kept) g) cores cores' later h = (
     subst (λ (s : CorePlace). Has s.may kept) (sym later.same) h.0,
     subst (λ (s : CorePlace). MayMore s.may (kept ∷ base)) (sym later.same) h.1,
-    λ ok on more. h.2 ok on (later_still m cores cores' on later more),
+    (λ ok on more. h.2 ok on (later_still m cores cores' on later more)),
+    subst (λ (s : CorePlace). IsToldAfter c.members s kept (g true)) (sym later.same) h.3,
   )
   at_later base (Does (Sends letter) g) cores cores' later h = (
     later.said_still letter h.0,
@@ -239,10 +299,11 @@ module _ (c : Cluster) (cast : Cast) (m now : ℕ) where
     (
       h.0,
       h.1,
-      λ ok on later.
+      (λ ok on later.
           let one = h.2 ok on later in
           let left = may_left (Keeps kept) ok base in
-          (one.0, soon_on (At left (g ok)) (At left (next (g ok) f)) _ one.1 (λ n a. at_next P left (g ok) f n a (so ok) go)),
+          (one.0, soon_on (At left (g ok)) (At left (next (g ok) f)) _ one.1 (λ n a. at_next P left (g ok) f n a (so ok) go))),
+      λ view shows waits is gives others. revokes_next kept.term (g true) f (h.3 view shows waits is gives others),
     ),
   )
   at_next P base (Does (Sends letter) g) f cores h so go = (
@@ -346,11 +407,13 @@ module _ (c : Cluster) (cast : Cast) (m now : ℕ) where
   keep_at : m < c.members → now < 2 ^ 62 → (o : Outcome) (cores : Cores) (kept : Record) (f : Outcome → TurnTree) (base : List Record) → IsGiven base o cores → o.deed.keep ≡ Some kept
       → ((ok : Bool) (cores' : Cores) → IsGiven (may_left (Keeps kept) ok base) (finish (cast.setup m) o.view now ok) cores'
       → At (may_left (Keeps kept) ok base) (f (finish (cast.setup m) o.view now ok)) cores')
+      → ((waits : Waiting) → o.view.waiting ≡ Some waits → waits.tried ≡ kept → IsReleasing waits.rule
+      → 1 < c.members → Revokes kept.term (f (finish (cast.setup m) o.view now true)))
       → At base (keeps_of (cast.setup m) now (Some kept) o f) cores
-  keep_at below small o cores kept f base g is_kept go = (
+  keep_at below small o cores kept f base g is_kept go tells = (
     g.tried kept is_kept,
     subst (λ (k : Option Record). MayMore (cores.place m).may (may_after k base)) is_kept g.no_more,
-    λ ok on later.
+    (λ ok on later.
         let shows : (on.place m).view ≡ Some o.view = ap (λ (s : CorePlace). s.view) later.same ∙ g.shows in
         let reading : (on.place m).reading ≡ now = ap (λ (s : CorePlace). s.reading) later.same ∙ g.at_reading in
         let waits = the_value _ o.view.waiting (subst (λ (k : Option Record). KeepWaits k o.view.waiting now) is_kept g.leaves.waits) in
@@ -378,30 +441,41 @@ module _ (c : Cluster) (cast : Cast) (m now : ℕ) where
                 (subst (λ (s : CorePlace). MayMore s.may (kept ∷ base)) (sym later.same)
                 (subst (λ (k : Option Record). MayMore (cores.place m).may (may_after k base)) is_kept g.no_more)))))))),
           ),
-        ),
+        )),
+    λ view shows_view waits is gives.
+        let same : view ≡ o.view = some_same view o.view (sym shows_view ∙ g.shows) in
+        let waits_for : o.view.waiting ≡ Some waits = ap (λ (v : View). v.waiting) (sym same) ∙ is in
+        let known = the_value _ o.view.waiting (subst (λ (k : Option Record). KeepWaits k o.view.waiting now) is_kept g.leaves.waits) in
+        tells waits waits_for (ap (λ (w : Waiting). w.tried) (some_same waits known.0 (sym waits_for ∙ known.1)) ∙ known.2.0) gives,
   )
 
-  deeds_at : m < c.members → now < 2 ^ 62 → (cast.setup m).place ≡ m → (base : List Record) (o : Outcome) (cores : Cores) → IsGiven base o cores → At base (deeds_of (cast.setup m) now o) cores
+  deeds_at : m < c.members → now < 2 ^ 62 → IsSeatedAt c cast m → (base : List Record) (o : Outcome) (cores : Cores) → IsGiven base o cores → At base (deeds_of (cast.setup m) now o) cores
   deeds_at below small place base o cores g = first o.deed.keep refl
     where
       second : (base : List Record) (q : Outcome) (cores : Cores) → IsGiven base q cores → IsGainAtMost q.view.waiting → (keep : Option Record) → q.deed.keep ≡ keep
           → At base (keeps_of (cast.setup m) now keep q (says_last (cast.setup m))) cores
-      second base q cores g gain None e = last_at place base q cores g e
+      second base q cores g gain None e = last_at place.0 base q cores g e
       second base q cores g gain (Some kept) e =
           keep_at below small q cores kept (says_last (cast.setup m)) base g e
-          (λ ok on h. last_at place _ _ on h (third_keeps_nothing (cast.setup m) q.view now ok gain))
+          (λ ok on h. last_at place.0 _ _ on h (third_keeps_nothing (cast.setup m) q.view now ok gain))
+          (λ waits is same gives others. absurd (subst (λ (r : Rule). IsReleasing r) (gain waits is) gives))
 
       first : (keep : Option Record) → o.deed.keep ≡ keep
           → At base (keeps_of (cast.setup m) now keep o (λ o. keeps_of (cast.setup m) now o.deed.keep o (says_last (cast.setup m)))) cores
-      first None e = subst (λ (k : Option Record). At base (keeps_of (cast.setup m) now k o (says_last (cast.setup m))) cores) (sym e) (last_at place base o cores g e)
+      first None e = subst (λ (k : Option Record). At base (keeps_of (cast.setup m) now k o (says_last (cast.setup m))) cores) (sym e) (last_at place.0 base o cores g e)
       first (Some kept) e =
           keep_at below small o cores kept (λ o. keeps_of (cast.setup m) now o.deed.keep o (says_last (cast.setup m))) base g e
           (λ ok on h. second _ _ on h (second_gains (cast.setup m) o.view now ok) _ refl)
+          (λ waits is same gives others.
+          revokes_after (cast.setup m) o.view now waits kept.term is gives
+          (sym (tries_term (cast.setup m) o.view.term o.view.kept o.view.round waits.rule waits.tried (g.leaves.facts.tried waits is))
+          ∙ ap (λ (k : Record). k.term) same)
+          (subst (λ (n : ℕ). 1 < n) (sym place.1) others))
 
   -- ---- a call's tree
 
   -- a call of an idle core is an entry, and then its tree follows
-  pub call_at : m < c.members → now < 2 ^ 62 → (cast.setup m).place ≡ m → (base : List Record) (view : View) (call : CoreCall) (cores : Cores) → IsIdle (cast.setup m) now view (cores.place m)
+  pub call_at : m < c.members → now < 2 ^ 62 → IsSeatedAt c cast m → (base : List Record) (view : View) (call : CoreCall) (cores : Cores) → IsIdle (cast.setup m) now view (cores.place m)
       → MayMore (cores.place m).may base → MayCallCore cast cores m view call → Leaves (cast.setup m) now (lease_call (cast.setup m) view now call).view (lease_call (cast.setup m) view now call).deed
       → Soon (At base (deeds_of (cast.setup m) now (lease_call (cast.setup m) view now call))) cores
   call_at below small place base view call cores idle only may leaves = (
@@ -458,7 +532,7 @@ module _ (c : Cluster) (cast : Cast) (m now : ℕ) where
   may_alone cores view (GivesBack reason) may = may
 
   -- a plan of an idle core is entries, by its calls
-  pub plan_at : m < c.members → now < 2 ^ 62 → (cast.setup m).place ≡ m → (plan : Plan) (base : List Record) (view : View) (cores : Cores)
+  pub plan_at : m < c.members → now < 2 ^ 62 → IsSeatedAt c cast m → (plan : Plan) (base : List Record) (view : View) (cores : Cores)
       → IsIdle (cast.setup m) now view (cores.place m) → MayMore (cores.place m).may base → MayPlan (cast.setup m) now view plan
       → Soon (At base (plan_tree (cast.setup m) now view plan)) cores
   plan_at below small place Rests base view cores idle only may = ([], tt, led_none cores, (idle, only))
@@ -482,7 +556,7 @@ module _ (c : Cluster) (cast : Cast) (m now : ℕ) where
   )
 
   -- and after a message that is heard
-  pub heard_at : m < c.members → now < 2 ^ 62 → (cast.setup m).place ≡ m → (letter : MemberLetter) (plan : View → Plan) (base : List Record) (view : View) (cores : Cores)
+  pub heard_at : m < c.members → now < 2 ^ 62 → IsSeatedAt c cast m → (letter : MemberLetter) (plan : View → Plan) (base : List Record) (view : View) (cores : Cores)
       → IsIdle (cast.setup m) now view (cores.place m) → MayMore (cores.place m).may base → MayCallCore cast cores m view (Hears letter)
       → LeavesAlways (λ left. MayPlan (cast.setup m) now left (plan left)) (call_tree (cast.setup m) now view (Hears letter))
       → Soon (At base (next (call_tree (cast.setup m) now view (Hears letter)) (λ left. plan_tree (cast.setup m) now left (plan left)))) cores

@@ -1,17 +1,21 @@
 -- Each kind of entry of a world, as entries of the hosts of one ticket: a start, a call, a cut.
-use Rattle.std.proofs.Common.{◌≡◌, ⊎_elim, inl, inr, ℕ, zero, suc, ◌+◌, ◌^◌, ◌<◌, ◌≤◌, Bool, true, false, List, [], ◌∷◌, length, refl, sym, ap, ◌∙◌, subst, arith, if◌then◌else◌}
-use Rattle.std.specs.Prelude.{Option, Some, None, is_ok, slice_get, max, bytes_eq, unwrap_or, IsSomeAnd, Result, Ok, Err}
+use Rattle.std.proofs.Common.{◌≡◌, ◌⊎◌, ⊎_elim, inl, inr, ℕ, zero, suc, ◌+◌, ◌^◌, ◌<◌, ◌≤◌, Bool, true, false, List, [], ◌∷◌, length, refl, sym, ap, ◌∙◌, subst, arith, if◌then◌else◌}
+use Rattle.std.specs.List.{filter, range_with_len}
+use Rattle.std.specs.Prelude.{Option, Some, None, not, ◌==◌, is_ok, slice_get, max, bytes_eq, unwrap_or, IsSomeAnd, Result, Ok, Err}
 use Rattle.std.proofs.Math.Nat.{max-eq_right, min-eq_left}
 use Rattle.booth_base.specs.Tree.{Deeds, Ends, Does}
+use Rattle.booth_conf.specs.Config.{ConfigSays}
 use Rattle.booth_conf.specs.declared.tickets.TicketConf.{TicketConf}
 use Rattle.booth_rec.specs.declared.record.Record.{Record}
 use Rattle.booth_rec.specs.Record.{record_or_none}
+use Rattle.booth_wire.specs.PlainMessage.{PlainMessage}
 use Rattle.booth_host.specs.declared.host.Failed.{Failed}
 use Rattle.booth_host.specs.declared.host.Arrival.{Arrival}
 use Rattle.booth_host.specs.declared.entry.Entry.{Entry}
 use Rattle.booth_host.specs.declared.entry.Entry.TheVariants as calls
 use Rattle.booth_raft.specs.declared.view.View.{View}
 use Rattle.booth_raft.specs.StartAndLearn.{started}
+use Rattle.booth_ticket.specs.Saying.{others}
 use Rattle.booth_ticket.specs.Ticket.{TicketState}
 use Rattle.booth_node.specs.declared.node_config.NodeConfig.{NodeConfig}
 use Rattle.booth_node.specs.Clock.{HasClocks, reads}
@@ -25,13 +29,15 @@ use Rattle.booth_node.specs.World.{World, members_of, node_at, clock_at, HasTrue
 use Rattle.booth_world.specs.Facts.{Has, Release}
 use Rattle.booth_world.specs.Turns.{Keeps, TurnTree, turn_tree}
 use Rattle.booth_world.specs.Hosts.{BeginsTurn, DoesAsk, Halts, Boots, HostPlace, Hosts, pending_in, pending, MayBegin, MayCome, begun, hosted, hosts_after}
-use Rattle.booth_world.specs.HostLaws.{IsHostReleaseAt}
+use Rattle.booth_world.specs.HostLaws.{Revokes, RevokesAfter, IsHostReleaseAt}
+use Rattle.booth_world.specs.Revocations.{others_of, IsRevocation, SendsEach}
 use Rattle.booth_world.proofs.Lists.{none_is, some_same}
 use Rattle.booth_world.proofs.CallSteps.{put_same}
+use Rattle.booth_world.proofs.Mirrors.{Repeats, IsTold}
 use Rattle.booth_world.proofs.NodeTurns.{IsPlacedAt}
 use Rattle.booth_world.proofs.NodeArrivals.{IsTurnOf, HearsGood, reacts}
 use Rattle.booth_world.proofs.HostRuns.{of_both}
-use Rattle.booth_world.proofs.WorldSteps.{Trace, Frees, IsTrace, Setting, same_bytes, other_bytes, cluster, setup_at, cast, own_ticket, own_below, Doings, StandsAt, Shows, Steps, rests_so, then_says, moved_one, keeps_own, starts_own}
+use Rattle.booth_world.proofs.WorldSteps.{Trace, Frees, IsTrace, Setting, same_bytes, other_bytes, cluster, setup_at, cast, own_ticket, own_place_is, own_below, Doings, StandsAt, Shows, Steps, rests_so, then_says, moved_one, keeps_own, starts_own}
 
 when_true : {A : Type 0} (b : Bool) (x y : A) → b ≡ true → (if b then x else y) ≡ x
 when_true true x y e = refl
@@ -73,6 +79,55 @@ started_is node now first zero (x ∷ tickets) (r ∷ records) s is =
     (x, refl, ap (λ (y : TicketState). y.setup.ticket) (sym (some_same (opened_by x (setup_of node first x) (record_or_none r) now) s is)))
 started_is node now first (suc i) (x ∷ tickets) (r ∷ records) s is = started_is node now (first + 1) i tickets records s is
 
+-- ---- what follows a release
+
+-- what is so of each send
+sends_so : {S : Type 0} (config : ConfigSays) (places : List ℕ) (P Q : PlainMessage → Type 0) (deeds : Deeds Ask S) → ((letter : PlainMessage) → P letter → Q letter)
+    → SendsEach config places P deeds → SendsEach config places Q deeds
+sends_so config [] P Q deeds gives x = tt
+sends_so config (place ∷ places) P Q (Does (Send peer letter) go) gives x =
+    (x.0, gives letter x.1, λ ok. sends_so config places P Q (go ok) gives (x.2 ok))
+sends_so config (place ∷ places) P Q (Does (Keep name tried) go) gives x = absurd x
+sends_so config (place ∷ places) P Q (Does (Start job) go) gives x = absurd x
+sends_so config (place ∷ places) P Q (Ends state) gives x = absurd x
+
+-- a member that is alone has no others
+alone : (n m : ℕ) → m < n → n ≤ 1 → filter (λ place. not (place == m)) (range_with_len 0 n) ≡ []
+alone zero m below few = absurd (omega (arith, below))
+alone (suc zero) zero below few = refl
+alone (suc zero) (suc m) below few = absurd (omega (arith, below))
+alone (suc (suc n)) m below few = absurd (omega (arith, few))
+
+has_others : (n : ℕ) → (1 < n) ⊎ (n ≤ 1)
+has_others zero = inr (omega arith)
+has_others (suc zero) = inr (omega arith)
+has_others (suc (suc n)) = inl (omega arith)
+
+-- what the host says after a release the node says to each other member
+revoked : (w : World) (place : ℕ) (ticket : TicketConf) (setting : Setting w place ticket) (m : ℕ) → m < members_of w → (term term' : ℕ) → term ≡ term'
+    → (tree : TurnTree) (deeds : Deeds Ask State) → (1 < members_of w → Revokes term tree)
+    → IsTold (node_at w m) (setup_at w place ticket setting m) tree deeds
+    → SendsEach w.config (others_of w m) (IsRevocation ticket.name term') deeds
+revoked w place ticket setting m below term term' same tree deeds says told =
+    ⊎_elim
+    (λ (more : 1 < members_of w).
+    let first = says more in
+    let all = told more first.letter first.go first.next_is in
+    subst (λ (k : ℕ). SendsEach w.config (filter (λ other. not (other == k)) (range_with_len 0 (members_of w))) (IsRevocation ticket.name term') deeds)
+    (own_place_is w place ticket setting m below)
+    (sends_so w.config (others (setup_at w place ticket setting m)) (Repeats first.letter) (IsRevocation ticket.name term') deeds
+    (λ letter is. record {
+      part = first.letter.part;
+      revokes = is.0 ∙ first.revokes;
+      about = is.1;
+      named = all.0;
+      same_term = first.same_term ∙ same;
+    })
+    all.1))
+    (λ (few : members_of w ≤ 1).
+    subst (λ (places : List ℕ). SendsEach w.config places (IsRevocation ticket.name term') deeds) (sym (alone (members_of w) m below few)) tt)
+    (has_others (members_of w))
+
 module _ (w : World) (clocks : HasTrueClocks w) (place : ℕ) (ticket : TicketConf) (setting : Setting w place ticket) where
   pub has_clocks : HasClocks (cluster w place ticket setting)
   has_clocks = record { some = clocks.some; long = clocks.long; clocks = clocks.clocks }
@@ -106,37 +161,42 @@ module _ (w : World) (clocks : HasTrueClocks w) (place : ℕ) (ticket : TicketCo
         (rec : Record) (answer : Result (Unit {0}) Failed) → Stood (Doing node (Does (Keep name tried) go)) may
         → ticket_name ≡ name → rec ≡ tried
         → Stepping hosts m (Doing node (go (is_ok answer))) (may_after (own_ticket w place ticket setting) may (Makes (calls.Keep ticket_name rec answer)))
-        (IsTrace w ticket.name m hosts.now (Makes (calls.Keep ticket_name rec answer)))
+        (IsTrace w ticket.name m hosts.now (Doing node (go (is_ok answer))) (Makes (calls.Keep ticket_name rec answer)))
     keeps node name tried go may ticket_name rec answer x named same = by_ticket x.stands.5
       where
         R : Trace → Type 0
-        R = IsTrace w ticket.name m hosts.now (Makes (calls.Keep ticket_name rec answer))
+        R = IsTrace w ticket.name m hosts.now (Doing node (go (is_ok answer))) (Makes (calls.Keep ticket_name rec answer))
 
-        releases : (r : Record) (a : Result (Unit {0}) Failed) → r ≡ tried → ticket_name ≡ ticket.name → (z : Release)
-            → IsHostReleaseAt hosts (DoesAsk m (Keeps tried) (is_ok a)) z → IsTrace w ticket.name m hosts.now (Makes (calls.Keep ticket_name r a)) (Frees z)
-        releases r (Ok done) e here z rel = (
+        releases : (r : Record) (a : Result (Unit {0}) Failed) → r ≡ tried → ticket_name ≡ ticket.name → (rest : Bool → TurnTree)
+            → (hosts.place m).tree ≡ Some (Does (Keeps tried) rest)
+            → IsTold (node_at w m) (setup_at w place ticket setting m) (rest true) (go true) → (z : Release)
+            → IsHostReleaseAt (cluster w place ticket setting) hosts (DoesAsk m (Keeps tried) (is_ok a)) z → IsTrace w ticket.name m hosts.now (Doing node (go (is_ok a))) (Makes (calls.Keep ticket_name r a)) (Frees z)
+        releases r (Ok done) e here rest at_keep told z rel = (
           here,
           ap (λ (q : Record). q.lease) e ∙ rel.1,
           ap (λ (q : Release). q.site) rel.0,
           ap (λ (q : Release). q.term) rel.0 ∙ ap (λ (q : Record). q.term) (sym e),
+          ap (λ (q : Release). q.at) rel.0,
+          revoked w place ticket setting m below tried.term r.term (ap (λ (q : Record). q.term) (sym e)) (rest true) (go true)
+              (subst (λ (o : Option TurnTree). IsSomeAnd o (RevokesAfter (members_of w) tried.term)) at_keep rel.2) told,
         )
-        releases r (Err failed) e here z rel = absurd rel
+        releases r (Err failed) e here rest at_keep told z rel = absurd rel
 
         by_ticket : Doings w place ticket setting m (hosts.place m).reading x.stands.2 (Does (Keep name tried) go) x.stands.1
             → Stepping hosts m (Doing node (go (is_ok answer))) (may_after (own_ticket w place ticket setting) may (Makes (calls.Keep ticket_name rec answer)))
-            (IsTrace w ticket.name m hosts.now (Makes (calls.Keep ticket_name rec answer)))
+            (IsTrace w ticket.name m hosts.now (Doing node (go (is_ok answer))) (Makes (calls.Keep ticket_name rec answer)))
         by_ticket (inl other) =
             rests_here (Doing node (Does (Keep name tried) go)) (Doing node (go (is_ok answer))) may _ _ x
             (when_false (bytes_eq ticket_name ticket.name) _ _ (other_bytes ticket_name ticket.name (λ e. other.0 (sym named ∙ e))))
             (x.stands.0, x.stands.1, x.stands.2, x.stands.3, x.stands.4, other.1 (is_ok answer))
         by_ticket (inr own) =
-            subst (λ (rs : List Record). Stepping hosts m (Doing node (go (is_ok answer))) rs (IsTrace w ticket.name m hosts.now (Makes (calls.Keep ticket_name rec answer))))
+            subst (λ (rs : List Record). Stepping hosts m (Doing node (go (is_ok answer))) rs (IsTrace w ticket.name m hosts.now (Doing node (go (is_ok answer))) (Makes (calls.Keep ticket_name rec answer))))
             (ap (λ (r : Record). may_after_keep (is_ok answer) r may) (sym same)
             ∙ sym (when_true (bytes_eq ticket_name ticket.name) _ _ (same_bytes ticket_name ticket.name (named ∙ own.0))))
             (keeps_own w place ticket setting m below hosts node (Doing node (Does (Keep name tried) go)) (Doing node (go (is_ok answer))) may
-            (IsTrace w ticket.name m hosts.now (Makes (calls.Keep ticket_name rec answer))) tried (is_ok answer) go x.stands.1 x.stands.2 own.1
+            (IsTrace w ticket.name m hosts.now (Doing node (go (is_ok answer))) (Makes (calls.Keep ticket_name rec answer))) tried (is_ok answer) go x.stands.1 x.stands.2 own.1
             x.stands.0 refl x x.stands.3 x.stands.4 own.2 (own.3 (is_ok answer))
-            (releases rec answer same (named ∙ own.0)))
+            (releases rec answer same (named ∙ own.0) own.1 (x.stands.3 ∙ ap (λ (t : TurnTree). Some t) own.2) own.4))
 
     starts_job : (node : NodeConfig) (job : Job) (go : Bool → Deeds Ask State) (ok : Bool) (may : List Record) (R : Trace → Type 0)
         → Stood (Doing node (Does (Start job) go)) may → Stepping hosts m (Doing node (go ok)) may R
@@ -164,9 +224,9 @@ module _ (w : World) (clocks : HasTrueClocks w) (place : ℕ) (ticket : TicketCo
         → Stood (Hearing node old answer bytes) may → reading ≡ clock_at w m hosts.now
         → HearsGood (setup_at w place ticket setting m) place (node_at w m) (read_by m hosts.now) refl (own_below w place ticket setting m below) setting.most setting.enough
         (MayCome (cast w place ticket setting) hosts) answer bytes
-        → Stepping hosts m (Doing node (react node old (used old.last_reading reading) answer bytes)) may (IsTrace w ticket.name m hosts.now (Makes (calls.Now reading)))
+        → Stepping hosts m (Doing node (react node old (used old.last_reading reading) answer bytes)) may (IsTrace w ticket.name m hosts.now (Doing node (react node old (used old.last_reading reading) answer bytes)) (Makes (calls.Now reading)))
     begins node old answer bytes may reading x read_is good =
-        let R : Trace → Type 0 = IsTrace w ticket.name m hosts.now (Makes (calls.Now reading)) in
+        let R : Trace → Type 0 = IsTrace w ticket.name m hosts.now (Doing node (react node old (used old.last_reading reading) answer bytes)) (Makes (calls.Now reading)) in
         let view : View = x.stands.1 in
         let moment : ℕ = read_by m hosts.now in
         let used_so : used old.last_reading reading ≡ moment = used_is old.last_reading x.time reading (x.stands.4 ∙ x.read) x.past read_is in
@@ -216,7 +276,7 @@ module _ (w : World) (clocks : HasTrueClocks w) (place : ℕ) (ticket : TicketCo
     ReadsHere call = Unit {0}
 
     pub makes : (stand : Stand) (call : Entry) (may : List Record) → Stood stand may → MayMake stand call → ReadsHere call → HearsGoodAt stand
-        → Stepping hosts m (after_call stand call) (may_after (own_ticket w place ticket setting) may (Makes call)) (IsTrace w ticket.name m hosts.now (Makes call))
+        → Stepping hosts m (after_call stand call) (may_after (own_ticket w place ticket setting) may (Makes call)) (IsTrace w ticket.name m hosts.now (after_call stand call) (Makes call))
     makes Down call may x d r g = absurd d
     makes (Doing node (Ends old)) (calls.Next wait answer bytes) may x d r g =
         rests_here (Doing node (Ends old)) (Hearing node old answer bytes) may may _ x refl
@@ -239,11 +299,11 @@ module _ (w : World) (clocks : HasTrueClocks w) (place : ℕ) (ticket : TicketCo
 
     cuts_keep : (node : NodeConfig) (name : List ℕ) (tried : Record) (go : Bool → Deeds Ask State) (may : List Record) (ticket_name : List ℕ)
         (rec : Record) → Stood (Doing node (Does (Keep name tried) go)) may → ticket_name ≡ name → rec ≡ tried
-        → Stepping hosts m Down (may_after (own_ticket w place ticket setting) may (IsCut (CutKeep ticket_name rec))) (IsTrace w ticket.name m hosts.now (IsCut (CutKeep ticket_name rec)))
+        → Stepping hosts m Down (may_after (own_ticket w place ticket setting) may (IsCut (CutKeep ticket_name rec))) (IsTrace w ticket.name m hosts.now Down (IsCut (CutKeep ticket_name rec)))
     cuts_keep node name tried go may ticket_name rec x named same = by_ticket x.stands.5
       where
         by_ticket : Doings w place ticket setting m (hosts.place m).reading x.stands.2 (Does (Keep name tried) go) x.stands.1
-            → Stepping hosts m Down (may_after (own_ticket w place ticket setting) may (IsCut (CutKeep ticket_name rec))) (IsTrace w ticket.name m hosts.now (IsCut (CutKeep ticket_name rec)))
+            → Stepping hosts m Down (may_after (own_ticket w place ticket setting) may (IsCut (CutKeep ticket_name rec))) (IsTrace w ticket.name m hosts.now Down (IsCut (CutKeep ticket_name rec)))
         by_ticket (inl other) =
             rests_here (Doing node (Does (Keep name tried) go)) Down may _ _ x
             (when_false (bytes_eq ticket_name ticket.name) _ _ (other_bytes ticket_name ticket.name (λ e. other.0 (sym named ∙ e)))) tt
@@ -270,7 +330,7 @@ module _ (w : World) (clocks : HasTrueClocks w) (place : ℕ) (ticket : TicketCo
             }
 
     pub cuts : (stand : Stand) (call : CutCall) (may : List Record) → Stood stand may → MayBeCut stand call
-        → Stepping hosts m Down (may_after (own_ticket w place ticket setting) may (IsCut call)) (IsTrace w ticket.name m hosts.now (IsCut call))
+        → Stepping hosts m Down (may_after (own_ticket w place ticket setting) may (IsCut call)) (IsTrace w ticket.name m hosts.now Down (IsCut call))
     cuts stand CutNext may x d = rests_here stand Down may may _ x refl tt
     cuts stand CutNow may x d = rests_here stand Down may may _ x refl tt
     cuts stand (CutSend to bytes) may x d = rests_here stand Down may may _ x refl tt
@@ -307,12 +367,12 @@ module _ (w : World) (clocks : HasTrueClocks w) (place : ℕ) (ticket : TicketCo
     boots : (hosts : Hosts) (reading : ℕ) (records : List (Option Record)) → hosts.now < w.span → (hosts.place m).tree ≡ None
         → length records ≡ length w.config.tickets → reading ≡ clock_at w m hosts.now → Has (hosts.place m).may (record_at records place)
         → Stepping hosts m (Doing (node_at w m) (Ends (opened (node_at w m) records reading))) (record_at records place ∷ [])
-        (IsTrace w ticket.name m hosts.now (Starts (node_at w m) reading records))
+        (IsTrace w ticket.name m hosts.now (Doing (node_at w m) (Ends (opened (node_at w m) records reading))) (Starts (node_at w m) reading records))
     boots hosts reading records within down all is may_read =
         let now : ℕ = read_by m hosts.now in
         let kept : Record = record_at records place in
         then_says w place ticket setting m below hosts (Boots m hosts.now kept) (Doing (node_at w m) (Ends (opened (node_at w m) records reading))) (kept ∷ [])
-        (IsTrace w ticket.name m hosts.now (Starts (node_at w m) reading records))
+        (IsTrace w ticket.name m hosts.now (Doing (node_at w m) (Ends (opened (node_at w m) records reading))) (Starts (node_at w m) reading records))
         (Ends (started (setup_at w place ticket setting m) kept now))
         (below, omega arith, within, down, may_read)
         (moved_one w place ticket setting m below hosts _ hosts.sent (λ l h. h))
@@ -354,9 +414,9 @@ module _ (w : World) (clocks : HasTrueClocks w) (place : ℕ) (ticket : TicketCo
         → length records ≡ length node.config.tickets → node ≡ node_at w m → reading ≡ clock_at w m hosts.now
         → Has (hosts.place m).may (record_at records place)
         → Stepping hosts m (Doing node (Ends (opened node records reading))) (record_at records place ∷ [])
-        (IsTrace w ticket.name m hosts.now (Starts node reading records))
+        (IsTrace w ticket.name m hosts.now (Doing node (Ends (opened node records reading))) (Starts node reading records))
     starts hosts node reading records within all node_is is may_read =
-        subst (λ (n : NodeConfig). Stepping hosts m (Doing n (Ends (opened n records reading))) (record_at records place ∷ []) (IsTrace w ticket.name m hosts.now (Starts n reading records))) (sym node_is)
+        subst (λ (n : NodeConfig). Stepping hosts m (Doing n (Ends (opened n records reading))) (record_at records place ∷ []) (IsTrace w ticket.name m hosts.now (Doing n (Ends (opened n records reading))) (Starts n reading records))) (sym node_is)
         (by_tree (hosts.place m).tree refl)
       where
         all_read : length records ≡ length w.config.tickets
@@ -364,12 +424,12 @@ module _ (w : World) (clocks : HasTrueClocks w) (place : ℕ) (ticket : TicketCo
 
         by_tree : (o : Option TurnTree) → (hosts.place m).tree ≡ o
             → Stepping hosts m (Doing (node_at w m) (Ends (opened (node_at w m) records reading))) (record_at records place ∷ [])
-            (IsTrace w ticket.name m hosts.now (Starts (node_at w m) reading records))
+            (IsTrace w ticket.name m hosts.now (Doing (node_at w m) (Ends (opened (node_at w m) records reading))) (Starts (node_at w m) reading records))
         by_tree None down = boots hosts reading records within down all_read is may_read
         by_tree (Some t) up =
             let halted : Hosts = hosted (cluster w place ticket setting) (cast w place ticket setting) hosts (Halts m) in
             let rest : Stepping halted m (Doing (node_at w m) (Ends (opened (node_at w m) records reading))) (record_at records place ∷ [])
-            (IsTrace w ticket.name m hosts.now (Starts (node_at w m) reading records)) =
+            (IsTrace w ticket.name m hosts.now (Doing (node_at w m) (Ends (opened (node_at w m) records reading))) (Starts (node_at w m) reading records)) =
             boots halted reading records within (ap (λ (p : HostPlace). p.tree) (put_same hosts.place m _)) all_read is
             (subst (λ (p : HostPlace). Has p.may (record_at records place)) (sym (put_same hosts.place m _))
             (still_may (hosts.place m).tree (hosts.place m).may (record_at records place) may_read)) in

@@ -142,7 +142,7 @@ module _ (w : World) (is_world : IsWorld w) (place : ℕ) (ticket : TicketConf) 
   -- ---- what was sent
 
   sealed_said : (m : ℕ) → m < members_of w → (node : NodeConfig) (letter' letter : PlainMessage) (bytes : List ℕ) (known sent : List MemberLetter)
-      → node ≡ node_at w m → SentMore known sent → IsSpoken (is_some w.key) (setup_at w place ticket setting m) known letter'
+      → node ≡ node_at w m → SentMore known sent → IsSpoken (node_at w m) (setup_at w place ticket setting m) known letter'
       → bytes ≡ sealed node.key letter' → Fits letter' → decoded bytes ≡ Ok letter → IsSaidBy sent m letter
   sealed_said m below node letter' letter bytes known sent node_is more spoken bytes_are fits read part between is named =
       let truly : letter'.head.auth ≡ is_some node.key = spoken.truly ∙ ap (λ (n : NodeConfig). is_some n.key) (sym node_is) in
@@ -249,7 +249,7 @@ module _ (w : World) (is_world : IsWorld w) (place : ℕ) (ticket : TicketConf) 
         → Shows w place ticket setting e.member stand (may_of e.member before) e.time (hosts.place e.member) hosts.sent
         → MayDo stand what → HasConfiguration w e what → ReadsClock w e what → ReadsKept w before e what → HearsSent w before stand what
         → Steps w place ticket setting passed e.member (after_entry stand what) (may_after (own_ticket w place ticket setting) (may_of e.member before) what)
-        (IsTrace w ticket.name e.member e.time what)
+        (IsTrace w ticket.name e.member e.time (after_entry stand what) what)
     steps_for stand (Starts node reading records) x d configured clock kept heard =
         starts w is_world.true_clocks place ticket setting e.member below passed node reading records within d configured clock
         (subst (λ (rs : List Record). Has rs (record_at records place)) (sym x.same_may)
@@ -334,7 +334,7 @@ module _ (w : World) (is_world : IsWorld w) (place : ℕ) (ticket : TicketConf) 
       (x ∷ q.0, q.1, ap (λ (ys : List WorldEntry). x ∷ ys) q.2)
 
   pub one_step : (before after : List WorldEntry) (e : WorldEntry) (hosts : Hosts) → w.entries ≡ before ++ e ∷ after → hosts.now ≤ e.time → Shadows before hosts
-      → Extends hosts (before ++ e ∷ []) e.time (IsTrace w ticket.name e.member e.time e.what)
+      → Extends hosts (before ++ e ∷ []) e.time (IsTrace w ticket.name e.member e.time (after_entry (stand_after e.member before) e.what) e.what)
   one_step before after e hosts whole later shadow =
       let below : e.member < members_of w = is_world.form.members before after e whole in
       let within : e.time < w.span = is_world.form.within before after e whole in

@@ -16,7 +16,7 @@ use Rattle.booth_node.specs.Clock.{reads}
 use Rattle.booth_node.specs.Opening.{is_site_at}
 use Rattle.booth_node.specs.Reaction.{Ask, Send, Keep, Start}
 use Rattle.booth_node.specs.Records.{Has as Holds, may_after_keep, may_after, may_after_all, with_next}
-use Rattle.booth_node.specs.Session.{CutKeep, SessionEntry, Starts, Makes, IsCut, Stand, Down, Doing, Hearing, MayDo, AreSessions}
+use Rattle.booth_node.specs.Session.{CutKeep, SessionEntry, Starts, Makes, IsCut, Stand, Down, Doing, Hearing, MayDo, after_entry, AreSessions}
 use Rattle.booth_node.specs.World.{WorldEntry, World, members_of, entries_of, last_time, stand_after, IsWorld, cluster_of}
 use Rattle.booth_node.specs.Held.{IsBefore, Moment, may_at, HoldsBy, Holds as HoldsIt}
 use Rattle.booth_world.specs.Facts.{Has, Release}
@@ -25,6 +25,7 @@ use Rattle.booth_world.specs.Cores.{IsCast}
 use Rattle.booth_world.specs.Turns.{Keeps, TurnTree}
 use Rattle.booth_world.specs.Hosts.{HostEntry, LetsPass, HostPlace, Hosts, opening_hosts, pending, AreHosted}
 use Rattle.booth_world.specs.HostLaws.{IsHostReleaseIn, host_may, HostHoldsBy}
+use Rattle.booth_world.specs.Revocations.{AtSome}
 use Rattle.booth_world.specs.Worlds.{IsLater, GivesBack, ReleasedIn}
 use Rattle.booth_world.specs.Shadows.{GivesTermBack}
 use Rattle.booth_world.proofs.CoreReads.{ReadsIn, reads_split}
@@ -33,7 +34,7 @@ use Rattle.booth_world.proofs.HostSteps.{hosts_hold_one, hosts_are_apart, host_t
 use Rattle.booth_world.proofs.HostRuns.{hosted_join, after_join, released_join}
 use Rattle.booth_world.proofs.WorldSteps.{Trace, Frees, Reads, IsTrace, Setting, equal_bytes, cluster, setup_at, cast, own_ticket, own_place_is, Shows, shows_more}
 use Rattle.booth_world.proofs.WorldEntries.{has_clocks}
-use Rattle.booth_world.proofs.WorldHosts.{has_here, entries_join, sessions_at, last_of, append_none, may_of, after_hosts, Shadows, Extends, one_step}
+use Rattle.booth_world.proofs.WorldHosts.{has_here, entries_join, sessions_at, stand_own, last_of, append_none, may_of, after_hosts, Shadows, Extends, one_step}
 
 pub append_both : {A : Type 0} (xs ys zs : List A) → (xs ++ ys) ++ zs ≡ xs ++ (ys ++ zs)
 append_both [] ys zs = refl
@@ -43,17 +44,36 @@ last_join : (time : ℕ) (xs ys : List WorldEntry) (y : WorldEntry) → last_tim
 last_join time [] ys y = refl
 last_join time (x ∷ xs) ys y = last_join x.time xs ys y
 
+-- ---- at one of these entries
+
+some_so : (before entries : List WorldEntry) (P Q : List WorldEntry → WorldEntry → Type 0)
+    → ((earlier : List WorldEntry) (entry : WorldEntry) → P earlier entry → Q earlier entry) → AtSome before entries P → AtSome before entries Q
+some_so before [] P Q gives x = absurd x
+some_so before (e ∷ entries) P Q gives (inl here) = inl (gives before e here)
+some_so before (e ∷ entries) P Q gives (inr later) = inr (some_so (before ++ e ∷ []) entries P Q gives later)
+
+-- an entry of which it is so, whatever is before it
+pub some_one : (before entries : List WorldEntry) (P : List WorldEntry → WorldEntry → Type 0) (Q : WorldEntry → Type 0)
+    → ((earlier : List WorldEntry) (entry : WorldEntry) → P earlier entry → Q entry) → AtSome before entries P
+    → (entry : WorldEntry) × Holds entries entry × Q entry
+some_one before [] P Q gives x = absurd x
+some_one before (e ∷ entries) P Q gives (inl here) = (e, inl refl, gives before e here)
+some_one before (e ∷ entries) P Q gives (inr later) =
+    let q = some_one (before ++ e ∷ []) entries P Q gives later in (q.0, inr q.1, q.2)
+
 module _ (w : World) (is_world : IsWorld w) (place : ℕ) (ticket : TicketConf) (setting : Setting w place ticket) where
   abbrev pub Opening : Hosts
   Opening = opening_hosts (cluster w place ticket setting)
 
-  -- one of these entries left this trace
-  abbrev pub IsLeftIn : List WorldEntry → Trace → Type 0
-  IsLeftIn between trace = (entry : WorldEntry) × Holds between entry × IsTrace w ticket.name entry.member entry.time entry.what trace
+  -- one of these entries, which follow on the others, left this trace
+  abbrev pub IsLeftIn : List WorldEntry → List WorldEntry → Trace → Type 0
+  IsLeftIn before between trace =
+      AtSome before between
+      (λ earlier entry. IsTrace w ticket.name entry.member entry.time (stand_after entry.member (earlier ++ entry ∷ [])) entry.what trace)
 
   extends : (between before after : List WorldEntry) (hosts : Hosts) → w.entries ≡ before ++ (between ++ after) → IsBefore hosts.now between
       → Shadows w is_world place ticket setting before hosts
-      → Extends w is_world place ticket setting hosts (before ++ between) (last_time hosts.now between) (IsLeftIn between)
+      → Extends w is_world place ticket setting hosts (before ++ between) (last_time hosts.now between) (IsLeftIn before between)
   extends [] before after hosts whole later shadow = record {
     entries = [];
     now_is = refl;
@@ -63,11 +83,11 @@ module _ (w : World) (is_world : IsWorld w) (place : ℕ) (ticket : TicketConf) 
     read = λ k t r. absurd r;
   }
   extends (e ∷ between) before after hosts whole later shadow =
-      let first : Extends w is_world place ticket setting hosts (before ++ e ∷ []) e.time (IsTrace w ticket.name e.member e.time e.what) =
+      let first : Extends w is_world place ticket setting hosts (before ++ e ∷ []) e.time (IsTrace w ticket.name e.member e.time (after_entry (stand_after e.member before) e.what) e.what) =
       one_step w is_world place ticket setting before (between ++ after) e hosts whole later shadow in
       let mid : Hosts = after_hosts w is_world place ticket setting hosts first.entries in
       let whole_rest : w.entries ≡ (before ++ e ∷ []) ++ (between ++ after) = whole ∙ sym (append_both before (e ∷ []) (between ++ after)) in
-      let rest : Extends w is_world place ticket setting mid ((before ++ e ∷ []) ++ between) (last_time mid.now between) (IsLeftIn between) =
+      let rest : Extends w is_world place ticket setting mid ((before ++ e ∷ []) ++ between) (last_time mid.now between) (IsLeftIn (before ++ e ∷ []) between) =
       extends between (before ++ e ∷ []) after mid whole_rest (next_later between mid.now first.now_is whole_rest) first.shadow in
       record {
         entries = first.entries ++ rest.entries;
@@ -79,14 +99,13 @@ module _ (w : World) (is_world : IsWorld w) (place : ℕ) (ticket : TicketConf) 
             (subst (λ (es : List WorldEntry). Shadows w is_world place ticket setting es (after_hosts w is_world place ticket setting mid rest.entries))
             (append_both before (e ∷ []) between) rest.shadow);
         released = λ z r. ⊎_elim
-            (λ (a : IsHostReleaseIn (cluster w place ticket setting) (cast w place ticket setting) hosts first.entries z). (e, inl refl, first.released z a))
-            (λ (b : IsHostReleaseIn (cluster w place ticket setting) (cast w place ticket setting) mid rest.entries z).
-            let q : IsLeftIn between (Frees z) = rest.released z b in (q.0, inr q.1, q.2))
+            (λ (a : IsHostReleaseIn (cluster w place ticket setting) (cast w place ticket setting) hosts first.entries z).
+            inl (subst (λ (d : Stand). IsTrace w ticket.name e.member e.time d e.what (Frees z)) (sym (stand_own e.member before e refl)) (first.released z a)))
+            (λ (b : IsHostReleaseIn (cluster w place ticket setting) (cast w place ticket setting) mid rest.entries z). inr (rest.released z b))
             (released_join (cluster w place ticket setting) (cast w place ticket setting) hosts first.entries rest.entries z r);
         read = λ k t r. ⊎_elim
-            (λ (a : ReadsIn first.entries k t). (e, inl refl, first.read k t a))
-            (λ (b : ReadsIn rest.entries k t).
-            let q : IsLeftIn between (Reads k t) = rest.read k t b in (q.0, inr q.1, q.2))
+            (λ (a : ReadsIn first.entries k t). inl (first.read k t a))
+            (λ (b : ReadsIn rest.entries k t). inr (rest.read k t b))
             (reads_split first.entries rest.entries k t r);
       }
     where
@@ -141,9 +160,9 @@ module _ (w : World) (is_world : IsWorld w) (place : ℕ) (ticket : TicketConf) 
             (reads_split x.entries (LetsPass time ∷ []) k t r);
       }
 
-  pub reached : (moment : Moment w) → Reaches Opening moment.before moment.time (IsLeftIn moment.before)
+  pub reached : (moment : Moment w) → Reaches Opening moment.before moment.time (IsLeftIn [] moment.before)
   reached moment =
-      waits Opening moment.before (last_time 0 moment.before) moment.time (IsLeftIn moment.before) moment.since moment.within
+      waits Opening moment.before (last_time 0 moment.before) moment.time (IsLeftIn [] moment.before) moment.since moment.within
       (extends moment.before [] moment.after Opening moment.whole (first moment.before) opening_shadow)
     where
       first : (es : List WorldEntry) → IsBefore 0 es
@@ -152,10 +171,10 @@ module _ (w : World) (is_world : IsWorld w) (place : ℕ) (ticket : TicketConf) 
 
   pub reached_later : (early late : Moment w) (between : List WorldEntry) (hosts : Hosts) → IsLater w early late between → hosts.now ≡ early.time
       → Shadows w is_world place ticket setting early.before hosts
-      → Reaches hosts late.before late.time (IsLeftIn between)
+      → Reaches hosts late.before late.time (IsLeftIn early.before between)
   reached_later early late between hosts later now_is shadow =
-      subst (λ (es : List WorldEntry). Reaches hosts es late.time (IsLeftIn between)) (sym later.entries)
-      (waits hosts (early.before ++ between) (last_time hosts.now between) late.time (IsLeftIn between)
+      subst (λ (es : List WorldEntry). Reaches hosts es late.time (IsLeftIn early.before between)) (sym later.entries)
+      (waits hosts (early.before ++ between) (last_time hosts.now between) late.time (IsLeftIn early.before between)
       (by_last between later.entries) late.within
       (extends between early.before late.after hosts whole (by_first between (early_until between later.entries)) shadow))
     where
@@ -281,15 +300,25 @@ module _ (w : World) (is_world : IsWorld w) (place : ℕ) (ticket : TicketConf) 
       (record { clocks = has_clocks w is_world.true_clocks place ticket setting; is_cast = is_cast; hosted_early = r.hosted_all; hosted_late = tt })
       s t (by_s.0, holds_so moment s hosts r.now_is r.shadow by_s.0 by_s.1) (by_t.0, holds_so moment t hosts r.now_is r.shadow by_t.0 by_t.1)
 
-  gave_back : (s : ℕ) (kept : Record) (z : Release) (entry : WorldEntry) (what : SessionEntry) → GivesTermBack ticket.name entry.member what z
-      → GivesBackLease s kept.lease z → GivesBack ticket.name kept what × (entry.member ≡ s)
-  gave_back s kept z entry (Makes (calls.Keep name rec (Ok done))) r gives =
-      ((r.0, r.1, λ given is. subst (λ (n : ℕ). given.term ≤ n) r.3 (gives.1 given is)), sym r.2 ∙ gives.0)
-  gave_back s kept z entry what r gives = absurd r
+  gave_back : (s : ℕ) (kept : Record) (z : Release) (earlier : List WorldEntry) (entry : WorldEntry)
+      → GivesTermBack w ticket.name entry.member entry.time (stand_after entry.member (earlier ++ entry ∷ [])) entry.what z
+      → GivesBackLease s kept.lease z
+      → (entry.member ≡ s) × GivesBack w ticket.name s kept (stand_after s (earlier ++ entry ∷ [])) entry.what
+  gave_back s kept z earlier entry back gives =
+      let q = by_what (stand_after entry.member (earlier ++ entry ∷ [])) entry.what back in (
+        q.0,
+        subst (λ (m : ℕ). GivesBack w ticket.name m kept (stand_after m (earlier ++ entry ∷ [])) entry.what) q.0 q.1,
+      )
+    where
+      by_what : (after : Stand) (what : SessionEntry) → GivesTermBack w ticket.name entry.member entry.time after what z
+          → (entry.member ≡ s) × GivesBack w ticket.name entry.member kept after what
+      by_what after (Makes (calls.Keep name rec (Ok done))) r =
+          (sym r.2 ∙ gives.0, (r.0, r.1, (λ given is. subst (λ (n : ℕ). given.term ≤ n) r.3 (gives.1 given is)), r.5))
+      by_what after what r = absurd r
 
   pub are_apart : (early late : Moment w) (between : List WorldEntry) → IsLater w early late between → (s t : ℕ) → s ≢ t → (kept : Record)
       → HoldsBy w place ticket s early kept → HoldsIt w place ticket t late
-      → AreApart (cluster_of w ticket.times) early.time late.time ⊎ ReleasedIn ticket s kept between
+      → AreApart (cluster_of w ticket.times) early.time late.time ⊎ ReleasedIn w ticket s kept early.before between
   are_apart early late between later s t ne kept by_s by_t =
       let r = reached early in
       let hosts : Hosts = after_hosts w is_world place ticket setting Opening r.entries in
@@ -299,9 +328,7 @@ module _ (w : World) (is_world : IsWorld w) (place : ℕ) (ticket : TicketConf) 
       (λ (apart : AreApart (cluster w place ticket setting) hosts.now last.now).
       inl (subst (λ (n : ℕ). AreApart (cluster w place ticket setting) early.time n) q.now_is
       (subst (λ (n : ℕ). AreApart (cluster w place ticket setting) n last.now) r.now_is apart)))
-      (λ x. let rel = q.released x.0 x.1 in
-      let back = gave_back s kept x.0 rel.0 rel.0.what rel.2 x.2 in
-      inr (record { entry = rel.0; one = rel.1; own = back.1; release = back.0 }))
+      (λ x. inr (some_so early.before between _ _ (λ earlier entry rel. gave_back s kept x.0 earlier entry rel x.2) (q.released x.0 x.1)))
       (hosts_are_apart (cluster w place ticket setting) (cast w place ticket setting) r.entries q.entries
       (record { clocks = has_clocks w is_world.true_clocks place ticket setting; is_cast = is_cast; hosted_early = r.hosted_all; hosted_late = q.hosted_all })
       s t ne kept (holds_so early s hosts r.now_is r.shadow kept by_s) (by_t.0, holds_so late t last q.now_is q.shadow by_t.0 by_t.1))

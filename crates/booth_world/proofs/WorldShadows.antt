@@ -35,7 +35,7 @@ use Rattle.booth_world.proofs.NodeTurns.{IsPlacedAt}
 use Rattle.booth_world.proofs.Configured.{setting_of}
 use Rattle.booth_world.proofs.WorldEntries.{has_clocks}
 use Rattle.booth_world.proofs.WorldHosts.{has_here, after_hosts, may_of, Shadows}
-use Rattle.booth_world.proofs.WorldRuns.{IsLeftIn, reached, is_cast, covers, holds_so, holds_back, still_next}
+use Rattle.booth_world.proofs.WorldRuns.{some_one, IsLeftIn, reached, is_cast, covers, holds_so, holds_back, still_next}
 
 -- a stamp changes nothing of what a message says
 same_fact : (id_of : ℕ → MemberId) (f : Facts) (m : ℕ) (auth : Bool) (time : ℕ) (head : Head) (part : TicketPart) (cmd : Cmd)
@@ -115,16 +115,18 @@ module _ (w : World) (is_world : IsWorld w) (place : ℕ) (ticket : TicketConf) 
 
 -- a reading of the hosts is one of these entries
 read_in : (w : World) (is_world : IsWorld w) (place : ℕ) (ticket : TicketConf) (setting : Setting w place ticket) (before : List WorldEntry)
-    (m reading time k t : ℕ) → m ≡ k → time ≡ t → reading ≡ clock_at w k t → IsLeftIn w is_world place ticket setting before (Reads k t)
+    (m reading time k t : ℕ) → m ≡ k → time ≡ t → reading ≡ clock_at w k t → IsLeftIn w is_world place ticket setting [] before (Reads k t)
     → IsReadIn before m reading time
-read_in w is_world place ticket setting before m reading time k t same_m same_t is left = record {
-  entry = left.0;
-  one = left.1;
-  own = sym left.2.0 ∙ sym same_m;
-  at = sym left.2.1 ∙ sym same_t;
-  taken = subst (λ (n : ℕ). TakesReading left.0.what n)
-      (ap (λ (j : ℕ). clock_at w j left.0.time) (sym left.2.0) ∙ ap (λ (n : ℕ). clock_at w k n) (sym left.2.1) ∙ sym is) left.2.2;
-}
+read_in w is_world place ticket setting before m reading time k t same_m same_t is at =
+    let left = some_one [] before _ (λ entry. (k ≡ entry.member) × (t ≡ entry.time) × TakesReading entry.what (clock_at w entry.member entry.time))
+    (λ earlier entry read. read) at in record {
+      entry = left.0;
+      one = left.1;
+      own = sym left.2.0 ∙ sym same_m;
+      at = sym left.2.1 ∙ sym same_t;
+      taken = subst (λ (n : ℕ). TakesReading left.0.what n)
+          (ap (λ (j : ℕ). clock_at w j left.0.time) (sym left.2.0) ∙ ap (λ (n : ℕ). clock_at w k n) (sym left.2.1) ∙ sym is) left.2.2;
+    }
 
 pub worlds_have_shadows : WorldsHaveShadows
 worlds_have_shadows w is_world place ticket automatic moment =

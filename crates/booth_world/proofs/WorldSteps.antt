@@ -41,10 +41,10 @@ pub data Trace : Type 0 where
   Frees : (release : Release) → Trace
   Reads : (m time : ℕ) → Trace
 
--- an entry of the world, of this member and at this true time, left it
-abbrev pub IsTrace : World → List ℕ → ℕ → ℕ → SessionEntry → Trace → Type 0
-IsTrace w name m now what (Frees release) = GivesTermBack name m what release
-IsTrace w name m now what (Reads k time) = (k ≡ m) × (time ≡ now) × TakesReading what (clock_at w m now)
+-- an entry of the world, of this member and at this true time, which left the member so, left it behind
+abbrev pub IsTrace : World → List ℕ → ℕ → ℕ → Stand → SessionEntry → Trace → Type 0
+IsTrace w name m now after what (Frees release) = GivesTermBack w name m now after what release
+IsTrace w name m now after what (Reads k time) = (k ≡ m) × (time ≡ now) × TakesReading what (clock_at w m now)
 
 -- ---- the ticket in its configuration
 
@@ -198,7 +198,7 @@ module _ (w : World) (place : ℕ) (ticket : TicketConf) (setting : Setting w pl
         → ((p : HostPlace) → p.tree ≡ Some (skip tree) → p.reading ≡ ((hosted cluster cast hosts entry).place m).reading
         → p.may ≡ ((hosted cluster cast hosts entry).place m).may
         → Shows m stand may hosts.now p (sent_by tree (hosted cluster cast hosts entry).sent))
-        → ((z : Release) → IsHostReleaseAt hosts entry z → R (Frees z)) → ((k time : ℕ) → ReadsAt entry k time → R (Reads k time)) → ((p : HostPlace) → AtCut stand (hosts.place m) p)
+        → ((z : Release) → IsHostReleaseAt cluster hosts entry z → R (Frees z)) → ((k time : ℕ) → ReadsAt entry k time → R (Reads k time)) → ((p : HostPlace) → AtCut stand (hosts.place m) p)
         → Steps hosts m stand may R
     then_says hosts entry stand may R tree may_do own is shows rel reading cut =
         let after : Hosts = hosted cluster cast hosts entry in
@@ -211,7 +211,7 @@ module _ (w : World) (place : ℕ) (ticket : TicketConf) (setting : Setting w pl
           here = subst (λ (sent : List MemberLetter). Shows m stand may hosts.now (last.place m) sent) (sym said.all_sent)
               (shows (last.place m) said.tree_now said.same_reading said.same_may);
           at_cut = cut (last.place m);
-          released = λ z r. ⊎_elim (λ (x : IsHostReleaseAt hosts entry z). rel z x)
+          released = λ z r. ⊎_elim (λ (x : IsHostReleaseAt cluster hosts entry z). rel z x)
               (λ (x : IsHostReleaseIn cluster cast after (says cluster cast m below tree) z). absurd (said.unreleased z x)) r;
           read = λ k t r. ⊎_elim (λ (x : ReadsAt entry k t). reading k t x)
               (λ (x : ReadsIn (says cluster cast m below tree) k t). absurd (said.unread k t x)) r;
@@ -229,7 +229,7 @@ module _ (w : World) (place : ℕ) (ticket : TicketConf) (setting : Setting w pl
         → (hosts.place m).tree ≡ Some (skip tree) → SentMore (sent_by tree known) hosts.sent
         → skip tree ≡ Does (Keeps tried) rest
         → Doings m (hosts.place m).reading (sent_by tree known) (go ok) (rest ok)
-        → ((z : Release) → IsHostReleaseAt hosts (DoesAsk m (Keeps tried) ok) z → R (Frees z))
+        → ((z : Release) → IsHostReleaseAt cluster hosts (DoesAsk m (Keeps tried) ok) z → R (Frees z))
         → Steps hosts m stand (may_after_keep ok tried may) R
     keeps_own hosts node before stand may R tried ok go tree known rest node_is stand_is x there more next_keep on rel =
         let at_keep : (hosts.place m).tree ≡ Some (Does (Keeps tried) rest) = there ∙ ap (λ (t : TurnTree). Some t) next_keep in

@@ -1,7 +1,9 @@
 -- The three laws, over entries of the lease cores of one ticket.
-use Rattle.std.specs.Prelude.{◌≡◌, ◌≢◌, ◌⊎◌, ℕ, ◌<◌, ◌≤◌, List, [], ◌∷◌, true, None}
+use Rattle.std.specs.Prelude.{◌≡◌, ◌≢◌, ◌⊎◌, ℕ, ◌<◌, ◌≤◌, List, [], ◌∷◌, true, None, IsSomeAnd}
 use Rattle.booth_rec.specs.declared.record.Record.{Record}
 use Rattle.booth_rec.specs.Record.{IsInForce}
+use Rattle.booth_raft.specs.declared.view.Rule.{Rule}
+use Rattle.booth_raft.specs.declared.view.Rule.TheVariants as rules
 use Rattle.booth_node.specs.Clock.{Cluster, HasClocks, reads}
 use Rattle.booth_world.specs.Facts.{Has, Release}
 use Rattle.booth_world.specs.Held.{AreApart, GivesBackLease}
@@ -9,10 +11,17 @@ use Rattle.booth_world.specs.Cores.{CoreEntry, HasAnswer, Cores, opening_cores, 
 
 -- ---- releases, by the entries
 
--- the answer of a keep gives a term back where a record of it, without a lease, was kept
+-- the rules whose keep gives a term back: a release, and a round that ends
+abbrev pub IsReleasing : Rule → Type 0
+IsReleasing (rules.Release reason) = Unit {0}
+IsReleasing rules.EndRound = Unit {0}
+IsReleasing rule = ⊥
+
+-- the answer of a keep gives a term back where a record of it, without a lease, was kept for such a rule
 abbrev pub IsReleaseAt : Cores → CoreEntry → Release → Type 0
 IsReleaseAt cores (HasAnswer m kept true) release =
     (release ≡ record { site = m; term = kept.term; at = cores.now }) × (kept.lease ≡ None)
+    × IsSomeAnd (cores.place m).view (λ view. IsSomeAnd view.waiting (λ waits. IsReleasing waits.rule))
 IsReleaseAt cores entry release = ⊥
 
 abbrev pub IsReleaseIn : Cluster → Cast → Cores → List CoreEntry → Release → Type 0

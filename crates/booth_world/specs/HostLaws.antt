@@ -1,26 +1,43 @@
 -- The three laws, over entries of the hosts of one ticket.
-use Rattle.std.specs.Prelude.{◌≡◌, ◌≢◌, ◌⊎◌, ℕ, ◌<◌, ◌≤◌, List, [], ◌∷◌, true, None}
+use Rattle.std.specs.Prelude.{◌≡◌, ◌≢◌, ◌⊎◌, ℕ, ◌<◌, ◌≤◌, List, [], ◌∷◌, Bool, true, None, IsSomeAnd}
+use Rattle.booth_base.specs.Tree.{Ends, Does}
 use Rattle.booth_rec.specs.declared.record.Record.{Record}
 use Rattle.booth_rec.specs.Record.{IsInForce}
+use Rattle.booth_wire.specs.declared.command.Cmd.TheVariants.{Revk}
 use Rattle.booth_node.specs.Clock.{Cluster, HasClocks, reads}
 use Rattle.booth_world.specs.Facts.{Has, Release}
 use Rattle.booth_world.specs.Held.{AreApart, GivesBackLease}
 use Rattle.booth_world.specs.Cores.{Cast, IsCast}
-use Rattle.booth_world.specs.Turns.{Keeps}
+use Rattle.booth_world.specs.Rules.{MemberLetter}
+use Rattle.booth_world.specs.Turns.{Keeps, Sends, TurnTree}
 use Rattle.booth_world.specs.Hosts.{HostEntry, DoesAsk, Hosts, opening_hosts, pending, hosted, AreHosted, hosts_after}
 
 -- ---- releases, by the entries
 
+-- what comes first is a send of the letter that says that this term was given back
+pub record Revokes (term : ℕ) (tree : TurnTree) : Type 0 where
+  pub letter : MemberLetter
+  pub go : Bool → TurnTree
+  pub next_is : tree ≡ Does (Sends letter) go
+  pub revokes : letter.head.cmd ≡ Revk
+  pub same_term : letter.part.term ≡ term
+
+-- after the keep that comes next, where it is done, others are told that the term was given back, where there are any
+abbrev pub RevokesAfter : ℕ → ℕ → TurnTree → Type 0
+RevokesAfter members term (Ends view) = ⊥
+RevokesAfter members term (Does ask go) = 1 < members → Revokes term (go true)
+
 -- a keep of a record without a lease was done, and gave its term back
-abbrev pub IsHostReleaseAt : Hosts → HostEntry → Release → Type 0
-IsHostReleaseAt hosts (DoesAsk m (Keeps kept) true) release =
+abbrev pub IsHostReleaseAt : Cluster → Hosts → HostEntry → Release → Type 0
+IsHostReleaseAt c hosts (DoesAsk m (Keeps kept) true) release =
     (release ≡ record { site = m; term = kept.term; at = hosts.now }) × (kept.lease ≡ None)
-IsHostReleaseAt hosts entry release = ⊥
+    × IsSomeAnd (hosts.place m).tree (RevokesAfter c.members kept.term)
+IsHostReleaseAt c hosts entry release = ⊥
 
 abbrev pub IsHostReleaseIn : Cluster → Cast → Hosts → List HostEntry → Release → Type 0
 IsHostReleaseIn c cast hosts [] release = ⊥
 IsHostReleaseIn c cast hosts (entry ∷ entries) release =
-    IsHostReleaseAt hosts entry release
+    IsHostReleaseAt c hosts entry release
     ⊎ IsHostReleaseIn c cast (hosted c cast hosts entry) entries release
 
 -- ---- holders

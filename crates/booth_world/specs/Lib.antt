@@ -18,6 +18,7 @@ pub mod CoreLaws
 pub mod Turns
 pub mod Hosts
 pub mod HostLaws
+pub mod Revocations
 pub mod Worlds
 pub mod Shadows
 pub mod Laws

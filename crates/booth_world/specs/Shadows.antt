@@ -1,5 +1,5 @@
 -- Every world has a shadow: at each moment, for each automatic ticket, a list of the world's steps.
-use Rattle.std.specs.Prelude.{◌≡◌, ◌≢◌, ◌⊎◌, ℕ, ◌<◌, Bool, List, [], ◌∷◌, slice_get, Ok, Some, None}
+use Rattle.std.specs.Prelude.{◌≡◌, ◌≢◌, ◌⊎◌, ◌++◌, ℕ, ◌<◌, Bool, List, [], ◌∷◌, slice_get, Ok, Some, None}
 use Rattle.booth_base.specs.Tree.{Deeds, Ends, Does}
 use Rattle.booth_conf.specs.declared.tickets.TicketConf.{TicketConf}
 use Rattle.booth_rec.specs.declared.record.Record.{Record}
@@ -22,6 +22,7 @@ use Rattle.booth_world.specs.Agreement.{records_in, Agrees}
 use Rattle.booth_world.specs.Facts.{Round, Answer, Release, Has as HasFact}
 use Rattle.booth_world.specs.Held.{Held}
 use Rattle.booth_world.specs.Messages.{IsFact}
+use Rattle.booth_world.specs.Revocations.{GoesOnToRevoke, AtSome}
 use Rattle.booth_world.specs.States.{WorldState, opening}
 use Rattle.booth_world.specs.Steps.{WorldStep, IsRun, world_of}
 
@@ -49,11 +50,13 @@ IsNextAt name stand kept = ⊥
 abbrev pub IsComing : List ℕ → List SessionEntry → Record → Type 0
 IsComing name entries kept = IsNextAt name (stands_last Down entries) kept
 
--- a keep of the ticket by this member that was done, of a record without a lease, gave its term back
-abbrev pub GivesTermBack : List ℕ → ℕ → SessionEntry → Release → Type 0
-GivesTermBack name m (Makes (calls.Keep ticket rec (Ok done))) release =
-    (ticket ≡ name) × (rec.lease ≡ None) × (release.site ≡ m) × (release.term ≡ rec.term)
-GivesTermBack name m what release = ⊥
+-- a keep of the ticket by this member at this time that was done, and left it so, of a record without a lease, gave its
+-- term back: the member goes on to tell each other one
+abbrev pub GivesTermBack : World → List ℕ → ℕ → ℕ → Stand → SessionEntry → Release → Type 0
+GivesTermBack w name m time after (Makes (calls.Keep ticket rec (Ok done))) release =
+    (ticket ≡ name) × (rec.lease ≡ None) × (release.site ≡ m) × (release.term ≡ rec.term) × (release.at ≡ time)
+    × GoesOnToRevoke w name rec.term m after
+GivesTermBack w name m time after what release = ⊥
 
 -- the node has this state, and no deed of a turn is left: it stands between two turns, or has the answer of a next and is
 -- to read its clock
@@ -106,9 +109,10 @@ pub record Knows (w : World) (place : ℕ) (ticket : TicketConf) (m : ℕ) (rest
 
 -- Steps from the opening state up to this moment. After them the records that a member may have kept are the entries',
 -- and that which the member's turn is to keep next; where a node rests between its turns, what it knows of the ticket is
--- what its member is; each release is an entry's; each round was opened, and each answer given, at a reading that is an
--- entry's, by the member that took it; each message that an entry sent says a fact: that a round was opened, or answered,
--- or a term released; and the ticket is held at each member that holds it.
+-- what its member is; each release is an entry's, after which the member's turn goes on to tell the others; each round was
+-- opened, and each answer given, at a reading that is an entry's, by the member that took it; each message that an entry
+-- sent says a fact: that a round was opened, or answered, or a term released; and the ticket is held at each member that
+-- holds it.
 pub record HasShadow (w : World) (place : ℕ) (ticket : TicketConf) (moment : Moment w) : Type 0 where
   pub steps : List WorldStep
   pub run : IsRun (cluster_of w ticket.times) (opening (cluster_of w ticket.times)) steps
@@ -121,7 +125,9 @@ pub record HasShadow (w : World) (place : ℕ) (ticket : TicketConf) (moment : M
   pub knows : (m : ℕ) → m < members_of w → (resting : State) → RestsIn (stand_after m moment.before) resting
       → Knows w place ticket m resting (world_of (cluster_of w ticket.times) steps)
   pub releases : (release : Release) → HasFact (world_of (cluster_of w ticket.times) steps).facts.releases release
-      → (entry : WorldEntry) × Has moment.before entry × GivesTermBack ticket.name entry.member entry.what release
+      → AtSome [] moment.before
+      (λ before entry.
+      GivesTermBack w ticket.name entry.member entry.time (stand_after entry.member (before ++ entry ∷ [])) entry.what release)
   pub rounds : (round : Round) → HasFact (world_of (cluster_of w ticket.times) steps).facts.rounds round
       → IsReadIn moment.before round.site round.opened round.at
   pub answers : (answer : Answer) → HasFact (world_of (cluster_of w ticket.times) steps).facts.answers answer

@@ -1,5 +1,5 @@
 -- The three laws, over worlds of entries: of each ticket of each world.
-use Rattle.std.specs.Prelude.{◌≡◌, ◌≢◌, ◌⊎◌, ◌++◌, ℕ, ◌<◌, ◌≤◌, List, map, Ok, None}
+use Rattle.std.specs.Prelude.{◌≡◌, ◌≢◌, ◌⊎◌, ◌++◌, ℕ, ◌<◌, ◌≤◌, List, [], ◌∷◌, map, Ok, None}
 use Rattle.std.specs.Option.{ForSome}
 use Rattle.booth_conf.specs.declared.tickets.TicketConf.{TicketConf}
 use Rattle.booth_rec.specs.declared.record.Record.{Record}
@@ -9,11 +9,12 @@ use Rattle.booth_host.specs.declared.entry.Entry.TheVariants as calls
 use Rattle.booth_node.specs.declared.node_config.NodeConfig.{NodeConfig}
 use Rattle.booth_node.specs.Log.{IsNodeLog}
 use Rattle.booth_node.specs.State.{State}
-use Rattle.booth_node.specs.Session.{SessionEntry, Makes, Doing, AreSessions, after_entries}
+use Rattle.booth_node.specs.Session.{SessionEntry, Makes, Stand, Doing, AreSessions, after_entries}
 use Rattle.booth_node.specs.Records.{Has}
-use Rattle.booth_node.specs.World.{WorldEntry, World, members_of, IsWorld, cluster_of}
+use Rattle.booth_node.specs.World.{WorldEntry, World, members_of, stand_after, IsWorld, cluster_of}
 use Rattle.booth_node.specs.Held.{Moment, IsTicket, IsAutomatic, may_at, HoldsBy, Holds}
 use Rattle.booth_world.specs.Held.{AreApart}
+use Rattle.booth_world.specs.Revocations.{GoesOnToRevoke, AtSome}
 
 -- ---- two moments
 
@@ -22,18 +23,21 @@ pub record IsLater (w : World) (early late : Moment w) (between : List WorldEntr
   pub entries : late.before ≡ early.before ++ between
   pub not_before : early.time ≤ late.time
 
--- a keep of the ticket by this member that answered Ok gave its lease back: its record has none, and a term at least
--- that of the lease
-abbrev pub GivesBack : List ℕ → Record → SessionEntry → Type 0
-GivesBack name kept (Makes (calls.Keep ticket rec (Ok done))) =
+-- A keep of the ticket by this member that answered Ok, and left it so, gave its lease back: its record has none, and a
+-- term at least that of the lease, and the member goes on to tell each other one that this term was given back. A new
+-- term that is asked for may be kept without a lease too, but what follows then is that votes are asked for.
+abbrev pub GivesBack : World → List ℕ → ℕ → Record → Stand → SessionEntry → Type 0
+GivesBack w name m kept after (Makes (calls.Keep ticket rec (Ok done))) =
     (ticket ≡ name) × (rec.lease ≡ None) × ForSome kept.lease (λ given. given.term ≤ rec.term)
-GivesBack name kept what = ⊥
+    × GoesOnToRevoke w name rec.term m after
+GivesBack w name m kept after what = ⊥
 
-pub record ReleasedIn (ticket : TicketConf) (s : ℕ) (kept : Record) (between : List WorldEntry) : Type 0 where
-  pub entry : WorldEntry
-  pub one : Has between entry
-  pub own : entry.member ≡ s
-  pub release : GivesBack ticket.name kept entry.what
+-- an entry of the member gave the lease back, one of these, which follow on the others
+abbrev pub ReleasedIn : World → TicketConf → ℕ → Record → List WorldEntry → List WorldEntry → Type 0
+ReleasedIn w ticket s kept before between =
+    AtSome before between
+    (λ earlier entry.
+    (entry.member ≡ s) × GivesBack w ticket.name s kept (stand_after s (earlier ++ entry ∷ [])) entry.what)
 
 -- ---- the laws
 
@@ -54,7 +58,7 @@ WorldsAreApart =
     → (early late : Moment w) (between : List WorldEntry) → IsLater w early late between
     → (s t : ℕ) → s ≢ t → (kept : Record)
     → HoldsBy w place ticket s early kept → Holds w place ticket t late
-    → AreApart (cluster_of w ticket.times) early.time late.time ⊎ ReleasedIn ticket s kept between
+    → AreApart (cluster_of w ticket.times) early.time late.time ⊎ ReleasedIn w ticket s kept early.before between
 
 -- where each record that a member may have kept of a ticket has at least a term, so has each one later
 abbrev pub TermsNeverFallIn : World → Type 0

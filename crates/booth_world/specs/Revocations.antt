@@ -1,0 +1,42 @@
+-- That a member's turn goes on to tell each other member that a term was given back.
+use Rattle.std.specs.Prelude.{◌≡◌, ◌⊎◌, ℕ, ◌==◌, ◌++◌, not, Bool, List, [], ◌∷◌, Some}
+use Rattle.std.specs.List.{filter, range_with_len}
+use Rattle.booth_base.specs.Tree.{Deeds, Does}
+use Rattle.booth_conf.specs.Config.{ConfigSays}
+use Rattle.booth_wire.specs.declared.command.Cmd.TheVariants.{Revk}
+use Rattle.booth_wire.specs.declared.message.TicketPart.{TicketPart}
+use Rattle.booth_wire.specs.PlainMessage.{PlainMessage, Ticket}
+use Rattle.booth_ticket.specs.declared.hands.To.TheVariants.{Member}
+use Rattle.booth_node.specs.Reaction.{Ask, Send, peer_of}
+use Rattle.booth_node.specs.Session.{Stand, Doing}
+use Rattle.booth_node.specs.World.{WorldEntry, World, members_of}
+
+-- the places of the other members, in the order of the configuration
+abbrev pub others_of : World → ℕ → List ℕ
+others_of w m = filter (λ place. not (place == m)) (range_with_len 0 (members_of w))
+
+-- a message says that this term of the ticket was given back
+pub record IsRevocation (name : List ℕ) (term : ℕ) (letter : PlainMessage) : Type 0 where
+  pub part : TicketPart
+  pub revokes : letter.head.cmd ≡ Revk
+  pub about : letter.content ≡ Ticket part
+  pub named : part.ticket ≡ name
+  pub same_term : part.term ≡ term
+
+-- whatever is answered, these deeds begin with sends, one to each of these members, of messages of which this is so
+abbrev pub SendsEach : {S : Type 0} → ConfigSays → List ℕ → (PlainMessage → Type 0) → Deeds Ask S → Type 0
+SendsEach config [] P deeds = Unit {0}
+SendsEach config (place ∷ places) P (Does (Send peer letter) go) =
+    (peer_of config (Member place) ≡ Some peer) × P letter × ((ok : Bool) → SendsEach config places P (go ok))
+SendsEach config (place ∷ places) P deeds = ⊥
+
+-- a member that stands so goes on to tell each other one that the term was given back
+abbrev pub GoesOnToRevoke : World → List ℕ → ℕ → ℕ → Stand → Type 0
+GoesOnToRevoke w name term m (Doing node deeds) =
+    SendsEach w.config (others_of w m) (IsRevocation name term) deeds
+GoesOnToRevoke w name term m stand = ⊥
+
+-- of one of these entries, which follow on others, this is so, by all that are before it
+abbrev pub AtSome : List WorldEntry → List WorldEntry → (List WorldEntry → WorldEntry → Type 0) → Type 0
+AtSome before [] P = ⊥
+AtSome before (entry ∷ entries) P = P before entry ⊎ AtSome (before ++ entry ∷ []) entries P
