@@ -1,17 +1,17 @@
--- The calls of a node log are those of a session.
+-- The calls of a node log are those of a session, also where its last turn stopped.
 use Rattle.std.proofs.Common.{◌≡◌, ℕ, Bool, List, [], ◌∷◌, ◌++◌, refl, sym, ap, subst}
 use Rattle.std.specs.Prelude.{Option}
 use Rattle.booth_base.specs.Tree.{Deeds, Ends, Does, Leads}
 use Rattle.booth_host.specs.declared.entry.Entry.{Entry}
 use Rattle.booth_host.specs.declared.entry.Entry.TheVariants as calls
 use Rattle.booth_node.specs.declared.node.Turn.{Turn}
-use Rattle.booth_node.specs.declared.node.Turn.TheVariants.{Went}
+use Rattle.booth_node.specs.declared.node.Turn.TheVariants.{Went, Stopped}
 use Rattle.booth_node.specs.declared.node_config.NodeConfig.{NodeConfig}
 use Rattle.booth_node.specs.Log.{AreTurns, joined_turns}
 use Rattle.booth_node.specs.Reaction.{Ask, Send, Keep, Start, IsDone, used, react, IsTurn}
 use Rattle.booth_node.specs.Session.{SessionEntry, Makes, Stand, Doing, did, MayMake, after_entry, AreSessions, after_entries}
 use Rattle.booth_node.specs.State.{State}
-use Rattle.booth_world.specs.Worlds.{made, LogsAreSessions}
+use Rattle.booth_world.specs.Worlds.{made, LogsAreSessions, StoppedLogsAreSessions, CutSessionsAreSessions}
 
 -- the rest of a session, and where it leaves the member
 abbrev IsPath : Stand → List SessionEntry → Stand → Type 0
@@ -52,7 +52,7 @@ turn_path node old new turn (calls.Next wait answer bytes ∷ calls.Now reading 
     ((is.0, (tt, rest.0)), rest.1)
 turn_path node old new turn entries is = absurd is
 
-made_join : (xs ys : List Entry) → made (xs ++ ys) ≡ made xs ++ made ys
+pub made_join : (xs ys : List Entry) → made (xs ++ ys) ≡ made xs ++ made ys
 made_join [] ys = refl
 made_join (x ∷ xs) ys = ap (λ (zs : List SessionEntry). Makes x ∷ zs) (made_join xs ys)
 
@@ -68,3 +68,15 @@ pub logs_are_sessions : LogsAreSessions
 logs_are_sessions node old new count entries log =
     subst (λ (es : List Entry). IsPath (Doing node (Ends old)) (made es) (Doing node (Ends new))) (sym log.whole)
     (turns_path node old new log.turns log.each)
+
+pub stopped_logs_are_sessions : StoppedLogsAreSessions
+stopped_logs_are_sessions node old new entries log =
+    subst (λ (es : List Entry). IsPath (Doing node (Ends old)) (made es) (Doing node (Ends new))) (sym log.whole)
+    (subst (λ (es : List SessionEntry). IsPath (Doing node (Ends old)) es (Doing node (Ends new))) (sym (made_join log.before log.last))
+    (path_join (Doing node (Ends old)) (Doing node (Ends log.mid)) (Doing node (Ends new)) (made log.before) (made log.last)
+    (logs_are_sessions node old log.mid log.count log.before log.log) (turn_path node log.mid new Stopped log.last log.stop)))
+
+pub cut_sessions_are_sessions : CutSessionsAreSessions
+cut_sessions_are_sessions stand [] late are = tt
+cut_sessions_are_sessions stand (entry ∷ early) late are =
+    (are.0, cut_sessions_are_sessions (after_entry stand entry) early late are.1)

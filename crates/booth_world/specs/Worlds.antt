@@ -7,7 +7,7 @@ use Rattle.booth_base.specs.Tree.{Ends}
 use Rattle.booth_host.specs.declared.entry.Entry.{Entry}
 use Rattle.booth_host.specs.declared.entry.Entry.TheVariants as calls
 use Rattle.booth_node.specs.declared.node_config.NodeConfig.{NodeConfig}
-use Rattle.booth_node.specs.Log.{IsNodeLog}
+use Rattle.booth_node.specs.Log.{IsNodeLog, IsStoppedLog}
 use Rattle.booth_node.specs.State.{State}
 use Rattle.booth_node.specs.Session.{SessionEntry, Makes, Stand, Doing, AreSessions, after_entries}
 use Rattle.booth_node.specs.Records.{Has}
@@ -84,3 +84,15 @@ LogsAreSessions =
     (node : NodeConfig) (old new : State) (count : ℕ) (entries : List Entry) → IsNodeLog node old count new entries
     → AreSessions (Doing node (Ends old)) (made entries)
     × (after_entries (Doing node (Ends old)) (made entries) ≡ Doing node (Ends new))
+
+-- so are those of many turns, the last of which stopped
+abbrev pub StoppedLogsAreSessions : Type 0
+StoppedLogsAreSessions =
+    (node : NodeConfig) (old new : State) (entries : List Entry) → IsStoppedLog node old new entries
+    → AreSessions (Doing node (Ends old)) (made entries)
+    × (after_entries (Doing node (Ends old)) (made entries) ≡ Doing node (Ends new))
+
+-- and a session up to any of its entries is one
+abbrev pub CutSessionsAreSessions : Type 0
+CutSessionsAreSessions =
+    (stand : Stand) (early late : List SessionEntry) → AreSessions stand (early ++ late) → AreSessions stand early

@@ -6,7 +6,8 @@ ghost use Rattle.booth_world.specs.Laws.{HasOneHolder, HoldersAreApart, KeptTerm
 ghost use Rattle.booth_world.specs.Rules.{lease_rules};
 ghost use Rattle.booth_world.specs.Stability.{AgreementStays, CallsLeadOn, MembersStay, RunsAppend};
 ghost use Rattle.booth_world.specs.Shadows.{WorldsHaveShadows};
-ghost use Rattle.booth_world.specs.Worlds.{LogsAreSessions, WorldTermsNeverFall, WorldsAreApart, WorldsHoldOne};
+ghost use Rattle.booth_world.specs.Worlds.{CutSessionsAreSessions, LogsAreSessions, StoppedLogsAreSessions};
+ghost use Rattle.booth_world.specs.Worlds.{WorldTermsNeverFall, WorldsAreApart, WorldsHoldOne};
 
 /// At no moment is the ticket held at two sites.
 pub fn one_holder()
@@ -30,6 +31,16 @@ pub fn terms()
 /// A log of a node's turns is part of a session of a world.
 pub fn logs_are_sessions()
     ensures { LogsAreSessions }
+{}
+
+/// So is a log of which the last turn stopped.
+pub fn stopped_logs_are_sessions()
+    ensures { StoppedLogsAreSessions }
+{}
+
+/// A session up to any of its entries is part of a session.
+pub fn cut_sessions_are_sessions()
+    ensures { CutSessionsAreSessions }
 {}
 
 /// All three laws at once, as a program takes them: by a call.
