@@ -6,3 +6,4 @@ mod StatusLemmas
 mod SimulatingLemmas
 mod RunLemmas
 mod FaultlessLemmas
+mod SessionLemmas

@@ -1,19 +1,21 @@
 -- What a run of boothd is a part of: worlds, in which no automatic ticket is held at two sites and no kept term falls.
 use Rattle.std.specs.Prelude.{◌≡◌, ◌++◌, ℕ, List, ◌∷◌}
 use Rattle.booth_host.specs.declared.entry.Entry.{Entry}
-use Rattle.booth_node.specs.Session.{SessionEntry, Starts}
+use Rattle.booth_node.specs.Session.{SessionEntry, Starts, Down, AreSessions}
 use Rattle.booth_node.specs.World.{World, IsWorld, node_at, entries_of}
 use Rattle.booth_world.specs.Worlds.{HoldsOneIn, TermsNeverFallIn, made}
 use Rattle.booth_stages.specs.declared.outcome.Outcome.{Outcome}
+use Rattle.booth_stages.specs.declared.outcome.Outcome.TheVariants.{Done, TurnsSpent}
 use Rattle.booth_words.specs.declared.asking.DaemonWords.{DaemonWords}
 use Rattle.booth_words.specs.Asking.{AsksDaemon}
 use Rattle.booth_daemon.specs.Opening.{member_config}
 use Rattle.booth_daemon.specs.Serving.{IsTurning}
+use Rattle.booth_daemon.specs.Run.{IsRun, AskForDaemon}
 
--- The daemon of this run is a member of the world, and a session of that member is this run's: its start has the reading
--- and the records that the opening read, and its calls are those of the turns. What that member did before and does
--- after, and what the others do, is free.
-pub record IsSessionIn (w : World) (words : List (List ℕ)) (outcome : Outcome) (entries : List Entry) : Type 0 where
+-- ---- the session of a run
+
+-- a run of a daemon that made its whole opening, and then turns
+pub record IsTurningRun (words : List (List ℕ)) (outcome : Outcome) (entries : List Entry) : Type 0 where
   pub asked : DaemonWords
   pub asks : AsksDaemon words asked
   pub said : List ℕ
@@ -21,15 +23,53 @@ pub record IsSessionIn (w : World) (words : List (List ℕ)) (outcome : Outcome)
   pub last : List Entry
   pub whole : entries ≡ body ++ last
   pub turning : IsTurning asked outcome said body
+
+-- what it did behind its opening, from its start on: the start has the reading and the records that the opening read, and
+-- the calls are those of its turns
+abbrev pub session_of :
+    {asked : DaemonWords} {outcome : Outcome} {said : List ℕ} {body : List Entry} → IsTurning asked outcome said body
+    → List SessionEntry
+session_of {asked} turning =
+    Starts (member_config asked.site turning.config turning.key) turning.reading turning.records ∷ made turning.turns
+
+-- The daemon of this run is a member of the world, and a session of that member is this run's. What that member did
+-- before and does after, and what the others do, is free.
+pub record IsSessionIn (w : World) (words : List (List ℕ)) (outcome : Outcome) (entries : List Entry) : Type 0 where
+  pub run : IsTurningRun words outcome entries
   pub member : ℕ
-  pub found : node_at w member ≡ member_config asked.site turning.config turning.key
+  pub found : node_at w member ≡ member_config run.asked.site run.turning.config run.turning.key
   pub before : List SessionEntry
   pub after : List SessionEntry
-  pub session : entries_of member w.entries
-      ≡ before ++ (Starts (node_at w member) turning.reading turning.records ∷ (made turning.turns ++ after))
+  pub session : entries_of member w.entries ≡ before ++ (session_of run.turning ++ after)
 
 -- in every world in which this run is a session, no automatic ticket is held at two members at one moment, and no
 -- member's kept term falls
 abbrev pub IsSafe : List (List ℕ) → Outcome → List Entry → Type 0
 IsSafe words outcome entries =
     (w : World) → IsWorld w → IsSessionIn w words outcome entries → HoldsOneIn w × TermsNeverFallIn w
+
+-- ---- that runs have one
+
+-- the outcomes of a daemon that made turns
+abbrev pub IsTurningEnd : Outcome → Type 0
+IsTurningEnd Done = Unit {0}
+IsTurningEnd TurnsSpent = Unit {0}
+IsTurningEnd outcome = ⊥
+
+-- each run of a daemon that ends so made its whole opening, and then turns
+abbrev pub DaemonsTurn : Type 0
+DaemonsTurn =
+    (words : List (List ℕ)) (outcome : Outcome) (entries : List Entry) → IsRun words outcome entries
+    → AskForDaemon words → IsTurningEnd outcome → IsTurningRun words outcome entries
+
+-- what a run of the daemon did behind its opening, from its start on, is a session of a member
+abbrev pub RunsAreSessions : Type 0
+RunsAreSessions =
+    (asked : DaemonWords) (outcome : Outcome) (said : List ℕ) (body : List Entry) (t : IsTurning asked outcome said body)
+    → AreSessions Down (session_of t)
+
+-- so is what it did up to any call
+abbrev pub CutRunsAreSessions : Type 0
+CutRunsAreSessions =
+    (asked : DaemonWords) (outcome : Outcome) (said : List ℕ) (body : List Entry) (t : IsTurning asked outcome said body)
+    (early late : List SessionEntry) → session_of t ≡ early ++ late → AreSessions Down early
