@@ -1,19 +1,13 @@
 //! Runs of booth over a script: what comes from daemons, and the calls and the outcome that follow.
 //!
 //! Most begin at 1,000 ms, which is the number of their request then.
-use super::options::has_pieces;
-use super::scripts::{behind, host_of, number_of, step_of};
+use super::scripts::{behind, host_of, number_of};
 use super::transcript::transcript;
-use super::{GOOD, check_kinds, good_and, good_host, host, scripted, strings};
-use booth_auth::KeyFault;
-use booth_clients::{Outcome, Word, booth};
-use booth_conf::ConfFault;
-use booth_host::{Entry, MemoryHost};
-use clap::error::ErrorKind;
+use super::{GOOD, LIST, ask, check_ending, check_status, last_bytes};
+use booth_clients::Outcome;
+use booth_host::MemoryHost;
 use std::alloc::Global;
 use std::process::Abort;
-
-const LIST: &str = "list -c/etc/booth.conf";
 
 const GRANT: &str = "grant ticket-db8 -c/etc/booth.conf";
 
@@ -25,42 +19,6 @@ const KEYED: &str = "site=\"192.168.201.100\"\nsite=\"192.168.202.100\"\n\
 // What is told of a last Redr.
 const OWNED: &str = "booth: ticket is owned by another site\n";
 
-// Runs the client, of which this comes.
-fn ask(rt: &impl Abort, alloc: Global, words: &str, host: &mut MemoryHost, outcome: Outcome) {
-    let got = booth(alloc, &strings(rt, alloc, words), host);
-    assert!(rt; got == outcome, "{words}");
-}
-
-/// The bytes of the last call, an out or an err.
-pub fn last_bytes<'a>(rt: &impl Abort, host: &'a MemoryHost) -> &'a [u8] {
-    match host.past().expect(rt, "the calls").last() {
-        Some(Entry::Out { bytes, .. } | Entry::Err { bytes, .. }) => bytes.bytes(),
-        _ => panic!(rt; "nothing is said"),
-    }
-}
-
-// The status is 0 exactly where a report was printed.
-fn check_status(rt: &impl Abort, outcome: Outcome) {
-    let status = if outcome == Outcome::Report { 0 } else { 1 };
-    assert!(rt; outcome.status() == status);
-}
-
-// What comes of these words over this host, the kinds of the calls, and what is printed or said last.
-fn check_ending(
-    rt: &impl Abort,
-    alloc: Global,
-    words: &str,
-    host: &mut MemoryHost,
-    outcome: Outcome,
-    kinds: &str,
-    last: &str,
-) {
-    ask(rt, alloc, words, host, outcome);
-    check_status(rt, outcome);
-    check_kinds(rt, alloc, host, kinds);
-    assert!(rt; last_bytes(rt, host) == last.as_bytes(), "{last}");
-}
-
 // The same of a client to which this comes.
 fn check_end(
     rt: &impl Abort,
@@ -71,7 +29,7 @@ fn check_end(
     kinds: &str,
     last: &str,
 ) {
-    let mut host = host_of(rt, alloc, 1_000, comes, GOOD, "");
+    let mut host = host_of(rt, alloc, 1_000, comes, GOOD);
     check_ending(rt, alloc, words, &mut host, outcome, kinds, last);
 }
 
@@ -130,7 +88,7 @@ fn members_are_shown_with_their_counters(rt: HostRuntime) {
     let alloc = rt.alloc();
     let comes = "1050 S2 RPer 1000 0 0 = dropped 1 2 3 4 5 6 7 8/\
 site 192.168.201.100 1600 9 10 11/arbitrator 192.168.203.100 0 0 12 0/";
-    let host = host_of(&rt, alloc, 1_000, comes, GOOD, "");
+    let host = host_of(&rt, alloc, 1_000, comes, GOOD);
     let words = "client peers -s 192.168.202.100 -c/etc/booth.conf";
     let calls = "\
 read /etc/booth.conf
@@ -175,7 +133,7 @@ fn what_is_no_reply_is_passed_over(rt: HostRuntime) {
 fn the_longest_text_is_printed(rt: HostRuntime) {
     let alloc = rt.alloc();
     let comes = "1050 S1 RLst 1000 0 0 long 16384";
-    let mut host = host_of(&rt, alloc, 1_000, comes, GOOD, "");
+    let mut host = host_of(&rt, alloc, 1_000, comes, GOOD);
     ask(&rt, alloc, LIST, &mut host, Outcome::Report);
     assert!(rt; last_bytes(&rt, &host).len() == 16_384);
 }
@@ -209,7 +167,7 @@ fn no_daemon_answers_in_time(rt: HostRuntime) {
 fn a_request_has_the_number_of_its_start(rt: HostRuntime) {
     let alloc = rt.alloc();
     let comes = "1700000000200 S1 RLst 3487918080 0 0 = ticket-db8 none 0/";
-    let host = host_of(&rt, alloc, 1_700_000_000_000, comes, GOOD, "");
+    let host = host_of(&rt, alloc, 1_700_000_000_000, comes, GOOD);
     let calls = "\
 read /etc/booth.conf
 open any:0  \n\
@@ -277,7 +235,7 @@ fn check_options(rt: &impl Abort, alloc: Global, line: &str) {
     let (words, asked) = line.split_once(": ").expect(rt, line);
     let (command, options) = asked.split_once(" ").expect(rt, line);
     let words = format!(in alloc; "{words} -c/etc/booth.conf").expect(rt, "memory");
-    let mut host = host_of(rt, alloc, 1_000, "6001 nothing", GOOD, "");
+    let mut host = host_of(rt, alloc, 1_000, "6001 nothing", GOOD);
     ask(rt, alloc, words.as_str(), &mut host, Outcome::NoReply);
     let calls = transcript(rt, alloc, &host);
     let send = format!(in alloc;
@@ -310,7 +268,7 @@ fn who_waits_is_told_of_the_lease(rt: HostRuntime) {
     let comes = "\
 1000001 S1 RGnt 1000000 0 Asyn none 1 0
 1000050 S1 RGnt 1000000 0 0 S1 1 600";
-    let host = host_of(&rt, alloc, 1_000_000, comes, GOOD, "");
+    let host = host_of(&rt, alloc, 1_000_000, comes, GOOD);
     let calls = "\
 read /etc/booth.conf
 open any:0  \n\
@@ -385,7 +343,7 @@ fn a_revoke_is_sent_on_to_the_owner(rt: HostRuntime) {
 6400 S2 RRvk 1000 0 0 none 1 0
 6500 nothing
 6501 S1 RRvk 1500 0 0 none 1 0";
-    let host = host_of(&rt, alloc, 1_000, comes, GOOD, "");
+    let host = host_of(&rt, alloc, 1_000, comes, GOOD);
     let calls = "\
 read /etc/booth.conf
 open any:0  \n\
@@ -474,7 +432,7 @@ fn a_reply_has_the_mac_of_the_key(rt: HostRuntime) {
         1002 bytes {SEALED} 6e 00000000\n1003 bytes {SEALED} 6f 00000000"
     );
     let comes = comes.expect(&rt, "memory");
-    let host = host_of(&rt, alloc, 1_000, comes.as_str(), KEYED, "");
+    let host = host_of(&rt, alloc, 1_000, comes.as_str(), KEYED);
     let calls = "\
 read /etc/booth.conf
 read /k
@@ -501,127 +459,4 @@ fn without_a_key_no_mac_is_looked_at(rt: HostRuntime) {
     let comes = comes.as_str();
     let last = "ticket: ticket-db8, leader: none\n";
     check_end(&rt, alloc, LIST, comes, Outcome::Report, "ronsxnp", last);
-}
-
-// A host with more lines in the file, and a key that is too short, to which a list comes.
-fn hindered(rt: &impl Abort, alloc: Global, more: &str) -> MemoryHost {
-    let step = step_of(rt, alloc, "1050 S1 RLst 1000 0 0 = ticket-db8 none 0/");
-    let mut steps = Vec::new(alloc);
-    steps.push(step).expect(rt, "memory");
-    let script = scripted(1_000, steps, "");
-    host(rt, alloc, script, &good_and(rt, alloc, more), " 1234567\n")
-}
-
-// What is behind the file's four lines, what comes of a list request, its calls, and what is said.
-fn check_hindered(
-    rt: &impl Abort,
-    alloc: Global,
-    more: &str,
-    outcome: Outcome,
-    kinds: &str,
-    said: &str,
-) {
-    let mut host = hindered(rt, alloc, more);
-    check_ending(rt, alloc, LIST, &mut host, outcome, kinds, said);
-}
-
-#[test]
-fn a_client_without_its_file_or_key_asks_nobody(rt: HostRuntime) {
-    let alloc = rt.alloc();
-    let said = "booth: cannot read /missing\n";
-    let more = "authfile = /missing";
-    check_hindered(&rt, alloc, more, Outcome::KeyUnread, "rre", said);
-    let said = "booth: key too short\n";
-    let outcome = Outcome::KeyBad(KeyFault::TooShort);
-    check_hindered(&rt, alloc, "authfile = /k", outcome, "rre", said);
-    let said = "booth: /etc/booth.conf: line 5: syntax\n";
-    let outcome = Outcome::ConfBad(ConfFault::Syntax { line: 5 });
-    check_hindered(&rt, alloc, "port = \"1", outcome, "re", said);
-    let said = "booth: cannot read /etc/booth/other.conf\n";
-    let mut host = hindered(&rt, alloc, "");
-    let outcome = Outcome::ConfUnread;
-    check_ending(&rt, alloc, "peers -c other", &mut host, outcome, "re", said);
-}
-
-// Words that ask for nothing, and what is said first of them.
-fn check_word(rt: &impl Abort, alloc: Global, words: &str, word: Word, said: &str) {
-    let mut host = good_host(rt, alloc, "");
-    let outcome = Outcome::BadWord(word);
-    check_ending(rt, alloc, words, &mut host, outcome, "e", said);
-}
-
-#[test]
-fn each_reader_of_the_client_refuses_its_word(rt: HostRuntime) {
-    let alloc = rt.alloc();
-    let said = "booth: bad ticket\n";
-    check_word(&rt, alloc, "grant ", Word::Ticket, said);
-    check_word(&rt, alloc, "revoke \t -s x", Word::Ticket, said);
-    let said = "booth: bad site\n";
-    check_word(&rt, alloc, "grant a -s x", Word::Site, said);
-    check_word(&rt, alloc, "list -c  -s 1.2.3.04", Word::Site, said);
-}
-
-fn check_no_command(rt: &impl Abort, alloc: Global, words: &str) {
-    let said =
-        "booth: usage: booth COMMAND [OPTIONS], with the command list, peers, grant or revoke; \
-        see --help behind it\n";
-    let mut host = good_host(rt, alloc, "");
-    let outcome = Outcome::Usage(None);
-    check_ending(rt, alloc, words, &mut host, outcome, "e", said);
-}
-
-#[test]
-fn what_is_no_command_of_the_client_is_usage(rt: HostRuntime) {
-    let alloc = rt.alloc();
-    check_no_command(&rt, alloc, "");
-    check_no_command(&rt, alloc, "client");
-    check_no_command(&rt, alloc, "client client list");
-    check_no_command(&rt, alloc, "daemon -s ::1");
-    check_no_command(&rt, alloc, "--help");
-    let mut host = good_host(&rt, alloc, "");
-    assert!(rt; booth(alloc, &Vec::new(alloc), &mut host) == Outcome::Usage(None));
-}
-
-// The words, and pieces of the text that is printed, in their order.
-fn check_help(rt: &impl Abort, alloc: Global, words: &str, pieces: &str) {
-    let mut host = good_host(rt, alloc, "");
-    let outcome = Outcome::Usage(Some(ErrorKind::DisplayHelp));
-    ask(rt, alloc, words, &mut host, outcome);
-    assert!(rt; outcome.status() == 0, "{words}");
-    check_kinds(rt, alloc, &host, "p");
-    let text = str::from_utf8(last_bytes(rt, &host)).expect(rt, "a text");
-    assert!(rt; has_pieces(text, pieces), "{text}");
-}
-
-#[test]
-fn the_help_of_a_command_names_its_options(rt: HostRuntime) {
-    let alloc = rt.alloc();
-    let pieces = "\
-Usage: booth list [OPTIONS]\n|\
--c <CONF>|\
-Configuration: a path with a slash, or a name in /etc/booth [default: booth]\n|\
--s <ADDRESS>|\
-Address of the daemon to ask [default: the first site of the configuration]\n";
-    check_help(&rt, alloc, "list --help", pieces);
-    let pieces = "\
-Usage: booth peers [OPTIONS]\n|\
--c <CONF>|\
--s <ADDRESS>";
-    check_help(&rt, alloc, "client peers -h", pieces);
-    let pieces = "\
-Usage: booth grant [OPTIONS] <TICKET>\n|\
-<TICKET>|\
--c <CONF>|\
--s <ADDRESS>|\
--w|\
--C|\
--F";
-    check_help(&rt, alloc, "grant --help", pieces);
-    let pieces = "\
-Usage: booth revoke [OPTIONS] <TICKET>\n|\
-<TICKET>|\
--c <CONF>|\
--s <ADDRESS>|\
--w";
-    check_help(&rt, alloc, "revoke --help", pieces);
 }

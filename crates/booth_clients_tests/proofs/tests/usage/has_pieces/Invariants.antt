@@ -1,6 +1,6 @@
 use denote.Text.{Utf8}
 use denote.Shadow.{shadow}
-use Rattle.booth_cli_tests.proofs.tests.options.has_pieces.Given as goal
+use Rattle.booth_clients_tests.proofs.tests.usage.has_pieces.Given as goal
 
 abbrev pub invariant-loop-piece : goal.invariant-loop-piece
 invariant-loop-piece l = shadow (Utf8 l.rest)

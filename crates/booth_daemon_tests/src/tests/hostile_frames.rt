@@ -72,21 +72,25 @@ fn a_frame_that_is_too_long_by_one_is_none(rt: HostRuntime) {
     check(&rt, &config, &bytes, DropFault::Frame(FrameFault::Length));
 }
 
+fn check_frame(rt: &impl Abort, alloc: Global, config: &Config, frame: &str, fault: DropFault) {
+    check(rt, config, &bytes_of(rt, alloc, frame), fault);
+}
+
 // Each has one fault alone.
 #[test]
 fn each_hostile_frame_has_its_fault(rt: HostRuntime) {
     use DropFault::{Frame, Leader};
     let alloc = rt.alloc();
     let config = config_of(&rt, alloc);
-    let table = [
-        (WITH_ATTRIBUTE, Frame(FrameFault::Command)),
-        (WITHOUT_MAC, Frame(FrameFault::Size)),
-        (BARE, Frame(FrameFault::Size)),
-        (BEHIND_NAME, Frame(FrameFault::Name)),
-        (ARBITRATOR_LEADS, Leader),
-    ];
-    for (frame, fault) in table {
-        let bytes = bytes_of(&rt, alloc, frame);
-        check(&rt, &config, &bytes, fault);
-    }
+    check_frame(
+        &rt,
+        alloc,
+        &config,
+        WITH_ATTRIBUTE,
+        Frame(FrameFault::Command),
+    );
+    check_frame(&rt, alloc, &config, WITHOUT_MAC, Frame(FrameFault::Size));
+    check_frame(&rt, alloc, &config, BARE, Frame(FrameFault::Size));
+    check_frame(&rt, alloc, &config, BEHIND_NAME, Frame(FrameFault::Name));
+    check_frame(&rt, alloc, &config, ARBITRATOR_LEADS, Leader);
 }

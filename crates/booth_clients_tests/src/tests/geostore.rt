@@ -2,8 +2,7 @@
 //!
 //! A frame is a line: its command, its result, and of an attribute then the ticket, the name (`-` where there is
 //! none) and the value; behind `=` stands a text, in which `/` ends a line.
-use super::client::last_bytes;
-use super::{GOOD, call, check_kinds, scripted, strings};
+use super::{GOOD, call, check_kinds, last_bytes, scripted, strings};
 use booth_base::{Address, ByteText, PathText, Peer};
 use booth_clients::{Outcome, Word, geostore};
 use booth_host::{Arrival, Entry, Files, MemoryHost, Script, Step};

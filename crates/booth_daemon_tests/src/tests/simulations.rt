@@ -86,21 +86,20 @@ fn a_print_that_fails_is_told(rt: HostRuntime) {
     );
 }
 
-// The words, how they end, and what is said of their file: each number in them is taken, and the file is looked at.
+// These words name a file that cannot be read. Each number in them is taken, and the file is looked at.
+fn check_unread(rt: &impl Abort, alloc: Global, words: &str) {
+    let mut host = good_host(rt, alloc, "");
+    let said = "boothd: cannot read /none\n";
+    check_refused(rt, alloc, words, &mut host, Outcome::ConfUnread, "re", said);
+}
+
 #[test]
 fn a_file_that_is_none_is_told(rt: HostRuntime) {
     let alloc = rt.alloc();
-    let unread = "boothd: cannot read /none\n";
-    for words in [
-        "sim -c /none",
-        "sim -e 10000000 -c /none",
-        "sim -c /none -r 18446744073709551615",
-        "sim -r 0 -e 1 -c /none",
-    ] {
-        let mut host = good_host(&rt, alloc, "");
-        let outcome = Outcome::ConfUnread;
-        check_refused(&rt, alloc, words, &mut host, outcome, "re", unread);
-    }
+    check_unread(&rt, alloc, "sim -c /none");
+    check_unread(&rt, alloc, "sim -e 10000000 -c /none");
+    check_unread(&rt, alloc, "sim -c /none -r 18446744073709551615");
+    check_unread(&rt, alloc, "sim -r 0 -e 1 -c /none");
     let mut host = good_host(&rt, alloc, "");
     let outcome = Outcome::ConfBad(ConfFault::NoSite);
     let said = "boothd: /k: no site\n";

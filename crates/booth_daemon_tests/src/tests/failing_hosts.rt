@@ -1,19 +1,16 @@
 //! Hosts of which a call fails: all calls that follow, and how the program ends.
 //!
-//! What comes is a line a step, as in whole runs; before a step of which calls fail stands `send: `, `keep: ` or `out: `.
+//! What comes is a line a step, as in whole runs; before a step of which calls fail stands `send: ` or `keep: `.
 use super::grants::OPENED;
 use super::hindered::Hindered;
 use super::scripts::{behind, check_calls, host_of, step_of};
 use super::transcript::transcript;
 use super::{GOOD, WORDS, good_and, host, scripted, strings};
 use booth_base::{Address, Peer};
-use booth_clients::booth;
 use booth_daemon::{Outcome, boothd};
 use booth_host::{MemoryHost, Step};
 use std::alloc::Global;
 use std::process::Abort;
-
-const LIST: &str = "list -c/etc/booth.conf";
 
 const AT_S2: Peer = Peer {
     address: Address::V4([192, 168, 202, 100]),
@@ -26,7 +23,6 @@ fn failing_step(rt: &impl Abort, alloc: Global, line: &str) -> Step {
     let mut step = step_of(rt, alloc, line);
     step.fail_send = fails == "send";
     step.fail_keep = fails == "keep";
-    step.fail_out = fails == "out";
     step
 }
 
@@ -118,43 +114,4 @@ next 100 stop
 now 1000001
 ";
     check_calls(&rt, alloc, WORDS, host, &[OPENED, calls]);
-}
-
-// What fails of a list that is asked for and comes, how the client ends, and its calls.
-fn check_list(rt: &impl Abort, alloc: Global, fails: &str, outcome: Outcome, calls: &str) {
-    let comes = "1050 S1 RLst 1000 0 0 = ticket-db8 none 0/";
-    let comes = format!(in alloc; "{fails}: {comes}").expect(rt, "memory");
-    let mut host = failing(rt, alloc, 1_000, comes.as_str(), fails);
-    let got = booth(alloc, &strings(rt, alloc, LIST), &mut host);
-    assert!(rt; got == outcome && got.status() == 1, "{fails}");
-    let told = transcript(rt, alloc, &host);
-    let rest = behind(rt, told.as_str(), &["read /etc/booth.conf\n", calls]);
-    assert!(rt; rest.is_empty(), "more calls: {rest}");
-}
-
-#[test]
-fn a_list_says_which_call_failed(rt: HostRuntime) {
-    let alloc = rt.alloc();
-    let calls = "\
-open any:0   failed
-err booth: cannot open/
-";
-    check_list(&rt, alloc, "open", Outcome::OpenFault, calls);
-    let calls = "\
-open any:0  \n\
-now 1000
-send S1:9929: CLst of - at 1000 1000 0 0 0 failed
-err booth: cannot send/
-";
-    check_list(&rt, alloc, "send", Outcome::SendFault, calls);
-    let calls = "\
-open any:0  \n\
-now 1000
-send S1:9929: CLst of - at 1000 1000 0 0 0
-next 100 S1:9929: RLst of S1 at 0 1000 0 0 0 ticket-db8 none 0/
-now 1050
-out ticket: ticket-db8, leader: none/ failed
-err booth: cannot print/
-";
-    check_list(&rt, alloc, "out", Outcome::PrintFault, calls);
 }

@@ -1,13 +1,9 @@
-//! Runs of the programs from words and bytes to calls, bytes and outcome.
+//! Runs of boothd from words and bytes to calls, bytes and outcome.
 //!
 //! The words of a run are one text with a blank between each two.
-ghost use Rattle.std.specs.Prelude.{◌<◌};
-
-mod client;
 mod failing_hosts;
 mod faults;
 mod gate_frames;
-mod geostore;
 mod grants;
 mod hindered;
 mod hostile_frames;
@@ -46,22 +42,11 @@ const GOOD: &str = "site=\"192.168.201.100\"\nsite=\"192.168.202.100\"\n\
 
 const WORDS: &str = "daemon -c /etc/booth.conf -s 192.168.201.100";
 
-fn digit_of(rt: &impl Abort, byte: u8) -> u8
-    ensures { result < 16 }
-{
-    match byte {
-        b'0'..=b'9' => byte - b'0',
-        b'a'..=b'f' => byte - b'a' + 10,
-        _ => panic!(rt; "no hexadecimal digit"),
-    }
-}
-
-fn put_digits(rt: &impl Abort, bytes: &mut Vec<u8>, digits: &str) {
-    for pair in digits.as_bytes().chunks(2) {
-        let [high, low] = pair else {
-            panic!(rt; "half a byte: {digits}");
-        };
-        let byte = digit_of(rt, *high) * 16 + digit_of(rt, *low);
+fn put_digits(rt: &impl Abort, bytes: &mut Vec<u8>, word: &str) {
+    assert!(rt; word.len() % 2 == 0, "half a byte: {word}");
+    for digits in word.as_bytes().chunks(2) {
+        let digits = str::from_utf8(digits).expect(rt, word);
+        let byte = u8::from_str_radix(digits, 16).expect(rt, word);
         bytes.push(byte).expect(rt, "memory");
     }
 }
