@@ -5,6 +5,7 @@ tools/frames.py spells them, and the standard library's `hmac` signs them: nothi
 program's own making. From the top of the repository:
 
     python3 tests/node_frames.py > crates/booth_node_tests/src/tests/frames.rt
+    python3 tests/node_frames.py signed > crates/booth_node_tests/src/tests/signed_frames.rt
 """
 
 import hashlib
@@ -157,11 +158,6 @@ def print_signed_requests():
         print_turn(f"PEER_AFTER_{name}", about, request, [("client", reply)])
 
 
-def print_hello():
-    print_turn("HELLO", "The hello of S1.", None, hello(plain))
-    print_turn("HELLO_SIGNED", "The same with its MAC.", None, hello(signed))
-
-
 def print_faults():
     answer = frames.ticket_body(TICKET, S2, 1, 0)
     ack = at(NOW, signed, "Ack.", answer, sender=S1, options=3)
@@ -182,9 +178,14 @@ def print_faults():
     print_turn("NO_LEADER", about, heartbeat(S2, leader=S1))
 
 
-print("//! Turns of S1, at 192.168.201.100, with frames in hexadecimal as tools/frames.py spells them and")
-print("//! Python's `hmac` signs them with `secret-key`.")
-print_hello()
-print_requests()
-print_signed_requests()
-print_faults()
+WHERE = "at 192.168.201.100, with frames in hexadecimal as tools/frames.py spells them"
+if sys.argv[1:] == ["signed"]:
+    print(f"//! Turns of S1 with the key, {WHERE} and")
+    print("//! Python's `hmac` signs them with `secret-key`.")
+    print_turn("HELLO_SIGNED", "The hello of S1 with its MAC.", None, hello(signed))
+    print_signed_requests()
+    print_faults()
+else:
+    print(f"//! Turns of S1 without a key, {WHERE}.")
+    print_turn("HELLO", "The hello of S1.", None, hello(plain))
+    print_requests()

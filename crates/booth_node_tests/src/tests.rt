@@ -13,4 +13,5 @@ mod many_tickets;
 mod replies;
 mod rows;
 mod script;
+mod signed_frames;
 mod waiters;

@@ -1,7 +1,7 @@
 //! Attributes and prerequisites in whole turns: who is answered what, and what waits for an attribute.
 use super::lines::{AR, S1, S2};
 use super::rows::{GAIN, GRANT, HELLO, LEASE_HEARD, SECOND_HELLO};
-use super::script::{check_turn, opened, play, play_file};
+use super::script::{check_turn, opened, play, play_file, play_records};
 use booth_node::Node;
 use std::alloc::Global;
 use std::process::Abort;
@@ -148,13 +148,6 @@ const TWO_TICKETS: &str =
     "site=\"192.168.201.100\"\nsite=\"192.168.202.100\"\narbitrator=\"192.168.203.100\"\n\
     ticket=\"ticket-db8\"\nattr-prereq = \"manual ready eq yes\"\nticket=\"ticket-web\"\n";
 
-/// The turns of a text, one after the other.
-fn check_turns(rt: &impl Abort, alloc: Global, node: &mut Node, texts: &str) {
-    for turn in texts.split("\n\n") {
-        check_turn(rt, alloc, node, turn);
-    }
-}
-
 #[test]
 fn each_ticket_has_its_own_attributes(rt: HostRuntime) {
     let texts = "\
@@ -176,8 +169,7 @@ send client: S1 RAtr 4 0 0 IArg @ ticket-none ready x
 
 at 5 from client: 0 CGnt 77 0 0 0 ticket-db8 none 0 0
 send client: S1 RGnt 77 0 0 APrq ticket-db8 none 0 0";
-    let mut node = opened(&rt, rt.alloc(), TWO_TICKETS, S1, &[None, None]);
-    check_turns(&rt, rt.alloc(), &mut node, texts);
+    play_records(&rt, rt.alloc(), TWO_TICKETS, S1, &[None, None], &[texts]);
 }
 
 /// A name is set, and this is the result.

@@ -308,44 +308,21 @@ impl Net {
     }
 }
 
-// A member's place in the file.
-fn place_of(rt: &impl Abort, member: &str) -> usize {
-    match member {
-        "S1" => 0,
-        "S2" => 1,
-        "AR" => 2,
-        _ => panic!(rt; "{member} is no member"),
-    }
-}
-
-fn put_node(
-    rt: &impl Abort,
-    alloc: Global,
-    nodes: &mut Vec<Node>,
-    file: &str,
-    me: MemberId,
-    record: Option<Record>,
-) {
-    let node = opened(rt, alloc, file, me, &[record]);
-    assert!(rt; nodes.push(node).is_ok());
-}
-
 #[derive(Drop)]
 struct Cluster {
-    /// In the order of the file.
-    nodes: Vec<Node>,
+    s1: Node,
+    s2: Node,
+    ar: Node,
     net: Net,
 }
 
 impl Cluster {
     // All start at 0, the first site from this record and the others without one.
     fn new(rt: &impl Abort, alloc: Global, file: &str, record: Option<Record>) -> Cluster {
-        let mut nodes = Vec::new(alloc);
-        put_node(rt, alloc, &mut nodes, file, S1, record);
-        put_node(rt, alloc, &mut nodes, file, S2, None);
-        put_node(rt, alloc, &mut nodes, file, AR, None);
         Cluster {
-            nodes,
+            s1: opened(rt, alloc, file, S1, &[record]),
+            s2: opened(rt, alloc, file, S2, &[None]),
+            ar: opened(rt, alloc, file, AR, &[None]),
             net: Net {
                 under_way: Vec::new(alloc),
             },
@@ -369,17 +346,25 @@ impl Cluster {
         }
     }
 
-    // A turn of the member at this place.
+    fn node(&mut self, rt: &impl Abort, member: &str) -> &mut Node {
+        match member {
+            "S1" => &mut self.s1,
+            "S2" => &mut self.s2,
+            "AR" => &mut self.ar,
+            _ => panic!(rt; "{member} is no member"),
+        }
+    }
+
+    // A turn of this member.
     fn run(
         &mut self,
         rt: &impl Abort,
         alloc: Global,
-        place: usize,
+        member: &str,
         now: u64,
         came: Option<(Peer, Vec<u8>)>,
     ) -> MemoryHost {
-        let node = self.nodes.get_mut(place).expect(rt, "a member");
-        run(rt, alloc, node, now, came, Fails::NOTHING)
+        run(rt, alloc, self.node(rt, member), now, came, Fails::NOTHING)
     }
 
     fn check_turn(&mut self, rt: &impl Abort, alloc: Global, turn: &str) {
@@ -392,18 +377,22 @@ impl Cluster {
         }
         let (now, comes) = head_of(rt, head);
         let came = self.came(rt, alloc, at, comes);
-        let host = self.run(rt, alloc, place_of(rt, member), now, came);
+        let host = self.run(rt, alloc, member, now, came);
         check_calls(rt, alloc, now, calls, &host);
         self.net.put_all(rt, alloc, at, &host);
     }
 
-    // Runs the turns of these texts. Nothing is under way after each.
+    // Runs the turns of a text. Nothing is under way after it.
+    fn check_text(&mut self, rt: &impl Abort, alloc: Global, text: &str) {
+        for turn in text.split("\n\n") {
+            self.check_turn(rt, alloc, turn);
+        }
+        assert!(rt; self.net.under_way.is_empty());
+    }
+
     fn check(&mut self, rt: &impl Abort, alloc: Global, texts: &[&str]) {
         for text in texts {
-            for turn in text.split("\n\n") {
-                self.check_turn(rt, alloc, turn);
-            }
-            assert!(rt; self.net.under_way.is_empty());
+            self.check_text(rt, alloc, text);
         }
     }
 }

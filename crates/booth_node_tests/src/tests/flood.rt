@@ -1,7 +1,7 @@
 //! Ten thousand datagrams that are dropped: nothing but the counts of drops is another then.
-use super::frames;
 use super::replies::keyed;
 use super::script::check_turn;
+use super::signed_frames;
 use booth_node::Node;
 use std::alloc::Global;
 use std::process::Abort;
@@ -27,17 +27,17 @@ fn ten_thousand_drops_change_their_counts_alone(rt: HostRuntime) {
     let alloc = rt.alloc();
     let mut node = keyed(&rt, alloc);
     let turns = [
-        frames::NO_FRAME,
-        frames::NO_MAC,
-        frames::BAD_MAC,
-        frames::TOO_OLD,
-        frames::STRANGER,
-        frames::OWN,
-        frames::NO_TICKET,
-        frames::NO_LEADER,
+        signed_frames::NO_FRAME,
+        signed_frames::NO_MAC,
+        signed_frames::BAD_MAC,
+        signed_frames::TOO_OLD,
+        signed_frames::STRANGER,
+        signed_frames::OWN,
+        signed_frames::NO_TICKET,
+        signed_frames::NO_LEADER,
     ];
-    check_turn(&rt, alloc, &mut node, frames::HELLO_SIGNED);
+    check_turn(&rt, alloc, &mut node, signed_frames::HELLO_SIGNED);
     drop_rounds(&rt, alloc, &mut node, &turns, 1250);
-    check_turn(&rt, alloc, &mut node, frames::PEER_AFTER_FLOOD);
-    check_turn(&rt, alloc, &mut node, frames::CLST_SIGNED);
+    check_turn(&rt, alloc, &mut node, signed_frames::PEER_AFTER_FLOOD);
+    check_turn(&rt, alloc, &mut node, signed_frames::CLST_SIGNED);
 }

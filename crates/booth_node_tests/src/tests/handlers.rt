@@ -1,7 +1,7 @@
 //! Whole runs at S1 of tickets with handlers: their jobs, and what their ends lead to.
 use super::lines::S1;
 use super::rows::HELLO;
-use super::script::{check, opened, play_file};
+use super::script::{play_file, play_records};
 
 const FILE: &str =
     "site=\"192.168.201.100\"\nsite=\"192.168.202.100\"\narbitrator=\"192.168.203.100\"\n\
@@ -129,7 +129,6 @@ fn each_ticket_has_its_own_jobs(rt: HostRuntime) {
     let file =
         "site=\"192.168.201.100\"\nticket=\"__default__\"\nbefore-acquire-handler = /bin/check\nticket=\"one\"\n\
         ticket=\"two\"\n";
-    let mut node = opened(&rt, rt.alloc(), file, S1, &[None, None]);
     let then = "\
 at 0 quiet
 
@@ -149,5 +148,5 @@ at 1000200 over 2 1
 
 at 1000300 from client: 0 CLst 79 0 0 0
 send client: S1 RLst 79 0 0 0 = one none 0/two 192.168.201.100 1600/";
-    check(&rt, rt.alloc(), &mut node, &[then]);
+    play_records(&rt, rt.alloc(), file, S1, &[None, None], &[then]);
 }

@@ -117,26 +117,19 @@ fn put_text(rt: &impl Abort, bytes: &mut Vec<u8>, text: &str) {
     }
 }
 
-fn digit_of(rt: &impl Abort, byte: u8) -> u8
-    ensures { result < 16 }
-{
-    match byte {
-        b'0'..=b'9' => byte - b'0',
-        b'a'..=b'f' => byte - b'a' + 10,
-        _ => panic!(rt; "no hexadecimal digit"),
+fn put_digits(rt: &impl Abort, bytes: &mut Vec<u8>, word: &str) {
+    for digits in word.as_bytes().chunks(2) {
+        let digits = std::str::from_utf8(digits).expect(rt, word);
+        let byte = u8::from_str_radix(digits, 16).expect(rt, word);
+        bytes.push(byte).expect(rt, "memory");
     }
 }
 
 fn bytes_of(rt: &impl Abort, alloc: Global, words: &str) -> Vec<u8> {
     let mut bytes = Vec::new(alloc);
     for word in words.split_whitespace() {
-        for digits in word.as_bytes().chunks(2) {
-            let [high, low] = digits else {
-                panic!(rt; "half a byte");
-            };
-            let byte = digit_of(rt, *high) * 16 + digit_of(rt, *low);
-            bytes.push(byte).expect(rt, "memory");
-        }
+        assert!(rt; word.len() % 2 == 0, "half a byte: {word}");
+        put_digits(rt, &mut bytes, word);
     }
     bytes
 }

@@ -1,7 +1,7 @@
 //! Whole runs of a manual ticket at one member: a grant, one that is not kept, a takeover by force, a
 //! revocation, a restart of the owner, and what members tell one another.
 use super::lines::{AR, S1};
-use super::script::{check, opened, play, play_file};
+use super::script::{play, play_file, play_records};
 use booth_rec::{Lease, Record};
 
 /// The file of two sites and an arbitrator, with a manual ticket.
@@ -267,6 +267,5 @@ send AR: S1 UpdE 0 0 0 0 by-votes S1 1 600
 
 at 1000060 from client: 0 CLst 77 0 0 0
 send client: S1 RLst 77 0 0 0 = by-votes 192.168.201.100 1600/by-hand none 0/";
-    let mut node = opened(&rt, rt.alloc(), file, S1, &[None, Some(held(3))]);
-    check(&rt, rt.alloc(), &mut node, &[text]);
+    play_records(&rt, rt.alloc(), file, S1, &[None, Some(held(3))], &[text]);
 }

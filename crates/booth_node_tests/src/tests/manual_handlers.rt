@@ -1,6 +1,6 @@
 //! Whole runs at S1 of a manual ticket with a handler, beside an automatic one with another.
 use super::lines::S1;
-use super::script::{check, opened};
+use super::script::play_records;
 use std::alloc::Global;
 use std::process::Abort;
 
@@ -31,8 +31,7 @@ send AR: S1 UpdE 0 0 0 0 ticket-db8 S1 1 4294967295
 send client: S1 RGnt 77 0 0 0 ticket-db8 S1 1 4294967295";
 
 fn plays(rt: &impl Abort, alloc: Global, texts: &[&str]) {
-    let mut s1 = opened(rt, alloc, FILE, S1, &[None, None]);
-    check(rt, alloc, &mut s1, texts);
+    play_records(rt, alloc, FILE, S1, &[None, None], texts);
 }
 
 #[test]

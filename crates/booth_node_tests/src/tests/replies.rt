@@ -3,9 +3,9 @@ ghost use Rattle.std.specs.Prelude.{◌≡◌, ◌<◌, IsSome, length, position
 ghost use Rattle.booth_conf.specs.Config.{has_id};
 ghost use Rattle.booth_node.specs.View.{node_config};
 
-use super::frames;
 use super::lines::S1;
 use super::script::{FILE, Fails, calls, check, check_turn, config_of, host};
+use super::{frames, signed_frames};
 use booth_auth::Key;
 use booth_base::MemberId;
 use booth_conf::Config;
@@ -61,7 +61,7 @@ fn play_keyed(rt: &impl Abort, alloc: Global, turns: &[&str]) {
 #[test]
 fn the_first_deadline_greets_both_others(rt: HostRuntime) {
     play_plain(&rt, rt.alloc(), 0, &[frames::HELLO]);
-    play_keyed(&rt, rt.alloc(), &[frames::HELLO_SIGNED]);
+    play_keyed(&rt, rt.alloc(), &[signed_frames::HELLO_SIGNED]);
 }
 
 #[test]
@@ -83,9 +83,9 @@ fn each_request_has_its_reply(rt: HostRuntime) {
     ];
     play_plain(&rt, rt.alloc(), 0, &turns);
     let turns = [
-        frames::HELLO_SIGNED,
-        frames::CLST_SIGNED,
-        frames::CRVK_SIGNED,
+        signed_frames::HELLO_SIGNED,
+        signed_frames::CLST_SIGNED,
+        signed_frames::CRVK_SIGNED,
     ];
     play_keyed(&rt, rt.alloc(), &turns);
 }
@@ -117,34 +117,34 @@ fn drop_each(rt: &impl Abort, alloc: Global, node: &mut Node, turns: &[&str]) {
     for (kind, turn) in turns.iter().enumerate() {
         check_turn(rt, alloc, node, turn);
         wanted[kind] = 1;
-        assert_eq!(rt; drops(node), wanted, "{turn}");
+        assert!(rt; drops(node) == wanted, "{turn}");
     }
 }
 
 #[test]
 fn each_fault_raises_its_own_counter(rt: HostRuntime) {
     let mut node = keyed(&rt, rt.alloc());
-    check_turn(&rt, rt.alloc(), &mut node, frames::HELLO_SIGNED);
+    check_turn(&rt, rt.alloc(), &mut node, signed_frames::HELLO_SIGNED);
     let turns = [
-        frames::NO_FRAME,
-        frames::NO_MAC,
-        frames::BAD_MAC,
-        frames::TOO_OLD,
-        frames::STRANGER,
-        frames::OWN,
-        frames::NO_TICKET,
-        frames::NO_LEADER,
+        signed_frames::NO_FRAME,
+        signed_frames::NO_MAC,
+        signed_frames::BAD_MAC,
+        signed_frames::TOO_OLD,
+        signed_frames::STRANGER,
+        signed_frames::OWN,
+        signed_frames::NO_TICKET,
+        signed_frames::NO_LEADER,
     ];
     drop_each(&rt, rt.alloc(), &mut node, &turns);
-    check_turn(&rt, rt.alloc(), &mut node, frames::PEER_AFTER_FAULTS);
+    check_turn(&rt, rt.alloc(), &mut node, signed_frames::PEER_AFTER_FAULTS);
 }
 
 #[test]
 fn peer_tells_of_a_drop_before_it(rt: HostRuntime) {
     let turns = [
-        frames::HELLO_SIGNED,
-        frames::BAD_MAC,
-        frames::PEER_AFTER_BAD_MAC,
+        signed_frames::HELLO_SIGNED,
+        signed_frames::BAD_MAC,
+        signed_frames::PEER_AFTER_BAD_MAC,
     ];
     play_keyed(&rt, rt.alloc(), &turns);
 }
@@ -159,24 +159,24 @@ fn check_counted(rt: &impl Abort, node: &Node)
         errors: 0,
         last: 1_700_000_000,
     };
-    assert_eq!(rt; node.counters(1), second);
+    assert!(rt; node.counters(1) == second);
     let nothing = Counters {
         accepted: 0,
         sent: 0,
         errors: 0,
         last: 0,
     };
-    assert_eq!(rt; node.counters(0), nothing);
+    assert!(rt; node.counters(0) == nothing);
 }
 
 // S2's round is answered, and counted for it.
 fn check_round(rt: &impl Abort, alloc: Global, node: &mut Node)
     requires { 1 < length (node_config node.now).config.members }
 {
-    check_turn(rt, alloc, node, frames::HELLO_SIGNED);
-    check_turn(rt, alloc, node, frames::HRTB);
+    check_turn(rt, alloc, node, signed_frames::HELLO_SIGNED);
+    check_turn(rt, alloc, node, signed_frames::HRTB);
     check_counted(rt, node);
-    check_turn(rt, alloc, node, frames::PEER_AFTER_HRTB);
+    check_turn(rt, alloc, node, signed_frames::PEER_AFTER_HRTB);
 }
 
 #[test]

@@ -38,12 +38,16 @@ impl Fails {
     };
 }
 
+fn parsed(rt: &impl Abort, alloc: Global, text: &str) -> Config {
+    Config::parse(alloc, text.as_bytes()).expect(rt, "a configuration")
+}
+
 /// The configuration of this text, which has this member and so many tickets.
 pub fn config_of(rt: &impl Abort, alloc: Global, text: &str, me: MemberId, tickets: usize) -> Config
     ensures member { IsSome (position (has_id me) result.members) }
     ensures tickets { length result.tickets ≡ tickets }
 {
-    let config = Config::parse(alloc, text.as_bytes()).expect(rt, "a configuration");
+    let config = parsed(rt, alloc, text);
     assert!(rt; config.member(me).is_some());
     assert!(rt; config.tickets().len() == tickets);
     config
@@ -95,6 +99,14 @@ pub fn host(
     MemoryHost::new(alloc, script, Vec::new(alloc), Vec::new(alloc), 300).expect(rt, "memory")
 }
 
+// One turn of this host.
+fn go(rt: &impl Abort, node: &mut Node, host: &mut MemoryHost)
+    ensures { node_config node.new ≡ node_config node.old }
+{
+    let turn = node.turn(host);
+    assert!(rt; turn == Turn::Went);
+}
+
 /// One turn, in which these bytes arrive or nothing does.
 pub fn run(
     rt: &impl Abort,
@@ -113,8 +125,7 @@ pub fn run(
         }
         None => host(rt, alloc, Ok(Arrival::Quiet), b"", reading, fails),
     };
-    let turn = node.turn(&mut host);
-    assert!(rt; turn == Turn::Went);
+    go(rt, node, &mut host);
     host
 }
 
@@ -135,8 +146,7 @@ fn run_over(
         status: status.parse::<i32>().expect(rt, over),
     });
     let mut host = host(rt, alloc, arrival, b"", reading, fails);
-    let turn = node.turn(&mut host);
-    assert!(rt; turn == Turn::Went);
+    go(rt, node, &mut host);
     host
 }
 
@@ -185,7 +195,7 @@ pub fn head_of<'a>(rt: &impl Abort, line: &'a str) -> (u64, &'a str) {
 /// The sender and the bytes of what comes, where something does.
 pub fn came_of(rt: &impl Abort, alloc: Global, comes: &str) -> Option<(Peer, Vec<u8>)> {
     let Some(datagram) = comes.strip_prefix("from ") else {
-        assert_eq!(rt; comes, "quiet");
+        assert!(rt; comes == "quiet");
         return None;
     };
     let (sender, frame) = datagram.split_once(": ").expect(rt, comes);
@@ -212,16 +222,33 @@ pub fn check_turn(rt: &impl Abort, alloc: Global, node: &mut Node, turn: &str)
     check_calls(rt, alloc, now, calls, &host);
 }
 
-/// Runs the turns of these texts, and compares all their calls.
-pub fn check(rt: &impl Abort, alloc: Global, node: &mut Node, texts: &[&str]) {
-    for text in texts {
-        for turn in text.split("\n\n") {
-            check_turn(rt, alloc, node, turn);
-        }
+fn check_text(rt: &impl Abort, alloc: Global, node: &mut Node, text: &str) {
+    for turn in text.split("\n\n") {
+        check_turn(rt, alloc, node, turn);
     }
 }
 
-/// Runs a node of this text at a member, which starts from this record, and compares all its calls.
+/// Runs the turns of these texts, and compares all their calls.
+pub fn check(rt: &impl Abort, alloc: Global, node: &mut Node, texts: &[&str]) {
+    for text in texts {
+        check_text(rt, alloc, node, text);
+    }
+}
+
+/// Runs a node of this text at a member, which starts from these records, and compares all its calls.
+pub fn play_records(
+    rt: &impl Abort,
+    alloc: Global,
+    file: &str,
+    me: MemberId,
+    records: &[Option<Record>],
+    texts: &[&str],
+) {
+    let mut node = opened(rt, alloc, file, me, records);
+    check(rt, alloc, &mut node, texts);
+}
+
+/// The same of one ticket and its record.
 pub fn play_file(
     rt: &impl Abort,
     alloc: Global,
@@ -230,8 +257,7 @@ pub fn play_file(
     record: Option<Record>,
     texts: &[&str],
 ) {
-    let mut node = opened(rt, alloc, file, me, &[record]);
-    check(rt, alloc, &mut node, texts);
+    play_records(rt, alloc, file, me, &[record], texts);
 }
 
 /// The same of the file with three members.
