@@ -46,7 +46,7 @@ fn held(term: u32) -> Record {
 }
 
 /// To whom a message of the ticket goes, and what it says.
-#[derive(Clone, Copy, Debug, PartialEq, Eq)]
+#[derive(Clone, Copy, PartialEq, Eq)]
 enum Said {
     Nothing,
     All(Words),
@@ -55,7 +55,7 @@ enum Said {
 }
 
 /// The fields of a message that the rules set. All others are zero.
-#[derive(Clone, Copy, Debug, PartialEq, Eq)]
+#[derive(Clone, Copy, PartialEq, Eq)]
 struct Words {
     cmd: Cmd,
     request: u32,
@@ -66,9 +66,9 @@ struct Words {
 }
 
 fn fields_of(rt: &impl Abort, head: &Head, part: &TicketPart) -> Words {
-    assert_eq!(rt; (head.auth, head.secs, head.usecs), (false, 0, 0));
-    assert_eq!(rt; (head.from, head.options, head.result), (S1, 0, 0));
-    assert_eq!(rt; part.ticket.bytes(), b"ticket-m".as_slice());
+    assert!(rt; (head.auth, head.secs, head.usecs) == (false, 0, 0));
+    assert!(rt; (head.from, head.options, head.result) == (S1, 0, 0));
+    assert!(rt; part.ticket.bytes() == b"ticket-m".as_slice());
     Words {
         cmd: head.cmd,
         request: head.request,
@@ -179,27 +179,27 @@ fn knows(rt: &impl Abort, member: &Manual, kept: Record, sure: bool, shown: Opti
         shown,
         waiting: None,
     };
-    assert_eq!(rt; *member.view(), view);
+    assert!(rt; *member.view() == view);
 }
 
 #[test]
 fn a_grant_is_kept_and_told(rt: HostRuntime) {
     let mut s1 = s1(&rt, None);
     knows(&rt, &s1, free(0), true, None);
-    assert_eq!(rt; grant(&rt, &mut s1), Some(held(1)));
-    assert_eq!(rt; kept(&rt, &mut s1, true), tells_grant(1));
+    assert!(rt; grant(&rt, &mut s1) == Some(held(1)));
+    assert!(rt; kept(&rt, &mut s1, true) == tells_grant(1));
     knows(&rt, &s1, held(1), true, None);
-    assert_eq!(rt; NO_END, 4_611_686_018_427_387_904);
+    assert!(rt; NO_END == 4_611_686_018_427_387_904);
 }
 
 #[test]
 fn a_grant_that_is_not_kept_is_kept_again_and_not_told(rt: HostRuntime) {
     let mut s1 = s1(&rt, Some(free(4)));
-    assert_eq!(rt; grant(&rt, &mut s1), Some(held(5)));
-    assert_eq!(rt; kept(&rt, &mut s1, false), Said::Nothing);
+    assert!(rt; grant(&rt, &mut s1) == Some(held(5)));
+    assert!(rt; kept(&rt, &mut s1, false) == Said::Nothing);
     knows(&rt, &s1, held(5), false, None);
-    assert_eq!(rt; again(&rt, &mut s1), held(5));
-    assert_eq!(rt; kept(&rt, &mut s1, true), Said::Nothing);
+    assert!(rt; again(&rt, &mut s1) == held(5));
+    assert!(rt; kept(&rt, &mut s1, true) == Said::Nothing);
     knows(&rt, &s1, held(5), true, None);
 }
 
@@ -207,13 +207,13 @@ fn a_grant_that_is_not_kept_is_kept_again_and_not_told(rt: HostRuntime) {
 fn a_revocation_is_kept_and_told(rt: HostRuntime) {
     let mut s1 = s1(&rt, Some(held(1)));
     knows(&rt, &s1, held(1), true, None);
-    assert_eq!(rt; revoke(&rt, &mut s1), free(1));
-    assert_eq!(rt; kept(&rt, &mut s1, false), Said::Nothing);
+    assert!(rt; revoke(&rt, &mut s1) == free(1));
+    assert!(rt; kept(&rt, &mut s1, false) == Said::Nothing);
     knows(&rt, &s1, held(1), false, None);
-    assert_eq!(rt; again(&rt, &mut s1), held(1));
-    assert_eq!(rt; kept(&rt, &mut s1, false), Said::Nothing);
-    assert_eq!(rt; revoke(&rt, &mut s1), free(1));
-    assert_eq!(rt; kept(&rt, &mut s1, true), tells_revoke(1));
+    assert!(rt; again(&rt, &mut s1) == held(1));
+    assert!(rt; kept(&rt, &mut s1, false) == Said::Nothing);
+    assert!(rt; revoke(&rt, &mut s1) == free(1));
+    assert!(rt; kept(&rt, &mut s1, true) == tells_revoke(1));
     knows(&rt, &s1, free(1), true, None);
 }
 
@@ -222,8 +222,8 @@ fn another_that_is_shown_is_passed_over_by_a_grant(rt: HostRuntime) {
     let mut s1 = s1(&rt, None);
     hear(&rt, &mut s1, S2, Cmd::UpdE, S2);
     knows(&rt, &s1, free(0), true, Some(S2));
-    assert_eq!(rt; grant(&rt, &mut s1), Some(held(1)));
-    assert_eq!(rt; kept(&rt, &mut s1, true), tells_grant(1));
+    assert!(rt; grant(&rt, &mut s1) == Some(held(1)));
+    assert!(rt; kept(&rt, &mut s1, true) == tells_grant(1));
     hear(&rt, &mut s1, S2, Cmd::UpdE, S2);
     knows(&rt, &s1, held(1), true, None);
 }
@@ -231,49 +231,31 @@ fn another_that_is_shown_is_passed_over_by_a_grant(rt: HostRuntime) {
 #[test]
 fn the_last_term_is_granted_once(rt: HostRuntime) {
     let mut s1 = s1(&rt, Some(free(4_294_967_293)));
-    assert_eq!(rt; grant(&rt, &mut s1), Some(held(4_294_967_294)));
+    assert!(rt; grant(&rt, &mut s1) == Some(held(4_294_967_294)));
     kept(&rt, &mut s1, true);
-    assert_eq!(rt; grant(&rt, &mut s1), None);
+    assert!(rt; grant(&rt, &mut s1) == None);
     knows(&rt, &s1, held(4_294_967_294), true, None);
 }
 
 #[test]
 fn the_state_is_told_before_what_was_heard(rt: HostRuntime) {
     let mut s1 = s1(&rt, Some(free(2)));
-    assert_eq!(rt;
-        hear(&rt, &mut s1, S2, Cmd::Stat, NO_ONE),
-        tells_state(NO_ONE, 2, 0)
-    );
-    assert_eq!(rt;
-        hear(&rt, &mut s1, AR, Cmd::Stat, S2),
-        tells_state(NO_ONE, 2, 0)
-    );
-    assert_eq!(rt;
-        hear(&rt, &mut s1, AR, Cmd::Stat, AR),
-        tells_state(S2, 2, FOREVER)
-    );
-    assert_eq!(rt; hear(&rt, &mut s1, AR, Cmd::Revk, S2), Said::Nothing);
+    assert!(rt; hear(&rt, &mut s1, S2, Cmd::Stat, NO_ONE) == tells_state(NO_ONE, 2, 0));
+    assert!(rt; hear(&rt, &mut s1, AR, Cmd::Stat, S2) == tells_state(NO_ONE, 2, 0));
+    assert!(rt; hear(&rt, &mut s1, AR, Cmd::Stat, AR) == tells_state(S2, 2, FOREVER));
+    assert!(rt; hear(&rt, &mut s1, AR, Cmd::Revk, S2) == Said::Nothing);
     knows(&rt, &s1, free(2), true, Some(S2));
-    assert_eq!(rt; hear(&rt, &mut s1, S2, Cmd::Revk, NO_ONE), Said::Nothing);
-    assert_eq!(rt; hear(&rt, &mut s1, AR, Cmd::MIdx, S1), Said::Nothing);
+    assert!(rt; hear(&rt, &mut s1, S2, Cmd::Revk, NO_ONE) == Said::Nothing);
+    assert!(rt; hear(&rt, &mut s1, AR, Cmd::MIdx, S1) == Said::Nothing);
     knows(&rt, &s1, free(2), true, None);
-    assert_eq!(rt;
-        plain(&rt, &s1.hello()),
-        Said::All(names(Cmd::Stat, NO_ONE, 2, 0))
-    );
+    assert!(rt; plain(&rt, &s1.hello()) == Said::All(names(Cmd::Stat, NO_ONE, 2, 0)));
 }
 
 #[test]
 fn an_owner_tells_itself_and_learns_nothing(rt: HostRuntime) {
     let mut s1 = s1(&rt, Some(held(3)));
-    assert_eq!(rt;
-        plain(&rt, &s1.hello()),
-        Said::All(names(Cmd::Stat, S1, 3, FOREVER))
-    );
-    assert_eq!(rt;
-        hear(&rt, &mut s1, S2, Cmd::Stat, S2),
-        tells_state(S1, 3, FOREVER)
-    );
+    assert!(rt; plain(&rt, &s1.hello()) == Said::All(names(Cmd::Stat, S1, 3, FOREVER)));
+    assert!(rt; hear(&rt, &mut s1, S2, Cmd::Stat, S2) == tells_state(S1, 3, FOREVER));
     for cmd in [
         Cmd::UpdE,
         Cmd::MIdx,
@@ -282,7 +264,7 @@ fn an_owner_tells_itself_and_learns_nothing(rt: HostRuntime) {
         Cmd::HrtB,
         Cmd::Rjc,
     ] {
-        assert_eq!(rt; hear(&rt, &mut s1, S2, cmd, S2), Said::Nothing, "{cmd:?}");
+        assert!(rt; hear(&rt, &mut s1, S2, cmd, S2) == Said::Nothing, "{cmd:?}");
     }
     knows(&rt, &s1, held(3), true, None);
 }
