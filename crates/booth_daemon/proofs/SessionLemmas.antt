@@ -3,19 +3,21 @@ use Rattle.std.specs.Prelude.{Option, Some, None}
 use Rattle.std.proofs.Common.{◌^◌, ℕ, List, inl, inr, subst}
 use Rattle.booth_base.specs.Tree.{Ends}
 use Rattle.booth_host.specs.declared.entry.Entry.{Entry}
+use Rattle.booth_host.specs.Past.{GrewSome}
+use Rattle.booth_host.proofs.PastLemmas.{some_weaker}
 use Rattle.booth_node.specs.State.{State}
 use Rattle.booth_node.specs.Session.{SessionEntry, Down, Doing, AreSessions}
 use Rattle.booth_node.specs.Opening.{opened as start_state}
 use Rattle.booth_node.specs.declared.node_config.NodeConfig.{NodeConfig}
-use Rattle.booth_world.specs.Worlds.{made}
+use Rattle.booth_world.specs.Worlds.{made, WorldsHoldOne, WorldTermsNeverFall}
 use Rattle.booth_world.proofs.LogSessions.{logs_are_sessions, stopped_logs_are_sessions, cut_sessions_are_sessions}
 use Rattle.booth_stages.specs.declared.outcome.Outcome.{Outcome}
 use Rattle.booth_stages.specs.declared.outcome.Outcome.TheVariants.{Done, TurnsSpent}
 use Rattle.booth_words.specs.declared.asking.DaemonWords.{DaemonWords}
 use Rattle.booth_words.specs.Asking.{AsksDaemon}
-use Rattle.booth_daemon.specs.Headline.{IsTurningEnd, DaemonsTurn, RunsAreSessions, CutRunsAreSessions}
+use Rattle.booth_daemon.specs.Headline.{IsSafe, IsTurningEnd, DaemonsTurn, RunsAreSessions, CutRunsAreSessions}
 use Rattle.booth_daemon.specs.Opening.{member_config}
-use Rattle.booth_daemon.specs.Run.{IsMade, Unasked, Served, Summed, Looked, AskForDaemon}
+use Rattle.booth_daemon.specs.Run.{IsRun, IsMade, Unasked, Served, Summed, Looked, AskForDaemon}
 use Rattle.booth_daemon.specs.Serving.{IsNodeRun, IsServing, IsTurning, Unread, Refused, Unkeyed, Unlocked, Unopened, Turning}
 
 -- all turns that were asked for, fewer and one that stopped, or the most that there are
@@ -85,3 +87,9 @@ daemons_turn words outcome entries run daemon ends =
       whole = run.whole;
       turning = turning_of asked outcome run.said run.body ends is;
     }
+
+-- what the laws of all worlds say of a run
+pub safe_run : {a b : Option (List Entry)} (words : List (List ℕ)) (outcome : Outcome) → WorldsHoldOne → WorldTermsNeverFall
+    → GrewSome (IsRun words outcome) a b → GrewSome (IsSafe words outcome) a b
+safe_run words outcome one_holder terms ran =
+    some_weaker (IsRun words outcome) (IsSafe words outcome) (λ entries run w is session. (one_holder w is, terms w is)) ran

@@ -45,7 +45,9 @@ fn run_words<H: Host>(alloc: Global, words: &[String], host: &mut H) -> Ended
 /// `daemon` reads the configuration, its key where `authfile` is set, takes the lock, opens its socket, reads
 /// the record of each ticket, and makes turns at the member's address until the host says `Stop` or the
 /// turns that were asked for are made. `status` says whether a daemon holds the lock. `sim` runs a whole cluster in
-/// memory through generated events, and prints what was counted. Help and version are printed; of all other words it is said what is wrong with them.
+/// memory through generated events, and prints what was counted. Help and version are printed; of all other words it is said
+/// what is wrong with them.
+#[tactic(auto, using(crate::proofs::RunLemmas::run_of, crate::proofs::SessionLemmas::safe_run))]
 pub fn boothd<H: Host>(alloc: Global, words: &[String], host: &mut H) -> Outcome
     // Where the host tells its calls: exactly these, by how the run ended.
     ensures past { GrewSome (IsRun (map string_bytes words.now) result) (H.past host.old) (H.past host.new) }
