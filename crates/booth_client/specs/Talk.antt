@@ -9,6 +9,7 @@ use Rattle.booth_host.specs.declared.entry.Entry.TheVariants.{Send}
 use Rattle.booth_client.specs.declared.order.Asking.{Asking}
 use Rattle.booth_client.specs.declared.order.Order.{Order}
 use Rattle.booth_client.specs.declared.order.Order.TheVariants as orders
+use Rattle.booth_client.specs.declared.reply.Reply.{Reply}
 use Rattle.booth_client.specs.declared.wait.Waited.{Waited}
 use Rattle.booth_client.specs.declared.wait.Waited.TheVariants.{Came, Over}
 use Rattle.booth_client.specs.Asking.{find_peer, is_waiting, order_options, request_bytes}
