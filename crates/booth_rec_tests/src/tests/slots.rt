@@ -103,7 +103,7 @@ fn a_file_stands_for_its_open_slot_with_the_greater_number(rt: HostRuntime) -> R
         (file(slot(2, 3, 5), slot(255, 2, 6)), None),
         (noted, Some(free(6))),
     ] {
-        assert_eq!(rt; reads(alloc, &bytes)?, found);
+        assert!(rt; reads(alloc, &bytes)? == found);
     }
     assert!(rt; reads(alloc, &slot(1, 1, 5))? == Some(free(5)), "one slot");
     let mut cut = [0u8; 48];
@@ -171,7 +171,7 @@ fn no_number_follows_the_last(rt: HostRuntime) -> Result<(), Fail> {
     last[8..15].copy_from_slice(&[0xFF; 7]);
     let mut slots = opened(rt.alloc(), &last, MANY)?;
     for _ in 0..2 {
-        assert_eq!(rt; slots.put(&free(6)), Err(PutFault::Spent));
+        assert!(rt; slots.put(&free(6)) == Err(PutFault::Spent));
     }
     assert!(rt; slots.disk().bytes() == last.as_slice() && slots.record() == Some(free(5)));
     Ok(())
@@ -186,11 +186,11 @@ fn a_put_that_fails_at_any_call_leaves_one_of_two_records(rt: HostRuntime) -> Re
         let mut slots = opened(alloc, &[], 10 + passes)?;
         has_put(&mut slots, free(1))?;
         has_put(&mut slots, free(2))?;
-        assert_eq!(rt; slots.put(&free(3)), Err(PutFault::Disk), "{passes}");
-        assert_eq!(rt; slots.put(&free(3)), Err(PutFault::Again), "{passes}");
-        assert_eq!(rt; slots.record(), Some(free(2)));
-        assert_eq!(rt; slots.reopen(), Err(ReopenFault::Disk));
-        assert_eq!(rt; slots.put(&free(3)), Err(PutFault::Again));
+        assert!(rt; slots.put(&free(3)) == Err(PutFault::Disk), "{passes}");
+        assert!(rt; slots.put(&free(3)) == Err(PutFault::Again), "{passes}");
+        assert!(rt; slots.record() == Some(free(2)));
+        assert!(rt; slots.reopen() == Err(ReopenFault::Disk));
+        assert!(rt; slots.put(&free(3)) == Err(PutFault::Again));
         let found = reads(alloc, slots.disk().bytes())?;
         assert!(rt;
             found == Some(free(2)) || found == Some(free(3)),
@@ -201,7 +201,7 @@ fn a_put_that_fails_at_any_call_leaves_one_of_two_records(rt: HostRuntime) -> Re
     for term in 1..4 {
         has_put(&mut slots, free(term))?;
     }
-    assert_eq!(rt; slots.record(), Some(free(3)));
+    assert!(rt; slots.record() == Some(free(3)));
     Ok(())
 }
 
@@ -258,9 +258,9 @@ fn faults_are_told_in_plain_words(rt: HostRuntime) -> Result<(), Fail> {
     let (again, spent, failed) = (PutFault::Again, PutFault::Spent, PutFault::Disk);
     let torn = ReopenFault::Torn;
     let shown = format!(in rt.alloc(); "{again}; {spent}; {failed}; {torn}")?;
-    assert_eq!(rt;
-        shown.as_str(),
-        "a put failed, and the file was not opened again; the last number is used; the disk failed; an open slot holds no record"
+    assert!(rt;
+        shown.as_str()
+            == "a put failed, and the file was not opened again; the last number is used; the disk failed; an open slot holds no record"
     );
     Ok(())
 }

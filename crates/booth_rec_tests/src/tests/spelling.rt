@@ -24,7 +24,7 @@ fn records_are_spelled_as_the_layout_says(rt: HostRuntime) {
     );
     for (record, bytes) in [(free, FREE), (held, HELD)] {
         assert!(rt; record.encode() == bytes, "{record:?}");
-        assert_eq!(rt; Record::decode(bytes.as_slice()), Ok(record));
+        assert!(rt; Record::decode(bytes.as_slice()) == Ok(record));
     }
 }
 
@@ -45,21 +45,18 @@ fn other_bytes_are_refused_by_the_first_fault(rt: HostRuntime) {
                 *b = byte;
             }
         }
-        assert_eq!(rt; Record::decode(bytes.as_slice()), Err(fault), "byte {at}");
+        assert!(rt; Record::decode(bytes.as_slice()) == Err(fault), "byte {at}");
     }
     let mut other = HELD;
     other[3] = 2;
-    assert_eq!(rt; Record::decode(&other[..31]), Err(RecordFault::Torn));
-    assert_eq!(rt; Record::decode(&[]), Err(RecordFault::Torn));
+    assert!(rt; Record::decode(&other[..31]) == Err(RecordFault::Torn));
+    assert!(rt; Record::decode(&[]) == Err(RecordFault::Torn));
 }
 
 #[test]
 fn faults_are_told_in_plain_words(rt: HostRuntime) -> Result<(), AllocError> {
     let (torn, version) = (RecordFault::Torn, RecordFault::Version);
     let shown = format!(in rt.alloc(); "{torn}; {version}")?;
-    assert_eq!(rt;
-        shown.as_str(),
-        "the bytes spell no record; the record is of another version"
-    );
+    assert!(rt; shown.as_str() == "the bytes spell no record; the record is of another version");
     Ok(())
 }
