@@ -74,9 +74,6 @@ site=10.0.0.1 / ticket=a / ticket=b / timeout=60 => retry 1";
 #[test]
 fn only_a_comment_may_hold_any_bytes(rt: HostRuntime) {
     let comment = b"site=10.0.0.1\nticket=a # \x00\xff\n#\xfe\r";
-    assert_eq!(rt; fault(rt.alloc(), comment), None);
-    assert_eq!(rt;
-        fault(rt.alloc(), b"site=10.0.0.1\nticket=a\n\xff"),
-        syntax(3)
-    );
+    assert!(rt; fault(rt.alloc(), comment) == None);
+    assert!(rt; fault(rt.alloc(), b"site=10.0.0.1\nticket=a\n\xff") == syntax(3));
 }

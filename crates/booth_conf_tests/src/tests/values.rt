@@ -139,7 +139,7 @@ fn what_is_printed_says_the_same(rt: HostRuntime) -> Result<(), Fail> {
         (EVERY_KEY_PRINTED, EVERY_KEY_PRINTED),
     ] {
         let text = printed(rt.alloc(), text.as_bytes())?;
-        assert_eq!(rt; text.bytes(), want.as_bytes());
+        assert!(rt; text.bytes() == want.as_bytes());
     }
     Ok(())
 }
@@ -155,32 +155,31 @@ fn members_and_tickets_have_places_and_ranks(rt: HostRuntime) -> Result<(), Fail
         (1, 2, Some(1)),
         (2, 1, None),
     ] {
-        assert_eq!(rt;
-            rank(&config, ticket, member),
-            want,
+        assert!(rt;
+            rank(&config, ticket, member) == want,
             "at {ticket} and {member}"
         );
     }
-    assert_eq!(rt; config.ticket(&Name::read(b"ticket-B")?), Some(1));
-    assert_eq!(rt; config.member(Address::V4([147, 18, 2, 1]).id()), Some(2));
+    assert!(rt; config.ticket(&Name::read(b"ticket-B")?) == Some(1));
+    assert!(rt; config.member(Address::V4([147, 18, 2, 1]).id()) == Some(2));
     Ok(())
 }
 
 #[test]
 fn values_are_those_of_the_text(rt: HostRuntime) -> Result<(), Fail> {
     let config = Config::parse(rt.alloc(), EVERY_KEY.as_bytes())?;
-    assert_eq!(rt; config.port(), 1);
-    assert_eq!(rt; config.skew(), 10_000_000);
-    assert_eq!(rt; config.authfile().map(|path| path.as_str()), Some("  "));
+    assert!(rt; config.port() == 1);
+    assert!(rt; config.skew() == 10_000_000);
+    assert!(rt; config.authfile().map(|path| path.as_str()) == Some("  "));
     for (number, extra) in (5u8..).zip(config.extras()) {
-        assert_eq!(rt; extra.0, KeyNo(number));
+        assert!(rt; extra.0 == KeyNo(number));
     }
     for (ticket, want) in config.tickets().iter().zip([
         (42_000, 0, 10_000, 3, 41_000, false),
         (7_200_000, 0, 5_000, 10, 60_000, true),
     ]) {
         let times = ticket.times;
-        assert_eq!(rt;
+        assert!(rt;
             (
                 times.expire,
                 times.after,
@@ -188,8 +187,7 @@ fn values_are_those_of_the_text(rt: HostRuntime) -> Result<(), Fail> {
                 times.retries,
                 times.renewal,
                 ticket.manual
-            ),
-            want
+            ) == want
         );
     }
     Ok(())
@@ -198,10 +196,10 @@ fn values_are_those_of_the_text(rt: HostRuntime) -> Result<(), Fail> {
 #[test]
 fn defaults_are_those_of_the_manual(rt: HostRuntime) -> Result<(), Fail> {
     let config = Config::parse(rt.alloc(), REALISTIC.as_bytes())?;
-    assert_eq!(rt; config.port(), 9929);
-    assert_eq!(rt; config.skew(), 600);
+    assert!(rt; config.port() == 9929);
+    assert!(rt; config.skew() == 600);
     for ticket in config.tickets() {
-        assert_eq!(rt; promise_ms(&ticket.times), 661_203);
+        assert!(rt; promise_ms(&ticket.times) == 661_203);
     }
     Ok(())
 }
