@@ -1,4 +1,5 @@
 //! Tests of what no clause says: values from standards and from other programs.
+ghost use Rattle.std.specs.Prelude.{◌≤◌};
 
 use arrayvec::ArrayVec;
 use booth_base::{
@@ -230,7 +231,10 @@ fn an_empty_list_of_names_takes_names(rt: HostRuntime) {
 }
 
 // The guard and the promise of a ticket with this lease and this time before a takeover.
-fn check_times(rt: &impl Abort, expire: u64, after: u64, guard: u64, promise: u64) {
+fn check_times(rt: &impl Abort, expire: u64, after: u64, guard: u64, promise: u64)
+    requires expire { expire ≤ 10000000000 }
+    requires after { after ≤ 10000000000 }
+{
     let times = Times {
         expire,
         after,
