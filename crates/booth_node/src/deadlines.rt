@@ -7,6 +7,7 @@ ghost use Rattle.booth_base.specs.Tree.{Deeds, Leads};
 ghost use Rattle.booth_host.specs.Past.{GrewSome};
 ghost use Rattle.booth_node.specs.Reaction.{IsDone, each_due, due_places, deadline_of};
 ghost use Rattle.booth_node.specs.State.{State};
+ghost use Rattle.booth_node.specs.View.{state_with};
 
 use crate::tickets::TicketTable;
 use booth_chain::{Steps, Wheel};
@@ -90,21 +91,9 @@ pub(crate) fn expire_each<H: Host>(
         ≡ slice_index_or (map deadline_of table.old.tickets.items) slot None }
     ensures past { GrewSome (λ es. Leads {S = State} (IsDone table.old.node.key)
         (each_due table.old.node now due.now
-        (record {
-          tickets = table.old.tickets.items;
-          waiters = table.old.waiters;
-          attributes = table.old.attrs;
-          common = table.old.common;
-          last_reading = now;
-        }))
+        (state_with table.old now))
         es (Deeds.Ends
-        (record {
-          tickets = table.new.tickets.items;
-          waiters = table.new.waiters;
-          attributes = table.new.attrs;
-          common = table.new.common;
-          last_reading = now;
-        })))
+        (state_with table.new now)))
         (H.past host.old) (H.past host.new) }
     ensures later { H.faults host.old ≤ H.faults host.new }
     ensures timed { wheel.new.deadlines ≡ map deadline_of table.new.tickets.items }

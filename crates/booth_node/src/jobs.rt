@@ -7,6 +7,7 @@ ghost use Rattle.booth_host.specs.Past.{GrewSome};
 ghost use Rattle.booth_node.specs.Jobs.{address_in, handler_at, job_at, job_of, own_address, words_at};
 ghost use Rattle.booth_node.specs.Reaction.{IsDone, deadline_of, each_over};
 ghost use Rattle.booth_node.specs.State.{State};
+ghost use Rattle.booth_node.specs.View.{state_with};
 
 use crate::deadlines::look_again;
 use crate::opening::own_place;
@@ -97,21 +98,9 @@ pub(crate) fn end_each<H: Host>(
     requires timed { wheel.old.deadlines ≡ map deadline_of table.old.tickets.items }
     ensures past { GrewSome (λ es. Leads {S = State} (IsDone table.old.node.key)
         (each_over table.old.node now job service (range_with_len 0 (length table.old.tickets.items))
-        (record {
-          tickets = table.old.tickets.items;
-          waiters = table.old.waiters;
-          attributes = table.old.attrs;
-          common = table.old.common;
-          last_reading = now;
-        }))
+        (state_with table.old now))
         es (Deeds.Ends
-        (record {
-          tickets = table.new.tickets.items;
-          waiters = table.new.waiters;
-          attributes = table.new.attrs;
-          common = table.new.common;
-          last_reading = now;
-        })))
+        (state_with table.new now)))
         (H.past host.old) (H.past host.new) }
     ensures later { H.faults host.old ≤ H.faults host.new }
     ensures timed { wheel.new.deadlines ≡ map deadline_of table.new.tickets.items }

@@ -2,6 +2,7 @@
 ghost use Rattle.std.specs.Prelude.{◌≡◌, ◌≤◌, ◌+◌, ◌++◌, length, codes, option_copied};
 ghost use Rattle.std.specs.List.{flat_map};
 ghost use Rattle.booth_base.specs.declared.buffer.TheConstants.{TEXT_BYTES};
+ghost use Rattle.booth_conf.specs.declared.limits.TheConstants.{TICKETS};
 ghost use Rattle.booth_ticket.specs.Ticket.{owner};
 ghost use Rattle.booth_node.specs.Replies.{owner_at, owner_in, owner_text, list_line, list_text};
 
@@ -76,7 +77,7 @@ fn put_ticket(config: &Config, ticket: &Ticket, now: u64, text: &mut TextBuf)
 
 /// Makes the text of a list at this reading in ms.
 pub(crate) fn write_list(node: &NodeConfig, tickets: &[Ticket], now: u64, text: &mut TextBuf)
-    requires { length tickets.now ≤ 64 }
+    requires { length tickets.now ≤ TICKETS }
     ensures { text.new ≡ list_text node.now now tickets.now }
 {
     text.clear();

@@ -1,5 +1,5 @@
 //! A node, and its turn.
-ghost use Rattle.std.specs.Prelude.{◌≡◌, ◌≤◌, ◌<◌, ◌^◌, ℕ, map, length, position, slice_index, vec_capacity, IfOk, IsSome, IsSomeAnd};
+ghost use Rattle.std.specs.Prelude.{◌≡◌, ◌≤◌, ◌<◌, ◌^◌, ℕ, map, length, position, vec_capacity, IfOk, IsSome, IsSomeAnd};
 ghost use Rattle.booth_conf.specs.Config.{has_id};
 ghost use Rattle.booth_node.specs.Opening.{opened};
 ghost use Rattle.booth_host.specs.Past.{GrewSome};
@@ -97,12 +97,11 @@ impl Node {
         })
     }
 
-    /// How many datagrams were dropped for the fault with this place in the gate's order.
-    pub fn drops(&self, kind: u32) -> u64
-        requires { kind < 8 }
-        ensures { result ≡ slice_index (state_of self.now).common.drops kind }
+    /// How many datagrams were dropped for each fault, in the gate's order.
+    pub fn drops(&self) -> [u64; 8]
+        ensures { result ≡ (state_of self.now).common.drops }
     {
-        self.table.common.drops[kind as usize]
+        self.table.common.drops
     }
 
     /// What was counted of the member at this place.

@@ -6,6 +6,7 @@ ghost use Rattle.booth_conf.specs.Sound.{HasTimes};
 ghost use Rattle.booth_base.specs.declared.limits.TheConstants.{MEMBERS};
 ghost use Rattle.booth_raft.specs.Sound.{IsSound};
 ghost use Rattle.booth_rec.specs.Record.{record_or_none};
+ghost use Rattle.booth_conf.specs.declared.limits.TheConstants.{TICKETS};
 ghost use Rattle.booth_node.specs.AttributeRequests.{is_at_site};
 ghost use Rattle.booth_node.specs.Opening.{own_place, is_site_at, opened_by, rank_at, setup_of, started_from};
 ghost use Rattle.booth_node.specs.Ours.{IsOurs};
@@ -103,7 +104,7 @@ pub(crate) fn start_tickets(
         ≡ started_from node.now now 0 node.now.config.tickets records.now) }
     ensures ours { IfOk result (λ tickets. All (IsOurs node.now.me node.now.config.members) tickets.items) }
     ensures whole { IfOk result (λ tickets. length tickets.items ≡ length node.now.config.tickets) }
-    ensures few { IfOk result (λ tickets. length tickets.items ≤ 64) }
+    ensures few { IfOk result (λ tickets. length tickets.items ≤ TICKETS) }
 {
     let confs = node.config.tickets();
     let mut tickets = Vec::with_capacity(alloc, confs.len())?;
@@ -116,7 +117,7 @@ pub(crate) fn start_tickets(
 
 /// A timer with the deadline of each ticket.
 pub(crate) fn start_wheel(alloc: Global, tickets: &[Ticket]) -> Result<Wheel, AllocError>
-    requires { length tickets.now ≤ 64 }
+    requires { length tickets.now ≤ TICKETS }
     ensures timed { IfOk result (λ wheel. wheel.deadlines ≡ map deadline_of tickets.now) }
     ensures waited { IfOk result (λ wheel. wheel.last ≡ 0) }
 {

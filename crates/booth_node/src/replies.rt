@@ -1,5 +1,6 @@
 //! What a client is answered.
 ghost use Rattle.std.specs.Prelude.{◌≡◌, ◌≤◌, true, Option, option_map, IfSome, length};
+ghost use Rattle.booth_conf.specs.declared.limits.TheConstants.{TICKETS};
 ghost use Rattle.booth_wire.specs.Command.{answer_of};
 ghost use Rattle.booth_wire.specs.PlainMessage.{plain_of, content_of, has_text, Text};
 ghost use Rattle.booth_node.specs.Replies.{text_for, no_ticket, no_attribute, no_attribute_of, reply_with, reply_letter, answered, wish_of, request_of, request_in};
@@ -28,7 +29,7 @@ pub(crate) fn write_text(
     cmd: Cmd,
     text: &mut TextBuf,
 )
-    requires { length tickets.now ≤ 64 }
+    requires { length tickets.now ≤ TICKETS }
     ensures { text.new ≡ text_for node.now now tickets.now common.now cmd }
 {
     match cmd {

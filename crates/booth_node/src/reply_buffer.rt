@@ -1,6 +1,7 @@
 //! Where messages are made: a text and a frame, whose memory is taken once.
 ghost use Rattle.std.specs.Prelude.{◌≡◌, ◌≤◌, ◌<◌, [], IfOk, IfSome, length, List, ℕ, Option};
 ghost use Rattle.booth_base.specs.declared.limits.TheConstants.{MEMBERS};
+ghost use Rattle.booth_conf.specs.declared.limits.TheConstants.{TICKETS};
 ghost use Rattle.booth_wire.specs.Command.{direction_of};
 ghost use Rattle.booth_wire.specs.PlainMessage.{plain_of, content_of};
 ghost use Rattle.booth_node.specs.Replies.{reply_to, request_in};
@@ -87,7 +88,7 @@ impl ReplyBuffer {
         message: &Message<'_>,
         now: u64,
     ) -> Action
-        requires { length tickets.now ≤ 64 }
+        requires { length tickets.now ≤ TICKETS }
         ensures { IsAction node.now.key
             (answers node.now.key now (reply_to node.now now tickets.now common.now (plain_of message.now)))
             result self.new.frame }
@@ -111,7 +112,7 @@ impl ReplyBuffer {
         message: &Message<'_>,
         now: u64,
     ) -> Action
-        requires { length tickets.now ≤ 64 }
+        requires { length tickets.now ≤ TICKETS }
         ensures { IsAction node.now.key
             (attended node.now (attr_request_in (plain_of message.now))
             (answers node.now.key now (reply_to node.now now tickets.now common.now (plain_of message.now))))
@@ -136,7 +137,7 @@ impl ReplyBuffer {
         message: &Message<'_>,
         now: u64,
     ) -> Action
-        requires { length tickets.now ≤ 64 }
+        requires { length tickets.now ≤ TICKETS }
         ensures { IsAction node.now.key
             (requested node.now now tickets.now common.now (plain_of message.now) found) result
             self.new.frame }
@@ -182,7 +183,7 @@ impl ReplyBuffer {
         message: &Message<'_>,
         now: u64,
     ) -> Action
-        requires { length tickets.now ≤ 64 }
+        requires { length tickets.now ≤ TICKETS }
         ensures { IsAction node.now.key
             (routed node.now now tickets.now common.now from (plain_of message.now)
             (direction_of message.now.head.cmd))

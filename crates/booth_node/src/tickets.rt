@@ -3,6 +3,7 @@ ghost use Rattle.std.specs.Prelude.{◌≡◌, ◌≢◌, ◌≤◌, ◌<◌, �
 ghost use Rattle.std.specs.List.{All};
 ghost use Rattle.booth_base.specs.Tree.{Deeds, Leads};
 ghost use Rattle.booth_conf.specs.Config.{has_id};
+ghost use Rattle.booth_conf.specs.declared.limits.TheConstants.{TICKETS};
 ghost use Rattle.booth_host.specs.Past.{GrewSome};
 ghost use Rattle.booth_ticket.specs.Ticket.{IsDue};
 ghost use Rattle.booth_node.specs.Acting.{MayBefall, IsSetAt};
@@ -40,12 +41,14 @@ pub(crate) struct TicketTable {
     pub buffer: ReplyBuffer,
     ghost ours: { All (IsOurs node.me node.config.members) tickets.items },
     ghost whole: { length tickets.items ≡ length node.config.tickets },
-    ghost few: { length tickets.items ≤ 64 },
+    ghost few: { length tickets.items ≤ TICKETS },
     ghost lists: { length waiters ≡ length tickets.items },
     ghost named: { length attrs.lists ≡ length tickets.items },
 }
 
 impl TicketTable {
+    ghost use Rattle.booth_node.specs.View.{state_with};
+
     // What befalls the ticket at a place.
     fn act<H: Host>(&mut self, place: usize, event: &Event, now: u64, host: &mut H)
         requires early { now < 2 ^ 62 }
@@ -53,22 +56,10 @@ impl TicketTable {
             (λ ticket. MayBefall ticket event.now now) }
         ensures past { GrewSome (λ es. Leads {S = State} (IsDone self.old.node.key)
             (acts self.old.node now
-            (record {
-              tickets = self.old.tickets.items;
-              waiters = self.old.waiters;
-              attributes = self.old.attrs;
-              common = self.old.common;
-              last_reading = now;
-            })
+            (state_with self.old now)
             place event.now)
             es (Deeds.Ends
-            (record {
-              tickets = self.new.tickets.items;
-              waiters = self.new.waiters;
-              attributes = self.new.attrs;
-              common = self.new.common;
-              last_reading = now;
-            })))
+            (state_with self.new now)))
             (H.past host.old) (H.past host.new) }
         ensures later { H.faults host.old ≤ H.faults host.new }
         ensures node { self.new.node ≡ self.old.node }
@@ -151,22 +142,10 @@ impl TicketTable {
         requires there { ticket < length self.old.tickets.items }
         ensures past { GrewSome (λ es. Leads {S = State} (IsDone self.old.node.key)
             (acts self.old.node now
-            (accepted (record {
-              tickets = self.old.tickets.items;
-              waiters = self.old.waiters;
-              attributes = self.old.attrs;
-              common = self.old.common;
-              last_reading = now;
-            }) from now)
+            (accepted (state_with self.old now) from now)
             ticket (Event.Heard from head part))
             es (Deeds.Ends
-            (record {
-              tickets = self.new.tickets.items;
-              waiters = self.new.waiters;
-              attributes = self.new.attrs;
-              common = self.new.common;
-              last_reading = now;
-            })))
+            (state_with self.new now)))
             (H.past host.old) (H.past host.new) }
         ensures later { H.faults host.old ≤ H.faults host.new }
         ensures node { self.new.node ≡ self.old.node }
@@ -183,22 +162,10 @@ impl TicketTable {
         requires there { ticket < length self.old.tickets.items }
         ensures past { GrewSome (λ es. Leads {S = State} (IsDone self.old.node.key)
             (acts self.old.node now
-            (record {
-              tickets = self.old.tickets.items;
-              waiters = self.old.waiters;
-              attributes = self.old.attrs;
-              common = self.old.common;
-              last_reading = now;
-            })
+            (state_with self.old now)
             ticket (Event.Asked request))
             es (Deeds.Ends
-            (record {
-              tickets = self.new.tickets.items;
-              waiters = self.new.waiters;
-              attributes = self.new.attrs;
-              common = self.new.common;
-              last_reading = now;
-            })))
+            (state_with self.new now)))
             (H.past host.old) (H.past host.new) }
         ensures later { H.faults host.old ≤ H.faults host.new }
         ensures node { self.new.node ≡ self.old.node }
@@ -234,23 +201,11 @@ impl TicketTable {
         requires early { now < 2 ^ 62 }
         ensures past { GrewSome (λ es. Leads {S = State} (IsDone self.old.node.key)
             (met self.old.node now
-            (record {
-              tickets = self.old.tickets.items;
-              waiters = self.old.waiters;
-              attributes = self.old.attrs;
-              common = self.old.common;
-              last_reading = now;
-            })
+            (state_with self.old now)
             from
             (action self.old.node now self.old.tickets.items self.old.common from bytes.now))
             es (Deeds.Ends
-            (record {
-              tickets = self.new.tickets.items;
-              waiters = self.new.waiters;
-              attributes = self.new.attrs;
-              common = self.new.common;
-              last_reading = now;
-            })))
+            (state_with self.new now)))
             (H.past host.old) (H.past host.new) }
         ensures later { H.faults host.old ≤ H.faults host.new }
         ensures node { self.new.node ≡ self.old.node }
@@ -294,22 +249,10 @@ impl TicketTable {
         requires due { IsSomeAnd (slice_get self.old.tickets.items place) (λ ticket. IsDue ticket.known now) }
         ensures past { GrewSome (λ es. Leads {S = State} (IsDone self.old.node.key)
             (acts self.old.node now
-            (record {
-              tickets = self.old.tickets.items;
-              waiters = self.old.waiters;
-              attributes = self.old.attrs;
-              common = self.old.common;
-              last_reading = now;
-            })
+            (state_with self.old now)
             place Event.Due)
             es (Deeds.Ends
-            (record {
-              tickets = self.new.tickets.items;
-              waiters = self.new.waiters;
-              attributes = self.new.attrs;
-              common = self.new.common;
-              last_reading = now;
-            })))
+            (state_with self.new now)))
             (H.past host.old) (H.past host.new) }
         ensures later { H.faults host.old ≤ H.faults host.new }
         ensures node { self.new.node ≡ self.old.node }
@@ -331,22 +274,10 @@ impl TicketTable {
         requires there { place < length self.old.tickets.items }
         ensures past { GrewSome (λ es. Leads {S = State} (IsDone self.old.node.key)
             (acts self.old.node now
-            (record {
-              tickets = self.old.tickets.items;
-              waiters = self.old.waiters;
-              attributes = self.old.attrs;
-              common = self.old.common;
-              last_reading = now;
-            })
+            (state_with self.old now)
             place (Event.Over job service))
             es (Deeds.Ends
-            (record {
-              tickets = self.new.tickets.items;
-              waiters = self.new.waiters;
-              attributes = self.new.attrs;
-              common = self.new.common;
-              last_reading = now;
-            })))
+            (state_with self.new now)))
             (H.past host.old) (H.past host.new) }
         ensures later { H.faults host.old ≤ H.faults host.new }
         ensures node { self.new.node ≡ self.old.node }

@@ -96,20 +96,6 @@ fn a_reply_is_made_before_the_hello_of_its_turn(rt: HostRuntime) {
     play_plain(&rt, rt.alloc(), 0, &[frames::PEER_FIRST]);
 }
 
-// What was dropped for each fault.
-fn drops(node: &Node) -> [u64; 8] {
-    [
-        node.drops(0),
-        node.drops(1),
-        node.drops(2),
-        node.drops(3),
-        node.drops(4),
-        node.drops(5),
-        node.drops(6),
-        node.drops(7),
-    ]
-}
-
 // Each turn drops a datagram for the fault at its place.
 fn drop_each(rt: &impl Abort, alloc: Global, node: &mut Node, turns: &[&str]) {
     assert!(rt; turns.len() == 8);
@@ -117,7 +103,7 @@ fn drop_each(rt: &impl Abort, alloc: Global, node: &mut Node, turns: &[&str]) {
     for (kind, turn) in turns.iter().enumerate() {
         check_turn(rt, alloc, node, turn);
         wanted[kind] = 1;
-        assert!(rt; drops(node) == wanted, "{turn}");
+        assert!(rt; node.drops() == wanted, "{turn}");
     }
 }
 
@@ -216,7 +202,7 @@ fn check_each_rests(rt: &impl Abort, alloc: Global, node: &mut Node) {
     check_rests(rt, alloc, node, Err(Failed), Turn::Went);
     check_rests(rt, alloc, node, Ok(Arrival::Quiet), Turn::Went);
     check_rests(rt, alloc, node, Ok(Arrival::Stop), Turn::Stopped);
-    assert!(rt; node.drops(0) == 0);
+    assert!(rt; node.drops()[0] == 0);
 }
 
 #[test]
