@@ -42,19 +42,20 @@ pub record IsSessionIn (w : World) (words : List (List ℕ)) (outcome : Outcome)
   pub after : List SessionEntry
   pub session : entries_of member w.entries ≡ before ++ (session_of run.turning ++ after)
 
--- in every world in which this run is a session, no automatic ticket is held at two members at one moment, and no
--- member's kept term falls
-abbrev pub IsSafe : List (List ℕ) → Outcome → List Entry → Type 0
-IsSafe words outcome entries =
-    (w : World) → IsWorld w → IsSessionIn w words outcome entries → HoldsOneIn w × TermsNeverFallIn w
-
--- ---- that runs have one
-
 -- the outcomes of a daemon that made turns
 abbrev pub IsTurningEnd : Outcome → Type 0
 IsTurningEnd Done = Unit {0}
 IsTurningEnd TurnsSpent = Unit {0}
 IsTurningEnd outcome = ⊥
+
+-- A daemon that ends so made its whole opening and then turns; these are a session of a member; and in every world in which
+-- this run is one, no automatic ticket is held at two members at one moment, and no member's kept term falls.
+pub record IsSafe (words : List (List ℕ)) (outcome : Outcome) (entries : List Entry) : Type 0 where
+  pub turned : AskForDaemon words → IsTurningEnd outcome → IsTurningRun words outcome entries
+  pub is_session : (run : IsTurningRun words outcome entries) → AreSessions Down (session_of run.turning)
+  pub in_worlds : (w : World) → IsWorld w → IsSessionIn w words outcome entries → HoldsOneIn w × TermsNeverFallIn w
+
+-- ---- the same of all runs
 
 -- each run of a daemon that ends so made its whole opening, and then turns
 abbrev pub DaemonsTurn : Type 0

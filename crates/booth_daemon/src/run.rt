@@ -52,7 +52,8 @@ pub fn boothd<H: Host>(alloc: Global, words: &[String], host: &mut H) -> Outcome
     // Where the host tells its calls: exactly these, by how the run ended.
     ensures past { GrewSome (IsRun (map string_bytes words.now) result) (H.past host.old) (H.past host.new) }
 
-    // In every world that this run is a part of: no automatic ticket is held at two sites, and no kept term falls.
+    // What its daemon did is a session of a member. In every world that has it: no automatic ticket is held at two sites, and
+    // no kept term falls.
     ensures worlds { GrewSome (IsSafe (map string_bytes words.now) result) (H.past host.old) (H.past host.new) }
 
     // Over every host.
