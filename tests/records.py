@@ -27,8 +27,10 @@ PROGRAM = f"{TOP}/crates/keeps/out/keeps"
 FILE = b"ticket-db8".hex() + ".rec"
 
 KILLS, SECONDS = 2_000, 55
-# the longest time from a start to its end, in seconds; a run gets to some keeps in it
+# the longest time from a start to its end, in seconds, beside twice what a run of one keep takes; a run gets to some keeps in it
 LONGEST = 0.02
+# of so many kills one at least has to come after a keep
+KILLS_OF_ONE_KEEP = 20
 # how long a run to its end may take
 SECONDS_OF_A_RUN = 60
 SEED = 9929
@@ -73,13 +75,24 @@ def killed(program, directory, seconds):
         return said(process.stdout.read())
 
 
+def longest_of_three(program, directory):
+    """How long a run of one keep takes at most here, in seconds, of three behind the first."""
+    took = []
+    for number in range(4):
+        started = time.monotonic()
+        require(run(program, directory, 1) == (number, [number + 1], 0), "a run of one keep")
+        took.append(time.monotonic() - started)
+    return max(took[1:])
+
+
 def kills_leave_the_last_record_or_the_next(program, folder):
     """Each run goes on where the one before was ended."""
     chance = random.Random(SEED)
-    directory, last, keeps, in_flight = os.path.join(folder, "killed"), 0, 0, 0
+    longest = LONGEST + 2 * longest_of_three(program, os.path.join(folder, "timed"))
+    directory, last, keeps, in_flight, met = os.path.join(folder, "killed"), 0, 0, 0, 0
     started, done = time.monotonic(), 0
     while done < KILLS and time.monotonic() < started + SECONDS:
-        read, kept = killed(program, directory, chance.uniform(0, LONGEST))
+        read, kept = killed(program, directory, chance.uniform(0, longest))
         done += 1
         if read is None:
             continue
@@ -87,10 +100,14 @@ def kills_leave_the_last_record_or_the_next(program, folder):
         require(kept == list(range(read + 1, read + 1 + len(kept))), f"{kept} after {read}")
         in_flight += read == last + 1
         keeps += len(kept)
+        met += bool(kept)
         last = kept[-1] if kept else read
     read, _, status = run(program, directory, 0)
     require(status == 0 and read in (last, last + 1), f"term {read} was read after {last} was kept")
-    return f"{done} kills in {time.monotonic() - started:.0f} s, {keeps} keeps, {in_flight} records in flight"
+    told = f"{done} kills in {time.monotonic() - started:.0f} s, up to {longest * 1000:.0f} ms after a start: "
+    told += f"{met} of them after a keep, {keeps} keeps, {in_flight} records in flight"
+    require(met * KILLS_OF_ONE_KEEP >= done, f"too few came after a keep: {told}")
+    return told
 
 
 def a_record_that_cannot_be_kept_leaves_the_old_one(program, folder):
