@@ -269,6 +269,7 @@ def run(program, client, geostore):
                     function(cluster)
                     wrong = cluster.watch.wrong
                     require(not wrong, f"two held at one moment: {wrong[:3]}")
+                    require(cluster.watch.is_looking(), f"nobody looked on after {cluster.watch.looks} looks")
                     printed = [member.printed() for member in cluster.members]
                     require(not any(printed), f"a daemon printed {printed}")
                     passed(f"no two held at one moment of {cluster.watch.looks} ({function.__doc__})")

@@ -324,6 +324,7 @@ def no_two_hold(scene):
     """no two hold the ticket at one moment, and no daemon prints anything"""
     watch = scene.cluster.watch
     require(not watch.wrong, f"two held: {watch.wrong[:3]}")
+    require(watch.is_looking(), f"nobody looked on after {watch.looks} looks")
     printed = [member.printed() for member in scene.cluster.members]
     require(not any(printed), f"a daemon printed {printed}")
     return f"{watch.looks} looks"

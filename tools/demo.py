@@ -78,6 +78,7 @@ def show(cluster, story):
     list_all(cluster, story)
     wrong = cluster.watch.wrong
     require(not wrong, f"two members held {name} at one moment: {wrong}")
+    require(cluster.watch.is_looking(), f"nobody looked on after {cluster.watch.looks} looks")
     story.tell(f"at none of {cluster.watch.looks} moments did two members hold {name}, by their record files")
 
 

@@ -234,6 +234,10 @@ class Watch(threading.Thread):
             if len(holders) > 1:
                 self.wrong.append((now(), holders))
 
+    def is_looking(self):
+        """Whether it has looked and looks on: where a look failed, the thread is over."""
+        return self.looks > 0 and self.is_alive()
+
     def end(self):
         self.ended.set()
         self.join()
