@@ -490,14 +490,15 @@ CHECKS = [
 ]
 
 
-def passes(check, room):
+def outcome(check, room):
+    """Whether a check passed, failed or was left out."""
     try:
         left_out = check(room)
     except (Wrong, OSError, subprocess.TimeoutExpired) as why:
         print(f"FAILED  {check.__doc__}: {why}", flush=True)
-        return False
+        return "failed"
     print(f"{'left out  ' if left_out else 'ok      '}{check.__doc__}" + (f": {left_out}" if left_out else ""), flush=True)
-    return True
+    return "left out" if left_out else "passed"
 
 
 def main():
@@ -506,9 +507,9 @@ def main():
         print("installed: boothd is not built (make build), so nothing is checked")
         return 0
     with tempfile.TemporaryDirectory(prefix="booth-installed-") as room:
-        passed = [passes(check, room) for check in CHECKS]
-    print(f"installed: {sum(passed)} passed, {passed.count(False)} failed")
-    return 0 if all(passed) else 1
+        outcomes = [outcome(check, room) for check in CHECKS]
+    print("installed: " + ", ".join(f"{outcomes.count(each)} {each}" for each in ("passed", "left out", "failed")))
+    return 1 if "failed" in outcomes else 0
 
 
 if __name__ == "__main__":
