@@ -306,6 +306,12 @@ def package_is_whole(room):
     need(run("dpkg-deb", "-e", built, f"{room}/scripts").returncode == 0, "its scripts are not unpacked")
     for name in ("postinst", "prerm", "postrm"):
         need(run("sh", "-n", f"{room}/scripts/{name}").returncode == 0, f"{name} is no program of the shell")
+    wanted = re.search(r"^ *Depends: libc6 \(>= 2\.(\d+)\)$", told, re.M)
+    need(wanted, f"it does not say which C library it needs: {told}")
+    for program in PROGRAMS:
+        with open(f"{room}/scratch/usr/sbin/{program}", "rb") as file:
+            versions = [int(number) for number in re.findall(rb"GLIBC_2\.(\d+)", file.read())]
+        need(max(versions, default=0) <= int(wanted[1]), f"{program} needs the C library 2.{max(versions, default=0)}")
     return None
 
 
