@@ -46,7 +46,7 @@ install: build
 	  target=$${each%%:*}; rest=$${each#*:}; \
 	  install -D -m $${rest##*:} $${rest%%:*} "$(DESTDIR)$$target" || exit 1; \
 	done
-	@install -d "$(DESTDIR)$(UNITS)"
+	@install -d -m 755 "$(DESTDIR)$(UNITS)"
 	@sed 's|@SBIN@|$(SBIN)|' packaging/booth@.service > "$(DESTDIR)$(UNITS)/booth@.service"
 	@chmod 644 "$(DESTDIR)$(UNITS)/booth@.service"
 
@@ -62,8 +62,10 @@ $(PACKAGE): build $(wildcard packaging/*)
 	@$(MAKE) --no-print-directory install PREFIX=/usr DESTDIR=out/deb
 	@# (the code stays as it was proved: names alone go)
 	@strip $(PROGRAMS:%=out/deb/usr/sbin/%) 2>/dev/null || true
-	@mkdir -p out/deb/DEBIAN
+	@# (dpkg-deb takes no other modes, whatever the umask gave)
+	@install -d -m 755 out/deb/DEBIAN
 	@sed 's|@VERSION@|$(VERSION)|' packaging/control > out/deb/DEBIAN/control
+	@chmod 644 out/deb/DEBIAN/control
 	@install -m 755 packaging/postinst packaging/prerm packaging/postrm out/deb/DEBIAN
 	@find out/deb/usr/share/man out/deb/usr/share/doc/booth-proved/changelog -type f -exec gzip -9n {} +
 	@dpkg-deb --root-owner-group --build out/deb $@

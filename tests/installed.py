@@ -56,8 +56,8 @@ def run(*words, **more):
     return subprocess.run(words, capture_output=True, text=True, timeout=60, check=False, **more)
 
 
-def make(*words):
-    done = run("make", "--no-print-directory", *words, cwd=TOP)
+def make(*words, **more):
+    done = run("make", "--no-print-directory", *words, cwd=TOP, **more)
     need(done.returncode == 0, f"make {' '.join(words)}: {done.stderr.strip()}")
 
 
@@ -294,13 +294,17 @@ def package_is_whole(room):
     """the package has what is installed, runs from a scratch root, and says what it is"""
     if not shutil.which("dpkg-deb"):
         return "dpkg-deb is not here"
-    make("deb")
+    # (what it is made of has its modes whatever the umask is)
+    make("deb", preexec_fn=lambda: os.umask(0o077))
     built = package()
     told = run("dpkg-deb", "-f", built).stdout
     need("Package: booth-proved" in told and "Conflicts: booth" in told, told)
     need(run("dpkg-deb", "-x", built, f"{room}/scratch").returncode == 0, "it is not unpacked")
     packed = [re.sub(r"(/man/.*|/changelog)\.gz$", r"\1", name) for name in files_below(f"{room}/scratch")]
     need(sorted(packed) == files_below(f"{room}/kept"), "it has other files than make install")
+    listed = run("dpkg-deb", "-c", built).stdout.splitlines()
+    hidden = [line for line in listed if not re.match("drwxr-xr-x|-rw[x-]r-[x-]r-[x-]", line)]
+    need(not hidden, f"not for everybody: {hidden}")
     with gzip.open(f"{room}/scratch/usr/share/man/man8/boothd.8.gz", "rt", encoding="utf-8") as file:
         need(file.read() == read(f"{TOP}/man/boothd.8"), "the page is another")
     need(run("dpkg-deb", "-e", built, f"{room}/scripts").returncode == 0, "its scripts are not unpacked")
