@@ -45,6 +45,9 @@ install: build
 	@for each in $(INSTALLED); do \
 	  target=$${each%%:*}; rest=$${each#*:}; \
 	  install -D -m $${rest##*:} $${rest%%:*} "$(DESTDIR)$$target" || exit 1; \
+	  case $$target in \
+	    *.5 | *.8 | *.md) sed -i 's|/usr/share/doc/booth-proved|$(DOCS)|' "$(DESTDIR)$$target" || exit 1 ;; \
+	  esac; \
 	done
 	@install -d -m 755 "$(DESTDIR)$(UNITS)"
 	@sed 's|@SBIN@|$(SBIN)|' packaging/booth@.service > "$(DESTDIR)$(UNITS)/booth@.service"

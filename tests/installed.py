@@ -167,6 +167,20 @@ def installs_and_uninstalls(room):
     need(not files_below(f"{room}/root"), f"left: {files_below(f'{room}/root')}")
 
 
+def texts_name_their_own_place(room):
+    """below another PREFIX the pages and documents name the documents' folder there, and the unit the program"""
+    make("install", f"DESTDIR={room}/elsewhere", "PREFIX=/usr/local")
+    found = {}
+    for name in files_below(f"{room}/elsewhere"):
+        if re.search(r"\.(md|5|8|service)$", name):
+            found[name] = re.findall(r"(/[a-z/]+)/(?:share/doc/booth-proved|sbin/boothd)\b", read(f"{room}/elsewhere/{name}"))
+    wrong = {name: places for name, places in found.items() if set(places) - {"/usr/local"}}
+    need(not wrong, f"these name another place: {wrong}")
+    for name in ("man/man8/boothd.8", "man/man5/booth.conf.5", "doc/booth-proved/OPERATING.md"):
+        need(found[f"usr/local/share/{name}"], f"{name} names no document")
+    need(found["usr/local/lib/systemd/system/booth@.service"], "the unit names no program")
+
+
 def unit_in(room, name, more=""):
     """The path of the unit with the installed program, in a directory of this name, and these lines more."""
     # (the programs stand below the scratch root)
@@ -488,6 +502,7 @@ CHECKS = [
     pages_are_well_formed_for_mandoc,
     pages_are_well_formed_for_groff,
     installs_and_uninstalls,
+    texts_name_their_own_place,
     unit_is_sound,
     unit_is_confined,
     keys_are_made_once,
