@@ -9,6 +9,7 @@ and has the status 1 where a check failed.
 import gzip
 import os
 import re
+import shlex
 import shutil
 import signal
 import socket
@@ -34,6 +35,8 @@ PROGRAMS = {
 }
 # how exposed the service may be at most, as `systemd-analyze security` counts it
 MOST_EXPOSED = 2.0
+# what bash-completion's users source
+BASH_COMPLETION = "/usr/share/bash-completion/bash_completion"
 # how long the walk through the first cluster may take
 SECONDS_OF_A_WALK = 120
 
@@ -251,10 +254,11 @@ def keys_are_made_once(room):
     need(done.returncode == 1 and "cannot be made" in done.stderr, f"a directory that is missing: {done.stderr}")
 
 
-def completed(*words):
-    """What bash offers behind these words."""
+def completed(*words, line="", before=""):
+    """What bash offers behind these words, which it parted this line in. The program `before` is run before."""
     script = (
-        f"source {TOP}/packaging/booth.bash; COMP_WORDS=(\"$@\"); COMP_CWORD=$(($# - 1)); "
+        f"{before}\nsource {TOP}/packaging/booth.bash; COMP_WORDS=(\"$@\"); COMP_CWORD=$(($# - 1)); "
+        f"COMP_LINE={shlex.quote(line)}; COMP_POINT=${{#COMP_LINE}}; "
         '_booth_complete "$1"; printf "%s\\n" "${COMPREPLY[@]}"'
     )
     done = run("bash", "-c", script, "bash", *words)
@@ -288,7 +292,10 @@ def completion_offers(room):
         (("geostore", "set", "-"), ["-c", "-s", "-t", "--help", "--version"]),
         (("geostore", "set", "-c", conf, "-t", "db8", ""), []),
         (("booth", "grant", "-c", f"{room}/none.conf", ""), []),
+        (("boothd", "daemon", "-d", f"{room}/fold"), [f"{room}/folder/"]),
+        (("boothd", "daemon", "-c", f"{room}/fold"), [f"{room}/folder/"]),
     ]
+    os.makedirs(f"{room}/folder")
     for words, offered in cases:
         got = completed(*words)
         need(got == offered, f"{' '.join(words)}: {got}")
@@ -301,6 +308,27 @@ def completion_offers(room):
     need(not os.path.exists(f"{room}/ran"), "a name of a configuration was run as a program")
     shell = run("bash", "-c", f"printf '%s\\n' {' '.join(got)}")
     need(shell.stdout.splitlines() == names, f"{got} is read as {shell.stdout}{shell.stderr}")
+    return None
+
+
+def completion_joins_addresses(room):
+    """completion goes on behind the colons of an address, at which bash parts it"""
+    if not shutil.which("bash") or not os.path.exists(BASH_COMPLETION):
+        return "bash or bash-completion is not here"
+    conf = f"{room}/v6.conf"
+    with open(conf, "w", encoding="utf-8") as file:
+        file.write("site = '2001:db8::10'\nsite = '2001:db8::11'\narbitrator = '2001:db8::2'\nticket = a:b\nticket = mail\n")
+    cases = [
+        (f"booth list -c {conf} -s 2001:db8::1", ["10", "11"]),
+        (f"booth list -c {conf} -s 2001:", ["db8::10", "db8::11", "db8::2"]),
+        (f"booth list -c {conf} -s 2", ["2001:db8::10", "2001:db8::11", "2001:db8::2"]),
+        (f"booth grant -s 2001:db8::10 -c {conf} a:", ["b"]),
+        (f"booth grant -s 2001:db8::10 -c {conf} m", ["mail"]),
+    ]
+    for line, offered in cases:
+        words = [word for word in re.split("(:+)| ", line) if word]
+        got = completed(*words, line=line, before=f"source {BASH_COMPLETION}")
+        need(got == offered, f"{line}: {got}")
     return None
 
 
@@ -507,6 +535,7 @@ CHECKS = [
     unit_is_confined,
     keys_are_made_once,
     completion_offers,
+    completion_joins_addresses,
     package_is_whole,
     package_has_no_fault,
     package_comes_and_goes,
