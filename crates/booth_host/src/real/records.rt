@@ -23,12 +23,22 @@ type FilePath = ArrayString<400>;
 /// Who may open a record file that is made here.
 const OWNER_ALONE: u32 = 0o600;
 
+/// What this host knows of the directory's own name.
+#[derive(Clone, Copy)]
+enum OwnName {
+    /// It made the directory, and the name may not be on the disk yet.
+    Made,
+    /// The directory was there, and its name may not be on the disk yet.
+    Found,
+    /// The name is on the disk, as far as this host can have it there.
+    Settled,
+}
+
 /// The directory of kept records, which this host alone uses.
 #[derive(Drop)]
 pub(super) struct Records {
     directory: PathText,
-    /// Whether this host made the directory, and its name is not known to be on the disk yet.
-    is_new: bool,
+    own_name: OwnName,
     /// Whether the names in the directory are on the disk.
     has_names: bool,
     /// Whether a call on a record file has failed: from then on the system's bytes of such files are doubted.
@@ -68,11 +78,11 @@ fn file_name(ticket: &Name) -> io::Result<ArrayString<130>> {
     }
 }
 
-// Makes a directory where it is missing, and says whether it was.
-fn make(rt: &HostRuntime, directory: &str) -> io::Result<bool> {
+// Makes a directory where it is missing.
+fn make(rt: &HostRuntime, directory: &str) -> io::Result<OwnName> {
     match fs::create_dir(rt, directory) {
-        Ok(()) => Ok(true),
-        Err(error) if error.kind() == ErrorKind::AlreadyExists => Ok(false),
+        Ok(()) => Ok(OwnName::Made),
+        Err(error) if error.kind() == ErrorKind::AlreadyExists => Ok(OwnName::Found),
         Err(error) => Err(error),
     }
 }
@@ -88,6 +98,18 @@ fn sync_parent(rt: &HostRuntime, directory: &str) -> io::Result<()> {
         Some(parent) if parent.as_os_str().is_empty() => sync_directory(rt, "."),
         Some(parent) => sync_directory(rt, parent.as_os_str()),
         None => Ok(()),
+    }
+}
+
+// The same of a directory that was there. Who made it answers for its name where this user may not open the one above,
+// or where that has no sync, as one that is only read and has the directory as a mount point.
+fn sync_parent_if_allowed(rt: &HostRuntime, directory: &str) -> io::Result<()> {
+    let Err(error) = sync_parent(rt, directory) else {
+        return Ok(());
+    };
+    match error.kind() {
+        ErrorKind::PermissionDenied | ErrorKind::InvalidInput => Ok(()),
+        _ => Err(error),
     }
 }
 
@@ -111,12 +133,12 @@ impl Records {
     /// The directory at this path, made where it is missing in the one above, with its lock. It fails where another
     /// holds the lock.
     pub(super) fn open(rt: &HostRuntime, directory: &PathText) -> io::Result<Records> {
-        let is_new = make(rt, directory.as_str())?;
+        let own_name = make(rt, directory.as_str())?;
         let path = path_in(directory, LOCK)?;
         match lock_file(rt, path.as_str())? {
             Some(lock) => Ok(Records {
                 directory: directory.copy(),
-                is_new,
+                own_name,
                 has_names: false,
                 has_failed: false,
                 lock,
@@ -137,16 +159,25 @@ impl Records {
         }
     }
 
-    // Has the names in the directory be on the disk, and that of a new directory.
+    // Has the directory's own name be on the disk, also where an earlier process made the directory and ended.
+    fn keep_own_name(&mut self, rt: &HostRuntime) -> io::Result<()> {
+        let synced = match self.own_name {
+            OwnName::Settled => return Ok(()),
+            OwnName::Made => sync_parent(rt, self.directory.as_str()),
+            OwnName::Found => sync_parent_if_allowed(rt, self.directory.as_str()),
+        };
+        synced?;
+        self.own_name = OwnName::Settled;
+        Ok(())
+    }
+
+    // Has the names in the directory be on the disk, and its own.
     fn keep_names(&mut self, rt: &HostRuntime) -> io::Result<()> {
         if self.has_names {
             return Ok(());
         }
         sync_directory(rt, self.directory.as_str())?;
-        if self.is_new {
-            sync_parent(rt, self.directory.as_str())?;
-            self.is_new = false;
-        }
+        self.keep_own_name(rt)?;
         self.has_names = true;
         Ok(())
     }
@@ -161,7 +192,7 @@ impl Records {
         }
     }
 
-    /// Keeps this record in a ticket's file: it, the file's name, and that of a new directory are on the disk then.
+    /// Keeps this record in a ticket's file: it, the file's name, and that of the directory are on the disk then.
     pub(super) fn write(
         &mut self,
         rt: &HostRuntime,
