@@ -223,7 +223,7 @@ impl Host for RealHost {
     }
 
     /// A program of the same ticket that runs on is ended first. It fails where no place is open, where the handler cannot be
-    /// started, and where a program that was ended before is not yet over.
+    /// started, and where that program cannot be ended, or one that was ended before is not yet over.
     fn start(&mut self, job: &Job) -> Result<(), Failed> {
         let answer = self.start_job(job);
         self.checked(answer)

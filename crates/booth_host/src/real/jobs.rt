@@ -131,11 +131,13 @@ impl Jobs {
             return Ok(());
         };
         let running = self.running.remove(place);
-        if let Some(mut child) = running.child {
-            child.kill()?;
-            self.killed.push_reserved((ticket.copy(), child));
-        }
-        Ok(())
+        let Some(mut child) = running.child else {
+            return Ok(());
+        };
+        // One that became another user's, as by sudo, cannot be ended: it is kept in sight until it is over.
+        let ended = child.kill();
+        self.killed.push_reserved((ticket.copy(), child));
+        ended
     }
 
     /// Starts a job. A program of its ticket that runs on is ended before.
