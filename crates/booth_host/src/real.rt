@@ -18,7 +18,7 @@ use std::fs::File;
 use std::io::ErrorKind;
 use std::time::{Duration, SystemTime};
 use std::{io, thread};
-use streams::{Standing, hold_streams, write_to};
+use streams::{Standing, error_stream, hold_streams, write_to};
 
 mod files;
 mod jobs;
@@ -64,7 +64,7 @@ impl RealHost {
     /// The devices of the system, before anything is opened.
     pub fn new(rt: HostRuntime, alloc: Global) -> Result<RealHost, AllocError> {
         let standing = hold_streams(&rt);
-        let jobs = Jobs::new(alloc);
+        let jobs = Jobs::new(alloc, error_stream(&standing));
         Ok(RealHost {
             rt,
             socket: None,

@@ -3,6 +3,7 @@
 //! Nothing here waits for a program.
 
 use super::programs::{FileName, is_directory, next_in_directory, start};
+use super::streams::ErrorStream;
 use crate::Job;
 use booth_base::{Name, PathText};
 use std::alloc::Global;
@@ -19,6 +20,7 @@ struct Running {
     job: Job,
     /// The path of the configuration that the job was started under.
     conf_path: PathText,
+    error_stream: ErrorStream,
     /// The program of the handler's directory that was started last, where it has one.
     program: Option<FileName>,
     /// The program that runs; none where a directory has no programs.
@@ -39,6 +41,7 @@ pub(super) struct Jobs {
     running: Vec<Running>,
     /// By their tickets, at most one of each.
     killed: Vec<(Name, Child)>,
+    error_stream: ErrorStream,
 }
 
 fn copy_of(job: &Job) -> Job {
@@ -53,17 +56,23 @@ fn copy_of(job: &Job) -> Job {
 
 impl Running {
     // Starts the first program of a job.
-    fn start(rt: &HostRuntime, job: &Job, conf_path: &PathText) -> io::Result<Running> {
+    fn start(
+        rt: &HostRuntime,
+        job: &Job,
+        conf_path: &PathText,
+        error_stream: ErrorStream,
+    ) -> io::Result<Running> {
         let mut running = Running {
             job: copy_of(job),
             conf_path: conf_path.copy(),
+            error_stream,
             program: None,
             child: None,
         };
         if is_directory(rt, &job.handler)? {
             running.start_next(rt)?;
         } else {
-            running.child = Some(start(rt, job, None, conf_path.as_str())?);
+            running.child = Some(running.run(rt, None)?);
         }
         Ok(running)
     }
@@ -73,10 +82,21 @@ impl Running {
         self.child = None;
         let next = next_in_directory(rt, &self.job.handler, self.program.as_ref())?;
         if next.is_some() {
-            self.child = Some(start(rt, &self.job, next.as_ref(), self.conf_path.as_str())?);
+            self.child = Some(self.run(rt, next.as_ref())?);
             self.program = next;
         }
         Ok(())
+    }
+
+    // Starts the handler itself, or the program of this name in its directory.
+    fn run(&self, rt: &HostRuntime, name: Option<&FileName>) -> io::Result<Child> {
+        start(
+            rt,
+            &self.job,
+            name,
+            self.conf_path.as_str(),
+            self.error_stream,
+        )
     }
 
     // The status of the program that ran, once it is over; 0 where there is none.
@@ -104,10 +124,11 @@ impl Running {
 }
 
 impl Jobs {
-    pub(super) fn new(alloc: Global) -> Jobs {
+    pub(super) fn new(alloc: Global, error_stream: ErrorStream) -> Jobs {
         Jobs {
             running: Vec::new(alloc),
             killed: Vec::new(alloc),
+            error_stream,
         }
     }
 
@@ -150,7 +171,7 @@ impl Jobs {
         self.reap();
         self.end(&job.ticket)?;
         self.running.reserve(1)?;
-        let running = Running::start(rt, job, conf_path)?;
+        let running = Running::start(rt, job, conf_path, self.error_stream)?;
         self.running.push_reserved(running);
         Ok(())
     }

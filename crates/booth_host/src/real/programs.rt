@@ -1,5 +1,6 @@
 //! The programs of a handler: which they are, in which order, and how one is started.
 
+use super::streams::ErrorStream;
 use crate::Job;
 use arrayvec::ArrayString;
 use booth_base::PathText;
@@ -112,14 +113,24 @@ fn tell(command: &mut Command, alloc: Global, job: &Job, conf_path: &str) -> io:
     Ok(())
 }
 
+// What a program prints to: this process's standard error. Where that was closed it prints to nothing, since a write to
+// what stands in its place fails, and with it many a script.
+fn printed_to(rt: &HostRuntime, error_stream: ErrorStream) -> Stdio {
+    match error_stream {
+        ErrorStream::Open => Stdio::from(rt.stderr()),
+        ErrorStream::Closed => Stdio::null(),
+    }
+}
+
 /// Starts the handler itself, or the program of this name in its directory. It has the handler's arguments, this process's
-/// environment with five variables more, an empty standard input, and this process's standard error for all that it prints;
-/// no other file of this process is open in it.
+/// environment with five variables more, an empty standard input, and this process's standard error, or nothing where that
+/// was closed, for all that it prints; no other file of this process is open in it.
 pub(super) fn start(
     rt: &HostRuntime,
     job: &Job,
     name: Option<&FileName>,
     conf_path: &str,
+    error_stream: ErrorStream,
 ) -> io::Result<Child> {
     let alloc = rt.alloc();
     let path = program_path(&job.handler, name)?;
@@ -129,7 +140,7 @@ pub(super) fn start(
     }
     tell(&mut command, alloc, job, conf_path)?;
     command.stdin(Stdio::null());
-    command.stdout(Stdio::from(rt.stderr()));
-    command.stderr(Stdio::from(rt.stderr()));
+    command.stdout(printed_to(rt, error_stream));
+    command.stderr(printed_to(rt, error_stream));
     command.spawn(rt)
 }

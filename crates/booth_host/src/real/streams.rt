@@ -9,13 +9,20 @@ use std::process::ChildStdin;
 /// What stands in the place of each standard stream that was closed.
 pub(super) type Standing = [Option<File>; 3];
 
-/// The greatest number of a standard stream.
-const LAST_STREAM: i32 = 2;
+/// The number of standard error, the last of the standard streams.
+const STANDARD_ERROR: i32 = 2;
+
+/// Whether this process was started with a standard error.
+#[derive(Clone, Copy)]
+pub(super) enum ErrorStream {
+    Open,
+    Closed,
+}
 
 // A file in the place of the first standard stream that is closed. It can only be read, so that a write fails as before.
 fn hold_stream(rt: &HostRuntime) -> Option<File> {
     let file = File::open(rt, "/dev/null").ok()?;
-    if file.as_raw_fd() <= LAST_STREAM {
+    if file.as_raw_fd() <= STANDARD_ERROR {
         Some(file)
     } else {
         None
@@ -26,6 +33,19 @@ fn hold_stream(rt: &HostRuntime) -> Option<File> {
 /// standard error.
 pub(super) fn hold_streams(rt: &HostRuntime) -> Standing {
     [hold_stream(rt), hold_stream(rt), hold_stream(rt)]
+}
+
+/// Whether standard error was open, by what stands in the places of streams that were not.
+pub(super) fn error_stream(standing: &Standing) -> ErrorStream {
+    let is_closed = standing.iter().any(|file| {
+        file.as_ref()
+            .is_some_and(|file| file.as_raw_fd() == STANDARD_ERROR)
+    });
+    if is_closed {
+        ErrorStream::Closed
+    } else {
+        ErrorStream::Open
+    }
 }
 
 /// Writes to a standard stream. Where it is closed, or a pipe that nobody reads, the write fails.
