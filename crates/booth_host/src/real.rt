@@ -241,8 +241,8 @@ impl Host for RealHost {
     }
 
     /// The lock goes with the process, so a file that is left behind is no lock. The file is made
-    /// where it is missing, for its owner alone, and its directory is not. The lock that this host holds is given to it
-    /// again; beside it, the lock of another file is a failure.
+    /// where it is missing, for its owner alone, and its directory is not; what is no regular file is not opened. The lock
+    /// that this host holds is given to it again; beside it, the lock of another file is a failure.
     fn lock(&mut self, path: &str) -> Result<bool, Failed> {
         let answer = take_lock(&self.rt, &mut self.locked, path);
         self.checked(answer)

@@ -9,9 +9,19 @@ use std::{fs, io};
 /// The most bytes of a file that is read.
 const FILE_BYTES: usize = 1 << 30;
 
+/// Fails where this is no regular file.
+pub(super) fn require_regular(metadata: &Metadata) -> io::Result<()> {
+    if metadata.is_file() {
+        Ok(())
+    } else {
+        Err(io::Error::from(ErrorKind::InvalidInput))
+    }
+}
+
 // Fails where this is no regular file, or one that is too long.
 fn require_readable(metadata: &Metadata) -> io::Result<()> {
-    if metadata.is_file() && metadata.len() <= FILE_BYTES as u64 {
+    require_regular(metadata)?;
+    if metadata.len() <= FILE_BYTES as u64 {
         Ok(())
     } else {
         Err(io::Error::from(ErrorKind::InvalidInput))

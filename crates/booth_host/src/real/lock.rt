@@ -1,9 +1,10 @@
 //! The lock of a file, which is the kernel's, and lasts while the file is open.
 
+use super::files::require_regular;
 use std::fs::{File, TryLockError};
-use std::io;
 use std::io::ErrorKind;
 use std::os::unix::fs::{MetadataExt, OpenOptionsExt};
+use std::{fs, io};
 
 /// Who may open a lock file that is made here: its owner, since whoever can open it can hold its lock.
 const OWNER_ALONE: u32 = 0o600;
@@ -15,19 +16,30 @@ fn is_same(one: &File, other: &File) -> io::Result<bool> {
     Ok(one.dev() == other.dev() && one.ino() == other.ino())
 }
 
-// The file, which is made where it is missing. It is open for reading alone: where a standard stream was closed, the
-// file may get its number, and what is then said goes nowhere.
-fn open_or_make(rt: &HostRuntime, path: &str) -> io::Result<File> {
-    match File::open(rt, path) {
+// Makes the file where it is missing. What is there has to be a regular file: to open a named pipe may wait for ever, and
+// whoever may read a directory can hold its lock.
+fn make(rt: &HostRuntime, path: &str) -> io::Result<()> {
+    match fs::metadata(rt, path) {
+        Ok(found) => return require_regular(&found),
         Err(error) if error.kind() == ErrorKind::NotFound => {}
-        opened => return opened,
+        Err(error) => return Err(error),
     }
     File::options()
         .write(true)
         .create(true)
         .mode(OWNER_ALONE)
         .open(rt, path)?;
-    File::open(rt, path)
+    Ok(())
+}
+
+// The file, which is made where it is missing. It is open for reading alone: where a standard stream was closed, the
+// file may get its number, and what is then said goes nowhere.
+fn open_or_make(rt: &HostRuntime, path: &str) -> io::Result<File> {
+    make(rt, path)?;
+    let file = File::open(rt, path)?;
+    // (another file may have taken its place)
+    require_regular(&file.metadata()?)?;
+    Ok(file)
 }
 
 // The file with its lock, or none where another holds it.
