@@ -174,9 +174,9 @@ impl Host for RealHost {
 
     ghost faults = { λ host. host.faults };
 
-    /// The directory of the records is made where it is missing, in one that has to be there, and is locked for this
-    /// host until it opens another place or ends. It fails where another host holds the directory. A place without a
-    /// directory keeps no records.
+    /// The directory of the records is made where it is missing, for its owner alone, in one that has to be there, and is
+    /// locked for this host until it opens another place or ends. It fails where another host holds the directory. A place
+    /// without a directory keeps no records.
     fn open(&mut self, place: &Place) -> Result<(), Failed> {
         let answer = self.open_place(place);
         self.checked(answer)

@@ -8,11 +8,11 @@ use super::record_disk::FileDisk;
 use arrayvec::ArrayString;
 use booth_base::{Name, PathText};
 use booth_rec::{OpenFault, PutFault, Record, Slots};
-use std::fs::File;
+use std::fs::{DirBuilder, File};
+use std::io;
 use std::io::ErrorKind;
-use std::os::unix::fs::OpenOptionsExt;
+use std::os::unix::fs::{DirBuilderExt, OpenOptionsExt};
 use std::path::Path;
-use std::{fs, io};
 
 /// The file whose lock the directory's one host holds.
 const LOCK: &str = "booth.lock";
@@ -21,7 +21,10 @@ const LOCK: &str = "booth.lock";
 type FilePath = ArrayString<400>;
 
 /// Who may open a record file that is made here.
-const OWNER_ALONE: u32 = 0o600;
+const OWNERS_FILE: u32 = 0o600;
+
+/// Who may look into a directory that is made here, and write in it.
+const OWNERS_DIRECTORY: u32 = 0o700;
 
 /// What this host knows of the directory's own name.
 #[derive(Clone, Copy)]
@@ -78,9 +81,12 @@ fn file_name(ticket: &Name) -> io::Result<ArrayString<130>> {
     }
 }
 
-// Makes a directory where it is missing.
+// Makes a directory where it is missing, for its owner alone: whoever may write in it could take a record away.
 fn make(rt: &HostRuntime, directory: &str) -> io::Result<OwnName> {
-    match fs::create_dir(rt, directory) {
+    let made = DirBuilder::new()
+        .mode(OWNERS_DIRECTORY)
+        .create(rt, directory);
+    match made {
         Ok(()) => Ok(OwnName::Made),
         Err(error) if error.kind() == ErrorKind::AlreadyExists => Ok(OwnName::Found),
         Err(error) => Err(error),
@@ -124,7 +130,7 @@ fn open_or_make(rt: &HostRuntime, path: &str) -> io::Result<(File, bool)> {
         .read(true)
         .write(true)
         .create_new(true)
-        .mode(OWNER_ALONE)
+        .mode(OWNERS_FILE)
         .open(rt, path)?;
     Ok((file, true))
 }
