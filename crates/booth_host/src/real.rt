@@ -1,7 +1,7 @@
 //! The real host: a UDP socket, the system clock, files, child programs and the standard streams.
 //!
 //! It tells nothing of its calls, and it never answers `Stop`: a signal ends the process instead.
-ghost use Rattle.std.specs.Prelude.{◌≡◌, ◌≤◌, None, vec_len};
+ghost use Rattle.std.specs.Prelude.{◌≡◌, ◌≤◌, None, IfOk, vec_len};
 ghost use Rattle.booth_host.specs.Causes.{raised, HasCause, IsCounted};
 ghost use Rattle.booth_host.specs.declared.datagram.TheConstants.{DATAGRAM_BYTES};
 
@@ -62,7 +62,11 @@ fn unopened() -> io::Error {
 
 impl RealHost {
     /// The devices of the system, before anything is opened.
-    pub fn new(rt: HostRuntime, alloc: Global) -> Result<RealHost, AllocError> {
+    pub fn new(rt: HostRuntime, alloc: Global) -> Result<RealHost, AllocError>
+        ensures unopened { IfOk result (λ host. host.socket ≡ None) }
+        ensures unlocked { IfOk result (λ host. host.locked ≡ None) }
+        ensures faultless { IfOk result (λ host. host.faults ≡ 0) }
+    {
         let standing = hold_streams(&rt);
         let jobs = Jobs::new(alloc, error_stream(&standing));
         Ok(RealHost {
