@@ -10,18 +10,22 @@ import time
 from members import MANUAL, SECONDS_OF_BOOTH, Ran, now, wait_for
 from stories import BY_HAND, NAME, SLACK, abstains, is_held_by, passed, require, says, story
 
-# What a site's handler does: it notes each run and its descriptors, and then sleeps or fails where a file says so.
+# What a site's handler does: it notes each run and its descriptors, and then prints, sleeps or fails where a file says so.
 HANDLER = """#!/bin/sh
 cd {folder}
 echo "$BOOTH_TICKET $BOOTH_TICKET_EXPIRES $1" >> "ran.$BOOTH_LOCAL"
 ls -l "/proc/$$/fd" > "descriptors.$BOOTH_LOCAL"
 echo $$ > "pid.$BOOTH_LOCAL"
+if [ -e "prints.$BOOTH_LOCAL" ]; then set -e; echo checking; echo checking >&2; fi
 [ ! -e "fails.$BOOTH_LOCAL" ] || exit 3
 [ ! -e "sleeps.$BOOTH_LOCAL" ] || exec sleep "$(cat "sleeps.$BOOTH_LOCAL")"
 """
-# a daemon whose standard streams are closed
+# a daemon whose standard streams are closed, and one whose standard error is
 CLOSED = """#!/bin/sh
 exec {program} "$@" <&- >&- 2>&-
+"""
+SILENT = """#!/bin/sh
+exec {program} "$@" 2>&-
 """
 
 
@@ -88,6 +92,7 @@ def sites_with_a_handler(cluster):
     arbitrator.start(cluster.program, cluster.conf)
     abstains(cluster, now())
     first.set("fails")
+    second.set("prints")
     says(one, ("grant", "-w", NAME), 1, "booth: handler failed\n")
     require(first.runs() == [[NAME, "0", "db8"]] and one.record() is None, f"ran {first.runs()}, kept {one.record()}")
     passed("a grant is refused where the handler fails, and nothing is kept or asked for")
@@ -128,7 +133,7 @@ def sites_with_a_handler(cluster):
     for handler in (first, second):
         kept_out = handler.read("descriptors")
         require(kept_out and not any(word in kept_out for word in ("socket", "records", "lock")), kept_out)
-    passed("no file and no socket of a daemon reaches its handler, also where its standard streams are closed")
+    passed("no file and no socket of a daemon reaches its handler, which may print, also where its standard streams are closed")
 
     second.set("sleeps", "30")
     require(wait_for(lambda: len(second.runs()) > 1, times.renewal + SLACK), "no renewal started the handler")
@@ -235,3 +240,18 @@ def a_manual_ticket_that_asks(cluster):
     require(not os.path.exists(f"/proc/{pid.strip()}"), "the handler that ran on runs still")
     lists_by_hand(cluster, two)
     passed(f"a handler that is too slow has failed ({took:.1f} s), and is ended before the next start")
+
+
+@story
+def a_manual_ticket_that_asks_a_silent_site(cluster):
+    """a cluster with a ticket that is granted by hand, at a site whose standard error is closed"""
+    one = cluster.members[0]
+    first = Handler(cluster, one)
+    first.set("prints")
+    one.start(script(cluster.folder + "/silent", SILENT.format(program=cluster.program)), cluster.conf)
+    says(one, ("grant", "-w", BY_HAND), 0, f"ticket {BY_HAND} granted\n")
+    require(first.runs() == [[BY_HAND, "0", "db8"]] and one.record(MANUAL).holds(now()), f"ran {first.runs()}")
+    first.set("fails")
+    says(one, ("revoke", BY_HAND), 0, f"ticket {BY_HAND} revoked\n")
+    says(one, ("grant", "-w", BY_HAND), 1, "booth: handler failed\n")
+    passed("a handler that prints grants there, and one that prints and fails refuses")

@@ -499,18 +499,19 @@ def mode(path):
 
 @check
 def own_lock_files(room):
-    """the lock files that it makes are its user's alone, since whoever opens one can hold its lock"""
+    """the lock files and the directory that it makes are its user's alone, since whoever opens a lock file can hold its lock"""
     places = room.own_places("locks")
     paths = places[1], f"{places[3]}/booth.lock"
     with room.serving(options=places):
         for path in paths:
             require(mode(path) == 0o600, f"{path} has the mode {mode(path):o}")
+        require(mode(places[3]) == 0o700, f"the directory of records has the mode {mode(places[3]):o}")
     # those that are there stay as they are
-    for path in paths:
-        os.chmod(path, 0o640)
+    for path in (*paths, places[3]):
+        os.chmod(path, 0o750)
     with room.serving(options=places):
-        for path in paths:
-            require(mode(path) == 0o640, f"the mode of {path} was changed to {mode(path):o}")
+        for path in (*paths, places[3]):
+            require(mode(path) == 0o750, f"the mode of {path} was changed to {mode(path):o}")
 
 
 @check
@@ -528,12 +529,15 @@ def one_daemon_for_records(room):
 
 @check
 def special_files(room):
-    """what is no regular file is not read, and nothing waits for what may come from it"""
+    """what is no regular file is neither read nor locked, and nothing waits for what may come from it"""
     pipe = os.path.join(room.folder, "pipe")
     os.mkfifo(pipe)
+    words = room.words(room.file(here(room, FILE), "special.conf"))
     for path in (pipe, room.folder + "/.", "/dev/null"):
         room.refuses(room.words(path), b"cannot read %s" % path.encode())
         room.refuses(room.words(with_key(room, path)), b"cannot read %s" % path.encode())
+        room.refuses([*words, "-l", path], b"cannot lock %s" % path.encode())
+        room.refuses(["status", "-l", path], b"cannot lock %s" % path.encode())
 
 
 @check
