@@ -120,7 +120,13 @@ fn may_lead(config: &Config, id: MemberId) -> bool
 fn leads(cmd: Cmd) -> bool
     ensures { result ≡ leads cmd }
 {
-    matches!(cmd, Cmd::RVot | Cmd::HrtB | Cmd::UpdE)
+    match cmd {
+        Cmd::RVot | Cmd::HrtB | Cmd::UpdE => true,
+        Cmd::Stat | Cmd::MIdx | Cmd::VtFr | Cmd::Ack | Cmd::Revk | Cmd::Rjc => false,
+        Cmd::CLst | Cmd::Peer | Cmd::CGnt | Cmd::CRvk => false,
+        Cmd::ASet | Cmd::AGet | Cmd::ADel | Cmd::ALst => false,
+        Cmd::RLst | Cmd::RPer | Cmd::RALs | Cmd::RGnt | Cmd::RRvk | Cmd::RAtr => false,
+    }
 }
 
 fn names_no_ticket(config: &Config, part: Option<&TicketPart>) -> bool
