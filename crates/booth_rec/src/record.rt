@@ -93,8 +93,8 @@ fn word_at(bytes: &[u8], at: usize) -> u32
     u32::from_be_bytes([bytes[at], bytes[at + 1], bytes[at + 2], bytes[at + 3]])
 }
 
-// The number of 8 bytes at a place.
-fn long_at(bytes: &[u8], at: usize) -> u64
+/// The number of 8 bytes at a place.
+pub(crate) fn long_at(bytes: &[u8], at: usize) -> u64
     requires { at + 8 ≤ length bytes.now }
     ensures { result ≡ long_at at bytes.now }
 {

@@ -1,9 +1,10 @@
 //! The two slots of a record file, as bytes: what they hold, and which of them is in force.
 ghost use Rattle.std.specs.Prelude.{◌≡◌, ◌+◌, ◌≤◌, length, true, IfOk, OnErr};
-ghost use Rattle.booth_rec.specs.Spelling.{long_at, FitsTypes};
+ghost use Rattle.booth_rec.specs.Spelling.{FitsTypes};
 ghost use Rattle.booth_rec.specs.RecordFile.{Slot, bytes_at, slot_at, HoldsRecord, IsWhole};
 ghost use Rattle.booth_rec.specs.Holding.{place_of, other_of, spare_of, IsBody, IsNoRecord, Holds, IsHolding, IsChosen};
 
+use crate::record::long_at;
 use crate::{RECORD_BYTES, Record, RecordFault};
 
 /// How many bytes the two slots have.
@@ -79,23 +80,6 @@ impl Holding {
     }
 }
 
-// The number of 8 bytes at a place.
-fn number_at(bytes: &[u8], at: usize) -> u64
-    requires { at + 8 ≤ length bytes.now }
-    ensures { result ≡ long_at at bytes.now }
-{
-    u64::from_be_bytes([
-        bytes[at],
-        bytes[at + 1],
-        bytes[at + 2],
-        bytes[at + 3],
-        bytes[at + 4],
-        bytes[at + 5],
-        bytes[at + 6],
-        bytes[at + 7],
-    ])
-}
-
 // The same record, whose numbers fit their types.
 fn fitting(rec: Record) -> Record
     ensures same { result ≡ rec }
@@ -125,7 +109,7 @@ fn held_at(bytes: &[u8], place: usize) -> Result<Option<Held>, RecordFault>
     if bytes[place] != OPEN {
         return Ok(None);
     }
-    let number = number_at(bytes, place + NUMBER_AT);
+    let number = long_at(bytes, place + NUMBER_AT);
     match record_at(bytes, place + BODY_AT) {
         Ok(kept) => Ok(Some(Held { number, kept })),
         Err(fault) => Err(fault),

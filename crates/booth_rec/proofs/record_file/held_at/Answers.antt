@@ -9,7 +9,7 @@ returns-then-bytes-place-ne-OPEN-clause-ok c = gate_closed c.args.place c.args.b
 pub returns-in-Ok-clause-ok : goal.returns-in-Ok-clause-ok
 returns-in-Ok-clause-ok c = (
   gate_open c.args.place c.args.bytes.now c.if-bytes-place-ne-OPEN.false,
-  number_within c.args.place c.args.bytes.now c.requires ∙ sym c.number_at-number.ensures,
+  number_within c.args.place c.args.bytes.now c.requires ∙ sym c.long_at-number.ensures,
   subst (λ (l : List ℕ). IsBody l c.in-Ok.kept) (sym (body_of c.args.place c.args.bytes.now)) c.in-Ok.ensures.ok,
 )
 
