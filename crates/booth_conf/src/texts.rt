@@ -5,6 +5,7 @@ ghost use Rattle.booth_conf.specs.Grammar.{is_value_byte};
 ghost use Rattle.booth_conf.specs.Values.{is_word_byte};
 ghost use Rattle.booth_conf.specs.ValueReader.{text_in, command_in, name_in, value_in, address_in};
 
+use crate::words::is_gap;
 use booth_base::{Address, AttrValue, Name, PathText};
 
 /// A text of at most 255 bytes, and of at least so many.
@@ -23,7 +24,7 @@ pub fn text(bytes: &[u8], least: usize) -> Option<PathText>
 fn has_word(bytes: &[u8]) -> bool
     ensures { result ≡ list_any is_word_byte bytes.now }
 {
-    bytes.iter().any(|b| !matches!(*b, b' ' | b'\t'))
+    bytes.iter().any(|b| !is_gap(*b))
 }
 
 /// A path and its arguments.

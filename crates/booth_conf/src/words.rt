@@ -6,7 +6,8 @@ ghost use Rattle.booth_conf.specs.LineReader.{front};
 ghost use Rattle.booth_conf.specs.Values.{is_gap, is_word_byte};
 ghost use Rattle.booth_conf.specs.ValueReader.{word_in, one_word, four_words, GivesWord, GivesFour};
 
-fn is_gap(byte: u8) -> bool
+/// Whether it is a space or a tab.
+pub fn is_gap(byte: u8) -> bool
     ensures { result ≡ is_gap byte }
 {
     matches!(byte, b' ' | b'\t')
