@@ -48,9 +48,24 @@ impl Model for Config {
 
     ghost Value = { ConfigSays };
 
-    ghost view = { λ c. record { port = c.port; authfile = c.authfile; skew = c.skew; extras = c.extras.items; members = c.members.items; tickets = c.tickets.items } };
+    ghost view = { λ c. record {
+      port = c.port;
+      authfile = c.authfile;
+      skew = c.skew;
+      extras = c.extras.items;
+      members = c.members.items;
+      tickets = c.tickets.items;
+    } };
 
-    ghost invariant = { λ c. (c.names.keys ≡ map ticket_name c.tickets.items) × IsSound (record { port = c.port; authfile = c.authfile; skew = c.skew; extras = c.extras.items; members = c.members.items; tickets = c.tickets.items }) };
+    ghost invariant = { λ c. (c.names.keys ≡ map ticket_name c.tickets.items)
+        × IsSound (record {
+          port = c.port;
+          authfile = c.authfile;
+          skew = c.skew;
+          extras = c.extras.items;
+          members = c.members.items;
+          tickets = c.tickets.items;
+        }) };
 }
 
 fn defaults(draft: Option<Section>) -> Section
@@ -145,7 +160,7 @@ impl Config {
         self.authfile.as_ref()
     }
 
-    /// How far clocks may be apart, in seconds.
+    /// How far the time in a signed frame may be behind this member's clock, in seconds.
     pub fn skew(&self) -> u64
         ensures { result ≡ self.now.skew }
     {
@@ -207,6 +222,7 @@ impl Config {
     pub fn sound(&self)
         ensures { IsSound self.now }
     {
+        // The read gives the proof the invariant.
         let _port = self.port;
     }
 

@@ -7,8 +7,10 @@ use crate::keys::KeyNo;
 /// Why a text is no configuration. Lines count from 1, and places of members and tickets from 0.
 ///
 /// A text that is too large is reported first, then the first line with a fault, and last what is
-/// wrong with the whole file. Within a line and within the whole file the order is that of the
-/// variants. Want of memory may be reported in place of each. The program has the text of each.
+/// wrong with the whole file. Within a line the order is that of the variants, and so within the
+/// whole file, but that times are looked at ticket by ticket: `RetryTime` of one comes before
+/// `Renewal` of the next. Want of memory may be reported in place of each. The program has the text
+/// of each.
 #[derive(Clone, Copy, Debug, PartialEq, Eq, Drop)]
 pub enum ConfFault {
     TooLarge,

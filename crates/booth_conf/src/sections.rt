@@ -44,7 +44,13 @@ impl Model for Top {
 
     ghost Value = { TopSays };
 
-    ghost view = { λ t. record { port = t.port; transport = t.transport; authfile = t.authfile; skew = t.skew; extras = t.extras.items } };
+    ghost view = { λ t. record {
+      port = t.port;
+      transport = t.transport;
+      authfile = t.authfile;
+      skew = t.skew;
+      extras = t.extras.items;
+    } };
 }
 
 impl Top {
@@ -115,7 +121,17 @@ impl Model for Section {
 
     ghost Value = { SectionSays };
 
-    ghost view = { λ p. record { expire = p.expire; after = p.after; timeout = p.timeout; retries = p.retries; renewal = p.renewal; weights = p.weights; handler = p.handler; mode = p.mode; prereqs = p.prereqs.items } };
+    ghost view = { λ p. record {
+      expire = p.expire;
+      after = p.after;
+      timeout = p.timeout;
+      retries = p.retries;
+      renewal = p.renewal;
+      weights = p.weights;
+      handler = p.handler;
+      mode = p.mode;
+      prereqs = p.prereqs.items;
+    } };
 }
 
 impl Section {
