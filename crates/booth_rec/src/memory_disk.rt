@@ -109,8 +109,8 @@ fn give(bytes: &[u8], at: usize, into: &mut [u8]) -> usize
 impl MemoryDisk {
     ghost use Rattle.booth_rec.specs.MemoryDisk.{memory_seen, IsNew, Keeps, HasRoom};
 
-    /// A disk with these bytes, all of them on the disk. It takes all its memory now: for 4,096 bytes, or for these where
-    /// they are more, and for as many calls as pass, each with up to 128 written bytes.
+    /// A disk with these bytes, all of them on the disk. It takes all its memory now: for 4,096 bytes, or for these
+    /// where they are more, and for as many calls as pass, each with up to 128 written bytes.
     pub fn new(alloc: Global, bytes: &[u8], passes: u64) -> Result<MemoryDisk, AllocError>
         ensures { IfOk result (λ disk. IsNew disk bytes.now passes (length bytes.now)) }
     {

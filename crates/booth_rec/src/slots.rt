@@ -271,8 +271,8 @@ impl<D: Disk> Slots<D> {
         &self.disk
     }
 
-    /// Puts a record in the place of the one before. A crash at any moment of it leaves a file that stands for the record
-    /// before or for this one.
+    /// Puts a record in the place of the one before. A crash at any moment of it leaves a file that stands for the
+    /// record before or for this one.
     pub fn put(&mut self, rec: &Record) -> Result<(), PutFault>
         // Which fault it is.
         ensures again { IsErrOf result PutFault.Again ↔ (self.old.has_failed ≡ true) }
@@ -315,15 +315,17 @@ impl<D: Disk> Slots<D> {
         }
     }
 
-    /// Opens the file again, after which puts are taken again. A crash at any moment of it leaves what a crash before it
-    /// might have left.
+    /// Opens the file again, after which puts are taken again. A crash at any moment of it leaves what a crash before
+    /// it might have left.
     pub fn reopen(&mut self) -> Result<(), ReopenFault>
         ensures opened { OnOk result (self.new.has_failed ≡ false) }
         ensures stands { D.tells self.old.disk ≡ true → OnOk result ((D.seen self.new.disk ≡ D.seen self.old.disk)
             × StandsFor (record_of self.new.holding.standing) (D.seen self.old.disk)) }
-        ensures torn { IsErrOf result ReopenFault.Torn → D.tells self.old.disk ≡ true → IsWhole (D.seen self.old.disk) → ⊥ }
+        ensures torn { IsErrOf result ReopenFault.Torn → D.tells self.old.disk ≡ true
+            → IsWhole (D.seen self.old.disk) → ⊥ }
         ensures failed { IsErrOf result ReopenFault.Disk → Rose (D.faults self.old.disk) (D.faults self.new.disk) }
-        ensures before { OnErr result ((self.new.has_failed ≡ self.old.has_failed) × (self.new.holding ≡ self.old.holding)) }
+        ensures before { OnErr result ((self.new.has_failed ≡ self.old.has_failed)
+            × (self.new.holding ≡ self.old.holding)) }
         ensures later { D.faults self.old.disk ≤ D.faults self.new.disk }
         ensures tells { D.tells self.new.disk ≡ D.tells self.old.disk }
         ensures any_moment { D.tells self.old.disk ≡ true →
