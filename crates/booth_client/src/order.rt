@@ -95,7 +95,7 @@ impl Options {
 
 impl Order {
     /// The command of the request.
-    pub fn cmd(&self) -> Cmd
+    pub(crate) fn cmd(&self) -> Cmd
         ensures { result ≡ cmd_of self.now }
     {
         match self {
