@@ -6,6 +6,7 @@ pub mod NewLemmas
 pub mod PoolLemmas
 pub mod CountLemmas
 pub mod DueListLemmas
+pub mod DueOrderLemmas
 pub mod SearchLemmas
 pub mod MoveLemmas
 pub mod ReachLemmas

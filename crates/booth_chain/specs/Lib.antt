@@ -1,6 +1,7 @@
 pub mod Pool
 pub mod Wheel
 pub mod DueList
+pub mod Laws
 pub mod Buckets
 pub mod Nodes
 pub mod Links

@@ -4,6 +4,7 @@
 mod aim;
 mod buckets;
 mod chains;
+pub mod laws;
 mod link;
 mod links;
 mod node_id;
