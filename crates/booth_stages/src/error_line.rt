@@ -14,17 +14,18 @@ const LINE_BYTES: usize = 400;
 /// its bytes.
 #[derive(Drop)]
 pub struct ErrorLine {
-    bytes: ArrayVec<u8, 400>,
+    bytes: ArrayVec<u8, LINE_BYTES>,
 }
 
 impl Model for ErrorLine {
     ghost use Rattle.std.specs.Prelude.{List, ℕ, ◌≤◌, length};
+    ghost use Rattle.booth_stages.specs.declared.error_line.TheConstants.{LINE_BYTES};
 
     ghost Value = { List ℕ };
 
     ghost view = { λ c. c.bytes.items };
 
-    ghost invariant = { λ c. length c.bytes.items ≤ 400 };
+    ghost invariant = { λ c. length c.bytes.items ≤ LINE_BYTES };
 }
 
 impl ErrorLine {
@@ -39,15 +40,15 @@ impl ErrorLine {
 
     /// Appends a piece, for which there is room.
     pub fn put(&mut self, piece: &[u8])
-        requires { length self.old + length piece.now ≤ 400 }
+        requires { length self.old + length piece.now ≤ LINE_BYTES }
         ensures { self.new ≡ self.old ++ piece.now }
     {
         self.bytes.try_extend_from_slice(piece).unwrap();
     }
 
     /// Appends a number.
-    pub fn put_number(&mut self, number: u32)
-        requires { length self.old + 10 ≤ 400 }
+    pub(crate) fn put_number(&mut self, number: u32)
+        requires { length self.old + 10 ≤ LINE_BYTES }
         ensures bytes { self.new ≡ self.old ++ decimal number }
         ensures len { length self.new ≤ length self.old + 10 }
     {
@@ -63,7 +64,7 @@ impl ErrorLine {
     }
 
     /// The whole line: the program's name, and then the text.
-    pub fn spoken(&self, program: Program) -> ArrayVec<u8, 412>
+    pub(crate) fn spoken(&self, program: Program) -> ArrayVec<u8, 412>
         ensures { result.items ≡ spoken program self.now }
     {
         let mut line = ArrayVec::new();

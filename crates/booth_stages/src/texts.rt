@@ -60,7 +60,7 @@ pub fn bad_word_text(word: Word) -> ErrorLine
 }
 
 /// What is said of a file that could not be read.
-pub fn unread_text(path: &PathText) -> ErrorLine
+pub(crate) fn unread_text(path: &PathText) -> ErrorLine
     ensures { result ≡ unread_text path.now }
 {
     let mut line = ErrorLine::none();
