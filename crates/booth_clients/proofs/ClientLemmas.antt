@@ -26,7 +26,7 @@ use Rattle.booth_clients.specs.Client.{Unread, Unkeyed, Asked}
 use Rattle.booth_clients.specs.ClientRun.{FitsClientWords, IsAnswered, IsClientMade, IsClientRun, Talked, Unasked}
 use Rattle.booth_words.specs.Asking.{Asks, AsksClient, IsClient, IsUntaken, IsUntakenFor}
 use Rattle.booth_stages.specs.Unasked.{IsTold as IsTold_, IsToldOutcome, IsUnasked}
-use Rattle.booth_stages.specs.Texts.{IsText}
+use Rattle.booth_stages.specs.Texts.{IsText, out_of_memory_text}
 use Rattle.booth_words.specs.declared.asking.Asked.TheVariants.{Client}
 use Rattle.booth_words.specs.declared.program.Program.{Program}
 use Rattle.booth_words.specs.declared.program.Program.TheVariants.{Boothd}
@@ -136,9 +136,11 @@ untold asking to start failed bytes said is talk =
 -- ---- the socket and the clock
 
 module _ (asked : ClientWords) (config : ConfigSays) (key : Option (List ℕ)) where
-  pub no_room : (said : List ℕ) {a : Option (List Entry)} → said ≡ Rattle.booth_stages.specs.Texts.out_of_memory_text →
-      GrewSome (Follows asked config key outs.OutOfMemory said) a a
-  no_room said is = some_of (Follows asked config key outs.OutOfMemory said) no_entry (Socketless (is, refl))
+  pub no_room : (ended : Ended) {a : Option (List Entry)} → ended.outcome ≡ outs.OutOfMemory → ended.said ≡ out_of_memory_text →
+      GrewSome (Follows asked config key ended.outcome ended.said) a a
+  no_room ended out is =
+      some_of (Follows asked config key ended.outcome ended.said) no_entry
+      (subst (λ outcome. Follows asked config key outcome ended.said []) (sym out) (Socketless (is, refl)))
 
   pub no_socket : (said : List ℕ) (failed : Failed) {a b : Option (List Entry)} → said ≡ codes "cannot open" →
       GrewBy a b (Open None 0 [] [] (Err failed) ∷ []) → GrewSome (Follows asked config key outs.OpenFault said) a b

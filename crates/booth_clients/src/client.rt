@@ -119,10 +119,7 @@ fn converse<H: Host>(alloc: Global, asked: ClientWords, cluster: Cluster, host: 
     ensures later { H.faults host.old ≤ H.faults host.new }
 {
     let Ok(mut room) = Room::new(alloc) else {
-        return Ended {
-            outcome: Outcome::OutOfMemory,
-            said: texts::out_of_memory_text(),
-        };
+        return Ended::out_of_memory();
     };
     let to = destination(asked.site, &cluster.config);
     match open_socket(host) {

@@ -35,10 +35,7 @@ fn print<H: Host>(
     ensures later { H.faults host.old ≤ H.faults host.new }
 {
     let Ok(report) = report_of(alloc, asking, reply, bytes) else {
-        return Ended {
-            outcome: Outcome::OutOfMemory,
-            said: texts::out_of_memory_text(),
-        };
+        return Ended::out_of_memory();
     };
     match host.out(report.bytes()) {
         Ok(()) => Ended {

@@ -142,13 +142,14 @@ module _ (asked : DaemonWords) where
           (λ es un. unread_behind ended.outcome ended.said reading es un) unread)
 
       -- no memory for the node
-      pub no_node : {a b c d : Option (List Entry)} (reading : ℕ) (records : List (Option Record)) (said : List ℕ) → GrewBy a b (Now reading ∷ []) →
+      pub no_node : {a b c d : Option (List Entry)} (reading : ℕ) (records : List (Option Record)) (ended : Ended) → GrewBy a b (Now reading ∷ []) →
           GrewBy b c (Open (Some asked.site) config.port asked.records asked.conf (Ok tt) ∷ []) → GrewSome (AreKept config.tickets records) c d →
-          said ≡ out_of_memory_text → GrewSome (IsNodeOpened asked config key (Err (record { outcome = OutOfMemory; said = said }))) a d
-      no_node reading records said now_call open_call read is =
-          then_some (AreKept config.tickets records) (IsNodeOpened asked config key (Err (record { outcome = OutOfMemory; said = said })))
-          (one_more now_call open_call)
-          (λ es kept. (is, record { reading = reading; rest = es; whole = refl; here = inr (records, kept) })) read
+          ended.outcome ≡ OutOfMemory → ended.said ≡ out_of_memory_text → GrewSome (IsNodeOpened asked config key (Err ended)) a d
+      no_node reading records ended now_call open_call read out is =
+          then_some (AreKept config.tickets records) (IsNodeOpened asked config key (Err ended)) (one_more now_call open_call)
+          (λ es kept.
+          subst (λ outcome. IsUnopened asked config outcome ended.said (opening_calls asked config reading (Ok tt) ++ es)) (sym out)
+          (is, record { reading = reading; rest = es; whole = refl; here = inr (records, kept) })) read
 
       -- ---- the node behind the lock, or how it ends without one
 

@@ -84,10 +84,7 @@ fn open_node<H: Host>(
     let records = read_records(alloc, config.tickets(), host)?;
     match Node::open(alloc, config, key, asked.site.id(), &records, reading) {
         Ok(node) => Ok(node),
-        Err(_) => Err(Ended {
-            outcome: Outcome::OutOfMemory,
-            said: texts::out_of_memory_text(),
-        }),
+        Err(_) => Err(Ended::out_of_memory()),
     }
 }
 

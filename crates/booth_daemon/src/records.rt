@@ -43,10 +43,7 @@ pub(crate) fn read_records<H: Host>(
     ensures later { H.faults host.old ≤ H.faults host.new }
 {
     let Ok(mut records) = Vec::with_capacity(alloc, tickets.len()) else {
-        return Err(Ended {
-            outcome: Outcome::OutOfMemory,
-            said: texts::out_of_memory_text(),
-        });
+        return Err(Ended::out_of_memory());
     };
     for ticket in tickets {
         records.push_reserved(read_record(&ticket.name, host)?);

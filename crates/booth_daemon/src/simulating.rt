@@ -22,15 +22,6 @@ const EXAMPLE: &[u8] =
     b"site=\"192.168.201.100\"\nsite=\"192.168.202.100\"\narbitrator=\"192.168.203.100\"\n\
     ticket=\"ticket-db8\"\n";
 
-fn out_of_memory() -> Ended
-    ensures { HasNoMemory result }
-{
-    Ended {
-        outcome: Outcome::OutOfMemory,
-        said: texts::out_of_memory_text(),
-    }
-}
-
 // The configuration of the example, which has no fault: only memory may be missing.
 fn example(alloc: Global) -> Result<Config, Ended>
     ensures config { IfOk result (λ config. Says example_text config) }
@@ -38,7 +29,7 @@ fn example(alloc: Global) -> Result<Config, Ended>
 {
     match Config::parse(alloc, EXAMPLE) {
         Ok(config) => Ok(config),
-        Err(_) => Err(out_of_memory()),
+        Err(_) => Err(Ended::out_of_memory()),
     }
 }
 
@@ -85,7 +76,7 @@ fn run<H: Host>(alloc: Global, config: Config, asked: &SimulationWords, host: &m
 {
     match run_cluster(alloc, config, asked.events, asked.number) {
         Ok(summary) => print(&summary, host),
-        Err(_) => out_of_memory(),
+        Err(_) => Ended::out_of_memory(),
     }
 }
 

@@ -59,9 +59,6 @@ pub fn read_config<H: Host>(alloc: Global, path: &PathText, host: &mut H) -> Res
             outcome: Outcome::ConfUnread,
             said: texts::unread_text(path),
         }),
-        Err(ReadFault::NoMemory) => Err(Ended {
-            outcome: Outcome::OutOfMemory,
-            said: texts::out_of_memory_text(),
-        }),
+        Err(ReadFault::NoMemory) => Err(Ended::out_of_memory()),
     }
 }

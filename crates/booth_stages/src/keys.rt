@@ -42,10 +42,7 @@ fn from_file<H: Host>(alloc: Global, path: &PathText, host: &mut H) -> Result<Ke
             outcome: Outcome::KeyUnread,
             said: texts::unread_text(path),
         }),
-        Err(ReadFault::NoMemory) => Err(Ended {
-            outcome: Outcome::OutOfMemory,
-            said: texts::out_of_memory_text(),
-        }),
+        Err(ReadFault::NoMemory) => Err(Ended::out_of_memory()),
     }
 }
 

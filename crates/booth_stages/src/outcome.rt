@@ -1,8 +1,9 @@
 //! How a run ends: the outcome and its exit status.
 ghost use Rattle.std.specs.Prelude.{◌≡◌};
-ghost use Rattle.booth_stages.specs.Texts.{status_of};
+ghost use Rattle.booth_stages.specs.Texts.{out_of_memory_text, status_of};
 
 use crate::error_line::ErrorLine;
+use crate::texts;
 use booth_auth::KeyFault;
 use booth_conf::ConfFault;
 use booth_words::Word;
@@ -80,4 +81,17 @@ impl Outcome {
 pub struct Ended {
     pub outcome: Outcome,
     pub said: ErrorLine,
+}
+
+impl Ended {
+    /// How a run ends where there was no memory.
+    pub fn out_of_memory() -> Ended
+        ensures outcome { result.outcome ≡ Outcome.OutOfMemory }
+        ensures said { result.said ≡ out_of_memory_text }
+    {
+        Ended {
+            outcome: Outcome::OutOfMemory,
+            said: texts::out_of_memory_text(),
+        }
+    }
 }

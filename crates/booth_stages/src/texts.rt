@@ -132,7 +132,7 @@ pub(crate) fn key_fault_text(fault: KeyFault) -> ErrorLine
 }
 
 /// What is said of want of memory.
-pub fn out_of_memory_text() -> ErrorLine
+pub(crate) fn out_of_memory_text() -> ErrorLine
     ensures { result ≡ out_of_memory_text }
 {
     line_of(b"out of memory")

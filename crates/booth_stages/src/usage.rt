@@ -3,7 +3,6 @@ ghost use Rattle.std.specs.Prelude.{◌≡◌, ◌≤◌, true, false};
 ghost use Rattle.clap.specs.Words.{kind_of};
 ghost use Rattle.booth_host.specs.Past.{GrewSome};
 ghost use Rattle.booth_stages.specs.Outcomes.{HasBlame};
-ghost use Rattle.booth_stages.specs.Texts.{out_of_memory_text};
 ghost use Rattle.booth_stages.specs.Unasked.{IsTold, IsToldOutcome, is_request};
 
 use crate::error_line::ErrorLine;
@@ -65,16 +64,6 @@ fn complain<H: Host>(kind: ErrorKind, text: &str, host: &mut H) -> Ended
     }
 }
 
-fn out_of_memory() -> Ended
-    ensures outcome { result.outcome ≡ Outcome.OutOfMemory }
-    ensures said { result.said ≡ out_of_memory_text }
-{
-    Ended {
-        outcome: Outcome::OutOfMemory,
-        said: texts::out_of_memory_text(),
-    }
-}
-
 // Tells an error of this kind.
 fn tell_kind<H: Host>(alloc: Global, error: &Error, kind: ErrorKind, host: &mut H) -> Ended
     requires { kind ≡ ErrorKind.OutOfMemory → ⊥ }
@@ -84,7 +73,7 @@ fn tell_kind<H: Host>(alloc: Global, error: &Error, kind: ErrorKind, host: &mut 
     ensures later { H.faults host.old ≤ H.faults host.new }
 {
     let Ok(text) = text_of(alloc, error) else {
-        return out_of_memory();
+        return Ended::out_of_memory();
     };
     if is_request(kind) {
         print(kind, text.as_str(), host)
@@ -102,7 +91,7 @@ pub fn tell_error<H: Host>(alloc: Global, error: &Error, host: &mut H) -> Ended
     ensures later { H.faults host.old ≤ H.faults host.new }
 {
     match error.kind() {
-        ErrorKind::OutOfMemory => out_of_memory(),
+        ErrorKind::OutOfMemory => Ended::out_of_memory(),
         kind => tell_kind(alloc, error, kind, host),
     }
 }

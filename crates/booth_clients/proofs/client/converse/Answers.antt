@@ -3,7 +3,8 @@ use Rattle.booth_clients.proofs.client.converse.Goals as goal
 
 pub returns-in_default-clause-past : goal.returns-in_default-clause-past
 returns-in_default-clause-past g c =
-    no_room c.args.asked c.args.cluster.config c.args.cluster.key c.out_of_memory_text.result c.out_of_memory_text.ensures
+    no_room c.args.asked c.args.cluster.config c.args.cluster.key c.out_of_memory.result c.out_of_memory.ensures.outcome
+    c.out_of_memory.ensures.said
 
 pub returns-clause-past : goal.returns-clause-past
 returns-clause-past g c =

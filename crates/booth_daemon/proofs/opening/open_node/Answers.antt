@@ -38,6 +38,7 @@ returns-in-Ok-open-clause-past g c =
 pub returns-clause-past : goal.returns-clause-past
 returns-clause-past g c =
     no_node c.args.asked.now c.args.config c.args.key c.now-reading.result
-    c.in_ok-records.records.items c.out_of_memory_text.result
+    c.in_ok-records.records.items c.out_of_memory.result
     c.now-reading.ensures.past (rw c.port.ensures at c.in-Ok.ensures.past)
-    (rw c.tickets.ensures.value at c.in_ok-records.ensures.past) c.out_of_memory_text.ensures
+    (rw c.tickets.ensures.value at c.in_ok-records.ensures.past) c.out_of_memory.ensures.outcome
+    c.out_of_memory.ensures.said
