@@ -26,7 +26,7 @@ use Rattle.booth_stages.specs.declared.outcome.Outcome.TheVariants as outs
 use Rattle.booth_stages.specs.declared.outcome.Ended.{Ended}
 use Rattle.booth_clients.specs.declared.client.Cluster.{Cluster}
 use Rattle.booth_words.specs.declared.asking.ClientWords.{ClientWords}
-use Rattle.booth_stages.specs.Texts.{unprinted_text, out_of_memory_text}
+use Rattle.booth_stages.specs.Texts.{unopened_text, unprinted_text, out_of_memory_text}
 use Rattle.booth_stages.specs.Keys.{HasKey, IsKeyless, key_calls}
 use Rattle.booth_stages.specs.Configuration.{IsUnread}
 
@@ -126,7 +126,7 @@ pub record IsTold (asking : Asking) (to : Peer) (start : ℕ) (outcome : Outcome
 
 -- the socket failed, or there was no memory before it
 abbrev pub IsSocketless : Outcome → List ℕ → List Entry → Type 0
-IsSocketless outs.OpenFault said entries = (said ≡ codes "cannot open")
+IsSocketless outs.OpenFault said entries = (said ≡ unopened_text)
     × (failed : Failed) × (entries ≡ Open None 0 [] [] (Err failed) ∷ [])
 IsSocketless outs.OutOfMemory said entries = (said ≡ out_of_memory_text) × (entries ≡ [])
 IsSocketless outcome said entries = ⊥

@@ -127,7 +127,7 @@ fn converse<H: Host>(alloc: Global, asked: ClientWords, cluster: Cluster, host: 
         Err(Failed) => {
             return Ended {
                 outcome: Outcome::OpenFault,
-                said: texts::line_of(b"cannot open"),
+                said: texts::unopened_text(),
             };
         }
     }

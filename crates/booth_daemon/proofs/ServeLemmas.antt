@@ -1,5 +1,5 @@
 -- The calls of a daemon, stage by stage.
-use Rattle.std.specs.Prelude.{Option, Some, Result, Ok, Err, IsErr, IsErrAnd, IfErr, codes}
+use Rattle.std.specs.Prelude.{Option, Some, Result, Ok, Err, IsErr, IsErrAnd, IfErr}
 use Rattle.std.proofs.Common.{◌≡◌, ◌≤◌, ℕ, List, [], ◌∷◌, ◌++◌, refl, sym, arith, ap}
 use Rattle.std.proofs.Common.{◌∙◌, append_assoc, subst, inl, inr}
 use Rattle.booth_words.specs.declared.asking.DaemonWords.{DaemonWords}
@@ -19,7 +19,7 @@ use Rattle.booth_stages.specs.declared.outcome.Ended.{Ended}
 use Rattle.booth_stages.specs.declared.outcome.Outcome.{Outcome}
 use Rattle.booth_stages.specs.declared.outcome.Outcome.TheVariants.{ConfUnread, KeyUnread, LockFault, OpenFault}
 use Rattle.booth_stages.specs.declared.outcome.Outcome.TheVariants.{RecordUnread, PrintFault, OutOfMemory, SendFault}
-use Rattle.booth_stages.specs.Texts.{out_of_memory_text}
+use Rattle.booth_stages.specs.Texts.{out_of_memory_text, unopened_text}
 use Rattle.booth_daemon.specs.Fitness.{IsAdmitted}
 use Rattle.booth_daemon.specs.Records.{AreKept, AreUnread}
 use Rattle.booth_stages.specs.Configuration.{IsConfigRead}
@@ -121,7 +121,7 @@ module _ (asked : DaemonWords) where
 
       -- a socket that was not opened
       pub not_opened : {a b c : Option (List Entry)} (reading : ℕ) (failed : Failed) (said : List ℕ) → GrewBy a b (Now reading ∷ []) →
-          GrewBy b c (Open (Some asked.site) config.port asked.records asked.conf (Err failed) ∷ []) → said ≡ codes "cannot open" →
+          GrewBy b c (Open (Some asked.site) config.port asked.records asked.conf (Err failed) ∷ []) → said ≡ unopened_text →
           GrewSome (IsNodeOpened asked config key (Err (record { outcome = OpenFault; said = said }))) a c
       not_opened reading failed said now_call open_call is =
           some_of (IsNodeOpened asked config key (Err (record { outcome = OpenFault; said = said }))) (one_more now_call open_call) (is, reading, failed, refl)

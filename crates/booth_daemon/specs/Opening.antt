@@ -17,8 +17,7 @@ use Rattle.booth_stages.specs.declared.outcome.Outcome.TheVariants.{LockFault, R
 use Rattle.booth_stages.specs.declared.outcome.Outcome.TheVariants.{OutOfMemory}
 use Rattle.booth_stages.specs.declared.outcome.Ended.{Ended}
 use Rattle.booth_words.specs.declared.asking.DaemonWords.{DaemonWords}
-use Rattle.booth_stages.specs.Texts.{unlocked_text}
-use Rattle.booth_stages.specs.Texts.{out_of_memory_text}
+use Rattle.booth_stages.specs.Texts.{unlocked_text, unopened_text, out_of_memory_text}
 use Rattle.booth_stages.specs.Keys.{HasKey, key_calls}
 use Rattle.booth_daemon.specs.Fitness.{IsFit}
 use Rattle.booth_daemon.specs.Records.{AreKept, AreNoneOrAll, IsRecordUnread}
@@ -70,7 +69,7 @@ pub record IsBehindSocket (asked : DaemonWords) (config : ConfigSays) (after : L
 
 -- the socket failed, or a record could not be read, or there is no memory for the records or for the node
 abbrev pub IsUnopened : DaemonWords → ConfigSays → Outcome → List ℕ → List Entry → Type 0
-IsUnopened asked config OpenFault said entries = (said ≡ codes "cannot open")
+IsUnopened asked config OpenFault said entries = (said ≡ unopened_text)
     × (reading : ℕ) × (failed : Failed) × (entries ≡ opened asked config reading (Err failed))
 IsUnopened asked config RecordUnread said entries =
     IsBehindSocket asked config (IsRecordUnread config.tickets said) entries

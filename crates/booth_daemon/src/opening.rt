@@ -77,7 +77,7 @@ fn open_node<H: Host>(
         Err(Failed) => {
             return Err(Ended {
                 outcome: Outcome::OpenFault,
-                said: texts::line_of(b"cannot open"),
+                said: texts::unopened_text(),
             });
         }
     }

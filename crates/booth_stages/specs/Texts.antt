@@ -72,6 +72,9 @@ unread_record_text name = codes "cannot read the record of " ++ name
 abbrev pub unlocked_text : List ℕ → List ℕ
 unlocked_text path = codes "cannot lock " ++ path
 
+abbrev pub unopened_text : List ℕ
+unopened_text = codes "cannot open"
+
 abbrev pub unprinted_text : List ℕ
 unprinted_text = codes "cannot print"
 

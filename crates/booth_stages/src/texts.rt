@@ -3,9 +3,9 @@ ghost use Rattle.std.specs.Prelude.{◌≡◌, ◌≤◌, ◌+◌, ◌++◌, [],
 ghost use Rattle.std.specs.Prelude.{unwrap_or};
 ghost use Rattle.booth_base.specs.Address.{printed};
 ghost use Rattle.booth_stages.specs.Texts.{usage_text, bad_word_text, unread_text, unread_record_text};
-ghost use Rattle.booth_stages.specs.Texts.{unlocked_text, unprinted_text, not_member_text, key_name};
-ghost use Rattle.booth_stages.specs.Texts.{key_fault_text, out_of_memory_text, file_text, at_line};
-ghost use Rattle.booth_stages.specs.Texts.{IsTicketText, IsFaultText};
+ghost use Rattle.booth_stages.specs.Texts.{unlocked_text, unopened_text, unprinted_text};
+ghost use Rattle.booth_stages.specs.Texts.{not_member_text, key_name, key_fault_text, out_of_memory_text};
+ghost use Rattle.booth_stages.specs.Texts.{file_text, at_line, IsTicketText, IsFaultText};
 
 use crate::Word;
 use crate::error_line::ErrorLine;
@@ -77,6 +77,13 @@ pub fn unlocked_text(path: &PathText) -> ErrorLine
     line.put(b"cannot lock ");
     line.put(path.as_str().as_bytes());
     line
+}
+
+/// What is said where the socket or the directory of the records could not be opened.
+pub fn unopened_text() -> ErrorLine
+    ensures { result ≡ unopened_text }
+{
+    line_of(b"cannot open")
 }
 
 /// What is said where the record of this ticket could not be read.

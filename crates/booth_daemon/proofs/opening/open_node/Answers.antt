@@ -10,8 +10,8 @@ use Rattle.booth_daemon.proofs.opening.open_node.Goals as goal
 pub returns-in-Err-clause-past : goal.returns-in-Err-clause-past
 returns-in-Err-clause-past g c =
     not_opened c.args.asked.now c.args.config c.args.key c.now-reading.result c.in-Err.field-0
-    c.line_of.result c.now-reading.ensures.past (rw c.port.ensures at c.in-Err.ensures.past)
-    c.line_of.ensures
+    c.unopened_text.result c.now-reading.ensures.past (rw c.port.ensures at c.in-Err.ensures.past)
+    c.unopened_text.ensures
 
 pub returns-in_err-records-clause-past : goal.returns-in_err-records-clause-past
 returns-in_err-records-clause-past g c =
