@@ -26,7 +26,7 @@ use Rattle.booth_clients.specs.Client.{Unread, Unkeyed, Asked}
 use Rattle.booth_clients.specs.ClientRun.{FitsClientWords, IsAnswered, IsClientMade, IsClientRun, Talked, Unasked}
 use Rattle.booth_words.specs.Asking.{Asks, AsksClient, IsClient, IsUntaken, IsUntakenFor}
 use Rattle.booth_stages.specs.Unasked.{IsTold as IsTold_, IsToldOutcome, IsUnasked}
-use Rattle.booth_stages.specs.Texts.{IsText, out_of_memory_text, unopened_text}
+use Rattle.booth_stages.specs.Texts.{IsText, out_of_memory_text}
 use Rattle.booth_words.specs.declared.asking.Asked.TheVariants.{Client}
 use Rattle.booth_words.specs.declared.program.Program.{Program}
 use Rattle.booth_words.specs.declared.program.Program.TheVariants.{Boothd}
@@ -141,10 +141,6 @@ module _ (asked : ClientWords) (config : ConfigSays) (key : Option (List ℕ)) w
   no_room ended out is =
       some_of (Follows asked config key ended.outcome ended.said) no_entry
       (subst (λ outcome. Follows asked config key outcome ended.said []) (sym out) (Socketless (is, refl)))
-
-  pub no_socket : (said : List ℕ) (failed : Failed) {a b : Option (List Entry)} → said ≡ unopened_text →
-      GrewBy a b (Open None 0 [] [] (Err failed) ∷ []) → GrewSome (Follows asked config key outs.OpenFault said) a b
-  no_socket said failed is socket = some_of (Follows asked config key outs.OpenFault said) socket (Socketless (is, failed, refl))
 
   pub conversed : (to : Peer) (start : ℕ) (outcome : Outcome) (said : List ℕ) {a b c d : Option (List Entry)} → destination asked.site config ≡ Some to →
       GrewBy a b (Open None 0 [] [] (Ok tt) ∷ []) → GrewBy b c (Now start ∷ []) →
