@@ -35,10 +35,8 @@ fn with_key<H: Host>(alloc: Global, config: Config, host: &mut H) -> Result<Clus
     ensures blame { IfErr result (λ ended. HasBlame ended.outcome (H.faults host.old) (H.faults host.new)) }
     ensures later { H.faults host.old ≤ H.faults host.new }
 {
-    match read_key(alloc, &config, host) {
-        Ok(key) => Ok(Cluster { config, key }),
-        Err(ended) => Err(ended),
-    }
+    let key = read_key(alloc, &config, host)?;
+    Ok(Cluster { config, key })
 }
 
 fn read_cluster<H: Host>(alloc: Global, path: &PathText, host: &mut H) -> Result<Cluster, Ended>
@@ -48,10 +46,8 @@ fn read_cluster<H: Host>(alloc: Global, path: &PathText, host: &mut H) -> Result
     ensures blame { IfErr result (λ ended. HasBlame ended.outcome (H.faults host.old) (H.faults host.new)) }
     ensures later { H.faults host.old ≤ H.faults host.new }
 {
-    match read_config(alloc, path, host) {
-        Ok(config) => with_key(alloc, config, host),
-        Err(ended) => Err(ended),
-    }
+    let config = read_config(alloc, path, host)?;
+    with_key(alloc, config, host)
 }
 
 fn find_site(config: &Config) -> Option<&Member>

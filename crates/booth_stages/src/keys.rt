@@ -57,8 +57,5 @@ pub fn read_key<H: Host>(alloc: Global, config: &Config, host: &mut H) -> Result
     let Some(path) = config.authfile() else {
         return Ok(None);
     };
-    match from_file(alloc, path, host) {
-        Ok(key) => Ok(Some(key)),
-        Err(ended) => Err(ended),
-    }
+    Ok(Some(from_file(alloc, path, host)?))
 }
