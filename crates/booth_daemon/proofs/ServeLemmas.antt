@@ -2,6 +2,7 @@
 use Rattle.std.specs.Prelude.{Option, Some, Result, Ok, Err, IsErr, IsErrAnd, IfErr}
 use Rattle.std.proofs.Common.{◌≡◌, ◌≤◌, ℕ, List, [], ◌∷◌, ◌++◌, refl, sym, arith, ap}
 use Rattle.std.proofs.Common.{◌∙◌, append_assoc, subst, inl, inr}
+use Rattle.booth_base.specs.declared.address.Address.{Address}
 use Rattle.booth_words.specs.declared.asking.DaemonWords.{DaemonWords}
 use Rattle.booth_conf.specs.Config.{ConfigSays}
 use Rattle.booth_rec.specs.declared.record.Record.{Record}
@@ -24,12 +25,11 @@ use Rattle.booth_daemon.specs.Fitness.{IsAdmitted}
 use Rattle.booth_daemon.specs.Records.{AreKept, AreUnread}
 use Rattle.booth_stages.specs.Configuration.{IsConfigRead}
 use Rattle.booth_stages.specs.Keys.{IsKeyRead}
-use Rattle.booth_daemon.specs.Opening.{IsLocked, IsNodeOpened, IsUnopened}
+use Rattle.booth_daemon.specs.Opening.{IsLocked, IsNodeOpened, IsReady, IsUnopened}
 use Rattle.booth_daemon.specs.Opening.{IsStarted, reads_of, opened as opening_calls, member_config}
 use Rattle.booth_daemon.specs.Serving.{IsNodeRun, IsServing, Refused, Unkeyed, Unlocked, Unopened}
 use Rattle.booth_stages.specs.Outcomes.{HasBlame}
 use Rattle.booth_daemon.specs.Serving.{Turning, IsOpened}
-use Rattle.booth_daemon.specs.Opening.{AreRead}
 
 -- ---- what `?` hands on
 
@@ -58,6 +58,12 @@ blame_since outcome a b c le blame = tt
 pub blamed : {T : Type 0} (r : Result T Ended) (ended : Ended) (a b c : ℕ) → ErrIs r ended → a ≤ b → HasBlame ended.outcome b c →
     IfErr r (λ e. HasBlame e.outcome a c)
 blamed r ended a b c is le blame = err_has (λ r. IfErr r (λ e. HasBlame e.outcome a c)) r ended is (blame_since ended.outcome a b c le blame)
+
+-- a fit configuration and its key were read
+pub record AreRead (address : Address) (path : List ℕ) (config : ConfigSays) (key : Option (List ℕ))
+    (entries : List Entry) : Type 0 where
+  pub ready : IsReady address config key
+  pub whole : entries ≡ reads_of path ready
 
 module _ (asked : DaemonWords) where
   -- ---- the ends of the opening, in their order

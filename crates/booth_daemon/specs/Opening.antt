@@ -104,9 +104,3 @@ IsNodeOpened asked config key (Ok node) entries =
     IsStarted asked config key node (Lock asked.lock (Ok true) ∷ entries)
 IsNodeOpened asked config key (Err ended) entries =
     IsUnopened asked config ended.outcome ended.said (Lock asked.lock (Ok true) ∷ entries)
-
--- a fit configuration and its key were read
-pub record AreRead (address : Address) (path : List ℕ) (config : ConfigSays) (key : Option (List ℕ))
-    (entries : List Entry) : Type 0 where
-  pub ready : IsReady address config key
-  pub whole : entries ≡ reads_of path ready
