@@ -36,8 +36,8 @@ fn releases(old: Option<Lease>, new: Option<Lease>) -> bool
     old.is_some() && new.is_none()
 }
 
-// The lease of a kept record, if it has one.
-fn lease_of(kept: &Option<Record>) -> Option<Lease>
+/// The lease of a kept record, if it has one.
+pub(crate) fn lease_of(kept: &Option<Record>) -> Option<Lease>
     ensures { result ≡ (record_or_none kept.now).lease }
 {
     match kept {

@@ -9,6 +9,7 @@ ghost use Rattle.booth_sim.specs.Standing.{AreDaemons, IsDaemon, KeepsAll};
 ghost use Rattle.booth_sim.specs.declared.clock.TheConstants.{TIMES_END};
 
 use crate::clock::reading_at;
+use crate::counting::lease_of;
 use crate::daemon::Daemon;
 use booth_conf::Config;
 use booth_rec::Record;
@@ -17,13 +18,7 @@ use booth_rec::Record;
 fn is_in_force(kept: &Option<Record>, reading: u64) -> bool
     ensures { result ≡ is_in_force (record_or_none kept.now).lease reading }
 {
-    match kept {
-        Some(record) => match record.lease {
-            Some(lease) => reading < lease.until,
-            None => false,
-        },
-        None => false,
-    }
+    lease_of(kept).is_some_and(|lease| reading < lease.until)
 }
 
 // Whether the member at a place is a site that holds the ticket at a place at a true time.
