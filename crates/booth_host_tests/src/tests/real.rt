@@ -3,8 +3,9 @@ use booth_base::{Address, Name, PathText, Peer};
 use booth_host::{Arrival, Datagram, Failed, Host, Place, ReadFault, RealHost};
 use booth_rec::{Lease, Record};
 use std::alloc::Global;
-use std::fs::File;
-use std::os::unix::fs::MetadataExt;
+use std::fs::{File, Permissions};
+use std::os::unix::fs::{MetadataExt, PermissionsExt};
+use std::process::Command;
 use std::test::Fail;
 use std::time::{Duration, Instant, SystemTime};
 use std::{fs, thread};
@@ -253,14 +254,30 @@ fn the_next_record_goes_into_the_other_slot(rt: HostRuntime) -> Result<(), Fail>
 }
 
 #[test]
-fn a_record_file_is_made_for_its_owner(rt: HostRuntime) -> Result<(), Fail> {
+fn records_are_made_for_their_owner(rt: HostRuntime) -> Result<(), Fail> {
     let mut host = keeper(&rt, "booth-host-owner")?;
+    assert_eq!(rt; mode(&rt, "booth-host-owner")?, 0o700);
     assert!(rt; host.keep(&ticket()?, &Record::plain(1, None)).is_ok());
     assert_eq!(rt;
         mode(&rt, "booth-host-owner/7469636b65742d646238.rec")?,
         0o600
     );
     fs::remove_dir_all(&rt, "booth-host-owner")?;
+    Ok(())
+}
+
+// (whoever runs this as root may look anywhere)
+#[test]
+fn a_directory_that_was_there_is_kept_in(rt: HostRuntime) -> Result<(), Fail> {
+    let (above, directory) = ("booth-host-above", "booth-host-above/records");
+    fs::create_dir_all(&rt, directory)?;
+    fs::set_permissions(&rt, directory, Permissions::from_mode(0o755))?;
+    fs::set_permissions(&rt, above, Permissions::from_mode(0o311))?;
+    let record = Record::plain(1, None);
+    assert!(rt; passed_on(&rt, directory, &record)? == Some(record));
+    assert_eq!(rt; mode(&rt, directory)?, 0o755);
+    fs::set_permissions(&rt, above, Permissions::from_mode(0o755))?;
+    fs::remove_dir_all(&rt, above)?;
     Ok(())
 }
 
@@ -332,5 +349,23 @@ fn a_lock_that_cannot_be_is_a_failure(rt: HostRuntime) -> Result<(), Fail> {
     assert!(rt; host.lock(other) == Err(Failed), "one lock is held");
     fs::remove_file(&rt, path)?;
     fs::remove_file(&rt, other)?;
+    Ok(())
+}
+
+// (to open a named pipe that nobody writes to would not end)
+#[test]
+fn a_lock_is_of_a_regular_file(rt: HostRuntime) -> Result<(), Fail> {
+    let pipe = "booth-host-pipe";
+    let made = Command::new(rt.alloc(), "mkfifo")?.arg(pipe)?.status(&rt)?;
+    assert!(rt; made.success());
+    let mut host = new_host(&rt)?;
+    for path in [pipe, ".", "/dev/null"] {
+        assert!(rt; host.lock(path) == Err(Failed), "{path}");
+    }
+    fs::remove_file(&rt, pipe)?;
+    fs::create_dir_all(&rt, "booth-host-locked/booth.lock")?;
+    let opened = host.open(&place(None, 0, "booth-host-locked")?);
+    assert!(rt; opened.is_err(), "the lock of a directory of records");
+    fs::remove_dir_all(&rt, "booth-host-locked")?;
     Ok(())
 }
