@@ -13,7 +13,7 @@ use clap::error::ErrorKind;
 #[derive(Clone, Copy, Debug, PartialEq, Eq)]
 pub enum Outcome {
     /// The end was asked for, or the turns that were asked for were made; or a daemon runs, and that was
-    /// printed.
+    /// printed; or a simulation's counts were printed.
     Done,
     /// A daemon did or began what it was asked for, and that was printed.
     Report,

@@ -81,13 +81,13 @@ fn run(rt: HostRuntime, alloc: Global, asked: Asked) -> Result<(), Failed> {
 fn main(rt: HostRuntime) -> ExitCode {
     let alloc = rt.alloc();
     let mut stderr = rt.stderr();
-    let said = match asked_by_words(&rt, alloc) {
+    let line: &[u8] = match asked_by_words(&rt, alloc) {
         Some(asked) => match run(rt, alloc, asked) {
             Ok(()) => return ExitCode::SUCCESS,
-            Err(Failed) => stderr.write_all(b"keeps: a device failed\n"),
+            Err(Failed) => b"keeps: a device failed\n",
         },
-        None => stderr.write_all(b"usage: keeps DIRECTORY COUNT\n"),
+        None => b"usage: keeps DIRECTORY COUNT\n",
     };
-    let _ = said;
+    let _ = stderr.write_all(line);
     ExitCode::FAILURE
 }

@@ -15,9 +15,10 @@ const ENTRY: std::ops::Range<usize> = 8..48;
 /// An open reads once and syncs once.
 const CALLS: u64 = 2;
 
-/// The record before the put, in the second slot, and that of the put, which goes into the first.
+/// The term of the record before the put, which is in the second slot.
 const OLD: u32 = 6;
 
+/// The term of the record of the put, which goes into the first slot.
 const NEW: u32 = 7;
 
 type File = [u8; FILE_BYTES];
@@ -32,7 +33,7 @@ fn file(commit: u8, number: u8, term: u8) -> File {
     bytes[64] = 1;
     bytes[79] = 2;
     bytes[83] = 1;
-    bytes[87] = 6;
+    bytes[87] = OLD as u8;
     bytes
 }
 

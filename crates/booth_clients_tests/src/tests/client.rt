@@ -9,8 +9,6 @@ use booth_host::MemoryHost;
 use std::alloc::Global;
 use std::process::Abort;
 
-const GRANT: &str = "grant ticket-db8 -c/etc/booth.conf";
-
 const REVOKE: &str = "revoke ticket-db8 -c/etc/booth.conf";
 
 const KEYED: &str = "site=\"192.168.201.100\"\nsite=\"192.168.202.100\"\n\
