@@ -29,7 +29,8 @@ pub fn cut_runs_are_sessions()
     ensures { CutRunsAreSessions }
 {}
 
-/// Each run of a daemon that ends with Done or TurnsSpent made its whole opening and then turns, so it has such a session.
+/// Each run of a daemon that ends with Done or TurnsSpent made its whole opening and then turns, so it has such a
+/// session.
 pub fn daemons_turn()
     ensures { DaemonsTurn }
 {}

@@ -30,8 +30,10 @@ says (happenings.Turn place arrival bytes) = Turns place arrival bytes
 says (happenings.Restart place) = Restarts place
 
 -- where these frames are kept as sent, this is what the event of this number is
-pub record IsWhatHappens (config : ConfigSays) (frames : List SentFrame) (event : ℕ) (draw : Draw) (said : HappeningOf) : Type 0 where
-  pub is : (before : List WorldEntry) → frames ≡ kept_frames config before → says said ≡ happening config before event draw
+pub record IsWhatHappens (config : ConfigSays) (frames : List SentFrame) (event : ℕ) (draw : Draw)
+    (said : HappeningOf) : Type 0 where
+  pub is : (before : List WorldEntry) → frames ≡ kept_frames config before →
+      says said ≡ happening config before event draw
 
 -- it happens at a member, and is no end
 abbrev pub CanHappen : ConfigSays → Happening → Type 0

@@ -58,8 +58,8 @@ GivesTermBack w name m time after (Makes (calls.Keep ticket rec (Ok done))) rele
     × GoesOnToRevoke w name rec.term m after
 GivesTermBack w name m time after what release = ⊥
 
--- the node has this state, and no deed of a turn is left: it stands between two turns, or has the answer of a next and is
--- to read its clock
+-- the node has this state, and no deed of a turn is left: it stands between two turns, or has the answer of a next and
+-- is to read its clock
 abbrev pub RestsIn : Stand → State → Type 0
 RestsIn (Doing node (Ends state)) resting = state ≡ resting
 RestsIn (Hearing node old answer bytes) resting = old ≡ resting
@@ -108,11 +108,11 @@ pub record Knows (w : World) (place : ℕ) (ticket : TicketConf) (m : ℕ) (rest
   pub agrees : Agrees (cluster_of w ticket.times) (id_at w) state.facts m view (state.member m)
 
 -- Steps from the opening state up to this moment. After them the records that a member may have kept are the entries',
--- and that which the member's turn is to keep next; where a node rests between its turns, what it knows of the ticket is
--- what its member is; each release is an entry's, after which the member's turn goes on to tell the others; each round was
--- opened, and each answer given, at a reading that is an entry's, by the member that took it; each message that an entry
--- sent says a fact: that a round was opened, or answered, or a term released; and the ticket is held at each member that
--- holds it.
+-- and that which the member's turn is to keep next; where a node rests between its turns, what it knows of the ticket
+-- is what its member is; each release is an entry's, after which the member's turn goes on to tell the others; each
+-- round was opened, and each answer given, at a reading that is an entry's, by the member that took it; each message
+-- that an entry sent says a fact: that a round was opened, or answered, or a term released; and the ticket is held at
+-- each member that holds it.
 pub record HasShadow (w : World) (place : ℕ) (ticket : TicketConf) (moment : Moment w) : Type 0 where
   pub steps : List WorldStep
   pub run : IsRun (cluster_of w ticket.times) (opening (cluster_of w ticket.times)) steps

@@ -1,4 +1,5 @@
-//! Keeps one record after another of a ticket over the real host, and says each once it is kept: `keeps DIRECTORY COUNT`.
+//! Keeps one record after another of a ticket over the real host, and says each once it is kept: `keeps DIRECTORY
+//! COUNT`.
 //!
 //! Tests end it at any moment and read what it left.
 #![tactic(auto)]

@@ -1,8 +1,8 @@
 //! A pool of many linked nodes and a timer of many slots, at the sizes of its words.
 //!
-//! `many_nodes remove ITEMS` removes items from the middle of one list, `many_nodes ask SLOTS UNTIL` asks a timer in which
-//! nothing is due, and `many_nodes renew SLOTS SPREAD UNTIL` sets each slot anew once it is due. Without words it removes and
-//! asks at small sizes.
+//! `many_nodes remove ITEMS` removes items from the middle of one list, `many_nodes ask SLOTS UNTIL` asks a timer in
+//! which nothing is due, and `many_nodes renew SLOTS SPREAD UNTIL` sets each slot anew once it is due. Without words it
+//! removes and asks at small sizes.
 #![tactic(auto)]
 
 mod asking;

@@ -1,5 +1,6 @@
-//! Reads what torn writes leave of a record file: each byte string of one and of two bytes, in each place that a step of a
-//! put writes, opened over a disk in memory. It says how many were read, and fails at the first that is neither record.
+//! Reads what torn writes leave of a record file: each byte string of one and of two bytes, in each place that a step
+//! of a put writes, opened over a disk in memory. It says how many were read, and fails at the first that is neither
+//! record.
 #![tactic(auto)]
 
 use booth_rec::{MemoryDisk, Record, Slots};

@@ -1,8 +1,8 @@
 //! A script of what comes, as text.
 //!
-//! It is a line a step: the reading, and then `nothing`, `failure`, `bytes` and hexadecimal words of a client, or a frame
-//! that was sent at 0: from whom, command, request, options and result. Behind them stand the leader, term and seconds of the ticket; or ` = ` and a text, in which `/` ends
-//! a line; or ` long ` and of how many letters a text is.
+//! It is a line a step: the reading, and then `nothing`, `failure`, `bytes` and hexadecimal words of a client, or a
+//! frame that was sent at 0: from whom, command, request, options and result. Behind them stand the leader, term and
+//! seconds of the ticket; or ` = ` and a text, in which `/` ends a line; or ` long ` and of how many letters a text is.
 use super::{CLIENT, byte_text, host, scripted};
 use booth_base::{Address, ByteText, Peer};
 use booth_host::{Arrival, Failed, MemoryHost, Step};

@@ -1,9 +1,9 @@
 //! Whole runs over a script, from what comes to the calls as text.
 //!
 //! What comes is a line a step: the reading, and then `nothing`, `failure`, `list` for a client's list request,
-//! `ends`, the number of a job and a status, `bytes` and hexadecimal words of a client, or a frame that was sent at 0: from whom, command, request, options
-//! and result. Behind them stand the leader, term and seconds of the ticket; or ` = ` and a text, in which `/` ends
-//! a line; or ` long ` and of how many letters a text is.
+//! `ends`, the number of a job and a status, `bytes` and hexadecimal words of a client, or a frame that was sent at 0:
+//! from whom, command, request, options and result. Behind them stand the leader, term and seconds of the ticket; or
+//! ` = ` and a text, in which `/` ends a line; or ` long ` and of how many letters a text is.
 use super::transcript::transcript;
 use super::{CLIENT, REQUEST, add, byte_text, run, scripted};
 use booth_base::{Address, ByteText, Name, Peer};
