@@ -93,7 +93,7 @@ pub safe_run : {a b : Option (List Entry)} (words : List (List ℕ)) (outcome : 
     → GrewSome (IsRun words outcome) a b → GrewSome (IsSafe words outcome) a b
 safe_run words outcome one_holder terms ran =
     some_weaker (IsRun words outcome) (IsSafe words outcome) (λ entries run. record {
-        turned = daemons_turn words outcome entries run;
-        is_session = λ turns. runs_are_sessions turns.asked outcome turns.said turns.body turns.turning;
-        in_worlds = λ w is session. (one_holder w is, terms w is);
-      }) ran
+      turned = daemons_turn words outcome entries run;
+      is_session = λ turns. runs_are_sessions turns.asked outcome turns.said turns.body turns.turning;
+      in_worlds = λ w is session. (one_holder w is, terms w is);
+    }) ran

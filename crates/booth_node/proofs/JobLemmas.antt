@@ -1,5 +1,5 @@
 -- Jobs: one is started, and the end of one is told to each ticket.
-use Rattle.std.proofs.Common.{◌≡◌, Bool, ℕ, suc, ◌+◌, ◌-◌, ◌<◌, List, [], ◌∷◌, refl, sym, ap, subst, arith}
+use Rattle.std.proofs.Common.{◌≡◌, Bool, ℕ, suc, ◌+◌, ◌-◌, ◌<◌, List, [], ◌∷◌, refl, ap, subst, arith}
 use Rattle.std.specs.Prelude.{Option, Result, is_ok}
 use Rattle.std.specs.List.{range_with_len}
 use Rattle.booth_base.specs.Tree.{Deeds, Ends, Leads}

@@ -3,7 +3,7 @@
 use Rattle.std.proofs.Common.{◌≡◌, inl, ℕ, Bool, true, false, List, [], ◌∷◌, ◌++◌, refl, sym, ap, ◌∙◌, subst, append-nil, if◌then◌else◌}
 use Rattle.std.specs.Prelude.{Option, Some, None}
 use Rattle.std.specs.Option.{is_some}
-use Rattle.booth_base.specs.Tree.{Deeds, Ends, Does, Leads}
+use Rattle.booth_base.specs.Tree.{Deeds, Ends, Leads}
 use Rattle.booth_wire.specs.declared.message.Head.{Head}
 use Rattle.booth_wire.specs.declared.message.TicketPart.{TicketPart}
 use Rattle.booth_wire.specs.declared.message.Setup.{Setup}
@@ -24,13 +24,13 @@ use Rattle.booth_ticket.specs.declared.waiters.Waiter.{Waiter}
 use Rattle.booth_ticket.specs.Acts.{Ask, Keep, Start, Act, IsAct}
 use Rattle.booth_ticket.specs.Manual.{ManualKnown, ManualLeft, manual_heard, manual_state}
 use Rattle.booth_ticket.specs.ManualHandling.{grants_after, greeting, is_awaited, is_late, limit_due, manual_due, manual_over, tells_of}
-use Rattle.booth_ticket.specs.ManualRequests.{as_waiting, begun_by_hand, done_by_hand, manual_asked, manual_reply, refused_by_hand, result_of_keep, says_of_keep, tried, tries_for, waits_for, wants_handler}
+use Rattle.booth_ticket.specs.ManualRequests.{as_waiting, begun_by_hand, done_by_hand, manual_asked, manual_reply, refused_by_hand, result_of_keep, tried, tries_for, waits_for, wants_handler}
 use Rattle.booth_ticket.specs.Requests.{reply_cmd}
 use Rattle.booth_ticket.specs.Ticket.{TicketLeft, by_hand, left_by_hand}
-use Rattle.booth_ticket.specs.Waiting.{joined, staying, tell_each}
+use Rattle.booth_ticket.specs.Waiting.{joined, staying}
 use Rattle.booth_ticket.proofs.ManualSpeechLemmas.{greeting_speaks, hearing_speaks, keep_speaks}
 use Rattle.booth_node.proofs.PathLemmas.{Split, at_end, split}
-use Rattle.booth_node.proofs.ReachLemmas.{Replies, Talks, Tells, among_joined, done_last, replied_last, said, same_ask, talks_more, talks_none, talks_on, told_last}
+use Rattle.booth_node.proofs.ReachLemmas.{Replies, Talks, Tells, among_joined, done_last, replied_last, said, same_ask, talks_more, talks_none, told_last}
 
 module _ (setup : Setup) (waiters : List Waiter) (left : ManualLeft) where
   -- the acts of a path reach members and those that wait alone, and those that wait stay

@@ -1,10 +1,7 @@
 -- Whom the acts of a ticket reach: members and the clients that wait for it, but for the reply to who asked, which comes
 -- last.
-use Rattle.std.proofs.Common.{◌≡◌, ◌⊎◌, inl, inr, ℕ, ◌/◌, ◌&&◌, Bool, true, false, List, [], ◌∷◌, ◌++◌, refl, sym, ap, ◌∙◌, subst, append_assoc, append-nil, if◌then◌else◌}
+use Rattle.std.proofs.Common.{◌≡◌, ◌⊎◌, inl, inr, ℕ, ◌/◌, ◌&&◌, Bool, true, false, List, [], ◌∷◌, ◌++◌, refl, sym, ap, ◌∙◌, subst, append-nil, if◌then◌else◌}
 use Rattle.std.specs.Prelude.{Option, Some, None, nat_le}
-use Rattle.std.specs.List.{filter}
-use Rattle.std.specs.Option.{is_none}
-use Rattle.booth_base.specs.declared.address.Peer.{Peer}
 use Rattle.booth_base.specs.Tree.{Deeds, Ends, Does, Leads}
 use Rattle.booth_conf.specs.declared.tickets.GrantKind.{GrantKind}
 use Rattle.booth_conf.specs.declared.tickets.GrantKind.TheVariants.{Auto, Manual}
@@ -15,10 +12,7 @@ use Rattle.booth_wire.specs.declared.codes.reasons.TheConstants.{ADMN, LOCF, TLS
 use Rattle.booth_wire.specs.declared.message.Head.{Head}
 use Rattle.booth_wire.specs.declared.message.TicketPart.{TicketPart}
 use Rattle.booth_wire.specs.declared.message.Setup.{Setup}
-use Rattle.booth_wire.specs.declared.message.Say.{Say as Words}
-use Rattle.booth_wire.specs.declared.message.Say.TheVariants as words
 use Rattle.booth_raft.specs.declared.deed.Note.TheVariants.{Asked as WasAsked, AskFailed as AcquisitionFailed, JobOver as JobIsOver, Unready}
-use Rattle.booth_raft.specs.declared.deed.Told.{Told}
 use Rattle.booth_raft.specs.declared.deed.Told.TheVariants as tells
 use Rattle.booth_raft.specs.declared.deed.Want.{Want}
 use Rattle.booth_raft.specs.declared.deed.Want.TheVariants as wants
@@ -27,33 +21,30 @@ use Rattle.booth_raft.specs.AskAndRenew.{acquisition_failed, are_terms_spent, as
 use Rattle.booth_raft.specs.Deadlines.{due_now, greeted, hello}
 use Rattle.booth_raft.specs.GainReleaseLost.{lost, own_end, release}
 use Rattle.booth_raft.specs.Members.{is_promised_elsewhere, is_working}
-use Rattle.booth_raft.specs.Messages.{head_of, state_part}
+use Rattle.booth_raft.specs.Messages.{state_part}
 use Rattle.booth_raft.specs.Notes.{handler_failed, noted}
 use Rattle.booth_raft.specs.OtherMessages.{hear}
 use Rattle.booth_raft.specs.Outcome.{Outcome, quiet, telling}
-use Rattle.booth_raft.specs.Speech.{IsOwn, IsSpeech, Speaks}
+use Rattle.booth_raft.specs.Speech.{Speaks}
 use Rattle.booth_raft.proofs.FactsLemmas.{on_cond, on_role}
 use Rattle.booth_raft.proofs.SpeechLemmas.{rules_speak}
-use Rattle.booth_ticket.specs.declared.hands.To.TheVariants.{Client, Member}
 use Rattle.booth_ticket.specs.declared.request.Request.{Request}
 use Rattle.booth_ticket.specs.declared.request.Wish.{Wish}
 use Rattle.booth_ticket.specs.declared.request.Wish.TheVariants.{Grant, Revoke}
 use Rattle.booth_ticket.specs.declared.waiters.Waiter.{Waiter}
 use Rattle.booth_ticket.specs.declared.handling.Service.{Service}
 use Rattle.booth_ticket.specs.declared.handling.Service.TheVariants.{CanRun, CannotRun}
-use Rattle.booth_ticket.specs.Acts.{Ask, Keep, Start, Say, Act, IsAct}
+use Rattle.booth_ticket.specs.Acts.{Ask, Keep, Start, Act, IsAct}
 use Rattle.booth_ticket.specs.Automatic.{Left, end_job, ends, follow, hear_message, role_due, rule_due, take_over, tick}
 use Rattle.booth_ticket.specs.Handling.{acquire, acquires, checks, goes_on, is_job, job_over, leads_on, renews_by, works, works_on}
 use Rattle.booth_ticket.specs.Keeping.{carry_out, keep_of, keep_once, say_last}
 use Rattle.booth_ticket.specs.Requests.{grant, grant_result, refused_grant, refused_revoke, replies, reply, reply_cmd, revoke, revoke_result, wish}
-use Rattle.booth_ticket.specs.Saying.{others, places_in, say, say_back, say_each}
 use Rattle.booth_ticket.specs.Ticket.{TicketState, TicketLeft, Known, Automatic, Manual as IsManual, by_rules, left_as}
-use Rattle.booth_ticket.specs.Waiting.{joined, joins, result_for, staying, tell_each, tell_one, waiter_of}
+use Rattle.booth_ticket.specs.Waiting.{joined, staying}
 use Rattle.booth_node.specs.declared.event.Event.{Event}
 use Rattle.booth_node.specs.declared.event.Event.TheVariants.{Due, Heard, Asked, Over}
-use Rattle.booth_node.specs.Calls.{IsAmong, IsOutcome}
+use Rattle.booth_node.specs.Calls.{IsAmong}
 use Rattle.booth_node.specs.Reaction.{befalls}
-use Rattle.booth_node.proofs.DueLemmas.{Each}
 use Rattle.booth_node.proofs.ManualTalkLemmas.{asked_by_hand, due_by_hand, heard_by_hand, over_by_hand}
 use Rattle.booth_node.proofs.PathLemmas.{Split, at_end, split}
 use Rattle.booth_node.proofs.ReachLemmas.{IsTold, Remembers, Replies, Talks, Tells, all_remembered, among_joined, replied_last, said, same_ask, talks_more, talks_none, talks_on, told_behind, told_each, told_last}

@@ -1,9 +1,9 @@
-use Rattle.std.proofs.Common.{◌≡◌, ◌<◌, ◌-◌, ◌+◌, ℕ, length, refl, sym, ◌∙◌, subst}
+use Rattle.std.proofs.Common.{◌<◌, ◌-◌, ◌+◌, ℕ, length, refl, ◌∙◌, subst}
 use Rattle.std.specs.Prelude.{Some}
 use Rattle.std.specs.List.{range_with_len}
 use native.Mathlib.Nat.{le_refl, le_trans}
 use Rattle.booth_node.proofs.ActLemmas.{state_of}
-use Rattle.booth_node.proofs.DueLemmas.{last_again, same_length, timed_again, place_after}
+use Rattle.booth_node.proofs.DueLemmas.{last_again, same_length, timed_again}
 use Rattle.booth_node.proofs.JobLemmas.{none_told, over_next, places_left}
 use Rattle.booth_node.proofs.jobs.end_each.Goals as goal
 
