@@ -36,46 +36,42 @@ bytes_within (suc n) at f fits =
 abbrev pub made_of : Bool → ℕ → List ℕ → Slot
 made_of is_open number body = record { is_open = is_open; number = number; body = body }
 
-pub slot_parts : (p : ℕ) (f : List ℕ) → slot_at p f ≡ made_of (get_or f p 0 == 1) (from_be_bytes w64 (bytes_at (p + 8) 8 f)) (bytes_at (p + 16) 32 f)
+pub same_number : (p n : ℕ) (f g : List ℕ) → SameFrom (p + 8) 8 f g → (slot_at p n f).number ≡ (slot_at p n g).number
 unfolding slot_at
-slot_parts p f = refl
+same_number p n f g same = ap (from_be_bytes w64) (same_bytes 8 (p + 8) f g same)
 
-pub same_number : (p : ℕ) (f g : List ℕ) → SameFrom (p + 8) 8 f g → (slot_at p f).number ≡ (slot_at p g).number
+pub same_body : (p n : ℕ) (f g : List ℕ) → SameFrom (p + 16) n f g → (slot_at p n f).body ≡ (slot_at p n g).body
 unfolding slot_at
-same_number p f g same = ap (from_be_bytes w64) (same_bytes 8 (p + 8) f g same)
+same_body p n f g same = same_bytes n (p + 16) f g same
 
-pub same_body : (p : ℕ) (f g : List ℕ) → SameFrom (p + 16) 32 f g → (slot_at p f).body ≡ (slot_at p g).body
+pub same_gate : (p n : ℕ) (f g : List ℕ) → get_or f p 0 ≡ get_or g p 0 → (slot_at p n f).is_open ≡ (slot_at p n g).is_open
 unfolding slot_at
-same_body p f g same = same_bytes 32 (p + 16) f g same
-
-pub same_gate : (p : ℕ) (f g : List ℕ) → get_or f p 0 ≡ get_or g p 0 → (slot_at p f).is_open ≡ (slot_at p g).is_open
-unfolding slot_at
-same_gate p f g same = ap (λ (b : ℕ). b == 1) same
+same_gate p n f g same = ap (λ (b : ℕ). b == 1) same
 
 -- slots with the same parts are one
 pub slots_equal : (a b : Slot) → a.is_open ≡ b.is_open → a.number ≡ b.number → a.body ≡ b.body → a ≡ b
 slots_equal a b gate number body =
     ap (λ (x : Bool). made_of x a.number a.body) gate ∙ ap (λ (n : ℕ). made_of b.is_open n a.body) number ∙ ap (λ (l : List ℕ). made_of b.is_open b.number l) body
 
-pub same_slot : (p : ℕ) (f g : List ℕ) → SameFrom p 48 f g → slot_at p f ≡ slot_at p g
-same_slot p f g same = slots_equal (slot_at p f) (slot_at p g)
-    (same_gate p f g (same p (omega arith) (omega arith)))
-    (same_number p f g (λ i ge below. same i (omega (arith, ge)) (omega (arith, below))))
-    (same_body p f g (λ i ge below. same i (omega (arith, ge)) (omega (arith, below))))
+pub same_slot : (p n : ℕ) (f g : List ℕ) → SameFrom p (16 + n) f g → slot_at p n f ≡ slot_at p n g
+same_slot p n f g same = slots_equal (slot_at p n f) (slot_at p n g)
+    (same_gate p n f g (same p (omega arith) (omega arith)))
+    (same_number p n f g (λ i ge below. same i (omega (arith, ge)) (omega (arith, below))))
+    (same_body p n f g (λ i ge below. same i (omega (arith, ge)) (omega (arith, below))))
 
 -- what a slot of a list that is long enough reads
-pub number_within : (p : ℕ) (f : List ℕ) → p + 48 ≤ length f → (slot_at p f).number ≡ long_at (p + 8) f
+pub number_within : (p n : ℕ) (f : List ℕ) → p + 16 ≤ length f → (slot_at p n f).number ≡ long_at (p + 8) f
 unfolding slot_at
-number_within p f fits = ap (from_be_bytes w64) (bytes_within 8 (p + 8) f (omega (arith, fits)))
+number_within p n f fits = ap (from_be_bytes w64) (bytes_within 8 (p + 8) f (omega (arith, fits)))
 
-pub body_of : (p : ℕ) (f : List ℕ) → (slot_at p f).body ≡ bytes_at (p + 16) 32 f
+pub body_of : (p n : ℕ) (f : List ℕ) → (slot_at p n f).body ≡ bytes_at (p + 16) n f
 unfolding slot_at
-body_of p f = refl
+body_of p n f = refl
 
-pub gate_open : (p : ℕ) (f : List ℕ) → get_or f p 0 ≡ 1 → (slot_at p f).is_open ≡ true
+pub gate_open : (p n : ℕ) (f : List ℕ) → get_or f p 0 ≡ 1 → (slot_at p n f).is_open ≡ true
 unfolding slot_at
-gate_open p f is = eq-eqb (get_or f p 0) 1 is
+gate_open p n f is = eq-eqb (get_or f p 0) 1 is
 
-pub gate_closed : (p : ℕ) (f : List ℕ) → (get_or f p 0 ≡ 1 → ⊥) → (slot_at p f).is_open ≡ false
+pub gate_closed : (p n : ℕ) (f : List ℕ) → (get_or f p 0 ≡ 1 → ⊥) → (slot_at p n f).is_open ≡ false
 unfolding slot_at
-gate_closed p f other = grind (arith, other)
+gate_closed p n f other = grind (arith, other)

@@ -1,8 +1,8 @@
-pub mod RecordLemmas
+pub mod SpellingLemmas
 pub mod Moments
 pub mod FileLemmas
-pub mod ForceLemmas
-pub mod BodyLemmas
+pub mod Greatest
+pub mod KnownLemmas
 pub mod StepLemmas
 pub mod ReadLemmas
 pub mod MemoryLemmas

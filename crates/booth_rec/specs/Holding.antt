@@ -1,27 +1,38 @@
--- What is known of a record file between two calls: which slot is in force, and whether the other is open.
-use Rattle.std.specs.Prelude.{◌≡◌, ◌≢◌, ℕ, true, false, List, [], ◌∷◌, Option, None, Some, option_map}
+-- What is known of a record file between two calls: which slot is in force, and which slots of version 2 are open.
+use Rattle.std.specs.Prelude.{◌≡◌, ℕ, nat_lt, if◌then◌else◌, Bool, true, false, List, [], ◌∷◌, Option, None, Some, option_map, is_some}
 use Rattle.booth_rec.specs.declared.record.Record.{Record}
 use Rattle.booth_rec.specs.declared.record_file.Half.{Half}
 use Rattle.booth_rec.specs.declared.record_file.Half.TheVariants.{First, Second}
 use Rattle.booth_rec.specs.declared.record_file.Held.{Held}
 use Rattle.booth_rec.specs.declared.record_file.Standing.{Standing}
 use Rattle.booth_rec.specs.declared.record_file.Holding.{Holding}
-use Rattle.booth_rec.specs.Spelling.{spelling}
-use Rattle.booth_rec.specs.RecordFile.{Slot, slot_at, greatest, record_in, IsWhole}
+use Rattle.booth_rec.specs.Spelling.{Spells}
+use Rattle.booth_rec.specs.RecordFile.{Slot, first_slot, second_slot, slots_of, greatest, number_of_slot, stands_for, IsWhole}
 
--- where a slot begins
+-- where a slot of version 2 begins
 abbrev pub place_of : Half → ℕ
-place_of First = 0
-place_of Second = 64
+place_of First = 128
+place_of Second = 256
+
+abbrev pub new_slot : Half → List ℕ → Slot
+new_slot half file = second_slot (place_of half) file
 
 abbrev pub other_of : Half → Half
 other_of First = Second
 other_of Second = First
 
--- the slot that a put takes: the one that the file does not stand for, the first where it stands for none
+-- the slots but one of version 2, in their order
+abbrev pub others_of : Half → List ℕ → List Slot
+others_of half file = first_slot 0 file ∷ first_slot 64 file ∷ new_slot (other_of half) file ∷ []
+
+-- the slot that a put takes: one of version 2 that the file does not stand for, the first where it stands for neither
+abbrev pub spare_after : Option Half → Half
+spare_after None = First
+spare_after (Some half) = other_of half
+
 abbrev pub spare_of : Option Standing → Half
 spare_of None = First
-spare_of (Some standing) = other_of standing.half
+spare_of (Some standing) = spare_after standing.half
 
 -- the record and the number of what the file stands for
 abbrev pub record_of : Option Standing → Option Record
@@ -30,33 +41,40 @@ record_of standing = option_map (λ s. s.held.kept) standing
 abbrev pub number_of : Option Standing → Option ℕ
 number_of standing = option_map (λ s. s.held.number) standing
 
--- a body is the spelling of this record
-pub record IsBody (body : List ℕ) (kept : Record) : Type 0 where
-  pub spelled : body ≡ spelling kept
-  pub says : record_in body ≡ kept
-
--- a body that is no record's spelling
-abbrev pub IsNoRecord : List ℕ → Type 0
-IsNoRecord body = body ≢ spelling (record_in body)
+-- whether a slot of version 2 is open
+abbrev pub open_of : Holding → Half → Bool
+open_of holding First = holding.first_is_open
+open_of holding Second = holding.second_is_open
 
 -- what a slot holds
 abbrev pub Holds : Slot → Option Held → Type 0
 Holds slot None = slot.is_open ≡ false
-Holds slot (Some held) = (slot.is_open ≡ true) × (slot.number ≡ held.number) × IsBody slot.body held.kept
+Holds slot (Some held) = (slot.is_open ≡ true) × (slot.number ≡ held.number) × Spells slot.body held.kept
 
--- one of two slots
-abbrev pub either_of : Slot → Slot → Half → Slot
-either_of first second First = first
-either_of first second Second = second
+-- of what stands in slots that with the greater number, the first among equals
+abbrev pub newer : Option Standing → Option Standing → Option Standing
+newer None later = later
+newer (Some earlier) None = Some earlier
+newer (Some earlier) (Some later) = if nat_lt earlier.held.number later.held.number then Some later else Some earlier
 
--- what two slots say: a record with its number, where one of them is open, and it is in force as if it were alone
-pub record IsChosen (first second : Slot) (holding : Holding) : Type 0 where
-  pub stands : option_map (λ slot. record_in slot.body) (greatest (first ∷ second ∷ [])) ≡ record_of holding.standing
-  pub numbered : option_map (λ slot. slot.number) (greatest (first ∷ second ∷ [])) ≡ number_of holding.standing
-  pub alone : greatest (first ∷ second ∷ []) ≡ greatest (either_of first second (other_of (spare_of holding.standing)) ∷ [])
-  pub spare : (either_of first second (spare_of holding.standing)).is_open ≡ holding.spare_is_open
+-- what stands in a slot of version 2, or, where no half is given, of version 1
+abbrev pub standing_in : Option Half → Option Held → Option Standing
+standing_in half held = option_map (λ h. let standing : Standing = record { half = half; held = h } in standing) held
+
+-- what is known of a file whose slots hold this
+abbrev pub known_of : Option Held → Option Held → Option Held → Option Held → Holding
+known_of old_first old_second first second = record {
+  standing = newer (newer (standing_in None old_first) (standing_in None old_second))
+      (newer (standing_in (Some First) first) (standing_in (Some Second) second));
+  first_is_open = is_some first;
+  second_is_open = is_some second;
+}
 
 -- what is known of a file is true of it, and each open slot holds a record
 pub record IsHolding (file : List ℕ) (holding : Holding) : Type 0 where
   pub whole : IsWhole file
-  pub chosen : IsChosen (slot_at 0 file) (slot_at 64 file) holding
+  pub stands : stands_for file ≡ record_of holding.standing
+  pub numbered : number_of_slot (greatest (slots_of file)) ≡ number_of holding.standing
+  -- it does not stand for the slot that the next put takes
+  pub aside : greatest (slots_of file) ≡ greatest (others_of (spare_of holding.standing) file)
+  pub opens : (half : Half) → (new_slot half file).is_open ≡ open_of holding half

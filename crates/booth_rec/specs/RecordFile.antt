@@ -1,10 +1,10 @@
--- What a record file stands for. It has two slots of 64 bytes; a slot has a commit byte at its start, a number of
--- 8 bytes from byte 8 on, and the 32 bytes of a record from byte 16 on.
+-- What a record file stands for. It has two slots of version 1, at 0 and 64, and two of version 2, at 128 and 256. A
+-- slot has a commit byte at its start, a number of 8 bytes from byte 8 on, and from byte 16 on a record: 32 bytes in a
+-- slot of version 1, 64 in one of version 2.
 use Rattle.std.specs.Prelude.{◌≡◌, ℕ, zero, suc, ◌+◌, ◌==◌, nat_lt, if◌then◌else◌, Bool, true, List, [], ◌∷◌, slice_index, Option, None, Some, option_map}
 use Rattle.std.specs.Int.{w64, from_be_bytes}
 use Rattle.booth_rec.specs.declared.record.Record.{Record}
-use Rattle.booth_rec.specs.Record.{plain}
-use Rattle.booth_rec.specs.Spelling.{spelling, word_at, lease_in}
+use Rattle.booth_rec.specs.Spelling.{record_in, IsRecord}
 
 -- n bytes of a file from a place on; past its end they are zeros
 unfoldable pub bytes_at : ℕ → ℕ → List ℕ → List ℕ
@@ -17,16 +17,22 @@ pub record Slot : Type 0 where
   pub number : ℕ
   pub body : List ℕ
 
--- the slot that begins at a place
-unfoldable pub slot_at : ℕ → List ℕ → Slot
-slot_at place file = record {
+-- the slot that begins at a place, with a body of so many bytes
+unfoldable pub slot_at : ℕ → ℕ → List ℕ → Slot
+slot_at place size file = record {
   is_open = slice_index file place == 1;
   number = from_be_bytes w64 (bytes_at (place + 8) 8 file);
-  body = bytes_at (place + 16) 32 file;
+  body = bytes_at (place + 16) size file;
 }
 
+abbrev pub first_slot : ℕ → List ℕ → Slot
+first_slot place file = slot_at place 32 file
+
+abbrev pub second_slot : ℕ → List ℕ → Slot
+second_slot place file = slot_at place 64 file
+
 abbrev pub slots_of : List ℕ → List Slot
-slots_of file = slot_at 0 file ∷ slot_at 64 file ∷ []
+slots_of file = first_slot 0 file ∷ first_slot 64 file ∷ second_slot 128 file ∷ second_slot 256 file ∷ []
 
 -- this slot, or one behind it with a greater number
 abbrev pub greater : Slot → Option Slot → Option Slot
@@ -38,19 +44,23 @@ abbrev pub greatest : List Slot → Option Slot
 greatest [] = None
 greatest (slot ∷ slots) = if slot.is_open then greater slot (greatest slots) else greatest slots
 
--- the record that the numbers of a body make
-unfoldable pub record_in : List ℕ → Record
-record_in body = plain (word_at 4 body) (lease_in body)
+abbrev pub record_of_slot : Option Slot → Option Record
+record_of_slot slot = option_map (λ s. record_in s.body) slot
+
+abbrev pub number_of_slot : Option Slot → Option ℕ
+number_of_slot slot = option_map (λ s. s.number) slot
 
 -- the record that a file stands for
 abbrev pub stands_for : List ℕ → Option Record
-stands_for file = option_map (λ slot. record_in slot.body) (greatest (slots_of file))
+stands_for file = record_of_slot (greatest (slots_of file))
 
--- a closed slot, or one whose body is a record's spelling
+-- a closed slot, or one whose body is a record
 abbrev pub HoldsRecord : Slot → Type 0
-HoldsRecord slot = slot.is_open ≡ true → slot.body ≡ spelling (record_in slot.body)
+HoldsRecord slot = slot.is_open ≡ true → IsRecord slot.body
 
 -- each open slot holds a record; a file of which that is not true is torn
 pub record IsWhole (file : List ℕ) : Type 0 where
-  pub first : HoldsRecord (slot_at 0 file)
-  pub second : HoldsRecord (slot_at 64 file)
+  pub old_first : HoldsRecord (first_slot 0 file)
+  pub old_second : HoldsRecord (first_slot 64 file)
+  pub first : HoldsRecord (second_slot 128 file)
+  pub second : HoldsRecord (second_slot 256 file)

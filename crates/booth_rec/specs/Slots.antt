@@ -1,7 +1,8 @@
--- What the store of two slots promises, and what its steps do to the bytes.
-use Rattle.std.specs.Prelude.{◌≡◌, ◌⊎◌, ℕ, slice_index, ◌<◌, ◌+◌, ◌-◌, ◌^◌, ◌==◌, if◌then◌else◌, Bool, true, false, List, [], ◌∷◌, ◌++◌, Option, None, Some, is_some}
+-- What the store of a record file promises, and what its steps do to the bytes.
+use Rattle.std.specs.Prelude.{◌≡◌, ◌⊎◌, ℕ, slice_index, ◌<◌, ◌+◌, ◌-◌, ◌^◌, ◌==◌, if◌then◌else◌, Bool, true, false, List, [], ◌∷◌, ◌++◌, Option, None, Some}
 use Rattle.booth_rec.specs.declared.record.Record.{Record}
 use Rattle.booth_rec.specs.declared.record_file.Half.{Half}
+use Rattle.booth_rec.specs.declared.record_file.Half.TheVariants.{First, Second}
 use Rattle.booth_rec.specs.declared.record_file.Holding.{Holding}
 use Rattle.booth_rec.specs.declared.slots.OpenFault.{OpenFault}
 use Rattle.booth_rec.specs.declared.slots.OpenFault.TheVariants.{Disk, Torn}
@@ -10,9 +11,9 @@ use Rattle.booth_rec.specs.Disk.{IsWritten, SameOutside, Only}
 use Rattle.booth_rec.specs.RecordFile.{stands_for, IsWhole}
 use Rattle.booth_rec.specs.Holding.{place_of, spare_of, IsHolding}
 
--- the first 128 bytes of a file, zeros past its end
+-- the bytes of all slots of a file, zeros past its end
 abbrev pub ReadsAlike : List ℕ → List ℕ → Type 0
-ReadsAlike bytes file = (i : ℕ) → i < 128 → slice_index bytes i ≡ slice_index file i
+ReadsAlike bytes file = (i : ℕ) → i < 336 → slice_index bytes i ≡ slice_index file i
 
 -- the number of the next record, and none where the last was used
 abbrev pub next_number : Option ℕ → Option ℕ
@@ -42,12 +43,20 @@ Blames (Torn disk) failed torn = torn disk
 abbrev pub entry : ℕ → Record → List ℕ
 entry number rec = long number ++ spelling rec
 
--- what is known of a file after a put: the slot that was taken is in force, and the one before it is open
-abbrev pub after : Holding → ℕ → Record → Holding
-after holding number rec = record {
-  standing = Some (record { half = spare_of holding.standing; held = record { number = number; kept = rec } });
-  spare_is_open = is_some holding.standing;
+-- a slot of version 2 was opened
+abbrev pub opened_in : Holding → Half → Holding
+opened_in holding First = record holding { first_is_open = true }
+opened_in holding Second = record holding { second_is_open = true }
+
+-- the slot of a half was filled and opened, and is in force
+abbrev pub filled_in : Half → Holding → ℕ → Record → Holding
+filled_in half holding number rec = record (opened_in holding half) {
+  standing = Some (record { half = Some half; held = record { number = number; kept = rec } });
 }
+
+-- what is known of a file after a put: the slot that was taken is in force, and the others are as they were
+abbrev pub after : Holding → ℕ → Record → Holding
+after holding number rec = filled_in (spare_of holding.standing) holding number rec
 
 -- an open slot was closed, and a closed one stayed as it is
 abbrev pub Closes : Half → Bool → List ℕ → List ℕ → Type 0

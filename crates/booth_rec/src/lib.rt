@@ -1,4 +1,4 @@
-//! Records: what a site keeps of a ticket, its one spelling in bytes, and the file of two slots that it is kept in.
+//! Records: what a member keeps of a ticket, its one spelling in bytes, and the file of four slots that it is kept in.
 #![tactic(auto)]
 
 mod disk;
@@ -6,8 +6,10 @@ mod memory_disk;
 mod record;
 mod record_file;
 mod slots;
+mod spelling;
 
 pub use disk::{Disk, DiskFault};
 pub use memory_disk::MemoryDisk;
-pub use record::{Lease, RECORD_BYTES, Record, RecordFault};
+pub use record::{Lease, Promise, Record};
 pub use slots::{OpenFault, PutFault, ReopenFault, Slots};
+pub use spelling::RecordFault;

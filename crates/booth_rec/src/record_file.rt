@@ -1,14 +1,14 @@
-//! The two slots of a record file, as bytes: what they hold, and which of them is in force.
-ghost use Rattle.std.specs.Prelude.{◌≡◌, ◌+◌, ◌≤◌, length, true, IfOk, OnErr};
-ghost use Rattle.booth_rec.specs.Spelling.{FitsTypes};
-ghost use Rattle.booth_rec.specs.RecordFile.{Slot, bytes_at, slot_at, HoldsRecord, IsWhole};
-ghost use Rattle.booth_rec.specs.Holding.{place_of, other_of, spare_of, IsBody, IsNoRecord, Holds, IsHolding, IsChosen};
+//! The four slots of a record file, as bytes: what they hold, and which of them is in force.
+ghost use Rattle.std.specs.Prelude.{◌≡◌, ◌+◌, ◌≤◌, length, IfOk, OnErr};
+ghost use Rattle.booth_rec.specs.Spelling.{Spells, IsRecord};
+ghost use Rattle.booth_rec.specs.RecordFile.{bytes_at, slot_at, HoldsRecord, IsWhole};
+ghost use Rattle.booth_rec.specs.Holding.{place_of, other_of, spare_of, open_of, Holds, newer, standing_in, known_of, IsHolding};
 
-use crate::record::long_at;
-use crate::{RECORD_BYTES, Record, RecordFault};
+use crate::spelling::{FIRST_BYTES, SECOND_BYTES, long_at};
+use crate::{Record, RecordFault};
 
-/// How many bytes the two slots have.
-pub(crate) const FILE_BYTES: usize = 128;
+/// How many bytes the slots have, up to the end of the last record.
+pub(crate) const FILE_BYTES: usize = 336;
 
 /// What the commit byte of an open slot reads; each other byte closes the slot.
 pub(crate) const OPEN: u8 = 1;
@@ -19,7 +19,12 @@ pub(crate) const NUMBER_AT: usize = 8;
 /// Where a slot's record stands in it.
 pub(crate) const BODY_AT: usize = 16;
 
-/// One of the two slots of a file.
+/// Where the two slots of version 1 begin. They are read, and nothing is put there.
+const OLD_FIRST: usize = 0;
+
+const OLD_SECOND: usize = 64;
+
+/// One of the two slots of version 2, into which records are put.
 #[derive(Clone, Copy, Debug, PartialEq, Eq)]
 pub(crate) enum Half {
     First,
@@ -33,18 +38,19 @@ pub(crate) struct Held {
     pub kept: Record,
 }
 
-/// The record that a file stands for, and its slot.
+/// The record that a file stands for, and its slot, which is none where that is one of version 1.
 #[derive(Clone, Copy, Debug, PartialEq, Eq)]
 pub(crate) struct Standing {
-    pub half: Half,
+    pub half: Option<Half>,
     pub held: Held,
 }
 
-/// What is known of a file: the record that it stands for, if it stands for one, and whether the other slot is open.
+/// What is known of a file: the record that it stands for, if it stands for one, and which slots of version 2 are open.
 #[derive(Clone, Copy, Debug, PartialEq, Eq)]
 pub(crate) struct Holding {
     pub standing: Option<Standing>,
-    pub spare_is_open: bool,
+    pub first_is_open: bool,
+    pub second_is_open: bool,
 }
 
 impl Half {
@@ -53,8 +59,8 @@ impl Half {
         ensures { result ≡ place_of self }
     {
         match self {
-            Half::First => 0,
-            Half::Second => 64,
+            Half::First => 128,
+            Half::Second => 256,
         }
     }
 
@@ -69,81 +75,107 @@ impl Half {
 }
 
 impl Holding {
-    /// The slot that the file does not stand for; the first where it stands for none.
+    /// The slot that the next put takes: one of version 2 that the file does not stand for, the first where it stands
+    /// for none of the two.
     pub(crate) fn spare(&self) -> Half
         ensures { result ≡ spare_of self.now.standing }
     {
         match self.standing {
-            Some(standing) => standing.half.other(),
-            None => Half::First,
+            Some(
+                Standing {
+                    half: Some(half),
+                    ..
+                },
+            ) => half.other(),
+            _ => Half::First,
+        }
+    }
+
+    /// Whether a slot of version 2 is open.
+    pub(crate) fn is_open(&self, half: Half) -> bool
+        ensures { result ≡ open_of self.now half }
+    {
+        match half {
+            Half::First => self.first_is_open,
+            Half::Second => self.second_is_open,
         }
     }
 }
 
-// The same record, whose numbers fit their types.
-fn fitting(rec: Record) -> Record
-    ensures same { result ≡ rec }
-    ensures fits { FitsTypes rec }
+// The record of so many bytes at a place.
+fn record_at(bytes: &[u8], at: usize, size: usize) -> Result<Record, RecordFault>
+    requires { at + size ≤ length bytes.now }
+    ensures ok { IfOk result (Spells (bytes_at at size bytes.now)) }
+    ensures err { OnErr result (IsRecord (bytes_at at size bytes.now) → ⊥) }
 {
-    rec
+    Record::decode(&bytes[at..at + size])
 }
 
-// The record of 32 bytes at a place.
-fn record_at(bytes: &[u8], at: usize) -> Result<Record, RecordFault>
-    requires { at + 32 ≤ length bytes.now }
-    ensures ok { IfOk result (λ rec. IsBody (bytes_at at 32 bytes.now) rec) }
-    ensures err { OnErr result (IsNoRecord (bytes_at at 32 bytes.now)) }
-{
-    match Record::decode(&bytes[at..at + RECORD_BYTES]) {
-        Ok(kept) => Ok(fitting(kept)),
-        Err(fault) => Err(fault),
-    }
-}
-
-// What the slot at a place holds, or none where it is closed; a fault where it is open and holds no record.
-fn held_at(bytes: &[u8], place: usize) -> Result<Option<Held>, RecordFault>
-    requires { place + 48 ≤ length bytes.now }
-    ensures ok { IfOk result (Holds (slot_at place bytes.now)) }
-    ensures err { OnErr result (HoldsRecord (slot_at place bytes.now) → ⊥) }
+// What the slot at a place holds, whose record has so many bytes, or none where it is closed; a fault where it is open
+// and holds no record.
+fn held_at(bytes: &[u8], place: usize, size: usize) -> Result<Option<Held>, RecordFault>
+    requires { place + 16 + size ≤ length bytes.now }
+    ensures ok { IfOk result (Holds (slot_at place size bytes.now)) }
+    ensures err { OnErr result (HoldsRecord (slot_at place size bytes.now) → ⊥) }
 {
     if bytes[place] != OPEN {
         return Ok(None);
     }
     let number = long_at(bytes, place + NUMBER_AT);
-    match record_at(bytes, place + BODY_AT) {
+    match record_at(bytes, place + BODY_AT, size) {
         Ok(kept) => Ok(Some(Held { number, kept })),
         Err(fault) => Err(fault),
     }
 }
 
-// Which of two slots is in force, and whether the other is open.
-fn chosen(first: Option<Held>, second: Option<Held>) -> Holding
-    ensures { (a b : Slot) → Holds a first → Holds b second → IsChosen a b result }
+// A record that stands in this slot of version 2, or in one of version 1.
+fn standing_in(half: Option<Half>, held: Option<Held>) -> Option<Standing>
+    ensures { result ≡ standing_in half held }
 {
-    let (half, held) = match (first, second) {
-        (Some(first), Some(second)) if first.number < second.number => (Half::Second, second),
-        (Some(first), _) => (Half::First, first),
-        (None, Some(second)) => (Half::Second, second),
-        (None, None) => {
-            return Holding {
-                standing: None,
-                spare_is_open: false,
-            };
-        }
-    };
+    held.map(|held| Standing { half, held })
+}
+
+// Of two records in slots the one with the greater number, the first where they are equal.
+fn newer(earlier: Option<Standing>, later: Option<Standing>) -> Option<Standing>
+    ensures { result ≡ newer earlier later }
+{
+    match (earlier, later) {
+        (Some(earlier), Some(later)) if earlier.held.number < later.held.number => Some(later),
+        (Some(earlier), _) => Some(earlier),
+        (None, later) => later,
+    }
+}
+
+// What is known of a file whose slots hold this: the two of version 1, then the two of version 2.
+fn known_of(
+    old_first: Option<Held>,
+    old_second: Option<Held>,
+    first: Option<Held>,
+    second: Option<Held>,
+) -> Holding
+    ensures { result ≡ known_of old_first old_second first second }
+{
+    let old = newer(standing_in(None, old_first), standing_in(None, old_second));
+    let new = newer(
+        standing_in(Some(Half::First), first),
+        standing_in(Some(Half::Second), second),
+    );
     Holding {
-        standing: Some(Standing { half, held }),
-        spare_is_open: first.is_some() && second.is_some(),
+        standing: newer(old, new),
+        first_is_open: first.is_some(),
+        second_is_open: second.is_some(),
     }
 }
 
 /// What is known of a file with these bytes; a fault where an open slot holds no record.
 pub(crate) fn holding_in(bytes: &[u8]) -> Result<Holding, RecordFault>
-    requires { length bytes.now ≡ 128 }
+    requires { length bytes.now ≡ 336 }
     ensures ok { IfOk result (IsHolding bytes.now) }
     ensures err { OnErr result (IsWhole bytes.now → ⊥) }
 {
-    let first = held_at(bytes, 0)?;
-    let second = held_at(bytes, 64)?;
-    Ok(chosen(first, second))
+    let old_first = held_at(bytes, OLD_FIRST, FIRST_BYTES)?;
+    let old_second = held_at(bytes, OLD_SECOND, FIRST_BYTES)?;
+    let first = held_at(bytes, Half::First.place(), SECOND_BYTES)?;
+    let second = held_at(bytes, Half::Second.place(), SECOND_BYTES)?;
+    Ok(known_of(old_first, old_second, first, second))
 }

@@ -1,5 +1,6 @@
-//! The store of a record file: of its two slots one is in force, and a new record goes into the other.
+//! The store of a record file: one of its slots is in force, and a new record goes into another, of version 2.
 ghost use Rattle.std.specs.Prelude.{◌≡◌, ◌+◌, ◌≤◌, ◌∷◌, [], List, length, true, false, Some, None, Option, IfOk, OnOk, IfErr, OnErr, IsErrOf, ◌↔◌, ℕ};
+ghost use Rattle.booth_rec.specs.Record.{is_second, as_second};
 ghost use Rattle.booth_rec.specs.Spelling.{FitsTypes, zeros};
 ghost use Rattle.booth_rec.specs.Disk.{IsWritten, SameOutside, NoMore, Only, LeavesOnly, Rose, HasCause};
 ghost use Rattle.booth_rec.specs.RecordFile.{stands_for, IsWhole};
@@ -11,11 +12,12 @@ ghost use Rattle.booth_rec.specs.declared.slots.ReopenFault.{ReopenFault};
 use crate::record_file::{
     BODY_AT, FILE_BYTES, Half, Held, Holding, NUMBER_AT, OPEN, Standing, holding_in,
 };
-use crate::{Disk, DiskFault, RECORD_BYTES, Record};
+use crate::spelling::SECOND_BYTES;
+use crate::{Disk, DiskFault, Record};
 use thiserror::Error;
 
 /// How many bytes a number and a record have in a slot.
-const ENTRY_BYTES: usize = BODY_AT - NUMBER_AT + RECORD_BYTES;
+const ENTRY_BYTES: usize = BODY_AT - NUMBER_AT + SECOND_BYTES;
 
 /// Why a record file was not opened; the disk is handed back.
 #[derive(Debug, Drop)]
@@ -93,6 +95,7 @@ fn close<D: Disk>(disk: &mut D, half: Half, is_open: bool) -> Result<(), DiskFau
 
 // A number and a record, as they stand in a slot.
 fn entry_of(number: u64, rec: Record) -> [u8; ENTRY_BYTES]
+    requires { is_second rec ≡ true }
     ensures bytes { result ≡ entry number rec }
     ensures fits { FitsTypes rec }
 {
@@ -104,13 +107,14 @@ fn entry_of(number: u64, rec: Record) -> [u8; ENTRY_BYTES]
 
 // Writes a number and a record into a closed slot.
 fn fill<D: Disk>(disk: &mut D, half: Half, number: u64, rec: &Record) -> Result<(), DiskFault>
-    requires { D.tells disk.old ≡ true → Only (D.seen disk.old) (D.may_leave disk.old) }
+    requires second { is_second rec.now ≡ true }
+    requires synced { D.tells disk.old ≡ true → Only (D.seen disk.old) (D.may_leave disk.old) }
     ensures tells { D.tells disk.new ≡ D.tells disk.old }
     ensures filled { D.tells disk.old ≡ true →
         OnOk result (IsWritten (place_of half + 8) (entry number rec.now) (D.seen disk.old) (D.seen disk.new)) }
     ensures durable { D.tells disk.old ≡ true → OnOk result (Only (D.seen disk.new) (D.may_leave disk.new)) }
     ensures any_moment { D.tells disk.old ≡ true → LeavesOnly D.moment D.left_since disk.old disk.new
-        (SameOutside (place_of half + 8) 40 (D.seen disk.old)) }
+        (SameOutside (place_of half + 8) 72 (D.seen disk.old)) }
     ensures fits { FitsTypes rec.now }
     ensures cause { HasCause (D.faults disk.old) (D.faults disk.new) result }
 {
@@ -141,6 +145,7 @@ fn store<D: Disk>(
     rec: &Record,
 ) -> Result<(), DiskFault>
     requires settled { D.tells disk.old ≡ true → IsSettled (D.seen disk.old) (D.may_leave disk.old) holding.now }
+    requires second { is_second rec.now ≡ true }
     requires next { next_number (number_of holding.now.standing) ≡ Some number }
     ensures tells { D.tells disk.new ≡ D.tells disk.old }
     ensures stored { D.tells disk.old ≡ true → OnOk result (IsSettled (D.seen disk.new) (D.may_leave disk.new)
@@ -150,7 +155,7 @@ fn store<D: Disk>(
     ensures cause { HasCause (D.faults disk.old) (D.faults disk.new) result }
 {
     let half = holding.spare();
-    close(disk, half, holding.spare_is_open)?;
+    close(disk, half, holding.is_open(half))?;
     fill(disk, half, number, rec)?;
     commit(disk, half)
 }
@@ -159,24 +164,26 @@ fn store<D: Disk>(
 fn holding_after(holding: &Holding, number: u64, rec: &Record) -> Holding
     ensures { result ≡ after holding.now number rec.now }
 {
+    let half = holding.spare();
     Holding {
         standing: Some(Standing {
-            half: holding.spare(),
+            half: Some(half),
             held: Held { number, kept: *rec },
         }),
-        spare_is_open: holding.standing.is_some(),
+        first_is_open: holding.first_is_open || half == Half::First,
+        second_is_open: holding.second_is_open || half == Half::Second,
     }
 }
 
 // The bytes of a file before anything is read.
 #[tactic(auto, unfolding(crate::specs::Spelling::zeros))]
 fn blank() -> [u8; FILE_BYTES]
-    ensures { result ≡ zeros 128 }
+    ensures { result ≡ zeros 336 }
 {
     [0; FILE_BYTES]
 }
 
-// The bytes of both slots, all of them on the disk: what an earlier process wrote may not be there before the sync.
+// The bytes of all slots, all of them on the disk: what an earlier process wrote may not be there before the sync.
 fn read_slots<D: Disk>(disk: &mut D) -> Result<[u8; FILE_BYTES], DiskFault>
     ensures tells { D.tells disk.new ≡ D.tells disk.old }
     ensures bytes { D.tells disk.old ≡ true → IfOk result (λ bytes. ReadsAlike bytes (D.seen disk.old)) }
@@ -271,8 +278,8 @@ impl<D: Disk> Slots<D> {
         &self.disk
     }
 
-    /// Puts a record in the place of the one before. A crash at any moment of it leaves a file that stands for the
-    /// record before or for this one.
+    /// Puts a record in the place of the one before, as a record of version 2. A crash at any moment of it leaves a
+    /// file that stands for the record before or for the new one.
     pub fn put(&mut self, rec: &Record) -> Result<(), PutFault>
         // Which fault it is.
         ensures again { IsErrOf result PutFault.Again ↔ (self.old.has_failed ≡ true) }
@@ -285,17 +292,18 @@ impl<D: Disk> Slots<D> {
         ensures later { D.faults self.old.disk ≤ D.faults self.new.disk }
         ensures tells { D.tells self.new.disk ≡ D.tells self.old.disk }
         // What the store says then.
-        ensures kept { OnOk result ((self.new.has_failed ≡ false) × (record_of self.new.holding.standing ≡ Some rec.now)
+        ensures kept { OnOk result ((self.new.has_failed ≡ false)
+            × (record_of self.new.holding.standing ≡ Some (as_second rec.now))
             × (number_of self.new.holding.standing ≡ next_number (number_of self.old.holding.standing))) }
         ensures before { OnErr result (self.new.holding ≡ self.old.holding) }
         // What a crash leaves: within the call, and after it.
         ensures any_moment { self.old.has_failed ≡ false → D.tells self.old.disk ≡ true →
             LeavesOnly D.moment D.left_since self.old.disk self.new.disk
-            (IsOldOrNew (record_of self.old.holding.standing) rec.now) }
+            (IsOldOrNew (record_of self.old.holding.standing) (as_second rec.now)) }
         ensures durable { D.tells self.old.disk ≡ true →
-            OnOk result ((c : List ℕ) → D.may_leave self.new.disk c → StandsFor (Some rec.now) c) }
+            OnOk result ((c : List ℕ) → D.may_leave self.new.disk c → StandsFor (Some (as_second rec.now)) c) }
         ensures either { self.old.has_failed ≡ false → D.tells self.old.disk ≡ true →
-            IsOldOrNew (record_of self.old.holding.standing) rec.now (D.seen self.new.disk) }
+            IsOldOrNew (record_of self.old.holding.standing) (as_second rec.now) (D.seen self.new.disk) }
     {
         if self.has_failed {
             return Err(PutFault::Again);
@@ -303,9 +311,10 @@ impl<D: Disk> Slots<D> {
         let Some(number) = number_after(self.holding.standing) else {
             return Err(PutFault::Spent);
         };
-        match store(&mut self.disk, &self.holding, number, rec) {
+        let rec = rec.as_second();
+        match store(&mut self.disk, &self.holding, number, &rec) {
             Ok(()) => {
-                self.holding = holding_after(&self.holding, number, rec);
+                self.holding = holding_after(&self.holding, number, &rec);
                 Ok(())
             }
             Err(DiskFault) => {
