@@ -19,6 +19,7 @@ use std::io::ErrorKind;
 use std::time::{Duration, SystemTime};
 use std::{io, thread};
 use streams::{Standing, error_stream, hold_streams, write_to};
+use telling::Unkept;
 
 mod files;
 mod jobs;
@@ -28,6 +29,7 @@ mod record_disk;
 mod records;
 mod socket;
 mod streams;
+mod telling;
 
 /// The devices of the system.
 #[derive(Drop)]
@@ -36,6 +38,7 @@ pub struct RealHost {
     socket: Option<Socket>,
     /// The directory of the kept records, once a place with one was opened.
     records: Option<Records>,
+    unkept: Unkept,
     buffer: Vec<u8>,
     /// The path of the configuration, once a place was opened.
     conf_path: Option<PathText>,
@@ -73,6 +76,7 @@ impl RealHost {
             rt,
             socket: None,
             records: None,
+            unkept: Unkept::new(alloc),
             buffer: vec![in alloc; 0; DATAGRAM_BYTES]?,
             conf_path: None,
             jobs,
@@ -221,8 +225,10 @@ impl Host for RealHost {
         self.checked(answer)
     }
 
+    /// Where it ends in another way than the ticket's keep before, a line on standard error says so.
     fn keep(&mut self, ticket: &Name, rec: &Record) -> Result<(), Failed> {
         let answer = self.write_record(ticket, rec);
+        self.unkept.tell(&self.rt, ticket, &answer);
         self.checked(answer)
     }
 

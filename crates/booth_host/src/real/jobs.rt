@@ -101,25 +101,33 @@ impl Running {
 
     // The status of the program that ran, once it is over; 0 where there is none.
     fn status(&mut self) -> io::Result<Option<i32>> {
-        let Some(child) = &mut self.child else {
-            return Ok(Some(0));
-        };
-        match child.try_wait()? {
-            Some(status) => Ok(Some(status.code().unwrap_or(SIGNALLED))),
-            None => Ok(None),
+        match &mut self.child {
+            Some(child) => status_of(child),
+            None => Ok(Some(0)),
         }
+    }
+
+    // Starts the next program of a directory. Where none is left, the job ended with 0.
+    fn go_on(&mut self, rt: &HostRuntime) -> io::Result<Option<i32>> {
+        self.start_next(rt)?;
+        Ok(if self.child.is_some() { None } else { Some(0) })
     }
 
     // The status of the job, once it is over. Where a program of a directory ended with 0, the next one is started.
     fn poll(&mut self, rt: &HostRuntime) -> io::Result<Option<i32>> {
-        let Some(status) = self.status()? else {
-            return Ok(None);
-        };
-        if status != 0 || self.program.is_none() {
-            return Ok(Some(status));
+        match self.status() {
+            Ok(Some(0)) if self.program.is_some() => self.go_on(rt),
+            status => status,
         }
-        self.start_next(rt)?;
-        Ok(if self.child.is_some() { None } else { Some(0) })
+    }
+}
+
+// The status of a program, once it is over.
+fn status_of(child: &mut Child) -> io::Result<Option<i32>> {
+    match child.try_wait() {
+        Ok(Some(status)) => Ok(Some(status.code().unwrap_or(SIGNALLED))),
+        Ok(None) => Ok(None),
+        Err(error) => Err(error),
     }
 }
 

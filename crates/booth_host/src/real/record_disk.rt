@@ -15,6 +15,8 @@ pub(super) struct FileDisk {
     file: File,
     /// Whether the system may have bytes of the file that the medium has not.
     is_doubted: bool,
+    /// Why the last call that failed did.
+    error: Option<io::Error>,
     faults: u64,
 }
 
@@ -53,7 +55,16 @@ impl FileDisk {
         FileDisk {
             file,
             is_doubted,
+            error: None,
             faults: 0,
+        }
+    }
+
+    /// Why the last call that failed did.
+    pub(super) fn error(&self) -> io::Error {
+        match self.error {
+            Some(error) => error,
+            None => io::Error::from(ErrorKind::Other),
         }
     }
 
@@ -63,7 +74,8 @@ impl FileDisk {
     {
         match answer {
             Ok(value) => Ok(value),
-            Err(_) => {
+            Err(error) => {
+                self.error = Some(error);
                 self.faults = self.faults.saturating_add(1);
                 Err(DiskFault)
             }

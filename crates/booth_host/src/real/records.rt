@@ -1,6 +1,6 @@
 //! Kept records as files: one of a ticket, in a directory that one host has at a time.
 //!
-//! A file is opened for a call alone, and holds two slots (`booth_rec`). A file that is missing keeps no record.
+//! A file is opened for a call alone, and holds four slots (`booth_rec`). A file that is missing keeps no record.
 ghost use Rattle.std.specs.Prelude.{◌≤◌, length};
 
 use super::lock::lock_file;
@@ -135,6 +135,11 @@ fn open_or_make(rt: &HostRuntime, path: &str) -> io::Result<(File, bool)> {
     Ok((file, true))
 }
 
+// The error of a file that takes no record, with these words.
+fn damaged(words: &str) -> io::Error {
+    io::Error::new(ErrorKind::InvalidData, words)
+}
+
 impl Records {
     /// The directory at this path, made where it is missing in the one above, with its lock. It fails where another
     /// holds the lock.
@@ -157,10 +162,10 @@ impl Records {
     fn slots(&mut self, file: File) -> io::Result<Slots<FileDisk>> {
         match Slots::open(FileDisk::new(file, self.has_failed)) {
             Ok(slots) => Ok(slots),
-            Err(OpenFault::Torn(_)) => Err(io::Error::from(ErrorKind::InvalidData)),
-            Err(OpenFault::Disk(_)) => {
+            Err(OpenFault::Torn(_)) => Err(damaged("an open slot holds no record")),
+            Err(OpenFault::Disk(disk)) => {
                 self.has_failed = true;
-                Err(io::Error::from(ErrorKind::Other))
+                Err(disk.error())
             }
         }
     }
@@ -211,12 +216,13 @@ impl Records {
             self.has_names = false;
         }
         self.keep_names(rt)?;
-        match self.slots(file)?.put(record) {
+        let mut slots = self.slots(file)?;
+        match slots.put(record) {
             Ok(()) => Ok(()),
-            Err(PutFault::Spent) => Err(io::Error::from(ErrorKind::InvalidData)),
+            Err(PutFault::Spent) => Err(damaged("the last number is used")),
             Err(PutFault::Disk | PutFault::Again) => {
                 self.has_failed = true;
-                Err(io::Error::from(ErrorKind::Other))
+                Err(slots.disk().error())
             }
         }
     }

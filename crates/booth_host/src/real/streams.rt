@@ -1,8 +1,10 @@
 //! The standard streams.
 
+use libc::net::{POLLOUT, poll};
+use libc::types::pollfd;
 use std::fs::File;
 use std::io;
-use std::io::Write;
+use std::io::{ErrorKind, Write};
 use std::os::fd::{AsFd, AsRawFd};
 use std::process::ChildStdin;
 
@@ -54,4 +56,24 @@ pub(super) fn error_stream(standing: &Standing) -> ErrorStream {
 /// reads would raise a signal that ends this program.
 pub(super) fn write_to<S: AsFd>(stream: &S, bytes: &[u8]) -> io::Result<()> {
     ChildStdin::from(stream.as_fd().try_clone_to_owned()?).write_all(bytes)
+}
+
+// Whether a write to a stream would not wait. One that is closed, or that nobody reads, fails at once.
+fn has_room<S: AsFd>(stream: &S) -> bool {
+    let fd = stream.as_fd().as_raw_fd();
+    let mut asked = [pollfd {
+        fd,
+        events: POLLOUT,
+        revents: 0,
+    }];
+    poll(&mut asked, 0) == 1
+}
+
+/// Writes a line to a standard stream, and fails where that would wait: for a reader, who may never come.
+pub(super) fn write_at_once<S: AsFd>(stream: &S, line: &[u8]) -> io::Result<()> {
+    if has_room(stream) {
+        write_to(stream, line)
+    } else {
+        Err(io::Error::from(ErrorKind::WouldBlock))
+    }
 }
