@@ -1,6 +1,6 @@
 -- Ask, release, renew, and what the answer of a keep leads to, leave what is true of every view.
 use Rattle.std.proofs.Common.{◌≡◌, ℕ, ◌+◌, ◌<◌, ◌^◌, Bool, true, false, ◌||◌, Some, None, refl, sym, ◌∙◌, subst}
-use Rattle.std.specs.Prelude.{◌==◌}
+use Rattle.std.specs.Prelude.{◌==◌, ◌&&◌}
 use Rattle.booth_rec.specs.declared.record.Record.{Record}
 use Rattle.booth_wire.specs.declared.message.Setup.{Setup}
 use Rattle.booth_wire.specs.declared.codes.reasons.TheConstants.{SPLT, RACQ}
@@ -9,8 +9,8 @@ use Rattle.booth_raft.specs.declared.view.TheConstants.{LAST_NUMBER}
 use Rattle.booth_raft.specs.declared.view.Rule.{Rule}
 use Rattle.booth_raft.specs.declared.view.Rule.TheVariants as rules
 use Rattle.booth_raft.specs.declared.view.View.{View}
-use Rattle.booth_raft.specs.Facts.{RoundFits, Tries, ViewFacts}
-use Rattle.booth_raft.specs.AskAndRenew.{acquisition_failed, answers_itself, are_terms_spent, ask, finish_ask, asked_all, goes_on, in_next_term, finish, needs_term, new_round, begin_round, own_answer, promised_itself, renew, renew_by_term, runs_out, with_round}
+use Rattle.booth_raft.specs.Facts.{RoundFits, TriesOf, ViewFacts}
+use Rattle.booth_raft.specs.AskAndRenew.{acquisition_failed, answers_itself, are_terms_spent, ask, asking, finish_renewal, with_own_promise, renew_in_term, finish_ask, asked_all, goes_on, in_next_term, finish, needs_term, new_round, begin_round, own_answer, promised_itself, renew, renew_by_term, runs_out, with_round}
 use Rattle.booth_raft.specs.GainReleaseLost.{finish_gain, release, finish_release, released, finish_round_end, round_ends, unreleased, without_round}
 use Rattle.booth_raft.specs.Members.{is_candidate, is_leader, is_majority}
 use Rattle.booth_raft.proofs.FactsLemmas.{on_cond, on_option, on_test, some_same, no_round, Same, fits_same, Good, quiet_good, saying_good, keeping_good}
@@ -18,13 +18,28 @@ use Rattle.booth_raft.proofs.HeardLemmas.{gain_good}
 
 -- ---- what asks for a keep
 
-pub ask_good : (setup : Setup) (view : View) (reason now : ℕ) → Good setup now (ask view reason now)
-ask_good setup view reason now = keeping_good setup now (in_next_term view reason) _ _ (no_round _ _) (refl, refl)
+-- no round is open while a term is asked for, and the record is as it was
+record IsAsking (view after : View) : Type 0 where
+  round : after.round ≡ None
+  kept : after.kept ≡ view.kept
 
-pub release_good : (setup : Setup) (view : View) (reason now : ℕ) → RoundFits view.term view.role view.round → Good setup now (release view reason now)
+asking_rests : (setup : Setup) (view : View) (reason now : ℕ) → IsAsking view (asking setup view reason now)
+asking_rests setup view reason now =
+    on_cond (IsAsking view) setup.second _ _
+    (on_cond (IsAsking view) (answers_itself setup (in_next_term view reason) now) _ _
+    (record { round = refl; kept = refl })
+    (record { round = refl; kept = refl }))
+    (record { round = refl; kept = refl })
+
+pub ask_good : (setup : Setup) (view : View) (reason now : ℕ) → Good setup now (ask setup view reason now)
+ask_good setup view reason now =
+    let rests = asking_rests setup view reason now in
+    keeping_good setup now (asking setup view reason now) _ _ (rw rests.round (no_round _ _)) (rests.round, rw rests.kept refl)
+
+pub release_good : (setup : Setup) (view : View) (reason now : ℕ) → RoundFits view.term view.role view.round → Good setup now (release setup view reason now)
 release_good setup view reason now fits = keeping_good setup now view _ _ fits refl
 
-pub round_ends_good : (setup : Setup) (view : View) (now : ℕ) → Good setup now (round_ends view now)
+pub round_ends_good : (setup : Setup) (view : View) (now : ℕ) → Good setup now (round_ends setup view now)
 round_ends_good setup view now = keeping_good setup now (without_round view) _ _ (no_round _ _) refl
 
 -- ---- a round is opened
@@ -116,13 +131,21 @@ finish_round_end_good setup view tried now ok none fits =
     let same_but_told = finish_release_good setup view tried SPLT now ok none fits in
     record { facts = same_but_told.facts; waits = same_but_told.waits }
 
+finish_renewal_good : (setup : Setup) (view : View) (tried : Record) (number now : ℕ) (ok : Bool) → now < 2 ^ 62 → view.waiting ≡ None
+    → RoundFits view.term view.role view.round → Good setup now (finish_renewal setup view tried number now ok)
+finish_renewal_good setup view tried number now true early none fits = begin_round_good setup (record view { kept = tried; sure = true }) number now early none
+finish_renewal_good setup view tried number now false early none fits = quiet_good setup now _ none fits
+
 goes_on_good : (setup : Setup) (view : View) (rule : Rule) (tried : Record) (now : ℕ) (ok : Bool) → now < 2 ^ 62 → view.waiting ≡ None
-    → RoundFits view.term view.role view.round → Tries setup view.term view.kept view.round rule tried
+    → RoundFits view.term view.role view.round → TriesOf setup view rule tried
     → Good setup now (goes_on setup view rule tried now ok)
 goes_on_good setup view rules.Gain tried now ok early none fits tries = finish_gain_good setup view now ok none fits
 goes_on_good setup view (rules.Ask reason) tried now ok early none fits tries = finish_ask_good setup view tried now ok early none tries.0
 goes_on_good setup view (rules.Release reason) tried now ok early none fits tries = finish_release_good setup view tried reason now ok none fits
 goes_on_good setup view rules.EndRound tried now ok early none fits tries = finish_round_end_good setup view tried now ok none fits
+goes_on_good setup view (rules.Answer kind to number request told) tried now true early none fits tries = saying_good setup now (record view { kept = tried; sure = true }) _ _ none fits
+goes_on_good setup view (rules.Answer kind to number request told) tried now false early none fits tries = saying_good setup now (record view { sure = false }) _ _ none fits
+goes_on_good setup view (rules.Renew number) tried now ok early none fits tries = finish_renewal_good setup view tried number now ok early none fits
 
 pub finish_good : (setup : Setup) (view : View) (now : ℕ) (ok : Bool) → now < 2 ^ 62 → ViewFacts setup view
     → Good setup now (finish setup view now ok)
@@ -137,9 +160,16 @@ runs_out_good : (setup : Setup) (view : View) (now : ℕ) → view.waiting ≡ N
 runs_out_good setup view now none fits = quiet_good setup now _ none fits
 
 renew_by_term_good : (setup : Setup) (view : View) (now : ℕ) → view.waiting ≡ None → RoundFits view.term view.role view.round
-    → Good setup now (renew_by_term view now)
+    → Good setup now (renew_by_term setup view now)
 renew_by_term_good setup view now none fits =
     on_cond (Good setup now) (are_terms_spent view) _ _ (runs_out_good setup view now none fits) (ask_good setup view RACQ now)
+
+renew_in_term_good : (setup : Setup) (view : View) (number now : ℕ) → now < 2 ^ 62 → view.waiting ≡ None
+    → RoundFits view.term view.role view.round → Good setup now (renew_in_term setup view number now)
+renew_in_term_good setup view number now early none fits =
+    on_cond (Good setup now) (setup.second && answers_itself setup view now) _ _
+    (keeping_good setup now (with_own_promise setup view now) _ _ fits refl)
+    (begin_round_good setup view number now early none)
 
 pub renew_good : (setup : Setup) (view : View) (now : ℕ) → now < 2 ^ 62 → view.waiting ≡ None → ViewFacts setup view
     → Good setup now (renew setup view now)
@@ -150,4 +180,4 @@ renew_good setup view now early none facts =
     (renew_by_term_good setup view now none facts.round_fits)
     (on_cond (Good setup now) (round.number == LAST_NUMBER) _ _
     (runs_out_good setup view now none facts.round_fits)
-    (begin_round_good setup view (round.number + 1) now early none)))
+    (renew_in_term_good setup view (round.number + 1) now early none facts.round_fits)))

@@ -1,18 +1,19 @@
 //! The rules ask and renew, and what the answer of a keep leads to.
-ghost use Rattle.std.specs.Prelude.{◌≡◌, ◌<◌, ◌^◌, max};
-ghost use Rattle.booth_raft.specs.AskAndRenew.{acquisition_failed, answers_itself, are_terms_spent, ask, finish_ask, fail_ask, asked_all, finish, needs_term, new_round, begin_round, own_answer, promised_itself, renew, renew_by_term, runs_out};
+ghost use Rattle.std.specs.Prelude.{◌≡◌, ◌<◌, ◌^◌, max, IsTrue};
+ghost use Rattle.booth_raft.specs.AskAndRenew.{acquisition_failed, answers_itself, are_terms_spent, ask, bound_itself, with_own_promise, finish_ask, fail_ask, finish_renewal, fail_renewal, asked_all, finish, needs_term, new_round, begin_round, own_answer, promised_itself, renew, renew_by_term, renew_in_term, runs_out};
 ghost use Rattle.booth_raft.specs.Sound.{IsSound};
 
 use crate::deed::{Deed, Told};
 use crate::gain_release_lost::{
-    due_by_rank, finish_gain, finish_release, finish_round_end, gain, own_end, retry_at,
+    due_by_rank, finish_gain, finish_release, finish_round_end, gain, own_end, record_of, retry_at,
 };
 use crate::members::{is_majority, is_promised_elsewhere};
-use crate::messages::asks_all;
+use crate::messages::{answers_round, asks_all};
 use crate::outcome::keeping;
-use crate::view::{LAST_NUMBER, LAST_TERM, Promise, Role, Round, Rule, View};
+use crate::rounds_and_answers::finish_answer;
+use crate::view::{LAST_NUMBER, LAST_TERM, Role, Round, Rule, View};
 use booth_base::{MEMBERS, promise_ms};
-use booth_rec::Record;
+use booth_rec::{Promise, Record};
 use booth_wire::Setup;
 use booth_wire::reasons::RACQ;
 
@@ -24,10 +25,13 @@ pub fn are_terms_spent(view: &View) -> bool
 }
 
 // A new term is asked for.
-pub(crate) fn ask(view: &mut View, reason: u32, now: u64) -> Deed
-    requires { max view.old.term view.old.seen < LAST_TERM }
-    ensures view { view.new ≡ (ask view.old reason now).view }
-    ensures deed { result ≡ (ask view.old reason now).deed }
+pub(crate) fn ask(setup: &Setup, view: &mut View, reason: u32, now: u64) -> Deed
+    requires sound { IsSound setup.now }
+    requires second { IsTrue setup.now.second }
+    requires early { now < 2 ^ 62 }
+    requires terms { max view.old.term view.old.seen < LAST_TERM }
+    ensures view { view.new ≡ (ask setup.now view.old reason now).view }
+    ensures deed { result ≡ (ask setup.now view.old reason now).deed }
 {
     let term = view.term.max(view.seen) + 1;
     view.term = term;
@@ -36,7 +40,8 @@ pub(crate) fn ask(view: &mut View, reason: u32, now: u64) -> Deed
     view.job = None;
     view.bound = None;
     view.reason = reason;
-    let tried = Record::plain(term, view.kept.lease);
+    bound_itself(setup, view, now);
+    let tried = record_of(setup, view, view.kept.lease);
     keeping(view, Rule::Ask { reason }, tried, now)
 }
 
@@ -58,17 +63,36 @@ fn answers_itself(setup: &Setup, view: &View, now: u64) -> bool
     now >= view.abstain && !is_promised_elsewhere(view.promise, setup.me, now)
 }
 
+fn with_own_promise(setup: &Setup, view: &mut View, now: u64)
+    requires sound { IsSound setup.now }
+    requires early { now < 2 ^ 62 }
+    ensures { view.new ≡ with_own_promise setup.now view.old now }
+{
+    view.promise = Some(Promise {
+        to: setup.me,
+        term: view.term,
+        until: now + promise_ms(&setup.times),
+    });
+}
+
 fn promised_itself(setup: &Setup, view: &mut View, now: u64)
     requires sound { IsSound setup.now }
     requires early { now < 2 ^ 62 }
     ensures { view.new ≡ promised_itself setup.now view.old now }
 {
     if answers_itself(setup, view, now) {
-        view.promise = Some(Promise {
-            to: setup.me,
-            term: view.term,
-            until: now + promise_ms(&setup.times),
-        });
+        with_own_promise(setup, view, now);
+    }
+}
+
+fn bound_itself(setup: &Setup, view: &mut View, now: u64)
+    requires sound { IsSound setup.now }
+    requires early { now < 2 ^ 62 }
+    ensures { view.new ≡ bound_itself setup.now view.old now }
+{
+    if answers_itself(setup, view, now) {
+        with_own_promise(setup, view, now);
+        view.bound = Some(setup.me);
     }
 }
 
@@ -113,6 +137,7 @@ fn asked_all(setup: &Setup, view: &mut View, now: u64)
 // A round is opened, with the own answer.
 fn begin_round(setup: &Setup, view: &mut View, number: u32, now: u64) -> Deed
     requires sound { IsSound setup.now }
+    requires second { IsTrue setup.now.second }
     requires early { now < 2 ^ 62 }
     ensures view { view.new ≡ (begin_round setup.now view.old number now).view }
     ensures deed { result ≡ (begin_round setup.now view.old number now).deed }
@@ -147,6 +172,7 @@ fn fail_ask(setup: &Setup, view: &mut View, now: u64) -> Deed
 // The keep of a new term was answered.
 fn finish_ask(setup: &Setup, view: &mut View, tried: Record, now: u64, ok: bool) -> Deed
     requires sound { IsSound setup.now }
+    requires second { IsTrue setup.now.second }
     requires early { now < 2 ^ 62 }
     ensures view { view.new ≡ (finish_ask setup.now view.old tried now ok).view }
     ensures deed { result ≡ (finish_ask setup.now view.old tried now ok).deed }
@@ -160,9 +186,45 @@ fn finish_ask(setup: &Setup, view: &mut View, tried: Record, now: u64, ok: bool)
     begin_round(setup, view, 0, now)
 }
 
+// The keep of a renewal's own promise failed.
+fn fail_renewal(setup: &Setup, view: &mut View, now: u64) -> Deed
+    requires sound { IsSound setup.now }
+    requires early { now < 2 ^ 62 }
+    ensures view { view.new ≡ (fail_renewal setup.now view.old now).view }
+    ensures deed { result ≡ (fail_renewal setup.now view.old now).deed }
+{
+    view.sure = false;
+    view.due = Some(retry_at(setup, view, now));
+    Deed::quiet()
+}
+
+// The keep of a renewal's own promise was answered.
+fn finish_renewal(
+    setup: &Setup,
+    view: &mut View,
+    tried: Record,
+    number: u32,
+    now: u64,
+    ok: bool,
+) -> Deed
+    requires sound { IsSound setup.now }
+    requires second { IsTrue setup.now.second }
+    requires early { now < 2 ^ 62 }
+    ensures view { view.new ≡ (finish_renewal setup.now view.old tried number now ok).view }
+    ensures deed { result ≡ (finish_renewal setup.now view.old tried number now ok).deed }
+{
+    if !ok {
+        return fail_renewal(setup, view, now);
+    }
+    view.kept = tried;
+    view.sure = true;
+    begin_round(setup, view, number, now)
+}
+
 // The keep that waits was answered.
 pub(crate) fn finish(setup: &Setup, view: &mut View, now: u64, ok: bool) -> Deed
     requires sound { IsSound setup.now }
+    requires second { IsTrue setup.now.second }
     requires early { now < 2 ^ 62 }
     ensures view { view.new ≡ (finish setup.now view.old now ok).view }
     ensures deed { result ≡ (finish setup.now view.old now ok).deed }
@@ -177,6 +239,17 @@ pub(crate) fn finish(setup: &Setup, view: &mut View, now: u64, ok: bool) -> Deed
         Rule::Ask { .. } => finish_ask(setup, view, tried, now, ok),
         Rule::Release { reason } => finish_release(setup, view, tried, reason, now, ok),
         Rule::EndRound => finish_round_end(setup, view, tried, now, ok),
+        Rule::Answer {
+            kind,
+            to,
+            number,
+            request,
+            told,
+        } => {
+            let answer = answers_round(setup, kind, to, number, request, view.term);
+            finish_answer(view, tried, answer, told, ok)
+        }
+        Rule::Renew { number } => finish_renewal(setup, view, tried, number, now, ok),
     }
 }
 
@@ -188,14 +261,17 @@ fn runs_out(view: &mut View) -> Deed
     Deed::quiet()
 }
 
-fn renew_by_term(view: &mut View, now: u64) -> Deed
-    ensures view { view.new ≡ (renew_by_term view.old now).view }
-    ensures deed { result ≡ (renew_by_term view.old now).deed }
+fn renew_by_term(setup: &Setup, view: &mut View, now: u64) -> Deed
+    requires sound { IsSound setup.now }
+    requires second { IsTrue setup.now.second }
+    requires early { now < 2 ^ 62 }
+    ensures view { view.new ≡ (renew_by_term setup.now view.old now).view }
+    ensures deed { result ≡ (renew_by_term setup.now view.old now).deed }
 {
     if are_terms_spent(view) {
         return runs_out(view);
     }
-    ask(view, RACQ, now)
+    ask(setup, view, RACQ, now)
 }
 
 fn needs_term(setup: &Setup, view: &View) -> bool
@@ -204,21 +280,38 @@ fn needs_term(setup: &Setup, view: &View) -> bool
     view.bound != Some(setup.me) || view.seen > view.term
 }
 
+// The next round of the term is opened, once the own promise is kept where there is one.
+fn renew_in_term(setup: &Setup, view: &mut View, number: u32, now: u64) -> Deed
+    requires sound { IsSound setup.now }
+    requires second { IsTrue setup.now.second }
+    requires early { now < 2 ^ 62 }
+    ensures view { view.new ≡ (renew_in_term setup.now view.old number now).view }
+    ensures deed { result ≡ (renew_in_term setup.now view.old number now).deed }
+{
+    if !answers_itself(setup, view, now) {
+        return begin_round(setup, view, number, now);
+    }
+    with_own_promise(setup, view, now);
+    let tried = record_of(setup, view, view.kept.lease);
+    keeping(view, Rule::Renew { number }, tried, now)
+}
+
 // The lease is renewed.
 pub(crate) fn renew(setup: &Setup, view: &mut View, now: u64) -> Deed
     requires sound { IsSound setup.now }
+    requires second { IsTrue setup.now.second }
     requires early { now < 2 ^ 62 }
     ensures view { view.new ≡ (renew setup.now view.old now).view }
     ensures deed { result ≡ (renew setup.now view.old now).deed }
 {
     let Some(round) = view.round else {
-        return renew_by_term(view, now);
+        return renew_by_term(setup, view, now);
     };
     if needs_term(setup, view) {
-        return renew_by_term(view, now);
+        return renew_by_term(setup, view, now);
     }
     if round.number == LAST_NUMBER {
         return runs_out(view);
     }
-    begin_round(setup, view, round.number + 1, now)
+    renew_in_term(setup, view, round.number + 1, now)
 }

@@ -1,5 +1,5 @@
 //! The rules at a deadline: hello, and then the rule of the role.
-ghost use Rattle.std.specs.Prelude.{◌≡◌, ◌<◌, ◌^◌};
+ghost use Rattle.std.specs.Prelude.{◌≡◌, ◌<◌, ◌^◌, IsTrue};
 ghost use Rattle.std.specs.Option.{ForSome};
 ghost use Rattle.booth_raft.specs.Deadlines.{candidate_due, due_now, follower_due, greeted, hello, is_tried, leader_due, leader_works, repeats, resends_or_renews, waits_or_acquires};
 ghost use Rattle.booth_raft.specs.GainReleaseLost.{lost};
@@ -39,16 +39,17 @@ fn is_tried(setup: &Setup, round: &Round, now: u64) -> bool
 
 fn candidate_due(setup: &Setup, view: &mut View, now: u64) -> Deed
     requires sound { IsSound setup.now }
+    requires second { IsTrue setup.now.second }
     requires early { now < 2 ^ 62 }
     requires opened { ForSome view.old.round (λ round. round.opened < 2 ^ 62) }
     ensures view { view.new ≡ (candidate_due setup.now view.old now).view }
     ensures deed { result ≡ (candidate_due setup.now view.old now).deed }
 {
     let Some(round) = view.round else {
-        return round_ends(view, now);
+        return round_ends(setup, view, now);
     };
     if !is_tried(setup, &round, now) {
-        return round_ends(view, now);
+        return round_ends(setup, view, now);
     }
     view.due = Some(now + setup.times.timeout);
     Deed::saying(asks_again(setup, view, &round, now), Told::Nothing)
@@ -74,6 +75,7 @@ fn resends_or_renews(setup: &Setup, view: &mut View, now: u64) -> Deed
 // A handler that still runs has failed, and the lease is given back.
 fn leader_works(setup: &Setup, view: &mut View, now: u64) -> Deed
     requires sound { IsSound setup.now }
+    requires second { IsTrue setup.now.second }
     requires early { now < 2 ^ 62 }
     requires opened { ForSome view.old.round (λ round. round.opened < 2 ^ 62) }
     ensures view { view.new ≡ (leader_works setup.now view.old now).view }
@@ -81,7 +83,7 @@ fn leader_works(setup: &Setup, view: &mut View, now: u64) -> Deed
 {
     if view.job.is_some() {
         view.job = None;
-        return release(view, LOCF, now);
+        return release(setup, view, LOCF, now);
     }
     resends_or_renews(setup, view, now)
 }
@@ -99,6 +101,7 @@ pub(crate) fn lose(setup: &Setup, view: &mut View, now: u64) -> Deed
 
 fn leader_due(setup: &Setup, view: &mut View, now: u64) -> Deed
     requires sound { IsSound setup.now }
+    requires second { IsTrue setup.now.second }
     requires early { now < 2 ^ 62 }
     requires opened { ForSome view.old.round (λ round. round.opened < 2 ^ 62) }
     ensures view { view.new ≡ (leader_due setup.now view.old now).view }
@@ -165,6 +168,7 @@ fn follower_due(setup: &Setup, view: &mut View, now: u64) -> Deed
 // The rule of the role at its deadline.
 pub(crate) fn due_now(setup: &Setup, view: &mut View, now: u64) -> Deed
     requires sound { IsSound setup.now }
+    requires second { IsTrue setup.now.second }
     requires early { now < 2 ^ 62 }
     requires opened { ForSome view.old.round (λ round. round.opened < 2 ^ 62) }
     ensures view { view.new ≡ (due_now setup.now view.old now).view }

@@ -1,15 +1,15 @@
 //! The rules gain, release and lost: the first part of each, which asks for a keep, and what its answer leads to.
-ghost use Rattle.std.specs.Prelude.{◌≡◌, ◌<◌, ◌^◌};
+ghost use Rattle.std.specs.Prelude.{◌≡◌, ◌<◌, ◌^◌, IsTrue};
 ghost use Rattle.booth_rec.specs.Record.{lease_end};
-ghost use Rattle.booth_raft.specs.GainReleaseLost.{due_by_rank, free_record, gained, gain, finish_gain, let_go, lost, own_end, release, finish_release, released, retry_at, retry_release_at, finish_round_end, round_ends, unreleased, without_own};
+ghost use Rattle.booth_raft.specs.GainReleaseLost.{due_by_rank, free_record, gained, gain, finish_gain, let_go, lost, own_end, release, finish_release, released, record_of, retry_at, retry_release_at, finish_round_end, round_ends, unreleased, without_own};
 ghost use Rattle.booth_raft.specs.Sound.{IsSound};
 
 use crate::deed::{Deed, Told};
 use crate::messages::{revokes, tells_gain};
 use crate::outcome::keeping;
-use crate::view::{Promise, Role, Round, Rule, Shown, View};
+use crate::view::{Role, Round, Rule, Shown, View};
 use booth_base::{MemberId, guard_ms};
-use booth_rec::{Lease, Record};
+use booth_rec::{Lease, Promise, Record};
 use booth_wire::Setup;
 use booth_wire::reasons::SPLT;
 
@@ -49,9 +49,23 @@ pub(crate) fn due_by_rank(setup: &Setup, view: &View, now: u64) -> Option<u64>
     }
 }
 
+// What a view keeps with a lease. The setup says by its version that a pledge is kept.
+pub(crate) fn record_of(setup: &Setup, view: &View, lease: Option<Lease>) -> Record
+    requires second { IsTrue setup.now.second }
+    ensures { result ≡ record_of setup.now view.now lease }
+{
+    Record {
+        bound: view.bound,
+        promise: view.promise,
+        abstain: view.abstain,
+        ..Record::plain(view.term, lease)
+    }
+}
+
 // A round is won: its lease is kept.
 pub(crate) fn gain(setup: &Setup, view: &mut View, round: Round, now: u64) -> Deed
     requires sound { IsSound setup.now }
+    requires second { IsTrue setup.now.second }
     requires early { now < 2 ^ 62 }
     requires opened { round.opened < 2 ^ 62 }
     ensures view { view.new ≡ (gain setup.now view.old round now).view }
@@ -62,7 +76,7 @@ pub(crate) fn gain(setup: &Setup, view: &mut View, round: Round, now: u64) -> De
         term: view.term,
         until,
     };
-    let tried = Record::plain(view.term, Some(lease));
+    let tried = record_of(setup, view, Some(lease));
     view.round = Some(Round { won: true, ..round });
     view.role = Role::Leader;
     view.managed = true;
@@ -90,18 +104,20 @@ pub(crate) fn finish_gain(setup: &Setup, view: &mut View, now: u64, ok: bool) ->
     }
 }
 
-fn free_record(view: &View) -> Record
-    ensures { result ≡ free_record view.now }
+fn free_record(setup: &Setup, view: &View) -> Record
+    requires second { IsTrue setup.now.second }
+    ensures { result ≡ free_record setup.now view.now }
 {
-    Record::plain(view.term, None)
+    record_of(setup, view, None)
 }
 
 // A record without a lease is kept.
-pub(crate) fn release(view: &mut View, reason: u32, now: u64) -> Deed
-    ensures view { view.new ≡ (release view.old reason now).view }
-    ensures deed { result ≡ (release view.old reason now).deed }
+pub(crate) fn release(setup: &Setup, view: &mut View, reason: u32, now: u64) -> Deed
+    requires second { IsTrue setup.now.second }
+    ensures view { view.new ≡ (release setup.now view.old reason now).view }
+    ensures deed { result ≡ (release setup.now view.old reason now).deed }
 {
-    let free = free_record(view);
+    let free = free_record(setup, view);
     keeping(view, Rule::Release { reason }, free, now)
 }
 
@@ -189,13 +205,14 @@ pub(crate) fn finish_release(
 }
 
 // A candidate's round ends.
-pub(crate) fn round_ends(view: &mut View, now: u64) -> Deed
-    ensures view { view.new ≡ (round_ends view.old now).view }
-    ensures deed { result ≡ (round_ends view.old now).deed }
+pub(crate) fn round_ends(setup: &Setup, view: &mut View, now: u64) -> Deed
+    requires second { IsTrue setup.now.second }
+    ensures view { view.new ≡ (round_ends setup.now view.old now).view }
+    ensures deed { result ≡ (round_ends setup.now view.old now).deed }
 {
     view.round = None;
     view.role = Role::Follower;
-    let free = free_record(view);
+    let free = free_record(setup, view);
     keeping(view, Rule::EndRound, free, now)
 }
 

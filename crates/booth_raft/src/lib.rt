@@ -18,6 +18,7 @@ mod start_and_learn;
 mod view;
 
 pub use ask_and_renew::are_terms_spent;
+pub use booth_rec::Promise;
 pub use deed::{Deed, Note, Told, Want};
 pub use gain_release_lost::own_end;
 pub use machine::Core;
@@ -25,6 +26,4 @@ pub use members::is_promised_elsewhere;
 pub use messages::{owner_now, shown_end};
 pub use notes::job_limit;
 pub use numbers::seconds_left;
-pub use view::{
-    LAST_NUMBER, LAST_TERM, Promise, Role, Round, RoundKind, Rule, Shown, View, Waiting,
-};
+pub use view::{LAST_NUMBER, LAST_TERM, Role, Round, RoundKind, Rule, Shown, View, Waiting};

@@ -26,15 +26,13 @@ pub struct Core {
 }
 
 impl Model for Core {
-    ghost use Rattle.booth_raft.specs.Facts.{ViewFacts};
-    ghost use Rattle.booth_raft.specs.Sound.{IsSound};
-    ghost use Rattle.booth_raft.specs.State.{State};
+    ghost use Rattle.booth_raft.specs.State.{CoreFacts, State};
 
     ghost Value = { State };
 
     ghost view = { λ core. record { setup = core.setup; view = core.view } };
 
-    ghost invariant = { λ core. IsSound core.setup × ViewFacts core.setup core.view };
+    ghost invariant = { λ core. CoreFacts core.setup core.view };
 }
 
 impl Core {
@@ -54,11 +52,12 @@ impl Core {
     /// A member starts, from the record that it kept.
     pub fn start(setup: &Setup, kept: Option<&Record>, now: u64) -> Core
         requires sound { IsSound setup.now }
+        requires second { IsTrue setup.now.second }
         requires early { now < 2 ^ 62 }
         ensures { result ≡
             record { setup = setup.now; view = started setup.now (record_or_none (option_copied kept.entry)) now } }
     {
-        let kept = kept.copied().unwrap_or(Record::plain(0, None));
+        let kept = kept.copied().unwrap_or(Record::first(0, None));
         Core {
             setup: setup.copy(),
             view: started(setup, kept, now),
@@ -88,14 +87,14 @@ impl Core {
         requires site { IsTrue self.old.setup.site }
         ensures spent { IsErr result ↔ (LAST_TERM ≤ max self.old.view.term self.old.view.seen) }
         ensures err { OnErr result (self.new ≡ self.old) }
-        ensures view { OnOk result (self.new ≡ with_view self.old (ask self.old.view reason now).view) }
-        ensures deed { IfOk result (λ deed. deed ≡ (ask self.old.view reason now).deed) }
+        ensures view { OnOk result (self.new ≡ with_view self.old (ask self.old.setup self.old.view reason now).view) }
+        ensures deed { IfOk result (λ deed. deed ≡ (ask self.old.setup self.old.view reason now).deed) }
         ensures waits { IfOk result (λ deed. KeepWaits deed.keep self.new.view.waiting now) }
     {
         if are_terms_spent(&self.view) {
             return Err(TermSpent);
         }
-        Ok(ask(&mut self.view, reason, now))
+        Ok(ask(&self.setup, &mut self.view, reason, now))
     }
 
     /// A message of the member at the place `from`, another than this one, is heard.
@@ -195,10 +194,10 @@ impl Core {
         requires idle { self.old.view.waiting ≡ None }
         requires site { IsTrue self.old.setup.site }
         requires fitting { MayRelease self.old.view reason now }
-        ensures view { self.new ≡ with_view self.old (release self.old.view reason now).view }
-        ensures deed { result ≡ (release self.old.view reason now).deed }
+        ensures view { self.new ≡ with_view self.old (release self.old.setup self.old.view reason now).view }
+        ensures deed { result ≡ (release self.old.setup self.old.view reason now).deed }
         ensures waits { KeepWaits result.keep self.new.view.waiting now }
     {
-        release(&mut self.view, reason, now)
+        release(&self.setup, &mut self.view, reason, now)
     }
 }

@@ -114,11 +114,18 @@ fn answer_cmd(kind: RoundKind) -> Cmd
 }
 
 // The answer to a round.
-pub(crate) fn answers_round(setup: &Setup, kind: RoundKind, round: &Head, term: u32) -> Say
-    ensures { result ≡ answers_round setup.now kind round.now term }
+pub(crate) fn answers_round(
+    setup: &Setup,
+    kind: RoundKind,
+    to: MemberId,
+    number: u32,
+    request: u32,
+    term: u32,
+) -> Say
+    ensures { result ≡ answers_round setup.now kind to number request term }
 {
-    let answer = head_of(setup, answer_cmd(kind), round.request, round.options, 0, 0);
-    Say::Reply(answer, part_of(setup, round.from, term, 0))
+    let answer = head_of(setup, answer_cmd(kind), request, number, 0, 0);
+    Say::Reply(answer, part_of(setup, to, term, 0))
 }
 
 // The refusal of a round.

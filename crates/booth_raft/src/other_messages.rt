@@ -1,7 +1,7 @@
 //! The rule for other messages, and which rule a command is heard by.
-ghost use Rattle.std.specs.Prelude.{◌≡◌, ◌<◌, ◌^◌, ◌==◌, not};
+ghost use Rattle.std.specs.Prelude.{◌≡◌, ◌<◌, ◌^◌, ◌==◌, not, IsTrue};
 ghost use Rattle.std.specs.Option.{ForSome};
-ghost use Rattle.booth_raft.specs.Messages.{answer_cmd, round_cmd};
+ghost use Rattle.booth_raft.specs.Messages.{answer_cmd};
 ghost use Rattle.booth_raft.specs.OtherMessages.{freed, given_back, handed_on, hear, is_owner, left_alone, revoked};
 ghost use Rattle.booth_raft.specs.Sound.{IsSound};
 ghost use Rattle.booth_raft.specs.declared.view.RoundKind.{RoundKind};
@@ -89,26 +89,35 @@ fn is_number_of(kind: RoundKind, number: u32) -> bool
     }
 }
 
-// A round is heard, where its number is one of its kind: an election has number 0, and a renewal another.
-fn hear_numbered_round(
-    setup: &Setup,
-    view: &mut View,
-    kind: RoundKind,
-    head: &Head,
-    part: &TicketPart,
-    now: u64,
-) -> Deed
+// An election is heard: its number is 0. It is heard alike from each place.
+fn hear_election(setup: &Setup, view: &mut View, head: &Head, part: &TicketPart, now: u64) -> Deed
     requires sound { IsSound setup.now }
+    requires second { IsTrue setup.now.second }
     requires early { now < 2 ^ 62 }
-    // (a round is heard alike from each place)
-    ensures view { view.new ≡ (hear setup.now view.old 0 head.now part.now now (round_cmd kind)).view }
-    ensures deed { result ≡ (hear setup.now view.old 0 head.now part.now now (round_cmd kind)).deed }
+    ensures view { view.new ≡ (hear setup.now view.old 0 head.now part.now now Cmd.RVot).view }
+    ensures deed { result ≡ (hear setup.now view.old 0 head.now part.now now Cmd.RVot).deed }
 {
     with_seen(view, part.term);
-    if is_number_of(kind, head.options) {
-        hear_round(setup, view, kind, head, part, now)
+    if head.options == 0 {
+        hear_round(setup, view, RoundKind::Election, head, part, now)
     } else {
         Deed::quiet()
+    }
+}
+
+// A renewal is heard: its number is another.
+fn hear_renewal(setup: &Setup, view: &mut View, head: &Head, part: &TicketPart, now: u64) -> Deed
+    requires sound { IsSound setup.now }
+    requires second { IsTrue setup.now.second }
+    requires early { now < 2 ^ 62 }
+    ensures view { view.new ≡ (hear setup.now view.old 0 head.now part.now now Cmd.HrtB).view }
+    ensures deed { result ≡ (hear setup.now view.old 0 head.now part.now now Cmd.HrtB).deed }
+{
+    with_seen(view, part.term);
+    if head.options == 0 {
+        Deed::quiet()
+    } else {
+        hear_round(setup, view, RoundKind::Renewal, head, part, now)
     }
 }
 
@@ -123,6 +132,7 @@ fn hear_numbered_answer(
     now: u64,
 ) -> Deed
     requires sound { IsSound setup.now }
+    requires second { IsTrue setup.now.second }
     requires early { now < 2 ^ 62 }
     requires place { place < setup.now.members }
     requires opened { ForSome view.old.round (λ round. round.opened < 2 ^ 62) }
@@ -147,6 +157,7 @@ pub(crate) fn hear(
     now: u64,
 ) -> Deed
     requires sound { IsSound setup.now }
+    requires second { IsTrue setup.now.second }
     requires early { now < 2 ^ 62 }
     requires place { place < setup.now.members }
     requires opened { ForSome view.old.round (λ round. round.opened < 2 ^ 62) }
@@ -154,8 +165,8 @@ pub(crate) fn hear(
     ensures deed { result ≡ (hear setup.now view.old place head.now part.now now head.now.cmd).deed }
 {
     match head.cmd {
-        Cmd::RVot => hear_numbered_round(setup, view, RoundKind::Election, head, part, now),
-        Cmd::HrtB => hear_numbered_round(setup, view, RoundKind::Renewal, head, part, now),
+        Cmd::RVot => hear_election(setup, view, head, part, now),
+        Cmd::HrtB => hear_renewal(setup, view, head, part, now),
         Cmd::VtFr => hear_numbered_answer(setup, view, place, RoundKind::Election, head, part, now),
         Cmd::Ack => hear_numbered_answer(setup, view, place, RoundKind::Renewal, head, part, now),
         Cmd::Stat => {

@@ -1,18 +1,20 @@
 //! The rules for a round that is heard and for an answer that is heard.
 ghost use Rattle.std.specs.Prelude.{◌≡◌, ◌<◌, ◌^◌, ◌↔◌, IsTrue};
 ghost use Rattle.std.specs.Option.{ForSome};
-ghost use Rattle.booth_raft.specs.RoundsAndAnswers.{MayAnswer, may_answer, why_refused, promised, stood_down, shows_site, with_site, due_after_answer, with_due, told_by_answer, answered_round, hear_round, is_answer_to, wins, join, hear_answer};
+ghost use Rattle.booth_raft.specs.RoundsAndAnswers.{MayAnswer, may_answer, why_refused, promised, stood_down, shows_site, with_site, due_after_answer, with_due, told_by_answer, answered_round, hear_round, finish_answer, is_answer_to, wins, join, hear_answer};
 ghost use Rattle.booth_raft.specs.Sound.{IsSound};
 
 use crate::deed::{Deed, Told};
-use crate::gain_release_lost::gain;
+use crate::gain_release_lost::{gain, record_of};
 use crate::members::{is_majority, is_promised_elsewhere};
-use crate::messages::{answers_round, refuses_round};
+use crate::messages::refuses_round;
+use crate::outcome::keeping;
 use crate::start_and_learn::{awaits_failover, failover_time, with_shown};
-use crate::view::{Promise, Role, Round, RoundKind, View};
+use crate::view::{Role, Round, RoundKind, Rule, View};
 use booth_base::{MemberId, promise_ms};
+use booth_rec::{Promise, Record};
 use booth_wire::results::{BUSY, OUTD, TODT, TVLD};
-use booth_wire::{Head, Setup, TicketPart};
+use booth_wire::{Head, Say, Setup, TicketPart};
 
 // Whether a round of a site and a term may be answered.
 pub(crate) fn may_answer(view: &View, site: MemberId, term: u32, now: u64) -> bool
@@ -145,6 +147,7 @@ pub(crate) fn hear_round(
     now: u64,
 ) -> Deed
     requires sound { IsSound setup.now }
+    requires second { IsTrue setup.now.second }
     requires early { now < 2 ^ 62 }
     ensures view { view.new ≡ (hear_round setup.now view.old kind head.now part.now now).view }
     ensures deed { result ≡ (hear_round setup.now view.old kind head.now part.now now).deed }
@@ -155,7 +158,34 @@ pub(crate) fn hear_round(
     }
     let told = told_by_answer(view.role);
     answered_round(setup, view, head.from, kind, part, now);
-    Deed::saying(answers_round(setup, kind, head, part.term), told)
+    let tried = record_of(setup, view, view.kept.lease);
+    let answer = Rule::Answer {
+        kind,
+        to: head.from,
+        number: head.options,
+        request: head.request,
+        told,
+    };
+    keeping(view, answer, tried, now)
+}
+
+// The keep of a promise was answered: the round is answered only where it is kept.
+pub(crate) fn finish_answer(
+    view: &mut View,
+    tried: Record,
+    answer: Say,
+    told: Told,
+    ok: bool,
+) -> Deed
+    ensures view { view.new ≡ (finish_answer view.old tried answer told ok).view }
+    ensures deed { result ≡ (finish_answer view.old tried answer told ok).deed }
+{
+    view.sure = ok;
+    if !ok {
+        return Deed::telling(told);
+    }
+    view.kept = tried;
+    Deed::saying(answer, told)
 }
 
 fn is_answer_to(setup: &Setup, round: &Round, head: &Head, part: &TicketPart) -> bool
@@ -175,6 +205,7 @@ fn wins(setup: &Setup, round: &Round, now: u64) -> bool
 
 fn join(setup: &Setup, view: &mut View, round: Round, now: u64) -> Deed
     requires sound { IsSound setup.now }
+    requires second { IsTrue setup.now.second }
     requires early { now < 2 ^ 62 }
     requires opened { round.opened < 2 ^ 62 }
     ensures view { view.new ≡ (join setup.now view.old round now).view }
@@ -197,6 +228,7 @@ pub(crate) fn hear_answer(
     now: u64,
 ) -> Deed
     requires sound { IsSound setup.now }
+    requires second { IsTrue setup.now.second }
     requires early { now < 2 ^ 62 }
     requires place { place < setup.now.members }
     requires opened { ForSome view.old.round (λ round. round.opened < 2 ^ 62) }

@@ -27,12 +27,17 @@ pub(crate) fn started(setup: &Setup, kept: Record, now: u64) -> View
     } else {
         None
     };
+    let (bound, promise, abstain) = if kept.is_second() {
+        (kept.bound, kept.promise, kept.abstain)
+    } else {
+        (None, None, now + promise_ms(&setup.times))
+    };
     View {
         term: kept.term,
         seen: kept.term,
-        bound: None,
-        promise: None,
-        abstain: now + promise_ms(&setup.times),
+        bound,
+        promise,
+        abstain,
         kept,
         sure: true,
         force: until,

@@ -1,21 +1,13 @@
 //! What a member knows of one automatic ticket. Moments are milliseconds on its own clock.
+use crate::deed::Told;
 use booth_base::{MEMBERS, MemberId};
-use booth_rec::Record;
+use booth_rec::{Promise, Record};
 
 /// From this term on no further term is asked for.
 pub const LAST_TERM: u32 = 4_294_967_294;
 
 /// The number of a round after which no renewal is opened.
 pub const LAST_NUMBER: u32 = 4_294_967_295;
-
-/// An answer that binds: while it is live no round of another member is answered.
-#[derive(Clone, Copy, Debug, PartialEq, Eq)]
-pub struct Promise {
-    pub to: MemberId,
-    pub term: u32,
-    /// It is live at readings below this.
-    pub until: u64,
-}
 
 /// What a member does for the ticket.
 #[derive(Clone, Copy, Debug, PartialEq, Eq)]
@@ -65,11 +57,28 @@ pub enum Rule {
     /// A round was won.
     Gain,
     /// A new term is asked for.
-    Ask { reason: u32 },
+    Ask {
+        reason: u32,
+    },
     /// The lease is given back.
-    Release { reason: u32 },
+    Release {
+        reason: u32,
+    },
     /// A candidate's round ended without a majority.
     EndRound,
+    /// A round was heard, and is answered where the promise to its member is kept. Clients are told
+    /// this whether it is or not.
+    Answer {
+        kind: RoundKind,
+        to: MemberId,
+        number: u32,
+        request: u32,
+        told: Told,
+    },
+    /// The lease is renewed: a round of this number is opened where the own promise is kept.
+    Renew {
+        number: u32,
+    },
 }
 
 /// A keep that was asked for and is not answered.
@@ -88,12 +97,12 @@ pub struct View {
     pub term: u32,
     /// The greatest term that was heard of.
     pub seen: u32,
-    /// Whom this member answered in `term`.
+    /// The only member whose rounds of `term` are answered.
     pub bound: Option<MemberId>,
     pub promise: Option<Promise>,
     /// No round is answered at readings below this.
     pub abstain: u64,
-    /// The kept record; without one, term 0 and no lease.
+    /// The kept record; without one, that of version 1 with term 0 and no lease.
     pub kept: Record,
     /// Whether the last keep succeeded.
     pub sure: bool,

@@ -8,7 +8,11 @@ use Rattle.booth_raft.proofs.machine.Core.lose.Goals as goal
 pub invariant_of-self : goal.invariant_of-self
 invariant_of-self c =
     let nothing : c.self.inside.view.waiting ≡ None = ap (λ (s : State). s.view.waiting) c.self.view_is ∙ c.requires.idle in
-    (c.self.invariant.0, (leaves _ c.args.now _ _ c.lose.result c.lose.ensures.view c.lose.ensures.deed (lost_good c.self.inside.setup c.self.inside.view c.args.now nothing)).facts)
+    record {
+      sound = c.self.invariant.sound;
+      second = c.self.invariant.second;
+      facts = (leaves _ c.args.now _ _ c.lose.result c.lose.ensures.view c.lose.ensures.deed (lost_good c.self.inside.setup c.self.inside.view c.args.now nothing)).facts;
+    }
 
 pub returns-clause-waits : goal.returns-clause-waits
 returns-clause-waits c =

@@ -8,9 +8,13 @@ use Rattle.booth_raft.proofs.machine.Core.tick.Goals as goal
 pub invariant_of-self : goal.invariant_of-self
 invariant_of-self c =
     let nothing : c.self.inside.view.waiting ≡ None = ap (λ (s : State). s.view.waiting) c.self.view_is ∙ c.requires.idle in
-    (c.self.invariant.0, (leaves _ c.args.now _ _ c.due_now.result c.due_now.ensures.view c.due_now.ensures.deed (due_now_good _ _ _ nothing c.self.invariant.1)).facts)
+    record {
+      sound = c.self.invariant.sound;
+      second = c.self.invariant.second;
+      facts = (leaves _ c.args.now _ _ c.due_now.result c.due_now.ensures.view c.due_now.ensures.deed (due_now_good _ _ _ nothing c.self.invariant.facts)).facts;
+    }
 
 pub returns-clause-waits : goal.returns-clause-waits
 returns-clause-waits c =
     let nothing : c.self.inside.view.waiting ≡ None = ap (λ (s : State). s.view.waiting) c.self.view_is ∙ c.requires.idle in
-    (leaves c.self.inside.setup c.args.now _ _ _ c.due_now.ensures.view c.due_now.ensures.deed (due_now_good _ _ _ nothing c.self.invariant.1)).waits
+    (leaves c.self.inside.setup c.args.now _ _ _ c.due_now.ensures.view c.due_now.ensures.deed (due_now_good _ _ _ nothing c.self.invariant.facts)).waits
