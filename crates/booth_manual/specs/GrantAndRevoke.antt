@@ -1,7 +1,8 @@
 -- The rules grant, again and revoke: what each keeps, and what the keep's answer leads to.
-use Rattle.std.specs.Prelude.{◌+◌, Bool, true, false, nat_le, Some, None}
+use Rattle.std.specs.Prelude.{ℕ, ◌+◌, Bool, true, false, nat_le, Option, Some, None, if◌then◌else◌}
+use Rattle.booth_rec.specs.declared.record.Lease.{Lease}
 use Rattle.booth_rec.specs.declared.record.Record.{Record}
-use Rattle.booth_rec.specs.Record.{plain}
+use Rattle.booth_rec.specs.Record.{no_record}
 use Rattle.booth_wire.specs.declared.message.Setup.{Setup}
 use Rattle.booth_manual.specs.declared.view.TheConstants.{LAST_TERM, NO_END}
 use Rattle.booth_manual.specs.declared.view.Call.{Call}
@@ -14,6 +15,12 @@ use Rattle.booth_manual.specs.Outcome.{Keep, Outcome, quiet, saying}
 abbrev pub are_terms_spent : ManualView → Bool
 are_terms_spent view = nat_le LAST_TERM view.term
 
+-- The record of a term and perhaps a lease, in the version that the rules keep. A manual ticket has no promises, so it
+-- pledges nothing.
+abbrev pub kept_by_hand : Setup → ℕ → Option Lease → Record
+kept_by_hand setup term lease =
+    record no_record { version = if setup.second then 2 else 1; term = term; lease = lease }
+
 -- a call asks for a keep, and waits for its answer
 abbrev pub keeping : ManualView → Call → Record → Keep
 keeping view call tried = record {
@@ -24,17 +31,18 @@ keeping view call tried = record {
 -- ---- grant
 
 -- the record of a grant: a lease without an end, in the term after the view's
-abbrev pub granted_record : ManualView → Record
-granted_record view = plain (view.term + 1) (Some (record { term = view.term + 1; until = NO_END }))
+abbrev pub granted_record : Setup → ManualView → Record
+granted_record setup view =
+    kept_by_hand setup (view.term + 1) (Some (record { term = view.term + 1; until = NO_END }))
 
 -- Grant: this site holds the ticket in a new term, whatever it was shown
-abbrev pub grant : ManualView → Keep
-grant view = keeping (record view {
+abbrev pub grant : Setup → ManualView → Keep
+grant setup view = keeping (record view {
   term = view.term + 1;
-  kept = granted_record view;
+  kept = granted_record setup view;
   owner = true;
   shown = None;
-}) calls.Grant (granted_record view)
+}) calls.Grant (granted_record setup view)
 
 -- Grant, the keep's answer: it is told where the record is kept
 abbrev pub finish_grant : Setup → ManualView → Bool → Outcome
@@ -44,17 +52,18 @@ finish_grant setup view false = quiet (record view { sure = false })
 -- ---- again
 
 -- Again: the view's record is kept once more, and nothing is said of it
-abbrev pub again : ManualView → Keep
-again view = keeping view calls.Again (plain view.kept.term view.kept.lease)
+abbrev pub again : Setup → ManualView → Keep
+again setup view = keeping view calls.Again (kept_by_hand setup view.kept.term view.kept.lease)
 
-abbrev pub finish_again : ManualView → Bool → Outcome
-finish_again view ok = quiet (record view { sure = ok })
+abbrev pub finish_again : ManualView → Record → Bool → Outcome
+finish_again view tried true = quiet (record view { kept = tried; sure = true })
+finish_again view tried false = quiet (record view { sure = false })
 
 -- ---- revoke
 
 -- Revoke: a record without a lease is kept, and until then this site holds the ticket
-abbrev pub revoke : ManualView → Keep
-revoke view = keeping view calls.Revoke (plain view.term None)
+abbrev pub revoke : Setup → ManualView → Keep
+revoke setup view = keeping view calls.Revoke (kept_by_hand setup view.term None)
 
 -- Revoke, the keep's answer: where the record is kept, this site holds the ticket no more, and says so
 abbrev pub finish_revoke : Setup → ManualView → Record → Bool → Outcome
@@ -67,7 +76,7 @@ finish_revoke setup view tried false = quiet (record view { sure = false })
 -- the call that waits goes on by the answer
 abbrev pub goes_on : Setup → ManualView → Call → Record → Bool → Outcome
 goes_on setup view calls.Grant tried ok = finish_grant setup view ok
-goes_on setup view calls.Again tried ok = finish_again view ok
+goes_on setup view calls.Again tried ok = finish_again view tried ok
 goes_on setup view calls.Revoke tried ok = finish_revoke setup view tried ok
 
 -- nothing waits any longer; where nothing waited, nothing follows

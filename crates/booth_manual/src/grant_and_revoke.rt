@@ -1,6 +1,6 @@
 //! The rules grant, again and revoke: what each keeps, and what the keep's answer leads to.
-ghost use Rattle.std.specs.Prelude.{◌≡◌, ◌<◌};
-ghost use Rattle.booth_manual.specs.GrantAndRevoke.{are_terms_spent, grant, again, revoke, keeping};
+ghost use Rattle.std.specs.Prelude.{◌≡◌, ◌<◌, IsTrue};
+ghost use Rattle.booth_manual.specs.GrantAndRevoke.{are_terms_spent, grant, again, kept_by_hand, revoke, keeping};
 ghost use Rattle.booth_manual.specs.GrantAndRevoke.{finish_grant, finish_again, finish_revoke, finish};
 
 use crate::messages::{revokes, tells_grant};
@@ -15,6 +15,14 @@ pub fn are_terms_spent(view: &ManualView) -> bool
     view.term >= LAST_TERM
 }
 
+// The record of a term and perhaps a lease. The setup says by its version that it is one of version 2.
+fn kept_by_hand(setup: &Setup, term: u32, lease: Option<Lease>) -> Record
+    requires { IsTrue setup.now.second }
+    ensures { result ≡ kept_by_hand setup.now term lease }
+{
+    Record::plain(term, lease)
+}
+
 // A call asks for a keep, and waits for its answer.
 fn keeping(view: &mut ManualView, call: Call, tried: Record) -> Record
     ensures view { view.new ≡ (keeping view.old call tried).view }
@@ -25,17 +33,18 @@ fn keeping(view: &mut ManualView, call: Call, tried: Record) -> Record
 }
 
 // The ticket is granted: a lease without an end, in a new term.
-pub(crate) fn grant(view: &mut ManualView) -> Record
-    requires { view.old.term < LAST_TERM }
-    ensures view { view.new ≡ (grant view.old).view }
-    ensures record { result ≡ (grant view.old).tried }
+pub(crate) fn grant(setup: &Setup, view: &mut ManualView) -> Record
+    requires second { IsTrue setup.now.second }
+    requires terms { view.old.term < LAST_TERM }
+    ensures view { view.new ≡ (grant setup.now view.old).view }
+    ensures record { result ≡ (grant setup.now view.old).tried }
 {
     let term = view.term + 1;
     let lease = Lease {
         term,
         until: NO_END,
     };
-    let tried = Record::plain(term, Some(lease));
+    let tried = kept_by_hand(setup, term, Some(lease));
     view.term = term;
     view.kept = tried;
     view.owner = true;
@@ -44,20 +53,22 @@ pub(crate) fn grant(view: &mut ManualView) -> Record
 }
 
 // The record is kept again.
-pub(crate) fn again(view: &mut ManualView) -> Record
-    ensures view { view.new ≡ (again view.old).view }
-    ensures record { result ≡ (again view.old).tried }
+pub(crate) fn again(setup: &Setup, view: &mut ManualView) -> Record
+    requires { IsTrue setup.now.second }
+    ensures view { view.new ≡ (again setup.now view.old).view }
+    ensures record { result ≡ (again setup.now view.old).tried }
 {
-    let tried = Record::plain(view.kept.term, view.kept.lease);
+    let tried = kept_by_hand(setup, view.kept.term, view.kept.lease);
     keeping(view, Call::Again, tried)
 }
 
 // The ticket is given back: a record without a lease.
-pub(crate) fn revoke(view: &mut ManualView) -> Record
-    ensures view { view.new ≡ (revoke view.old).view }
-    ensures record { result ≡ (revoke view.old).tried }
+pub(crate) fn revoke(setup: &Setup, view: &mut ManualView) -> Record
+    requires { IsTrue setup.now.second }
+    ensures view { view.new ≡ (revoke setup.now view.old).view }
+    ensures record { result ≡ (revoke setup.now view.old).tried }
 {
-    let tried = Record::plain(view.term, None);
+    let tried = kept_by_hand(setup, view.term, None);
     keeping(view, Call::Revoke, tried)
 }
 
@@ -75,11 +86,15 @@ fn finish_grant(setup: &Setup, view: &mut ManualView, ok: bool) -> Say
 }
 
 // The keep of the record again was answered.
-fn finish_again(view: &mut ManualView, ok: bool) -> Say
-    ensures view { view.new ≡ (finish_again view.old ok).view }
-    ensures say { result ≡ (finish_again view.old ok).say }
+fn finish_again(view: &mut ManualView, tried: Record, ok: bool) -> Say
+    ensures view { view.new ≡ (finish_again view.old tried ok).view }
+    ensures say { result ≡ (finish_again view.old tried ok).say }
 {
     view.sure = ok;
+    if !ok {
+        return Say::Nothing;
+    }
+    view.kept = tried;
     Say::Nothing
 }
 
@@ -108,7 +123,7 @@ pub(crate) fn finish(setup: &Setup, view: &mut ManualView, ok: bool) -> Say
     view.waiting = None;
     match waits.call {
         Call::Grant => finish_grant(setup, view, ok),
-        Call::Again => finish_again(view, ok),
+        Call::Again => finish_again(view, waits.tried, ok),
         Call::Revoke => finish_revoke(setup, view, waits.tried, ok),
     }
 }

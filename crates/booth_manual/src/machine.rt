@@ -21,6 +21,7 @@ pub struct Manual {
 }
 
 impl Model for Manual {
+    ghost use Rattle.std.specs.Prelude.{IsTrue};
     ghost use Rattle.booth_manual.specs.Facts.{ViewFacts};
     ghost use Rattle.booth_manual.specs.State.{State};
 
@@ -28,7 +29,7 @@ impl Model for Manual {
 
     ghost view = { λ m. record { setup = m.setup; view = m.view } };
 
-    ghost invariant = { λ m. ViewFacts m.view };
+    ghost invariant = { λ m. IsTrue m.setup.second × ViewFacts m.setup m.view };
 }
 
 impl Manual {
@@ -42,10 +43,11 @@ impl Manual {
 
     /// A member starts, from the record that it kept.
     pub fn start(setup: &Setup, kept: Option<&Record>) -> Manual
+        requires { IsTrue setup.now.second }
         ensures { result ≡
             record { setup = setup.now; view = started (record_or_none (option_copied kept.entry)) } }
     {
-        let kept = kept.copied().unwrap_or(Record::plain(0, None));
+        let kept = kept.copied().unwrap_or(Record::first(0, None));
         Manual {
             setup: setup.copy(),
             view: started(kept),
@@ -55,7 +57,7 @@ impl Manual {
     /// What the member knows of the ticket.
     pub fn view(&self) -> &ManualView
         ensures value { result.now ≡ self.now.view }
-        ensures facts { ViewFacts self.now.view }
+        ensures facts { ViewFacts self.now.setup self.now.view }
     {
         &self.view
     }
@@ -80,13 +82,13 @@ impl Manual {
         requires idle { self.old.view.waiting ≡ None }
         ensures spent { IsErr result ↔ (LAST_TERM ≤ self.old.view.term) }
         ensures err { OnErr result (self.new ≡ self.old) }
-        ensures view { OnOk result (self.new ≡ with_view self.old (grant self.old.view).view) }
-        ensures tried { IfOk result (λ tried. tried ≡ (grant self.old.view).tried) }
+        ensures view { OnOk result (self.new ≡ with_view self.old (grant self.old.setup self.old.view).view) }
+        ensures tried { IfOk result (λ tried. tried ≡ (grant self.old.setup self.old.view).tried) }
     {
         if are_terms_spent(&self.view) {
             return Err(TermSpent);
         }
-        Ok(grant(&mut self.view))
+        Ok(grant(&self.setup, &mut self.view))
     }
 
     /// The owner's record is to be kept again, since its last keep failed.
@@ -94,20 +96,20 @@ impl Manual {
         requires idle { self.old.view.waiting ≡ None }
         requires owner { IsTrue self.old.view.owner }
         requires unsure { self.old.view.sure ≡ false }
-        ensures view { self.new ≡ with_view self.old (again self.old.view).view }
-        ensures tried { result ≡ (again self.old.view).tried }
+        ensures view { self.new ≡ with_view self.old (again self.old.setup self.old.view).view }
+        ensures tried { result ≡ (again self.old.setup self.old.view).tried }
     {
-        again(&mut self.view)
+        again(&self.setup, &mut self.view)
     }
 
     /// The owner gives the ticket back: the record that is to be kept.
     pub fn revoke(&mut self) -> Record
         requires idle { self.old.view.waiting ≡ None }
         requires owner { IsTrue self.old.view.owner }
-        ensures view { self.new ≡ with_view self.old (revoke self.old.view).view }
-        ensures tried { result ≡ (revoke self.old.view).tried }
+        ensures view { self.new ≡ with_view self.old (revoke self.old.setup self.old.view).view }
+        ensures tried { result ≡ (revoke self.old.setup self.old.view).tried }
     {
-        revoke(&mut self.view)
+        revoke(&self.setup, &mut self.view)
     }
 
     /// The keep that waits was answered: `ok` where the record is kept. What is then said.

@@ -34,7 +34,7 @@ pub struct Waiting {
 #[derive(Clone, Copy, Debug, PartialEq, Eq)]
 pub struct ManualView {
     pub term: u32,
-    /// The kept record; without one, term 0 and no lease.
+    /// The kept record; without one, that of version 1 with term 0 and no lease.
     pub kept: Record,
     /// Whether the last keep succeeded.
     pub sure: bool,

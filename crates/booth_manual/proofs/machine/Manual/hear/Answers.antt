@@ -1,0 +1,12 @@
+use Rattle.std.proofs.Common.{subst, sym}
+use Rattle.booth_manual.specs.declared.view.ManualView.{ManualView}
+use Rattle.booth_manual.specs.Facts.{ViewFacts}
+use Rattle.booth_manual.proofs.FactsLemmas.{hear_facts}
+use Rattle.booth_manual.proofs.machine.Manual.hear.Goals as goal
+
+pub invariant_of-self : goal.invariant_of-self
+invariant_of-self c = (
+  c.self.invariant.0,
+  subst (λ (v : ManualView). ViewFacts c.self.inside.setup v) (sym c.hear.ensures.view)
+      (hear_facts c.self.inside.setup c.self.inside.view c.args.head.now c.args.part.now c.args.head.now.cmd c.self.invariant.1),
+)
