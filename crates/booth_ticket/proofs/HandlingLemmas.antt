@@ -1,22 +1,19 @@
 -- A handler's start is one act, and what comes of it.
-use Rattle.std.proofs.Common.{◌≡◌, ℕ, ◌/◌, Bool, true, false, List, [], ◌∷◌, refl, sym, ap, subst}
+use Rattle.std.proofs.Common.{◌≡◌, ℕ, ◌/◌, Bool, true, false, refl, sym, ap, subst}
 use Rattle.std.specs.Prelude.{Option, Some, None, if◌then◌else◌}
-use Rattle.booth_base.specs.Tree.{Deeds}
 use Rattle.booth_wire.specs.declared.message.Setup.{Setup}
 use Rattle.booth_wire.specs.declared.codes.reasons.TheConstants.{TLST}
 use Rattle.booth_raft.specs.declared.deed.Deed.{Deed}
 use Rattle.booth_raft.specs.declared.deed.Note.TheVariants.{Unready}
-use Rattle.booth_raft.specs.declared.deed.Told.TheVariants as tells
 use Rattle.booth_raft.specs.declared.deed.Want.{Want}
 use Rattle.booth_raft.specs.declared.view.View.{View}
 use Rattle.booth_raft.specs.AskAndRenew.{renew}
 use Rattle.booth_raft.specs.Deadlines.{due_now}
 use Rattle.booth_raft.specs.GainReleaseLost.{own_end}
-use Rattle.booth_raft.specs.Members.{is_working}
-use Rattle.booth_raft.specs.Notes.{handler_failed, noted}
-use Rattle.booth_raft.specs.Outcome.{Outcome, quiet, telling}
-use Rattle.booth_ticket.specs.Acts.{Ask, Act, DidSome, started}
-use Rattle.booth_ticket.specs.Automatic.{Left, follow, role_due, rule_due, take_over}
+use Rattle.booth_raft.specs.Notes.{noted}
+use Rattle.booth_raft.specs.Outcome.{Outcome, quiet}
+use Rattle.booth_ticket.specs.Acts.{Act, DidSome, started}
+use Rattle.booth_ticket.specs.Automatic.{Left, follow, rule_due, take_over}
 use Rattle.booth_ticket.specs.Handling.{acquire, acquires, checks, renews, renews_by, works}
 use Rattle.booth_ticket.proofs.DidLemmas.{did_none, did_one}
 use Rattle.booth_ticket.proofs.KeepLemmas.{FromTo, outcome_of, same_outcome}

@@ -1,6 +1,5 @@
--- What is done where it may be: a round is answered, a grant asks all, a majority gains.
-use Rattle.std.proofs.Common.{◌≡◌, ◌≢◌, ℕ, ◌+◌, ◌<◌, Bool, true, false, cond, ◌&&◌, ◌||◌, List, ◌∷◌, ◌++◌, [], arith, refl, sym, ap, subst}
-use Rattle.std.proofs.lemmas.Bool.Decides.{nat_tests}
+-- What is done where it may be: a grant asks all, a majority gains.
+use Rattle.std.proofs.Common.{◌≡◌, ℕ, ◌+◌, ◌<◌, Bool, true, false, cond, ◌&&◌, ◌||◌, List, ◌∷◌, ◌++◌, [], refl, sym, ap, subst, ◌∙◌}
 use Rattle.std.specs.Prelude.{Option, Some, None, nat_lt, not, ◌==◌, if◌then◌else◌}
 use Rattle.booth_base.specs.declared.address.MemberId.{MemberId}
 use Rattle.booth_base.specs.declared.address.TheConstants.{NO_ONE}
@@ -20,101 +19,32 @@ use Rattle.booth_raft.specs.declared.deed.Told.TheVariants as tells
 use Rattle.booth_raft.specs.declared.view.Role.{Role}
 use Rattle.booth_raft.specs.declared.view.Role.TheVariants.{Follower, Working, Candidate, Leader}
 use Rattle.booth_raft.specs.declared.view.Round.{Round}
-use Rattle.booth_raft.specs.declared.view.RoundKind.{RoundKind}
 use Rattle.booth_raft.specs.declared.view.RoundKind.TheVariants.{Election, Renewal}
+use Rattle.booth_raft.specs.declared.view.Rule.TheVariants as rules
 use Rattle.booth_raft.specs.declared.view.View.{View}
-use Rattle.booth_raft.specs.AskAndRenew.{answers_itself, are_terms_spent, ask, asked_all, begin_round, finish, new_round, own_answer}
-use Rattle.booth_raft.specs.GainReleaseLost.{gain}
-use Rattle.booth_raft.specs.Members.{is_follower, is_leader, is_majority, is_promised_elsewhere}
+use Rattle.booth_raft.specs.AskAndRenew.{answers_itself, are_terms_spent, asked_all, begin_round, finish, in_next_term, new_round, own_answer, with_own_promise}
+use Rattle.booth_raft.specs.GainReleaseLost.{gain, record_of}
+use Rattle.booth_raft.specs.Members.{is_follower, is_leader, is_majority, is_promised_elsewhere, joined_by, nobody}
 use Rattle.booth_raft.specs.Messages.{asks_all, head_of, part_of, round_head, round_part, state_part}
 use Rattle.booth_raft.specs.Notes.{noted}
 use Rattle.booth_raft.specs.Numbers.{seconds_left}
 use Rattle.booth_raft.specs.OtherMessages.{hear}
-use Rattle.booth_raft.specs.Outcome.{Outcome, quiet, saying}
-use Rattle.booth_raft.specs.RoundsAndAnswers.{MayAnswer, may_answer, hear_round, hear_answer, is_answer_to, wins, with_answer, join}
+use Rattle.booth_raft.specs.Outcome.{Outcome, keeping, quiet, saying}
+use Rattle.booth_raft.specs.RoundsAndAnswers.{hear_answer, is_answer_to, wins, with_answer, join}
 use Rattle.booth_raft.specs.StartAndLearn.{with_seen}
-use Rattle.booth_raft.proofs.AnswerLemmas.{tests_may_answer}
 use Rattle.booth_raft.proofs.FactsLemmas.{on_cond}
 use Rattle.booth_ticket.specs.declared.hands.To.TheVariants.{Client}
 use Rattle.booth_ticket.specs.declared.request.Request.{Request}
 use Rattle.booth_ticket.specs.declared.waiters.Waiter.{Waiter}
-use Rattle.booth_ticket.specs.Acts.{Act, IsAct, Ask, said, said_to_each}
+use Rattle.booth_ticket.specs.Acts.{Act, IsAct, Ask, kept, said, said_to_each}
 use Rattle.booth_ticket.specs.Automatic.{Left, ends}
 use Rattle.booth_ticket.specs.Keeping.{carry_out, keep_once, say_last}
-use Rattle.booth_ticket.specs.Laws.{AnswersWhereItMay, AsksVotes, BeginsWith, Completes, GrantAsksAll, HasLease, IsDoneBy, MajorityGains, answer_to, asking_acts, gaining_acts, lease_of, told_granted}
+use Rattle.booth_ticket.specs.Laws.{AsksVotes, Completes, GrantAsksAll, HasLease, IsDoneBy, MajorityGains, asked_record, asking_acts, gaining_acts, lease_kept, lease_of, told_granted}
 use Rattle.booth_ticket.specs.Requests.{grant, grant_result, is_holder, is_shown_elsewhere, refused_grant, reply, replies}
 use Rattle.booth_ticket.specs.Saying.{others, say_each}
 use Rattle.booth_ticket.specs.Waiting.{joined, staying, tell_each, waits}
 use Rattle.booth_ticket.proofs.SayLemmas.{each_first}
-
--- ---- cases and tests
-
-when_true : {A : Type 0} (P : A → Type 0) (b : Bool) (x y : A) → b ≡ true → P x → P (cond b x y)
-when_true P true x y e p = p
-when_true P false x y e p = absurd (cc)
-
-when_false : {A : Type 0} (P : A → Type 0) (b : Bool) (x y : A) → b ≡ false → P y → P (cond b x y)
-when_false P true x y e p = absurd (cc)
-when_false P false x y e p = p
-
-both : (a b : Bool) → a ≡ true → b ≡ true → a && b ≡ true
-both true b e f = f
-both false b e f = absurd (cc)
-
-is_number : (m n : ℕ) → m ≡ n → m == n ≡ true
-is_number m n e = grind (arith, nat_tests)
-
-is_other : (m n : ℕ) → m ≢ n → m == n ≡ false
-is_other m n e = grind (arith, nat_tests)
-
-is_below : (m n : ℕ) → m < n → nat_lt m n ≡ true
-is_below m n e = grind (arith, nat_tests)
-
--- ---- a round is heard
-
-answered : (setup : Setup) (view : View) (waiters : List Waiter) (from : ℕ) (kind : RoundKind)
-    (head : Head) (part : TicketPart) (now : ℕ)
-    → MayAnswer view head.from part.term now
-    → BeginsWith (carry_out setup (Some from) now
-    (hear_round setup (with_seen view part.term) kind head part now) (ends setup now waiters))
-    (answer_to setup from kind head part)
-answered setup view waiters from kind head part now may =
-    when_true
-    (λ (o : Outcome). BeginsWith (carry_out setup (Some from) now o (ends setup now waiters))
-    (answer_to setup from kind head part))
-    (may_answer (with_seen view part.term) head.from part.term now) _ _
-    ((tests_may_answer (with_seen view part.term) head.from part.term now).1
-    (record {
-      rested = may.rested;
-      unforced = may.unforced;
-      unpromised = may.unpromised;
-      unbound = may.unbound;
-    }))
-    refl
-
-pub answers : AnswersWhereItMay
-answers setup view waiters from Election head part now is may =
-    subst
-    (λ (cmd : Cmd).
-    BeginsWith (carry_out setup (Some from) now (hear setup view from head part now cmd) (ends setup now waiters))
-    (answer_to setup from Election head part))
-    (sym is.0)
-    (when_true
-    (λ (o : Outcome). BeginsWith (carry_out setup (Some from) now o (ends setup now waiters))
-    (answer_to setup from Election head part))
-    (head.options == 0) _ _ (is_number head.options 0 is.1)
-    (answered setup view waiters from Election head part now may))
-answers setup view waiters from Renewal head part now is may =
-    subst
-    (λ (cmd : Cmd).
-    BeginsWith (carry_out setup (Some from) now (hear setup view from head part now cmd) (ends setup now waiters))
-    (answer_to setup from Renewal head part))
-    (sym is.0)
-    (when_false
-    (λ (o : Outcome). BeginsWith (carry_out setup (Some from) now o (ends setup now waiters))
-    (answer_to setup from Renewal head part))
-    (head.options == 0) _ _ (is_other head.options 0 is.1)
-    (answered setup view waiters from Renewal head part now may))
+use Rattle.booth_ticket.proofs.CaseLemmas.{both, first_true, is_below, is_number, is_other, when_false, when_true}
 
 -- ---- a grant
 
@@ -259,23 +189,68 @@ module _ (setup : Setup) (waiters : List Waiter) (request : Request) (now : ℕ)
       other)
       (asks_then (record view { round = Some round }) other))
 
--- the view in the new term, once that is kept
-abbrev in_kept_term : Setup → View → ℕ → View
-in_kept_term setup view now =
-    record (ask (noted setup view now Asked) ADMN now).view {
-      waiting = None;
-      kept = record { term = (ask view ADMN now).view.term; lease = view.kept.lease };
-      sure = true;
-      bound = Some setup.me;
-    }
+  -- ---- the new term is asked for
+
+  -- the view that asks, by whether the rules are of version 2 and whether the member answers itself
+  abbrev asks_as : Bool → Bool → View → View
+  asks_as second itself view =
+      if second
+      then (if itself
+      then record (with_own_promise setup (in_next_term view ADMN) now) { bound = Some setup.me }
+      else in_next_term view ADMN)
+      else in_next_term view ADMN
+
+  -- the outcome of the rule, and the view once its record is kept
+  abbrev asks_by : Bool → Bool → View → Outcome
+  asks_by second itself view =
+      keeping (asks_as second itself view) (rules.Ask ADMN)
+      (record_of setup (asks_as second itself view) view.kept.lease) now
+
+  abbrev in_kept_term : Bool → Bool → View → View
+  in_kept_term second itself view = record (asks_as second itself view) {
+    waiting = None;
+    kept = record_of setup (asks_as second itself view) view.kept.lease;
+    sure = true;
+    bound = Some setup.me;
+  }
+
+  -- who answers itself does so again, once it is promised to itself
+  itself_again : (view : View) → answers_itself setup view now ≡ true
+      → answers_itself setup (with_own_promise setup view now) now ≡ true
+  itself_again view is =
+      both _ _ (first_true _ _ is)
+      (ap (λ (same : Bool). not (not same && nat_lt now (now + promise_of setup.times)))
+      (is_number setup.me.0 setup.me.0 refl))
+
+  few_again : (view : View) (second itself : Bool) → answers_itself setup view now ≡ itself
+      → is_majority setup (own_answer setup view now) ≡ false
+      → is_majority setup (own_answer setup (in_kept_term second itself view) now) ≡ false
+  few_again view true true is few =
+      ap (λ (b : Bool). is_majority setup (if b then joined_by nobody setup.place else nobody))
+      (itself_again view is ∙ sym is) ∙ few
+  few_again view true false is few = few
+  few_again view false itself is few = few
+
+  asks_and_tells : (view : View) (second itself : Bool) → is_leader view.role ≡ false
+      → is_majority setup (own_answer setup (in_kept_term second itself view) now) ≡ false
+      → IsDoneBy (carry_out setup None now (asks_by second itself (noted setup view now Asked)) told_client)
+      (kept (record_of setup (asks_as second itself view) view.kept.lease) true ∷ asking (in_next_term view ADMN))
+      (asks_now (record_of setup (asks_as second itself view) view.kept.lease))
+  asks_and_tells view true true other few =
+      let later = opens (in_kept_term true true (noted setup view now Asked)) other few in
+      record { left = later.left; all = (true, refl, later.all); holds = later.holds }
+  asks_and_tells view true false other few =
+      let later = opens (in_kept_term true false (noted setup view now Asked)) other few in
+      record { left = later.left; all = (true, refl, later.all); holds = later.holds }
+  asks_and_tells view false itself other few =
+      let later = opens (in_kept_term false itself (noted setup view now Asked)) other few in
+      record { left = later.left; all = (true, refl, later.all); holds = later.holds }
 
 pub asks_everyone : GrantAsksAll
 asks_everyone setup view waiters spare ready request now none few =
     let free = unrefused setup view spare ready request.options now none in
-    let Holds : Left → Type 0 = asks_now setup waiters request now (in_kept_term setup view now).kept in
-    let later =
-    opens setup waiters request now (in_kept_term setup view now)
-    (follows view.role (is_promised_elsewhere view.promise setup.me now) free.0) few in
+    let itself : Bool = answers_itself setup view now in
+    let Holds : Left → Type 0 = asks_now setup waiters request now (asked_record setup view now) in
     subst
     (λ (refused : Option ℕ).
     IsDoneBy (grant setup view request.options refused None now (replies setup waiters request RGnt now))
@@ -286,7 +261,9 @@ asks_everyone setup view waiters spare ready request now none few =
     IsDoneBy (carry_out setup None now o (told_client setup waiters request now))
     (asking_acts setup view request now) Holds)
     (are_terms_spent (noted setup view now Asked)) _ _ free.1
-    (record { left = later.left; all = (true, refl, later.all); holds = later.holds }))
+    (asks_and_tells setup waiters request now view setup.second itself
+    (follows view.role (is_promised_elsewhere view.promise setup.me now) free.0)
+    (few_again setup waiters request now view setup.second itself refl few)))
 
 -- ---- an answer is heard
 
@@ -310,7 +287,7 @@ gain_done : (setup : Setup) (view : View) (waiters : List Waiter) (round : Round
     (now : ℕ) → now < round.opened + setup.times.expire
     → IsDoneBy (carry_out setup from now (gain setup view round now) (ends setup now waiters))
     (gaining_acts setup view waiters (lease_of setup view round) now)
-    (HasLease setup.me (lease_of setup view round))
+    (HasLease setup.me (lease_kept setup view (lease_of setup view round)) (lease_of setup view round))
 gain_done setup view waiters round from now before =
     let after : View = (finish setup (gain setup view round now).view now true).view in
     let last : Outcome = finish setup (gain setup view round now).view now true in
@@ -351,7 +328,7 @@ module _ (setup : Setup) (view : View) (waiters : List Waiter) (round : Round) (
   Gains o =
       IsDoneBy (carry_out setup (Some from) now o (ends setup now waiters))
       (gaining_acts setup view waiters (lease_of setup view round) now)
-      (HasLease setup.me (lease_of setup view round))
+      (HasLease setup.me (lease_kept setup view (lease_of setup view round)) (lease_of setup view round))
 
   completed : view.round ≡ Some round → Completes setup round from head part now
       → Gains (hear_answer setup (with_seen view part.term) from head part now)

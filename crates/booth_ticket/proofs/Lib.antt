@@ -10,6 +10,8 @@ pub mod FollowLemmas
 pub mod HandlingLemmas
 pub mod RoomLemmas
 pub mod CallLemmas
+pub mod CaseLemmas
+pub mod RoundLawLemmas
 pub mod LawLemmas
 pub mod ManualSpeechLemmas
 pub mod ManualLemmas

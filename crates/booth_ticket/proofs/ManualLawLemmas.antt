@@ -1,6 +1,6 @@
 -- The laws of manual tickets: one path of a tree each.
-use Rattle.std.proofs.Common.{◌≡◌, ℕ, ◌+◌, Bool, true, false, List, [], ◌∷◌, ◌++◌, refl, sym, subst, if◌then◌else◌}
-use Rattle.std.specs.Prelude.{Option, Some, None, not}
+use Rattle.std.proofs.Common.{◌≡◌, ℕ, ◌+◌, Bool, true, List, [], ◌++◌, refl, sym, subst, if◌then◌else◌}
+use Rattle.std.specs.Prelude.{Option, None, not}
 use Rattle.std.specs.Option.{is_some}
 use Rattle.booth_base.specs.declared.address.Peer.{Peer}
 use Rattle.booth_base.specs.Tree.{Deeds, Ends, Leads}
@@ -16,7 +16,6 @@ use Rattle.booth_manual.specs.GrantAndRevoke.{again, finish, grant, granted_reco
 use Rattle.booth_manual.specs.Messages.{part_of}
 use Rattle.booth_manual.specs.Outcome.{Keep as Tries}
 use Rattle.booth_ticket.specs.declared.handling.Service.TheVariants.{CanRun}
-use Rattle.booth_ticket.specs.declared.request.Request.{Request}
 use Rattle.booth_ticket.specs.declared.request.Wish.{Wish}
 use Rattle.booth_ticket.specs.declared.request.Wish.TheVariants.{Grant, Revoke}
 use Rattle.booth_ticket.specs.declared.waiters.Waiter.{Waiter}
@@ -54,19 +53,19 @@ module _ (setup : Setup) (known : ManualKnown) (waiters : List Waiter) (from : P
     waiters = joined (as_waiting (request_for wish from number options)) SUCCESS waiters;
   }
 
-  granted : IsDoneByHand (tried setup Grant (grant known.view) (replied Grant)) (granting setup known.view from number)
-      (λ left. HoldsByHand (granted_record known.view) left.known.view)
+  granted : IsDoneByHand (tried setup Grant (grant setup known.view) (replied Grant)) (granting setup known.view from number)
+      (λ left. HoldsByHand (granted_record setup known.view) left.known.view)
   granted = record {
-    left = left_by Grant (kept_view setup (grant known.view));
+    left = left_by Grant (kept_view setup (grant setup known.view));
     all = (true, refl, said_and_then (others setup) _ _ _ _ _ (true, refl, refl));
     holds = record { owner = refl; sure = refl; kept_record = refl; shown = refl };
   }
 
-  given_back : IsDoneByHand (tried setup Revoke (revoke known.view) (replied Revoke))
+  given_back : IsDoneByHand (tried setup Revoke (revoke setup known.view) (replied Revoke))
       (giving_back setup known.view from number)
-      (λ left. HoldsNoMore (revoke known.view).tried left.known.view)
+      (λ left. HoldsNoMore (revoke setup known.view).tried left.known.view)
   given_back = record {
-    left = left_by Revoke (kept_view setup (revoke known.view));
+    left = left_by Revoke (kept_view setup (revoke setup known.view));
     all = (true, refl, said_and_then (others setup) _ _ _ _ _ (true, refl, refl));
     holds = record { owner = refl; sure = refl; kept_record = refl };
   }
@@ -74,7 +73,7 @@ module _ (setup : Setup) (known : ManualKnown) (waiters : List Waiter) (from : P
 pub grants_by_hand : GrantsByHand
 grants_by_hand setup known waiters spare ready from number options now not_owner unrefused =
     let request = request_for Grant from number options in
-    let Holds : ManualLeft → Type 0 = λ left. HoldsByHand (granted_record known.view) left.known.view in
+    let Holds : ManualLeft → Type 0 = λ left. HoldsByHand (granted_record setup known.view) left.known.view in
     subst (λ (refused : Option ℕ).
     IsDoneByHand (done_by_hand setup known refused None Grant now (manual_reply setup request waiters))
     (granting setup known.view from number) Holds) (sym unrefused)
@@ -84,7 +83,7 @@ grants_by_hand setup known waiters spare ready from number options now not_owner
     (granting setup known.view from number) Holds) (sym not_owner)
     (subst (λ (owner : Bool).
     IsDoneByHand
-    (tried setup Grant (if owner then again known.view else grant known.view)
+    (tried setup Grant (if owner then again setup known.view else grant setup known.view)
     (replied setup known waiters from number options Grant))
     (granting setup known.view from number) Holds) (sym not_owner)
     (granted setup known waiters from number options)))
@@ -95,7 +94,7 @@ revokes_by_hand setup known waiters spare ready job from number options now owne
     IsDoneByHand (done_by_hand setup known refused job Revoke now
     (manual_reply setup (request_for Revoke from number options) waiters))
     (giving_back setup known.view from number)
-    (λ left. HoldsNoMore (revoke known.view).tried left.known.view)) (sym (unrefused known.view owner))
+    (λ left. HoldsNoMore (revoke setup known.view).tried left.known.view)) (sym (unrefused known.view owner))
     (given_back setup known waiters from number options)
   where
     unrefused : (view : ManualView) → view.owner ≡ true → refused_manual_revoke setup view (is_some known.job) ≡ None
@@ -103,11 +102,11 @@ revokes_by_hand setup known waiters spare ready job from number options now owne
 
 pub grants_after_handler : GrantsAfterHandler
 grants_after_handler setup known waiters job awaited unspent =
-    let view : ManualView = kept_view setup (grant known.view) in
+    let view : ManualView = kept_view setup (grant setup known.view) in
     let part : TicketPart = part_of setup setup.me (known.view.term + 1) NO_END_SECONDS in
     let none : ManualLeft = record { known = record known { view = view; job = None }; waiters = [] } in
     let acts : List Act = granting_to_all setup known.view waiters in
-    let Holds : ManualLeft → Type 0 = HoldsAfterHandler (granted_record known.view) in
+    let Holds : ManualLeft → Type 0 = HoldsAfterHandler (granted_record setup known.view) in
     let told : Deeds Ask ManualLeft = tells_of setup known waiters (tells.Gained true) view in
     let each : Leads IsAct told (told_granted setup waiters part) (Ends none) =
     subst (λ (ws : List Waiter). Leads IsAct told (told_granted setup waiters part)
@@ -118,7 +117,7 @@ grants_after_handler setup known waiters job awaited unspent =
       waiters = staying (tells.Gained true) waiters;
     })) refl) in
     let grants : Deeds Ask ManualLeft =
-    tried setup Grant (grant known.view) (λ result granted. tells_of setup known waiters (tells.Gained granted.sure) granted) in
+    tried setup Grant (grant setup known.view) (λ result granted. tells_of setup known waiters (tells.Gained granted.sure) granted) in
     subst (λ (is : Bool).
     IsDoneByHand (if is then grants_after setup known.view CanRun (tells_of setup known waiters)
     else Ends (record { known = known; waiters = waiters })) acts Holds) (sym awaited)

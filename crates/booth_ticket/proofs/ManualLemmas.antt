@@ -1,5 +1,5 @@
 -- What hands did for a manual ticket, one part after the other.
-use Rattle.std.proofs.Common.{◌≡◌, ◌≤◌, ℕ, Bool, true, false, List, [], ◌∷◌, ◌++◌, refl, sym, ap, ◌∙◌, subst, arith, if◌then◌else◌}
+use Rattle.std.proofs.Common.{◌≡◌, ◌≤◌, ℕ, Bool, true, false, List, [], ◌∷◌, ◌++◌, refl, sym, ap, subst, arith, if◌then◌else◌}
 use Rattle.std.proofs.lemmas.Bool.Decides.{nat_tests}
 use Rattle.std.specs.Prelude.{Option, Some, None}
 use Rattle.std.specs.Option.{is_some}
@@ -212,7 +212,7 @@ module _ {X : Type 0} {did : X → Act → X → Type 0} where
     -- a wish that is begun keeps its record
     pub begun_kept : {a b : X} (view' : ManualView) (running : Option Job) (found : Option ℕ) (answer : ℕ)
         → found ≡ None
-        → DidSome did (Results (tried setup wish (tries_for view wish)) answer view') a b
+        → DidSome did (Results (tried setup wish (tries_for setup view wish)) answer view') a b
         → DidSome did (λ acts. (greets_at : Option ℕ)
         → Begins (begun_by_hand setup (known_as view greets_at running) found wish now) answer
         (known_as view' greets_at running) acts) a b
@@ -220,7 +220,7 @@ module _ {X : Type 0} {did : X → Act → X → Type 0} where
         subst (λ (o : Option ℕ). DidSome did (λ acts. (greets_at : Option ℕ)
         → Begins (begun_by_hand setup (known_as view greets_at running) o wish now) answer
         (known_as view' greets_at running) acts) a b) (sym none)
-        (did_weaker (Results (tried setup wish (tries_for view wish)) answer view')
+        (did_weaker (Results (tried setup wish (tries_for setup view wish)) answer view')
         (λ acts. (greets_at : Option ℕ)
         → Begins (begun_by_hand setup (known_as view greets_at running) None wish now) answer
         (known_as view' greets_at running) acts)
@@ -386,16 +386,16 @@ module _ {X : Type 0} {did : X → Act → X → Type 0} where
   -- the grant after a handler
   pub granted_so : {a b : X} (setup : Setup) (view granted : ManualView) (result : ℕ) (sure : Bool)
       → are_terms_spent view ≡ false → sure ≡ granted.sure
-      → DidSome did (Results (tried setup Grant (grant view)) result granted) a b
+      → DidSome did (Results (tried setup Grant (grant setup view)) result granted) a b
       → DidSome did (Outcomes (grants_after setup view CanRun) (tells.Gained sure) granted) a b
   granted_so {a} {b} setup view granted result sure left is done =
       subst (λ (s : Bool). DidSome did (Outcomes (grants_after setup view CanRun) (tells.Gained s) granted) a b) (sym is)
-      (did_weaker (Results (tried setup Grant (grant view)) result granted)
+      (did_weaker (Results (tried setup Grant (grant setup view)) result granted)
       (Outcomes (grants_after setup view CanRun) (tells.Gained granted.sure) granted)
       (λ acts results rest.
       subst (λ (spent : Bool). Leads IsAct
       (if spent then rest tells.AskFailed view
-      else tried setup Grant (grant view) (λ n v. rest (tells.Gained v.sure) v)) acts
+      else tried setup Grant (grant setup view) (λ n v. rest (tells.Gained v.sure) v)) acts
       (rest (tells.Gained granted.sure) granted)) (sym left)
       (results (λ n v. rest (tells.Gained v.sure) v)))
       done)
@@ -405,7 +405,7 @@ module _ {X : Type 0} {did : X → Act → X → Type 0} where
   spent_so a setup view spent =
       did_none (Outcomes (grants_after setup view CanRun) tells.AskFailed view) a
       (λ rest. ap (λ (s : Bool). if s then rest tells.AskFailed view
-      else tried setup Grant (grant view) (λ n v. rest (tells.Gained v.sure) v)) (sym spent))
+      else tried setup Grant (grant setup view) (λ n v. rest (tells.Gained v.sure) v)) (sym spent))
 
   -- ---- the deadline
 

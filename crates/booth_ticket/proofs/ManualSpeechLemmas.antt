@@ -49,7 +49,8 @@ call_speaks : (setup : Setup) (view : ManualView) (call : Call) (tried : Record)
     → IsSpeech setup (goes_on setup view call tried ok).say
 call_speaks setup view calls.Grant tried true = record { between = refl; from = refl; ticket = refl }
 call_speaks setup view calls.Grant tried false = tt
-call_speaks setup view calls.Again tried ok = tt
+call_speaks setup view calls.Again tried true = tt
+call_speaks setup view calls.Again tried false = tt
 call_speaks setup view calls.Revoke tried true = record { between = refl; from = refl; ticket = refl }
 call_speaks setup view calls.Revoke tried false = tt
 

@@ -1,10 +1,11 @@
 -- Laws over the trees: what is done where it may be, whatever the setup, the view and the message.
-use Rattle.std.specs.Prelude.{◌≡◌, ◌≢◌, ℕ, ◌+◌, ◌<◌, Bool, true, false, List, [], ◌∷◌, ◌++◌, map, Some, None}
+use Rattle.std.specs.Prelude.{◌≡◌, ◌≢◌, ℕ, ◌+◌, ◌<◌, Bool, true, false, List, [], ◌∷◌, ◌++◌, map, Some, None, if◌then◌else◌}
 use Rattle.booth_base.specs.declared.address.MemberId.{MemberId}
-use Rattle.booth_base.specs.Tree.{Deeds, Ends, Does, Leads}
+use Rattle.booth_base.specs.Times.{promise_of}
+use Rattle.booth_base.specs.Tree.{Deeds, Ends, Leads}
 use Rattle.booth_rec.specs.declared.record.Lease.{Lease}
 use Rattle.booth_rec.specs.declared.record.Record.{Record}
-use Rattle.booth_rec.specs.Record.{lease_end, plain}
+use Rattle.booth_rec.specs.Record.{lease_end}
 use Rattle.booth_wire.specs.declared.command.Cmd.TheVariants.{RVot, VtFr, HrtB, Ack, UpdE, RGnt}
 use Rattle.booth_wire.specs.declared.message.Head.{Head}
 use Rattle.booth_wire.specs.declared.message.TicketPart.{TicketPart}
@@ -16,7 +17,8 @@ use Rattle.booth_raft.specs.declared.view.Round.{Round}
 use Rattle.booth_raft.specs.declared.view.RoundKind.{RoundKind}
 use Rattle.booth_raft.specs.declared.view.RoundKind.TheVariants.{Election, Renewal}
 use Rattle.booth_raft.specs.declared.view.View.{View}
-use Rattle.booth_raft.specs.AskAndRenew.{next_term, own_answer}
+use Rattle.booth_raft.specs.AskAndRenew.{asking, next_term, own_answer}
+use Rattle.booth_raft.specs.GainReleaseLost.{record_of}
 use Rattle.booth_raft.specs.Members.{is_majority, joined_by}
 use Rattle.booth_raft.specs.Messages.{answer_cmd, head_of, owner_now, part_of, shown_end}
 use Rattle.booth_raft.specs.Numbers.{seconds_left}
@@ -25,16 +27,16 @@ use Rattle.booth_ticket.specs.declared.hands.To.TheVariants.{Client, Member}
 use Rattle.booth_ticket.specs.declared.request.Request.{Request}
 use Rattle.booth_ticket.specs.declared.request.Wish.TheVariants.{Grant}
 use Rattle.booth_ticket.specs.declared.waiters.Waiter.{Waiter}
-use Rattle.booth_ticket.specs.Acts.{Ask, Say, Act, IsAct, kept, said, said_to_each}
+use Rattle.booth_ticket.specs.Acts.{Ask, Act, IsAct, kept, said, said_to_each}
 use Rattle.booth_ticket.specs.Automatic.{Left, hear_message}
 use Rattle.booth_ticket.specs.Requests.{refused_grant, wish}
 use Rattle.booth_ticket.specs.Saying.{others}
 use Rattle.booth_ticket.specs.Waiting.{joined}
 
--- the first ask of a tree, whatever it is answered
-abbrev pub BeginsWith : Deeds Ask Left → Ask → Type 0
-BeginsWith (Does first rest) ask = first ≡ ask
-BeginsWith (Ends left) ask = ⊥
+-- these acts are the first of the tree along its path of these answers, and it goes on as this rest
+pub record IsBegunBy (deeds : Deeds Ask Left) (acts : List Act) : Type 0 where
+  pub rest : Deeds Ask Left
+  pub first : Leads IsAct deeds acts rest
 
 -- these acts are all of the tree along its path of these answers, and this holds of what they leave
 pub record IsDoneBy (deeds : Deeds Ask Left) (acts : List Act) (Holds : Left → Type 0) : Type 0
@@ -50,27 +52,51 @@ abbrev pub IsRound : RoundKind → Head → Type 0
 IsRound Election head = (head.cmd ≡ RVot) × (head.options ≡ 0)
 IsRound Renewal head = (head.cmd ≡ HrtB) × (head.options ≢ 0)
 
+-- the record of the promise to a round's sender: the member is bound to it in the round's term, promised to it from now on for
+-- the time of a promise, and has the lease and the abstention that it had
+abbrev pub promise_record : Setup → View → Head → TicketPart → ℕ → Record
+promise_record setup view head part now = record {
+  version = 2;
+  term = part.term;
+  lease = view.kept.lease;
+  bound = Some head.from;
+  promise = Some (record { to = head.from; term = part.term; until = now + promise_of setup.times });
+  abstain = view.abstain;
+}
+
 -- the answer to a round's sender, with its term and its number
-abbrev pub answer_to : Setup → ℕ → RoundKind → Head → TicketPart → Ask
+abbrev pub answer_to : Setup → ℕ → RoundKind → Head → TicketPart → Act
 answer_to setup from kind head part =
-    Say (Member from) (head_of setup (answer_cmd kind) head.request head.options 0 0)
+    said (Member from) (head_of setup (answer_cmd kind) head.request head.options 0 0)
     (part_of setup head.from part.term 0)
 
--- A round that may be answered is answered, before all else.
+-- what a member does that answers a round: in version 2 its promise is kept before the answer is said
+abbrev pub answering_acts : Setup → View → ℕ → RoundKind → Head → TicketPart → ℕ → List Act
+answering_acts setup view from kind head part now =
+    if setup.second
+    then kept (promise_record setup view head part now) true ∷ answer_to setup from kind head part ∷ []
+    else answer_to setup from kind head part ∷ []
+
+-- A round that may be answered is answered, before all else: in version 2 where its promise is kept.
 abbrev pub AnswersWhereItMay : Type 0
 AnswersWhereItMay =
     (setup : Setup) (view : View) (waiters : List Waiter) (from : ℕ) (kind : RoundKind) (head : Head)
     (part : TicketPart) (now : ℕ)
     → IsRound kind head → MayAnswer view head.from part.term now
-    → BeginsWith (hear_message setup view waiters from head part now) (answer_to setup from kind head part)
+    → IsBegunBy (hear_message setup view waiters from head part now)
+    (answering_acts setup view from kind head part now)
 
 -- ---- a grant
+
+-- the record of a new term that is asked for a client: in version 2 with the own promise, where the member answers itself
+abbrev pub asked_record : Setup → View → ℕ → Record
+asked_record setup view now = record_of setup (asking setup view ADMN now) view.kept.lease
 
 -- what a grant of a ticket without a handler does that asks all: the new term is kept, each other member is asked for its vote,
 -- and the client is told that it was begun
 abbrev pub asking_acts : Setup → View → Request → ℕ → List Act
 asking_acts setup view request now =
-    kept (plain (next_term view) view.kept.lease) true
+    kept (asked_record setup view now) true
     ∷ said_to_each (others setup) (head_of setup RVot 0 0 ADMN 0)
     (part_of setup setup.me (next_term view) (seconds_left (lease_end view.kept.lease) now))
     ++ said (Client request.from) (head_of setup RGnt request.number 0 0 ASYN)
@@ -93,7 +119,7 @@ GrantAsksAll =
     → is_majority setup (own_answer setup view now) ≡ false
     → IsDoneBy (wish setup view waiters spare ready None request Grant now)
     (asking_acts setup view request now)
-    (AsksVotes (plain (next_term view) view.kept.lease) (joined request ASYN waiters))
+    (AsksVotes (asked_record setup view now) (joined request ASYN waiters))
 
 -- ---- an answer is heard
 
@@ -117,8 +143,9 @@ pub record Completes (setup : Setup) (round : Round) (from : ℕ) (head : Head) 
 abbrev pub lease_of : Setup → View → Round → Lease
 lease_of setup view round = record { term = view.term; until = round.opened + setup.times.expire }
 
-abbrev pub lease_kept : Lease → Record
-lease_kept lease = plain lease.term (Some lease)
+-- the record of it, with what the member is pledged to
+abbrev pub lease_kept : Setup → View → Lease → Record
+lease_kept setup view lease = record_of setup view (Some lease)
 
 -- each of these clients is told that it was granted, first to last
 abbrev pub told_granted : Setup → List Waiter → TicketPart → List Act
@@ -129,13 +156,13 @@ told_granted setup waiters part =
 abbrev pub gaining_acts : Setup → View → List Waiter → Lease → ℕ → List Act
 gaining_acts setup view waiters lease now =
     let state : TicketPart = part_of setup setup.me view.term (seconds_left lease.until now) in
-    kept (lease_kept lease) true
+    kept (lease_kept setup view lease) true
     ∷ said_to_each (others setup) (head_of setup UpdE 0 0 0 0) state ++ told_granted setup waiters state
 
--- A leader has the lease: its record is kept, it is shown as the owner, and no client waits.
-pub record HasLease (owner : MemberId) (lease : Lease) (left : Left) : Type 0 where
+-- A leader has the lease: this record of it is kept, it is shown as the owner, and no client waits.
+pub record HasLease (owner : MemberId) (own : Record) (lease : Lease) (left : Left) : Type 0 where
   pub leads : left.view.role ≡ Leader
-  pub kept_record : left.view.kept ≡ lease_kept lease
+  pub kept_record : left.view.kept ≡ own
   pub sure : left.view.sure ≡ true
   pub shown : left.view.shown ≡ Some (record { owner = owner; until = lease.until })
   pub waiting : left.waiters ≡ []
@@ -148,4 +175,4 @@ MajorityGains =
     → Completes setup round from head part now
     → IsDoneBy (hear_message setup view waiters from head part now)
     (gaining_acts setup view waiters (lease_of setup view round) now)
-    (HasLease setup.me (lease_of setup view round))
+    (HasLease setup.me (lease_kept setup view (lease_of setup view round)) (lease_of setup view round))

@@ -1,5 +1,5 @@
 -- What a manual ticket does when the handler of a grant is over, and at its deadline.
-use Rattle.std.specs.Prelude.{ℕ, Bool, true, false, nat_le, ◌==◌, List, [], Option, Some, None, if◌then◌else◌}
+use Rattle.std.specs.Prelude.{ℕ, Bool, false, nat_le, ◌==◌, List, Option, Some, None, if◌then◌else◌}
 use Rattle.std.specs.Option.{is_some}
 use Rattle.booth_base.specs.Tree.{Deeds, Ends}
 use Rattle.booth_wire.specs.declared.message.Say.{Say as Words}
@@ -36,7 +36,7 @@ abbrev pub grants_after : {S : Type 0} → Setup → ManualView → Service → 
 grants_after setup view CanRun rest =
     if are_terms_spent view
     then rest tells.AskFailed view
-    else tried setup Grant (grant view) (λ result granted. rest (tells.Gained granted.sure) granted)
+    else tried setup Grant (grant setup view) (λ result granted. rest (tells.Gained granted.sure) granted)
 grants_after setup view CannotRun rest = rest tells.HandlerFailed view
 
 -- the job is the one that a ticket waits for

@@ -5,14 +5,13 @@ use Rattle.booth_base.specs.declared.address.Peer.{Peer}
 use Rattle.booth_base.specs.declared.address.TheConstants.{NO_ONE}
 use Rattle.booth_base.specs.Tree.{Deeds, Ends, Leads}
 use Rattle.booth_rec.specs.declared.record.Record.{Record}
-use Rattle.booth_rec.specs.Record.{plain}
 use Rattle.booth_wire.specs.declared.codes.reasons.TheConstants.{ADMN, NONE}
 use Rattle.booth_wire.specs.declared.codes.results.TheConstants.{SUCCESS}
 use Rattle.booth_wire.specs.declared.command.Cmd.TheVariants.{UpdE, Revk, RGnt, RRvk}
 use Rattle.booth_wire.specs.declared.message.Setup.{Setup}
 use Rattle.booth_manual.specs.declared.view.TheConstants.{NO_END_SECONDS}
 use Rattle.booth_manual.specs.declared.view.ManualView.{ManualView}
-use Rattle.booth_manual.specs.GrantAndRevoke.{are_terms_spent, granted_record}
+use Rattle.booth_manual.specs.GrantAndRevoke.{are_terms_spent, granted_record, kept_by_hand}
 use Rattle.booth_manual.specs.Messages.{head_of, part_of, shown_or_none}
 use Rattle.booth_raft.specs.Messages.{head_of as reply_head}
 use Rattle.booth_ticket.specs.declared.hands.To.TheVariants.{Client}
@@ -42,7 +41,7 @@ request_for wish from number options =
 -- the lease is kept, each other member is told, and then who asked
 abbrev pub granting : Setup → ManualView → Peer → ℕ → List Act
 granting setup view from number =
-    kept (granted_record view) true
+    kept (granted_record setup view) true
     ∷ said_to_each (others setup) (head_of setup UpdE 0 NONE)
     (part_of setup setup.me (view.term + 1) NO_END_SECONDS)
     ++ said (Client from) (reply_head setup RGnt number 0 0 SUCCESS)
@@ -65,12 +64,12 @@ GrantsByHand =
     → refused_manual_grant setup known.view (is_some known.job) spare ready options ≡ None
     → IsDoneByHand
     (manual_asked setup known waiters spare ready None (request_for Grant from number options) now)
-    (granting setup known.view from number) (λ left. HoldsByHand (granted_record known.view) left.known.view)
+    (granting setup known.view from number) (λ left. HoldsByHand (granted_record setup known.view) left.known.view)
 
 -- the lease is kept, each other member is told, and then each client that waits
 abbrev pub granting_to_all : Setup → ManualView → List Waiter → List Act
 granting_to_all setup view waiters =
-    kept (granted_record view) true
+    kept (granted_record setup view) true
     ∷ said_to_each (others setup) (head_of setup UpdE 0 NONE)
     (part_of setup setup.me (view.term + 1) NO_END_SECONDS)
     ++ told_granted setup waiters (part_of setup setup.me (view.term + 1) NO_END_SECONDS)
@@ -88,12 +87,12 @@ GrantsAfterHandler =
     (setup : Setup) (known : ManualKnown) (waiters : List Waiter) (job : ℕ)
     → is_awaited known.job job ≡ true → are_terms_spent known.view ≡ false
     → IsDoneByHand (manual_over setup known waiters job CanRun) (granting_to_all setup known.view waiters)
-    (HoldsAfterHandler (granted_record known.view))
+    (HoldsAfterHandler (granted_record setup known.view))
 
 -- a record without a lease is kept, each other member is told, and then who asked
 abbrev pub giving_back : Setup → ManualView → Peer → ℕ → List Act
 giving_back setup view from number =
-    kept (plain view.term None) true
+    kept (kept_by_hand setup view.term None) true
     ∷ said_to_each (others setup) (head_of setup Revk 0 ADMN) (part_of setup NO_ONE view.term 0)
     ++ said (Client from) (reply_head setup RRvk number 0 0 SUCCESS)
     (part_of setup (shown_or_none view.shown) view.term 0)
@@ -113,4 +112,4 @@ RevokesByHand =
     (from : Peer) (number options now : ℕ) → known.view.owner ≡ true
     → IsDoneByHand
     (manual_asked setup known waiters spare ready job (request_for Revoke from number options) now)
-    (giving_back setup known.view from number) (λ left. HoldsNoMore (plain known.view.term None) left.known.view)
+    (giving_back setup known.view from number) (λ left. HoldsNoMore (kept_by_hand setup known.view.term None) left.known.view)

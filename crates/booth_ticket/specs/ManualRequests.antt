@@ -80,9 +80,9 @@ MayTry view Grant =
 MayTry view Revoke = IsTrue view.owner
 
 -- the rule that the wish runs: its record is to be kept
-abbrev pub tries_for : ManualView → Wish → Tries
-tries_for view Grant = if view.owner then again view else grant view
-tries_for view Revoke = revoke view
+abbrev pub tries_for : Setup → ManualView → Wish → Tries
+tries_for setup view Grant = if view.owner then again setup view else grant setup view
+tries_for setup view Revoke = revoke setup view
 
 -- what the keep's answer is to who asked: an owner stays one where the record may not be kept
 abbrev pub result_of_keep : Wish → Bool → ℕ
@@ -115,7 +115,7 @@ waits_for setup known job now rest false = rest XPRG known
 abbrev pub begun_by_hand : {S : Type 0} → Setup → ManualKnown → Option ℕ → Wish → ℕ
     → (ℕ → ManualKnown → Deeds Ask S) → Deeds Ask S
 begun_by_hand setup known None wish now rest =
-    tried setup wish (tries_for known.view wish) (λ result view. rest result (record known { view = view }))
+    tried setup wish (tries_for setup known.view wish) (λ result view. rest result (record known { view = view }))
 begun_by_hand setup known (Some job) wish now rest = Does (Start job 0) (waits_for setup known job now rest)
 
 -- what a wish comes to: it is refused, or begun; and then the rest

@@ -2,7 +2,7 @@
 ghost use Rattle.booth_ticket.specs.Laws.{AnswersWhereItMay, GrantAsksAll, MajorityGains};
 ghost use Rattle.booth_ticket.specs.ManualLaws.{GrantsAfterHandler, GrantsByHand, RevokesByHand};
 
-/// A round that may be answered is answered, before all else.
+/// A round that may be answered is answered, before all else: in version 2 where its promise is kept.
 pub fn answers_where_it_may()
     ensures { AnswersWhereItMay }
 {}

@@ -63,6 +63,7 @@ impl ManualTicket {
     /// A manual ticket starts, from the record that was kept.
     pub fn open(setup: &Setup, kept: Option<&Record>, now: u64) -> ManualTicket
         requires sound { IsSound setup.now }
+        requires second { IsTrue setup.now.second }
         ensures { result ≡ record {
           setup = setup.now;
           known = manual_started (record_or_none (option_copied kept.entry)) now;

@@ -131,8 +131,8 @@ fn refused(
 fn try_grant(rules: &mut Manual) -> Record
     requires idle { rules.old.view.waiting ≡ None }
     requires may { MayTry rules.old.view Wish.Grant }
-    ensures view { rules.new.view ≡ (tries_for rules.old.view Wish.Grant).view }
-    ensures tried { result ≡ (tries_for rules.old.view Wish.Grant).tried }
+    ensures view { rules.new.view ≡ (tries_for rules.old.setup rules.old.view Wish.Grant).view }
+    ensures tried { result ≡ (tries_for rules.old.setup rules.old.view Wish.Grant).tried }
     ensures setup { rules.new.setup ≡ rules.old.setup }
     ensures waits { IsSome rules.new.view.waiting }
 {
@@ -149,8 +149,8 @@ fn try_grant(rules: &mut Manual) -> Record
 fn try_for(rules: &mut Manual, wish: Wish) -> Record
     requires idle { rules.old.view.waiting ≡ None }
     requires may { MayTry rules.old.view wish }
-    ensures view { rules.new.view ≡ (tries_for rules.old.view wish).view }
-    ensures tried { result ≡ (tries_for rules.old.view wish).tried }
+    ensures view { rules.new.view ≡ (tries_for rules.old.setup rules.old.view wish).view }
+    ensures tried { result ≡ (tries_for rules.old.setup rules.old.view wish).tried }
     ensures setup { rules.new.setup ≡ rules.old.setup }
     ensures waits { IsSome rules.new.view.waiting }
 {
@@ -171,7 +171,7 @@ fn result_of_keep(wish: Wish, ok: bool) -> u32
     }
 }
 
-/// The record is kept, and what follows of the answer is said to all. What who asked is answered.
+/// The record is kept, and what follows of the answer is said to all. The result is for the client that asked.
 pub(crate) fn keep_tried<W: Hands>(
     rules: &mut Manual,
     wish: Wish,
@@ -193,13 +193,13 @@ pub(crate) fn keep_tried<W: Hands>(
     result_of_keep(wish, ok)
 }
 
-// The wish's rule is run, and its record is kept. What who asked is answered.
+// The wish's rule is run, and its record is kept. The result is for the client that asked.
 fn keep_for<W: Hands>(rules: &mut Manual, wish: Wish, hands: &mut W) -> u32
     requires sound { IsSound rules.old.setup }
     requires idle { rules.old.view.waiting ≡ None }
     requires may { MayTry rules.old.view wish }
     ensures did { DidSome W.did (λ acts. (rest : ℕ → View.ManualView → Deeds Ask ManualLeft) → Leads IsAct
-        (tried rules.old.setup wish (tries_for rules.old.view wish) rest) acts
+        (tried rules.old.setup wish (tries_for rules.old.setup rules.old.view wish) rest) acts
         (rest result rules.new.view)) hands.old hands.new }
     ensures never { result ≢ ASYN }
     ensures setup { rules.new.setup ≡ rules.old.setup }
@@ -219,7 +219,7 @@ fn wants_handler(view: &ManualView, wish: Wish) -> bool
     }
 }
 
-// The handler of a grant is started as this job. What who asked is answered.
+// The handler of a grant is started as this job. The result is for the client that asked.
 fn start_for<W: Hands>(
     setup: &Setup,
     running: &mut Option<Job>,
@@ -251,8 +251,8 @@ fn job_for(view: &ManualView, job: Option<u64>, wish: Wish) -> Option<u64>
     if wants_handler(view, wish) { job } else { None }
 }
 
-// A wish that is not refused is begun: its record is kept, after its handler, where there is one. What who asked
-// is answered.
+// A wish that is not refused is begun: its record is kept, after its handler, where there is one. The result is for
+// the client that asked.
 fn begin_for<W: Hands>(
     rules: &mut Manual,
     running: &mut Option<Job>,

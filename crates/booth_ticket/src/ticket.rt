@@ -1,5 +1,5 @@
 //! A ticket.
-ghost use Rattle.std.specs.Prelude.{◌≡◌, ◌≢◌, ◌<◌, ◌^◌, length, slice_set};
+ghost use Rattle.std.specs.Prelude.{◌≡◌, ◌≢◌, ◌<◌, ◌^◌, IsTrue, length, slice_set};
 ghost use Rattle.booth_ticket.specs.Ticket.{manual_owner, shown_owner};
 
 use crate::handling::Service;
@@ -91,6 +91,7 @@ impl Ticket {
     /// An automatic ticket starts, from the record that was kept.
     pub fn open(setup: &Setup, kept: Option<&Record>, now: u64) -> Ticket
         requires sound { IsSound setup.now }
+        requires second { IsTrue setup.now.second }
         requires early { now < 2 ^ 62 }
         ensures { result ≡ opened setup.now (record_or_none (option_copied kept.entry)) now }
     {
@@ -102,6 +103,7 @@ impl Ticket {
     /// A manual ticket starts, from the record that was kept.
     pub fn open_manual(setup: &Setup, kept: Option<&Record>, now: u64) -> Ticket
         requires sound { IsSound setup.now }
+        requires second { IsTrue setup.now.second }
         ensures { result ≡ opened_by_hand setup.now (record_or_none (option_copied kept.entry)) now }
     {
         Ticket {

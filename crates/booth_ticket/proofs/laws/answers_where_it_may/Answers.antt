@@ -1,4 +1,4 @@
-use Rattle.booth_ticket.proofs.LawLemmas.{answers}
+use Rattle.booth_ticket.proofs.RoundLawLemmas.{answers}
 use Rattle.booth_ticket.proofs.laws.answers_where_it_may.Goals as goal
 
 pub returns : goal.returns

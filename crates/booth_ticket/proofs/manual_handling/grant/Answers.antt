@@ -13,6 +13,6 @@ returns-in-Ok-clause-did g c =
     let granted = c.keep_tried.new.rules.view in
     granted_so rules.setup rules.view granted c.keep_tried.result c.view.result.now.sure
     (not_spent rules.view c.in-Ok.ensures.spent.1) (ap (λ (v : ManualView). v.sure) c.view.ensures.value)
-    (kept_as rules.setup mid.setup Grant (grant rules.view) mid.view granted c.in-Ok.tried c.keep_tried.result
+    (kept_as rules.setup mid.setup Grant (grant rules.setup rules.view) mid.view granted c.in-Ok.tried c.keep_tried.result
     (ap (λ (s : State). s.setup) c.in-Ok.ensures.view) (ap (λ (s : State). s.view) c.in-Ok.ensures.view)
     c.in-Ok.ensures.tried c.keep_tried.ensures.did)

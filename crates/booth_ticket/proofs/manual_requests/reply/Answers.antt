@@ -1,4 +1,4 @@
-use Rattle.std.proofs.Common.{◌≡◌, ℕ, ◌∙◌, List, true, refl, ap}
+use Rattle.std.proofs.Common.{ℕ, ◌∙◌, List, true, refl, ap}
 use Rattle.std.specs.Prelude.{Option}
 use Rattle.booth_base.specs.Tree.{Ends, Leads}
 use Rattle.booth_wire.specs.declared.command.Cmd.{Cmd}

@@ -1,7 +1,6 @@
 use Rattle.std.proofs.Common.{ℕ, Bool, ap, ◌∙◌, sym}
 use Rattle.std.specs.Prelude.{Some}
 use Rattle.booth_wire.specs.declared.codes.results.TheConstants.{ASYN, XPRG}
-use Rattle.booth_ticket.specs.declared.manual.Job.{Job}
 use Rattle.booth_ticket.specs.Manual.{known_as}
 use Rattle.booth_ticket.specs.ManualRequests.{waits_for}
 use Rattle.booth_ticket.proofs.ManualLemmas.{started_so}

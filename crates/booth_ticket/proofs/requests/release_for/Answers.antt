@@ -14,7 +14,7 @@ returns-clause-did g c =
     let setup = c.args.core.now.setup in
     let view = c.args.core.now.view in
     let now = c.args.now in
-    let o = release view ADMN now in
+    let o = release setup view ADMN now in
     let last = outcome_of c.carry_out-last.new.core.view c.carry_out-last.result in
     answered_by (carry_out setup None now o) revoke_result c.revoke_result.result last
     c.revoke_result.ensures

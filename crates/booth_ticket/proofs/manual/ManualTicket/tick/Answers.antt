@@ -1,5 +1,4 @@
 use Rattle.std.proofs.Common.{◌∙◌, ap, subst, sym}
-use Rattle.std.specs.Prelude.{None}
 use Rattle.booth_ticket.specs.Acts.{DidSome}
 use Rattle.booth_ticket.specs.Manual.{ManualLeft, ManualState, known_as}
 use Rattle.booth_ticket.specs.ManualHandling.{greeting, manual_due}
