@@ -114,11 +114,11 @@ module _ (setup : Setup) (waiters : List Waiter) (left : ManualLeft) where
       failed = tells_of setup known waiters tells.AskFailed known.view
 
       by_terms : (spent : Bool)
-          → Leads IsAct (if spent then failed else tried setup Grant (grant known.view) granted) acts (Ends left)
+          → Leads IsAct (if spent then failed else tried setup Grant (grant setup known.view) granted) acts (Ends left)
           → Tells setup waiters left.waiters acts
       by_terms true given = told_end known tells.AskFailed known.view acts (talks_none setup waiters left failed acts given)
       by_terms false given =
-          let it = tried_talks Grant (grant known.view) granted acts given in
+          let it = tried_talks Grant (grant setup known.view) granted acts given in
           told_end known (tells.Gained it.1.sure) it.1 acts it.2
   after_talks known CannotRun acts leads =
       told_end known tells.HandlerFailed known.view acts
@@ -160,7 +160,7 @@ module _ (setup : Setup) (waiters : List Waiter) (left : ManualLeft) (request : 
       → Replies setup waiters left.waiters request (reply_cmd request.wish) acts
   begun_talks known None now acts leads =
       let rest : ℕ → ManualView → Deeds Ask ManualLeft = λ result view. replied result (record known { view = view }) in
-      let it = tried_talks setup waiters left request.wish (tries_for known.view request.wish) rest acts leads in
+      let it = tried_talks setup waiters left request.wish (tries_for setup known.view request.wish) rest acts leads in
       reply_talks it.0 (record known { view = it.1 }) acts it.2
   begun_talks known (Some job) now [] leads = absurd cc
   begun_talks known (Some job) now (act ∷ acts) leads = by_start leads.0 leads.1 leads.2

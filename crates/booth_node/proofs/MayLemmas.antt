@@ -1,5 +1,5 @@
 -- What is done where it may be: a round is answered, a grant asks all, a majority gains.
-use Rattle.std.proofs.Common.{◌≡◌, ◌<◌, ◌≤◌, ◌⊎◌, inl, inr, ℕ, zero, suc, ◌+◌, Bool, true, false, List, [], ◌∷◌, ◌++◌, length, slice_get, get_or, refl, sym, ap, ◌∙◌, subst, arith, append-nil}
+use Rattle.std.proofs.Common.{◌≡◌, ◌<◌, ◌≤◌, ◌⊎◌, inl, inr, ℕ, zero, suc, ◌+◌, Bool, true, false, List, [], ◌∷◌, ◌++◌, length, slice_get, get_or, refl, sym, ap, ◌∙◌, subst, arith, append-nil, append_assoc, if◌then◌else◌}
 use Rattle.std.specs.Prelude.{Option, Some, None, IsSome, Result, Ok, is_ok, option_map, position, not, ◌==◌}
 use Rattle.std.specs.List.{filter, range_with_len}
 use Rattle.std.proofs.lemmas.Option.{slice_get_cases, slice_get_within}
@@ -30,12 +30,13 @@ use Rattle.booth_ticket.specs.declared.request.Wish.TheVariants.{Grant}
 use Rattle.booth_ticket.specs.declared.waiters.Waiter.{Waiter}
 use Rattle.booth_ticket.specs.Acts.{Ask as TicketAsk, Keep as KeepsRecord, Start as StartsJob, Say, Act, IsAct, kept, said, said_to_each}
 use Rattle.booth_ticket.specs.Automatic.{Left, hear_message}
-use Rattle.booth_ticket.specs.Laws.{BeginsWith, IsAnswer, IsDoneBy, IsRound, answer_to, told_granted}
+use Rattle.booth_ticket.specs.Laws.{IsAnswer, IsBegunBy, IsDoneBy, IsRound, answer_to, answering_acts, promise_record, told_granted}
 use Rattle.booth_ticket.specs.Requests.{wish}
 use Rattle.booth_ticket.specs.Saying.{others}
 use Rattle.booth_ticket.specs.Ticket.{TicketState, TicketLeft, Automatic, by_rules, left_as}
 use Rattle.booth_ticket.specs.Waiting.{spare_in, waiting_at}
-use Rattle.booth_ticket.proofs.LawLemmas.{answers, asks_everyone, gains}
+use Rattle.booth_ticket.proofs.LawLemmas.{asks_everyone, gains}
+use Rattle.booth_ticket.proofs.RoundLawLemmas.{answers}
 use Rattle.booth_node.specs.declared.event.Event.{Event}
 use Rattle.booth_node.specs.declared.event.Event.TheVariants.{Heard, Asked}
 use Rattle.booth_node.specs.declared.node.Turn.TheVariants.{Went}
@@ -54,7 +55,7 @@ use Rattle.booth_node.proofs.ActionLemmas.{place_below}
 use Rattle.booth_node.proofs.ClientLemmas.{Parts, at_moment, parts_of}
 use Rattle.booth_node.proofs.ComesLemmas.{Comes, IsAnsweredAtOnce, IsAsked, IsAttended, IsHeard, comes}
 use Rattle.booth_node.proofs.DueLemmas.{Each}
-use Rattle.booth_node.proofs.PathLemmas.{ActFirst, HasPeer, HavePeers, SaidFirst, Seen, are_calls, at_end, one_call}
+use Rattle.booth_node.proofs.PathLemmas.{ActFirst, HasPeer, HavePeers, SaidFirst, Seen, are_calls, at_end, seen_parts}
 use Rattle.booth_node.proofs.StayLemmas.{Acted, acted_at, as_many, set_up_at}
 
 -- ---- everyone has a place to listen at
@@ -316,20 +317,26 @@ round_between : (kind : RoundKind) (head : Head) → IsRound kind head → direc
 round_between Election head is = ap direction_of is.0
 round_between Renewal head is = ap direction_of is.0
 
-first_act : (deeds : Deeds TicketAsk Left) (ask : TicketAsk) (f : Left
-    → Deeds TicketAsk TicketLeft) (acts : List Act)
-    (left : TicketLeft) → BeginsWith deeds ask → Leads IsAct (next deeds f) acts (Ends left)
-    → (ok : Bool) × (more : List Act) × (acts ≡ record { ask = ask; ok = ok } ∷ more)
-first_act (Does first rest) ask f [] left begins leads = absurd cc
-first_act (Does first rest) ask f (act ∷ acts) left begins leads = (
-  leads.0,
-  acts,
-  ap (λ (x : Act). x ∷ acts) (leads.1 ∙ ap (λ (a : TicketAsk). record { ask = a; ok = leads.0 }) begins),
-)
-first_act (Ends end) ask f acts left begins leads = absurd begins
+module _ (node : NodeConfig) (moment : ℕ) (name : List ℕ) (tried : Record) (says : List Act) (heard : Says node says) where
+  -- what is said, in version 2 after a keep
+  abbrev Begins : Bool → List Act
+  Begins second = if second then kept tried true ∷ says else says
+
+  -- a path whose first keep answers Ok begins so
+  begins_same : (second : Bool) (left : TicketLeft) (deeds rest : Deeds TicketAsk TicketLeft) (acts : List Act)
+      (es : List Entry) → Leads IsAct deeds (Begins second) rest → Leads IsAct deeds acts (Ends left)
+      → Seen node moment name acts es → KeepsFirst es → Goes rest acts (Begins second) left
+  begins_same true left deeds rest acts es mine theirs seen well =
+      kept_same node moment name left tried deeds rest says acts es heard mine theirs seen well
+  begins_same false left deeds rest acts es mine theirs seen well =
+      says_same node moment name left deeds rest says acts es heard mine theirs seen
+
+  peers_of_begin : (second : Bool) → HavePeers node (Begins second)
+  peers_of_begin true = (tt, peers_of_says node says heard)
+  peers_of_begin false = peers_of_says node says heard
 
 pub rounds : RoundsAreAnswered
-rounds node old new moment from letter entries place part setup view kind turn about is may =
+rounds node old new moment from letter entries place part setup view kind turn about is may well =
     let state : State = at_moment old moment in
     let name : List ℕ = setup.ticket in
     let parts : Parts node old moment (Ok (arrivals.Datagram from)) turn.bytes entries new =
@@ -344,27 +351,33 @@ rounds node old new moment from letter entries place part setup view kind turn a
     acted_at node moment (accepted state to.0 moment) place event ticket parts.first parts.mid about.there
     (subst (λ (a : Action). Leads (IsDone node.key) (met node moment state from a) parts.first
     (Ends parts.mid)) to.2 parts.to_mid) in
-    let answer : TicketAsk = answer_to setup to.0 kind letter.head part in
-    let first : (ok : Bool) × (more : List Act) × (acted.did ≡ record { ask = answer; ok = ok } ∷ more) =
-    first_act (hear_message setup view (waiting_at old.waiters place) to.0 letter.head part moment) answer
-    (λ end. Ends (left_as setup end)) acted.did acted.left
-    (answers setup view (waiting_at old.waiters place) to.0 kind letter.head part moment is may)
-    acted.leads in
-    let seen : Seen node moment name (record { ask = answer; ok = first.0 } ∷ first.1) parts.first =
-    subst (λ (l : List Act). Seen node moment name l parts.first) first.2 acted.seen in
-    let said_ok : Seen node moment name (record { ask = answer; ok = true } ∷ first.1) parts.first =
-    subst (λ (ok : Bool). Seen node moment name (record { ask = answer; ok = ok } ∷ first.1) parts.first)
-    seen.0 seen in
-    let one =
-    one_call node moment name (record { ask = answer; ok = true }) first.1 parts.first
-    (member_listens node to.0 (place_below node.config.members letter.head.from to.0 to.1)) said_ok in
+    let deeds : Deeds TicketAsk Left =
+    hear_message setup view (waiting_at old.waiters place) to.0 letter.head part moment in
+    let tried : Record = promise_record setup view letter.head part moment in
+    let says : List Act = answer_to setup to.0 kind letter.head part ∷ [] in
+    let begin : List Act = answering_acts setup view to.0 kind letter.head part moment in
+    let heard : Says node says =
+    ((refl, member_listens node to.0 (place_below node.config.members letter.head.from to.0 to.1)), tt) in
+    let begun : IsBegunBy deeds begin =
+    answers setup view (waiting_at old.waiters place) to.0 kind letter.head part moment is may in
+    let goes_on : Left → Deeds TicketAsk TicketLeft = λ end. Ends (left_as setup end) in
+    let goes : Goes (next begun.rest goes_on) acted.did begin acted.left =
+    begins_same node moment name tried says heard setup.second acted.left (next deeds goes_on) (next begun.rest goes_on)
+    acted.did parts.first
+    (next_leads IsAct deeds begun.rest goes_on begin begun.first) acted.leads acted.seen
+    (first_well parts.first parts.later (subst (λ (l : List Entry). KeepsFirst l) parts.whole well)) in
+    let calls =
+    seen_parts node moment name begin goes.0 parts.first
+    (subst (λ (l : List Act). Seen node moment name l parts.first) goes.1 acted.seen) in
     record {
       member = to.0;
       is_member = to.1;
-      first = one.0;
-      others = one.1 ++ parts.later;
-      whole = parts.whole ∙ ap (λ (l : List Entry). l ++ parts.later) one.2;
-      answers = one.3;
+      first = calls.0;
+      others = calls.1 ++ parts.later;
+      whole = parts.whole ∙ ap (λ (l : List Entry). l ++ parts.later) calls.2
+          ∙ append_assoc calls.0 calls.1 parts.later;
+      answers = are_calls node moment name begin calls.0
+          (peers_of_begin node moment name tried says heard setup.second) calls.3;
     }
 
 -- ---- a grant asks all

@@ -6,12 +6,14 @@ use Rattle.booth_base.specs.declared.address.MemberId.{MemberId}
 use Rattle.booth_conf.specs.Config.{has_id}
 use Rattle.booth_conf.specs.declared.members.Member.{Member}
 use Rattle.booth_wire.specs.declared.message.Head.{Head}
+use Rattle.booth_wire.specs.declared.message.Setup.{Setup}
 use Rattle.booth_wire.specs.declared.message.TicketPart.{TicketPart}
 use Rattle.booth_ticket.specs.Ticket.{TicketState}
 use Rattle.booth_node.specs.declared.event.Event.TheVariants.{Heard}
-use Rattle.booth_node.specs.Acting.{MayBefall}
+use Rattle.booth_node.specs.Acting.{IsSetAt, MayBefall}
 use Rattle.booth_node.specs.Ours.{IsOurs}
-use Rattle.std.proofs.lemmas.Option.{get_or_from_slice_get, slice_get_cases}
+use Rattle.std.proofs.lemmas.List.Elements.{All-set}
+use Rattle.std.proofs.lemmas.Option.{get_or_from_slice_get, slice_get_cases, slice_get_within}
 
 pub the_value : {A : Type 0} (P : A → Type 0) (o : Option A) → IsSomeAnd o P → (x : A) × (o ≡ Some x) × P x
 the_value P None h = absurd h
@@ -51,3 +53,19 @@ may_hear me members tickets from place moment head part ours below member other 
       subst (λ (n : ℕ). from < n) (sym our.all_members) member,
       λ (e : from ≡ t.setup.place). other (our.own ∙ ap (λ (n : ℕ). Some n) (sym e)),
     ))
+
+-- the tickets are still the node's where another stands at one place, with the same setup
+pub still_ours : (me : MemberId) (members : List Member) (place : ℕ) (tickets tickets' : List TicketState)
+    → IsSetAt tickets place tickets' → All (IsOurs me members) tickets
+    → All (IsOurs me members) tickets'
+still_ours me members place tickets tickets' set ours =
+    let before : IsOurs me members set.before =
+    subst (λ (o : Option TicketState). IsSomeAnd o (IsOurs me members)) set.there
+    (all_at (IsOurs me members) (IsOurs me members) tickets place
+    (slice_get_within tickets place set.before set.there) ours (λ t our. our)) in
+    let after : IsOurs me members set.after = record {
+      all_members = ap (λ (s : Setup). s.members) set.same ∙ before.all_members;
+      own = before.own ∙ ap (λ (s : Setup). Some s.place) (sym set.same);
+    } in
+    subst (λ (ts : List TicketState). All (IsOurs me members) ts) (sym set.is)
+    (All-set (IsOurs me members) tickets place set.after after ours)

@@ -104,7 +104,7 @@ module _ (setup : Setup) (waiters : List Waiter) (left : Left) where
   acquires_speak view reason now =
       on_cond (Speaks setup) (are_terms_spent view)
       (telling (acquisition_failed setup view now) tells.AskFailed)
-      (ask view reason now) tt (rules_speak.asked setup view reason now)
+      (ask setup view reason now) tt (rules_speak.asked setup view reason now)
 
   works_speak : (view : View) (job reason now : ℕ) (ok : Bool) → Speaks setup (works setup view job reason now ok)
   works_speak view job reason now true = tt
@@ -208,7 +208,7 @@ module _ (setup : Setup) (waiters : List Waiter) (left : Left) where
       (renew setup view now) tt (rules_speak.renewed setup view now)
   leads_on_speak view CannotRun now =
       on_cond (Speaks setup) (nat_le (own_end view) now) (telling (lost setup view now) tells.Lost)
-      (release view LOCF now) tt (rules_speak.released setup view LOCF now)
+      (release setup view LOCF now) tt (rules_speak.released setup view LOCF now)
 
   pub job_speaks : (view : View) (job : ℕ) (service : Service) (now : ℕ) → Speaks setup (job_over setup view job service now)
   job_speaks view job service now =
@@ -286,7 +286,7 @@ module _ (setup : Setup) (waiters : List Waiter) (left : Left) (request : Reques
   revoked view (Some result) acts leads =
       told_and_replied result (quiet view) acts (talks_none setup waiters left _ acts leads)
   revoked view None acts leads =
-      let o : Outcome = release view ADMN now in
+      let o : Outcome = release setup view ADMN now in
       let done =
       carried setup waiters left None now o
       (λ last. replies setup waiters request cmd now (revoke_result last.deed.told) last) acts

@@ -1,10 +1,9 @@
 -- What is done where it may be: a round is answered, a grant asks all, and a majority gains.
-use Rattle.std.specs.Prelude.{◌≡◌, ℕ, true, false, List, ◌∷◌, position, slice_get, Some, None}
+use Rattle.std.specs.Prelude.{◌≡◌, ℕ, false, List, ◌++◌, position, slice_get, Some, None}
 use Rattle.booth_base.specs.declared.address.Peer.{Peer}
 use Rattle.booth_conf.specs.Config.{has_id}
 use Rattle.booth_conf.specs.Lookups.{is_called}
 use Rattle.booth_conf.specs.declared.tickets.GrantKind.TheVariants.{Manual}
-use Rattle.booth_rec.specs.Record.{plain}
 use Rattle.booth_wire.specs.declared.codes.results.TheConstants.{ASYN}
 use Rattle.booth_wire.specs.declared.command.Cmd.TheVariants.{CGnt}
 use Rattle.booth_wire.specs.declared.message.Setup.{Setup}
@@ -14,18 +13,18 @@ use Rattle.booth_host.specs.declared.entry.Entry.{Entry}
 use Rattle.booth_raft.specs.declared.view.Round.{Round}
 use Rattle.booth_raft.specs.declared.view.RoundKind.{RoundKind}
 use Rattle.booth_raft.specs.declared.view.View.{View}
-use Rattle.booth_raft.specs.AskAndRenew.{next_term, own_answer}
+use Rattle.booth_raft.specs.AskAndRenew.{own_answer}
 use Rattle.booth_raft.specs.Members.{is_majority}
 use Rattle.booth_raft.specs.RoundsAndAnswers.{MayAnswer}
 use Rattle.booth_ticket.specs.declared.request.Request.{Request}
 use Rattle.booth_ticket.specs.declared.request.Wish.TheVariants.{Grant}
-use Rattle.booth_ticket.specs.Laws.{AsksVotes, Completes, HasLease, IsAnswer, IsRound, answer_to, asking_acts, gaining_acts, lease_of}
+use Rattle.booth_ticket.specs.Laws.{AsksVotes, Completes, HasLease, IsAnswer, IsRound, answering_acts, asked_record, asking_acts, gaining_acts, lease_kept, lease_of}
 use Rattle.booth_ticket.specs.Requests.{refused_grant}
 use Rattle.booth_ticket.specs.Ticket.{Automatic}
 use Rattle.booth_ticket.specs.Waiting.{joined, spare_in, waiting_at}
 use Rattle.booth_node.specs.declared.node_config.NodeConfig.{NodeConfig}
 use Rattle.booth_node.specs.AttributeRequests.{is_ready}
-use Rattle.booth_node.specs.Calls.{ArrivalDoes, IsCallOf, KeepsFirst, LetsIn}
+use Rattle.booth_node.specs.Calls.{AreCallsOf, ArrivalDoes, KeepsFirst, LetsIn}
 use Rattle.booth_node.specs.Jobs.{handler_at}
 use Rattle.booth_node.specs.Opening.{AreSetUp}
 use Rattle.booth_node.specs.State.{State}
@@ -37,24 +36,26 @@ pub record IsAbout (node : NodeConfig) (state : State) (letter : PlainMessage) (
   pub named : position (is_called part.ticket) node.config.tickets ≡ Some place
   pub there : slice_get state.tickets place ≡ Some (record { setup = setup; known = Automatic view })
 
--- the first call answers the round, to the member whose round it is
-pub record IsRoundAnswered (node : NodeConfig) (moment : ℕ) (setup : Setup) (kind : RoundKind)
+-- the first calls answer the round, to the member whose round it is: in version 2 they keep the promise and then say so
+pub record IsRoundAnswered (node : NodeConfig) (moment : ℕ) (setup : Setup) (view : View) (kind : RoundKind)
     (letter : PlainMessage) (part : TicketPart) (entries : List Entry) : Type 0 where
   pub member : ℕ
   pub is_member : position (has_id letter.head.from) node.config.members ≡ Some member
-  pub first : Entry
+  pub first : List Entry
   pub others : List Entry
-  pub whole : entries ≡ first ∷ others
-  pub answers : IsCallOf node moment setup.ticket (answer_to setup member kind letter.head part) true first
+  pub whole : entries ≡ first ++ others
+  pub answers : AreCallsOf node moment setup.ticket
+      (answering_acts setup view member kind letter.head part moment) first
 
--- Where a member may answer a round that it heard, the answer goes out in that turn, before all else.
+-- Where a member may promise to a round that it heard, and the keep of its promise answers Ok, the answer goes out in that
+-- turn, before all else.
 abbrev pub RoundsAreAnswered : Type 0
 RoundsAreAnswered =
     (node : NodeConfig) (old new : State) (moment : ℕ) (from : Peer) (letter : PlainMessage)
     (entries : List Entry) (place : ℕ) (part : TicketPart) (setup : Setup) (view : View) (kind : RoundKind)
     → LetsIn node old moment from letter entries new → IsAbout node old letter place part setup view
-    → IsRound kind letter.head → MayAnswer view letter.head.from part.term moment
-    → IsRoundAnswered node moment setup kind letter part entries
+    → IsRound kind letter.head → MayAnswer view letter.head.from part.term moment → KeepsFirst entries
+    → IsRoundAnswered node moment setup view kind letter part entries
 
 -- a client's message as the request for a grant
 abbrev pub grant_of : Peer → PlainMessage → Request
@@ -75,7 +76,7 @@ GrantsAskAll =
     letter.head.options moment ≡ None
     → is_majority setup (own_answer setup view moment) ≡ false → KeepsFirst entries
     → ArrivalDoes node moment place setup (asking_acts setup view (grant_of from letter) moment)
-    (AsksVotes (plain (next_term view) view.kept.lease)
+    (AsksVotes (asked_record setup view moment)
     (joined (grant_of from letter) ASYN (waiting_at old.waiters place))) entries new
 
 -- Where the answer that completes a majority is heard before the lease of its round would be over, and the keep
@@ -92,4 +93,4 @@ MajoritiesGain =
     → IsAnswer kind letter.head → Completes setup round member letter.head part moment → KeepsFirst entries
     → ArrivalDoes node moment place setup
     (gaining_acts setup view (waiting_at old.waiters place) (lease_of setup view round) moment)
-    (HasLease setup.me (lease_of setup view round)) entries new
+    (HasLease setup.me (lease_kept setup view (lease_of setup view round)) (lease_of setup view round)) entries new

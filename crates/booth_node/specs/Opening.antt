@@ -38,6 +38,7 @@ setup_of node index ticket = record {
   site = is_site_at node.config.members (own_place node);
   rank = rank_at node index;
   times = ticket.times;
+  second = node.second;
 }
 
 -- the setups of these tickets, from this place on

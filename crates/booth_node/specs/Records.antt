@@ -44,7 +44,8 @@ with_next ticket may (IsCut (CutKeep name rec) ∷ entries) =
     if bytes_eq name ticket.name then rec ∷ may else may
 with_next ticket may entries = may
 
--- The records that a member may have kept of a ticket, after some entries of it and before others. At first it has kept
--- nothing; while its next entry is a keep of the ticket, that record is one of them already.
+-- The records that a member, a site or an arbitrator, may have kept of a ticket, after some entries of it and before
+-- others. At first it has kept nothing, which counts as a record of version 1; while its next entry is a keep of the
+-- ticket, that record is one of them already.
 abbrev pub may_be_kept : TicketPlace → List SessionEntry → List SessionEntry → List Record
 may_be_kept ticket before after = with_next ticket (may_after_all ticket (no_record ∷ []) before) after

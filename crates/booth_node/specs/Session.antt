@@ -25,8 +25,9 @@ pub data CutCall : Type 0 where
   CutKeep : (ticket : List ℕ) (tried : Record) → CutCall
   CutStart : (job : Job) → CutCall
 
--- What a member does: it starts, with one reading and the record of each ticket in file order, as they were read; it
--- makes a call, with its answer; or it makes a call that is cut, which is its session's last.
+-- What a member does: it starts, in the version that its node names, with one reading and the record of each ticket in
+-- file order, as they were read; it makes a call, with its answer; or it makes a call that is cut, which is its session's
+-- last.
 pub data SessionEntry : Type 0 where
   Starts : (node : NodeConfig) (reading : ℕ) (records : List (Option Record)) → SessionEntry
   Makes : (call : Entry) → SessionEntry

@@ -1,5 +1,5 @@
 -- Worlds: the sessions of all members of a cluster, in the order of true time.
-use Rattle.std.specs.Prelude.{◌≡◌, ℕ, ◌<◌, ◌≤◌, ◌==◌, ◌++◌, if◌then◌else◌, List, [], ◌∷◌, length, slice_get, slice_index, Option, Some, Ok}
+use Rattle.std.specs.Prelude.{◌≡◌, ◌⊎◌, ℕ, ◌<◌, ◌≤◌, ◌==◌, ◌++◌, Bool, true, if◌then◌else◌, List, [], ◌∷◌, length, slice_get, slice_index, Option, Some, Ok}
 use Rattle.std.specs.Option.{option_map_or}
 use Rattle.booth_base.specs.declared.address.MemberId.{MemberId}
 use Rattle.booth_base.specs.declared.address.TheConstants.{NO_ONE}
@@ -44,9 +44,9 @@ members_of w = length w.config.members
 abbrev pub id_at : World → ℕ → MemberId
 id_at w m = option_map_or (λ member. member.id) (slice_get w.config.members m) NO_ONE
 
--- the member at a place, with the configuration and the key of all
-abbrev pub node_at : World → ℕ → NodeConfig
-node_at w m = record { config = w.config; key = w.key; me = id_at w m }
+-- the member at a place, with the configuration and the key of all, by the rules of version 2 or of version 1
+abbrev pub node_at : World → ℕ → Bool → NodeConfig
+node_at w m second = record { config = w.config; key = w.key; me = id_at w m; second = second }
 
 -- the entries of one member, taken alone
 abbrev pub entries_of : ℕ → List WorldEntry → List SessionEntry
@@ -89,9 +89,9 @@ pub record HasForm (w : World) : Type 0 where
 
 -- ---- its premises
 
--- a start is one of this member, with the one configuration and the one key or none
+-- a start is one of this member, with the one configuration and the one key or none, in either version
 abbrev pub HasConfiguration : World → WorldEntry → SessionEntry → Type 0
-HasConfiguration w entry (Starts node reading records) = node ≡ node_at w entry.member
+HasConfiguration w entry (Starts node reading records) = node ≡ node_at w entry.member node.second
 HasConfiguration w entry what = Unit {0}
 
 -- what the member's clock reads at a true time
@@ -111,8 +111,8 @@ pub record HasTrueClocks (w : World) : Type 0 where
   pub clocks : (m : ℕ) → m < members_of w → IsClock (w.clock m)
   pub read : AtEach w (λ before entry. ReadsClock w entry entry.what)
 
--- A start reads of each ticket a record that its member may have kept. So where the member never started before, it
--- reads none, or one that counts as none.
+-- A start reads of each ticket a record that its member may have kept, a site or an arbitrator. So where the member never
+-- started before, it reads none, or one that counts as none.
 abbrev pub ReadsKept : World → List WorldEntry → WorldEntry → SessionEntry → Type 0
 ReadsKept w before entry (Starts node reading records) =
     (place : ℕ) (ticket : TicketConf) → slice_get w.config.tickets place ≡ Some ticket
@@ -120,6 +120,18 @@ ReadsKept w before entry (Starts node reading records) =
     (may_be_kept (ticket_at place ticket) (entries_of entry.member before) (Starts node reading records ∷ []))
     (record_at records place)
 ReadsKept w before entry what = Unit {0}
+
+-- one of these entries of a member is a start of version 2
+abbrev pub WasSecond : List SessionEntry → Type 0
+WasSecond [] = ⊥
+WasSecond (Starts node reading records ∷ entries) = (node.second ≡ true) ⊎ WasSecond entries
+WasSecond (entry ∷ entries) = WasSecond entries
+
+-- a member that started in version 2 starts in it again
+abbrev pub StaysSecond : World → List WorldEntry → WorldEntry → SessionEntry → Type 0
+StaysSecond w before entry (Starts node reading records) =
+    WasSecond (entries_of entry.member before) → node.second ≡ true
+StaysSecond w before entry what = Unit {0}
 
 -- the bytes of a send; one that failed, or was cut, is one too
 abbrev pub IsSend : SessionEntry → List ℕ → Type 0
@@ -147,14 +159,26 @@ HearsSent w before stand what = Unit {0}
 abbrev pub stand_after : ℕ → List WorldEntry → Stand
 stand_after m before = after_entries Down (entries_of m before)
 
--- A world has five premises. All members have the one configuration and the one key or none; clocks are true; records
--- return as they may have been kept; a member's message that is let in was sent by that member, earlier, and may come
--- to any member, any number of times or never; and one daemon of each member runs at a time. All else is free: what
--- clients ask, what fails, what is cut, and when.
+-- A world has six premises. All members have the one configuration and the one key or none; clocks are true; records
+-- return as they may have been kept; a member's sessions of version 1 come before its sessions of version 2; a member's
+-- message that is let in was sent by that member, earlier, and may come to any member, any number of times or never; and
+-- one daemon of each member runs at a time. All else is free: what clients ask, what fails, what is cut, and when.
 pub record IsWorld (w : World) : Type 0 where
   pub form : HasForm w
   pub one_configuration : AtEach w (λ before entry. HasConfiguration w entry entry.what)
   pub true_clocks : HasTrueClocks w
   pub records_return : AtEach w (λ before entry. ReadsKept w before entry entry.what)
+  pub versions_rise : AtEach w (λ before entry. StaysSecond w before entry entry.what)
   pub members_speak : AtEach w (λ before entry. HearsSent w before (stand_after entry.member before) entry.what)
   pub one_daemon : (m : ℕ) → m < members_of w → AreSessions Down (entries_of m w.entries)
+
+-- ---- a world of version 2
+
+-- where it is a start, it is one of version 2
+abbrev pub IsSecondStart : SessionEntry → Type 0
+IsSecondStart (Starts node reading records) = node.second ≡ true
+IsSecondStart what = Unit {0}
+
+-- all sessions are of version 2
+abbrev pub IsSecondWorld : World → Type 0
+IsSecondWorld w = AtEach w (λ before entry. IsSecondStart entry.what)

@@ -42,7 +42,7 @@ pub fn nobody_is_forgotten()
     ensures { NobodyIsForgotten }
 {}
 
-/// Where a member may answer a round that it heard, the answer goes out in that turn.
+/// Where a member may answer a round that it heard, its promise is kept and then the answer goes out in that turn.
 pub fn rounds_are_answered()
     ensures { RoundsAreAnswered }
 {}

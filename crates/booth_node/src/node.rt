@@ -1,5 +1,5 @@
 //! A node, and its turn.
-ghost use Rattle.std.specs.Prelude.{◌≡◌, ◌≤◌, ◌<◌, ◌^◌, ℕ, map, length, position, vec_capacity, IfOk, IsSome, IsSomeAnd};
+ghost use Rattle.std.specs.Prelude.{◌≡◌, ◌≤◌, ◌<◌, ◌^◌, ℕ, true, map, length, position, vec_capacity, IfOk, IsSome, IsSomeAnd};
 ghost use Rattle.booth_conf.specs.Config.{has_id};
 ghost use Rattle.booth_node.specs.Opening.{opened};
 ghost use Rattle.booth_host.specs.Past.{GrewSome};
@@ -56,7 +56,7 @@ impl Node {
     ghost use Rattle.booth_node.specs.View.{node_config, state_of};
 
     /// A node of this configuration, with this key where there is one, at the member with this id, with the record of
-    /// each ticket where one was kept.
+    /// each ticket where one was kept. Its rules are those of version 2, whatever version a record is of.
     ///
     /// `now` is the reading of its start, in milliseconds since 1970.
     pub fn open(
@@ -70,11 +70,16 @@ impl Node {
         requires member { IsSome (position (has_id me) config.members) }
         requires records { length records.now ≡ length config.tickets }
         ensures node { IfOk result (λ node.
-            node_config node ≡ record { config = config; key = key; me = me }) }
+            node_config node ≡ record { config = config; key = key; me = me; second = true }) }
         ensures state { IfOk result (λ node. state_of node
-            ≡ opened (record { config = config; key = key; me = me }) records.now now) }
+            ≡ opened (record { config = config; key = key; me = me; second = true }) records.now now) }
     {
-        let node = NodeConfig { config, key, me };
+        let node = NodeConfig {
+            config,
+            key,
+            me,
+            second: true,
+        };
         let last_reading = now.min(READINGS_END - 1);
         let tickets = start_tickets(alloc, &node, records, last_reading)?;
         let wheel = start_wheel(alloc, &tickets)?;

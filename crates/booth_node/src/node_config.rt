@@ -6,12 +6,14 @@ use booth_base::MemberId;
 use booth_conf::Config;
 use booth_wire::Message;
 
-/// A member: the configuration that it shares, its key where there is one, and its own id.
+/// A member: the configuration that it shares, its key where there is one, its own id, and by which rules it goes.
 #[derive(Drop)]
 pub struct NodeConfig {
     pub config: Config,
     pub key: Option<Key>,
     pub me: MemberId,
+    /// Whether it follows the rules of version 2, by which promises are kept in records.
+    pub second: bool,
 }
 
 impl NodeConfig {

@@ -1,5 +1,5 @@
 //! The tickets that a node starts with, and their timer.
-ghost use Rattle.std.specs.Prelude.{◌≡◌, ◌<◌, ◌≤◌, ◌^◌, IfOk, IsSome, Some, length, map, position, slice_get, option_copied};
+ghost use Rattle.std.specs.Prelude.{◌≡◌, ◌<◌, ◌≤◌, ◌^◌, IfOk, IsSome, IsTrue, Some, length, map, position, slice_get, option_copied};
 ghost use Rattle.std.specs.List.{All};
 ghost use Rattle.booth_conf.specs.Config.{has_id};
 ghost use Rattle.booth_conf.specs.Sound.{HasTimes};
@@ -73,12 +73,14 @@ fn setup_of(node: &NodeConfig, index: usize, ticket: &TicketConf) -> Setup
         site: is_site_at(node.config.members(), place),
         rank: rank_at(node, index),
         times: ticket.times,
+        second: node.second,
     }
 }
 
 // A ticket starts, by its kind.
 fn open_ticket(conf: &TicketConf, setup: &Setup, kept: Option<&Record>, now: u64) -> Ticket
     requires sound { IsSound setup.now }
+    requires second { IsTrue setup.now.second }
     requires early { now < 2 ^ 62 }
     ensures { result
         ≡ opened_by conf.now setup.now (record_or_none (option_copied kept.entry)) now }
@@ -98,6 +100,7 @@ pub(crate) fn start_tickets(
     now: u64,
 ) -> Result<Vec<Ticket>, AllocError>
     requires early { now < 2 ^ 62 }
+    requires second { IsTrue node.now.second }
     requires member { IsSome (position (has_id node.now.me) node.now.config.members) }
     requires records { length records.now ≡ length node.now.config.tickets }
     ensures tickets { IfOk result (λ tickets. tickets.items

@@ -1,5 +1,6 @@
 use Rattle.std.proofs.Common.{map, sym, ◌∙◌, arith}
 use Rattle.std.specs.Prelude.{None}
+use Rattle.std.proofs.lemmas.Grind.{common_steps}
 use Rattle.std.proofs.lemmas.List.{ext_get_or, length-map}
 use Rattle.booth_node.specs.Reaction.{deadline_of}
 use Rattle.booth_node.proofs.opening.start_wheel.Goals as goal
@@ -11,3 +12,10 @@ returns-clause-timed c =
     (λ i below. c.loop-place.invariant.timed i
     (let slots = c.loop-place.invariant.slots in let over = c.loop-place-test.false in omega
     (arith, below, slots, over)))
+
+pub loop-place-preserved : goal.loop-place-preserved
+loop-place-preserved c = record {
+  timed = grind (arith, common_steps);
+  slots = grind (arith, common_steps);
+  last = grind (arith, common_steps);
+}
