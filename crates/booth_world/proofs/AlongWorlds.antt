@@ -1,6 +1,6 @@
 -- What holds of each entry of a world, shown along its list; and clocks that read the true time.
-use Rattle.std.proofs.Common.{◌≡◌, ℕ, zero, suc, ◌<◌, ◌≤◌, List, [], ◌∷◌, ◌++◌, sym, ap, subst, ◌∙◌, inl, inr, arith}
-use Rattle.std.specs.Prelude.{slice_index, slice_get, map, ◌*◌, Some, Result, Ok}
+use Rattle.std.proofs.Common.{◌≡◌, ℕ, zero, suc, ◌<◌, ◌≤◌, Bool, true, false, not, ◌&&◌, List, [], ◌∷◌, ◌++◌, refl, sym, ap, subst, ◌∙◌, inl, inr, arith, if◌then◌else◌}
+use Rattle.std.specs.Prelude.{slice_index, slice_get, map, ◌*◌, ◌==◌, Some, Result, Ok}
 use Rattle.std.specs.List.{range_with_len}
 use Rattle.std.proofs.lemmas.List.FromFn.{length-range_with_len, get_or-range_with_len, get_or-map-range_with_len}
 use Rattle.std.proofs.lemmas.List.{append-nil, append_assoc}
@@ -12,7 +12,8 @@ use Rattle.booth_wire.specs.Reading.{decoded}
 use Rattle.booth_auth.specs.declared.admission.DropFault.{DropFault}
 use Rattle.booth_node.specs.Clock.{IsClock}
 use Rattle.booth_node.specs.Records.{Has}
-use Rattle.booth_node.specs.World.{WorldEntry, World, AtEach, WasSent, IsSend, id_at}
+use Rattle.booth_node.specs.Session.{SessionEntry, Starts, Makes, IsCut}
+use Rattle.booth_node.specs.World.{WorldEntry, World, entries_of, AtEach, WasSecond, StaysSecond, WasSent, IsSend, id_at}
 use Rattle.booth_world.specs.WorldExamples.{web}
 
 -- what holds of an entry, before what holds of those behind it
@@ -45,6 +46,63 @@ along P done (x ∷ xs) h (b ∷ before) after entry e =
 
 pub at_each : (w : World) (P : List WorldEntry → WorldEntry → Type 0) → Along P [] w.entries → AtEach w P
 at_each w P h before after entry e = along P [] w.entries h before after entry e
+
+-- ---- worlds of version 1
+
+-- it starts nothing in version 2
+abbrev pub is_first : SessionEntry → Bool
+is_first (Starts node reading records) = not node.second
+is_first what = true
+
+abbrev pub are_first : List WorldEntry → Bool
+are_first [] = true
+are_first (entry ∷ entries) = is_first entry.what && are_first entries
+
+both_true : (a b : Bool) → a && b ≡ true → (a ≡ true) × (b ≡ true)
+both_true true b e = (refl, e)
+both_true false b e = absurd (cc)
+
+first_before : (before after : List WorldEntry) → are_first (before ++ after) ≡ true → are_first before ≡ true
+first_before [] after e = refl
+first_before (x ∷ before) after e =
+    let q = both_true (is_first x.what) (are_first (before ++ after)) e in
+    and_true (is_first x.what) (are_first before) q.0 (first_before before after q.1)
+  where
+    and_true : (a b : Bool) → a ≡ true → b ≡ true → a && b ≡ true
+    and_true true b e f = f
+    and_true false b e f = absurd (cc)
+
+none_second : (m : ℕ) (es : List WorldEntry) → are_first es ≡ true → WasSecond (entries_of m es) → ⊥
+none_second m [] first was = was
+none_second m (e ∷ es) first was =
+    let q = both_true (is_first e.what) (are_first es) first in by_member (e.member == m) q.0 (none_second m es q.1) was
+  where
+    not_both : (b : Bool) → not b ≡ true → b ≡ true → ⊥
+    not_both true n y = cc
+    not_both false n y = cc
+
+    by_what : (what : SessionEntry) → is_first what ≡ true → (WasSecond (entries_of m es) → ⊥) → WasSecond (what ∷ entries_of m es) → ⊥
+    by_what (Starts node reading records) is rest (inl second) = not_both node.second is second
+    by_what (Starts node reading records) is rest (inr later) = rest later
+    by_what (Makes call) is rest later = rest later
+    by_what (IsCut call) is rest later = rest later
+
+    by_member : (b : Bool) → is_first e.what ≡ true → (WasSecond (entries_of m es) → ⊥)
+        → WasSecond (if b then e.what ∷ entries_of m es else entries_of m es) → ⊥
+    by_member true is rest was = by_what e.what is rest was
+    by_member false is rest was = rest was
+
+-- where no session is of version 2, versions rise
+pub versions_first : (w : World) → are_first w.entries ≡ true → AtEach w (λ before entry. StaysSecond w before entry entry.what)
+versions_first w first before after entry whole = by_what entry.what
+  where
+    none : WasSecond (entries_of entry.member before) → ⊥
+    none = none_second entry.member before (first_before before (entry ∷ after) (ap are_first (sym whole) ∙ first))
+
+    by_what : (what : SessionEntry) → StaysSecond w before entry what
+    by_what (Starts node reading records) = λ was. absurd (none was)
+    by_what (Makes call) = tt
+    by_what (IsCut call) = tt
 
 -- a clock of any length that reads the true time
 pub reads_true : (n t : ℕ) → t < n → slice_index (range_with_len 0 n) t ≡ t

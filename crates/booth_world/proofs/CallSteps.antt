@@ -31,9 +31,10 @@ use Rattle.booth_world.specs.Gives.{LeadsTo, mark_of, given_by, may_answered, re
 use Rattle.booth_world.proofs.Lists.{none_is}
 use Rattle.booth_world.proofs.Invariant.{MemberGood, FactsGood}
 use Rattle.booth_world.proofs.Views.{on_cond, agrees_same, rests, kept_of, IsPlaced}
-use Rattle.booth_raft.specs.AskAndRenew.{goes_on, finish, renew}
+use Rattle.booth_raft.specs.AskAndRenew.{ask, goes_on, finish, renew}
 use Rattle.booth_raft.specs.Deadlines.{due_now, greeted, hello}
-use Rattle.booth_raft.specs.Facts.{Tries}
+use Rattle.booth_raft.specs.Facts.{TriesOf}
+use Rattle.booth_raft.specs.GainReleaseLost.{release}
 use Rattle.booth_raft.specs.Notes.{noted}
 use Rattle.booth_raft.specs.OtherMessages.{revoked, hear}
 use Rattle.booth_raft.specs.RoundsAndAnswers.{hear_answer}
@@ -42,12 +43,13 @@ use Rattle.booth_world.specs.States.{WorldState, opening, put}
 use Rattle.booth_world.specs.Steps.{WorldStep, MemberDoes, May, IsRun, after_steps, happens, world_of}
 use Rattle.booth_world.specs.MemberRuns.{world_steps}
 use Rattle.booth_world.specs.Rules.{CoreCall, Asks, Hears, Greets, MeetsDeadline, MakesNote, RenewsLease, GivesBack, lease_rules}
-use Rattle.booth_world.specs.Calls.{mark_at, Caller, IsMember, MayCall, Gives, given_by_call, CallsAreSteps, StepsOfOneAreSteps}
+use Rattle.booth_world.specs.Calls.{mark_at, Caller, IsMember, MayCall, Gives, GivesIn, given_by_call, CallsAreSteps, StepsOfOneAreSteps}
 use Rattle.booth_world.proofs.Invariant.{Good}
 use Rattle.booth_world.proofs.WorldGood.{opening_good, run_good}
-use Rattle.booth_world.proofs.HearSteps.{LeadsToOutcome, unchanged, same_learned, hears_round, hears_release}
+use Rattle.booth_world.proofs.HearSteps.{LeadsToOutcome, unchanged, same_learned, hears_round, hears_release, tries_record}
 use Rattle.booth_world.proofs.GainSteps.{hears_answer}
-use Rattle.booth_world.proofs.KeptSteps.{asks_term, tries_free, goes_on_leads}
+use Rattle.booth_world.proofs.AskSteps.{asks_term}
+use Rattle.booth_world.proofs.KeptSteps.{goes_on_leads}
 use Rattle.booth_world.proofs.DueSteps.{stays, renews, ticks, notes_it, greets, starts_with}
 
 -- what an answer finishes, by what waits
@@ -65,16 +67,16 @@ module _ (c : Cluster) (id_of : ℕ → MemberId) (now m : ℕ) (ids : IsPlaced 
 
   answer : (f : Facts) (x : MemberState) (view : View) (place : ℕ) (head : Head) (part : TicketPart)
       → MemberGood c now f m x → FactsGood c now f → view.waiting ≡ None → Agrees c id_of f m view x → AnswerSaid id_of f place part.leader part.term head.options
-      → LeadsToOutcome c id_of now m f x (hear_answer (seat c id_of m setup) (with_seen view part.term) place head part x.reading)
+      → LeadsToOutcome c id_of now m f x (hear_answer (seat c id_of m x.second setup) (with_seen view part.term) place head part x.reading)
   answer f x view place head part good facts none a said =
-      subst (λ (p : ℕ). LeadsToOutcome c id_of now m f x (hear_answer (seat c id_of m setup) (with_seen view part.term) p head part x.reading)) said.2
+      subst (λ (p : ℕ). LeadsToOutcome c id_of now m f x (hear_answer (seat c id_of m x.second setup) (with_seen view part.term) p head part x.reading)) said.2
       (hears_answer c id_of now m ids f x setup (with_seen view part.term) head part said.0 good facts none (seen f x view part none a) said.1 said.3 said.4 said.5)
 
   -- what is heard, by its command
   hears : (f : Facts) (x : MemberState) (view : View) (place : ℕ) (head : Head) (part : TicketPart) (cmd : Cmd)
       → MemberGood c now f m x → FactsGood c now f → x.at ≡ now → view.waiting ≡ None → RoundFits view.term view.role view.round → Agrees c id_of f m view x
       → place < c.members → head.from ≡ id_of place → IsFact id_of f place head part cmd
-      → LeadsToOutcome c id_of now m f x (hear (seat c id_of m setup) view place head part x.reading cmd)
+      → LeadsToOutcome c id_of now m f x (hear (seat c id_of m x.second setup) view place head part x.reading cmd)
   hears f x view place head part cmds.RVot good facts timely none fits a within from said =
       on_cond (λ (q : Outcome). LeadsToOutcome c id_of now m f x q) (head.options == 0) _ _
       (hears_round c id_of now m ids f x setup (with_seen view part.term) Election head part said.0 facts timely none fits (seen f x view part none a) said.1 (from ∙ ap id_of (sym said.2)) said.3 said.4)
@@ -92,19 +94,19 @@ module _ (c : Cluster) (id_of : ℕ → MemberId) (now m : ℕ) (ids : IsPlaced 
       (rests c id_of now m f x (with_seen view part.term) _ (seen f x view part none a) tt)
       (answer f x view place head part good facts none a said)
   hears f x view place head part cmds.Revk good facts timely none fits a within from said =
-      subst (λ (i : MemberId). LeadsToOutcome c id_of now m f x (quiet (revoked (seat c id_of m setup) (with_seen view part.term) i part.term head.reason x.reading)))
+      subst (λ (i : MemberId). LeadsToOutcome c id_of now m f x (quiet (revoked (seat c id_of m x.second setup) (with_seen view part.term) i part.term head.reason x.reading)))
       (sym (from ∙ ap id_of (sym said.2)))
-      (subst (λ (t : ℕ). LeadsToOutcome c id_of now m f x (quiet (revoked (seat c id_of m setup) (with_seen view part.term) (id_of (said.0).site) t head.reason x.reading)))
+      (subst (λ (t : ℕ). LeadsToOutcome c id_of now m f x (quiet (revoked (seat c id_of m x.second setup) (with_seen view part.term) (id_of (said.0).site) t head.reason x.reading)))
       said.3
       (hears_release c id_of now m ids f x setup (with_seen view part.term) head.reason said.0 (subst (λ (s : ℕ). s < c.members) (sym said.2) within) none (seen f x view part none a) said.1))
   hears f x view place head part cmds.Stat good facts timely none fits a within from said =
-      stays c id_of now m ids setup f x view _ _ (same_learned (seat c id_of m setup) view part x.reading none) a tt
+      stays c id_of now m ids setup f x view _ _ (same_learned (seat c id_of m x.second setup) view part x.reading none) a tt
   hears f x view place head part cmds.MIdx good facts timely none fits a within from said =
-      stays c id_of now m ids setup f x view _ _ (same_learned (seat c id_of m setup) view part x.reading none) a tt
+      stays c id_of now m ids setup f x view _ _ (same_learned (seat c id_of m x.second setup) view part x.reading none) a tt
   hears f x view place head part cmds.Rjc good facts timely none fits a within from said =
-      stays c id_of now m ids setup f x view _ _ (same_learned (seat c id_of m setup) view part x.reading none) a tt
+      stays c id_of now m ids setup f x view _ _ (same_learned (seat c id_of m x.second setup) view part x.reading none) a tt
   hears f x view place head part cmds.UpdE good facts timely none fits a within from said =
-      stays c id_of now m ids setup f x view _ _ (same_learned (seat c id_of m setup) view part x.reading none) a tt
+      stays c id_of now m ids setup f x view _ _ (same_learned (seat c id_of m x.second setup) view part x.reading none) a tt
   hears f x view place head part cmd good facts timely none fits a within from said =
       stays c id_of now m ids setup f x view _ _ (unchanged view none) a tt
 
@@ -120,37 +122,38 @@ module _ (c : Cluster) (id_of : ℕ → MemberId) (now m : ℕ) (ids : IsPlaced 
     round = a.round;
     tried = λ v n. absurd (none_is v n);
     asked = λ v n. absurd (none_is v n);
-    keeping = λ v n. absurd (none_is v n);
     active = a.active;
     repeated = a.repeated;
   }
 
-  asked_before : (f : Facts) (x : MemberState) (view : View) (rule : Rule) → IsAsked f x view rule → IsAsked f x (record view { waiting = None }) rule
+  asked_before : (f : Facts) (x : MemberState) (view : View) (rule : Rule) → IsAsked c id_of f m x view rule → IsAsked c id_of f m x (record view { waiting = None }) rule
   asked_before f x view rules.Gain q = q
   asked_before f x view (rules.Ask reason) q = q
   asked_before f x view (rules.Release reason) q = q
   asked_before f x view rules.EndRound q = q
+  asked_before f x view (rules.Renew number) q = q
+  asked_before f x view (rules.Answer kind to number request told) q = q
 
   -- the answer of a keep
   keep_answer : HasClocks c → m < c.members → (f : Facts) (x : MemberState) (view : View) (ok : Bool)
       → MemberGood c now f m x → FactsGood c now f → Agrees c id_of f m view x
-      → ForSome view.waiting (λ w. Tries (seat c id_of m setup) view.term view.kept view.round w.rule w.tried) → 0 < c.times.expire
+      → ForSome view.waiting (λ w. TriesOf (seat c id_of m x.second setup) view w.rule w.tried) → 0 < c.times.expire
       → LeadsTo c id_of (mark_of now m x) f x
-      (given_by (finish (seat c id_of m setup) view x.reading ok)
+      (given_by (finish (seat c id_of m x.second setup) view x.reading ok)
       (may_answered view.waiting ok (records_in id_of x.may)) (releases_answered (mark_of now m x) view.waiting ok f.releases))
   keep_answer clocks below f x view ok good facts a fits lasts = by_waiting view.waiting ok refl
     where
       by_waiting : (waits : Option Waiting) (ok : Bool) → view.waiting ≡ waits
           → LeadsTo c id_of (mark_of now m x) f x
-          (given_by (finish_by (seat c id_of m setup) view waits x.reading ok)
+          (given_by (finish_by (seat c id_of m x.second setup) view waits x.reading ok)
           (may_answered waits ok (records_in id_of x.may)) (releases_answered (mark_of now m x) waits ok f.releases))
       by_waiting None ok e = stays c id_of now m ids setup f x view _ _ (unchanged view e) a tt
       by_waiting (Some w) true e =
           goes_on_leads c id_of now m ids setup clocks below f x (record view { waiting = None }) w.rule w.tried true good facts refl
-          (waits_no_more f x view a) (a.keeping w e) (a.tried w e) (fits w e) (asked_before f x view w.rule (a.asked w e)) lasts
+          (waits_no_more f x view a) (a.tried w e) (fits w e) (asked_before f x view w.rule (a.asked w e)) lasts
       by_waiting (Some w) false e =
           goes_on_leads c id_of now m ids setup clocks below f x (record view { waiting = None }) w.rule w.tried false good facts refl
-          (waits_no_more f x view a) (a.keeping w e) (a.tried w e) (fits w e) (asked_before f x view w.rule (a.asked w e)) lasts
+          (waits_no_more f x view a) (a.tried w e) (fits w e) (asked_before f x view w.rule (a.asked w e)) lasts
 
 -- ---- the world
 
@@ -206,7 +209,9 @@ call_steps :
     (c : Cluster) → HasClocks c → (w : WorldState) (a : Caller) → Good c w → IsMember c w a → a.view.waiting ≡ None
     → (call : CoreCall) → MayCall c w a call → Gives c a.id_of w a.place (given_by_call lease_rules w a call)
 call_steps c clocks w a g i none (Asks reason) may =
-    asks_term c a.id_of w.now a.place (placed c w a i) a.setup w.facts (w.member a.place) a.view reason (g.each a.place) i.agrees (at_site c w a i may)
+    let x = w.member a.place in
+    subst (λ (s : Setup). GivesOutcome c w a (ask s a.view reason x.reading)) (sym i.seated)
+    (asks_term c a.id_of w.now a.place (placed c w a i) a.setup w.facts x a.view reason (g.each a.place) none i.agrees (at_site c w a i may))
 call_steps c clocks w a g i none (Hears letter) may =
     let x = w.member a.place in
     subst (λ (s : Setup). GivesOutcome c w a (hear s a.view letter.sender letter.head letter.part x.reading letter.head.cmd)) (sym i.seated)
@@ -229,17 +234,19 @@ call_steps c clocks w a g i none RenewsLease may =
     (renews c a.id_of w.now a.place (placed c w a i) a.setup clocks i.below w.facts x a.view (g.each a.place) g.facts none i.agrees
     (i.agrees.active (or_so (is_candidate a.view.role) (is_leader a.view.role) may)) (lasts c w a i))
 call_steps c clocks w a g i none (GivesBack reason) may =
-    tries_free c a.id_of w.now a.place (placed c w a i) a.setup w.facts (w.member a.place) a.view (rules.Release reason) i.agrees (at_site c w a i may) tt
+    let x = w.member a.place in
+    subst (λ (s : Setup). GivesOutcome c w a (release s a.view reason x.reading)) (sym i.seated)
+    (tries_record c a.id_of w.now a.place a.setup w.facts x a.view (rules.Release reason) None i.agrees tt (at_site c w a i may))
 
 pub calls_are_steps : CallsAreSteps lease_rules
 calls_are_steps = record {
-  start_gives = λ c clocks steps run id_of m setup ids below seated down kept has.
+  start_gives = λ c clocks steps run id_of m second setup ids below seated down stays kept has.
       let w = world_of c steps in
       let x = w.member m in
       let z = kept_of id_of x.may kept has in
-      subst (λ (s : Setup). Gives c id_of w m (record { view = started s kept x.reading; say = says.Nothing; may = kept ∷ []; releases = w.facts.releases })) (sym seated)
-      (subst (λ (k : Record). Gives c id_of w m (record { view = started (seat c id_of m setup) k x.reading; say = says.Nothing; may = k ∷ []; releases = w.facts.releases })) z.2
-      (starts_with c id_of w.now m (record { apart = ids; below = below }) setup w.facts x z.0 down z.1));
+      subst (λ (s : Setup). GivesIn second c id_of w m (record { view = started s kept x.reading; say = says.Nothing; may = kept ∷ []; releases = w.facts.releases })) (sym seated)
+      (subst (λ (k : Record). GivesIn second c id_of w m (record { view = started (seat c id_of m second setup) k x.reading; say = says.Nothing; may = k ∷ []; releases = w.facts.releases })) z.2
+      (starts_with c id_of w.now m (record { apart = ids; below = below }) setup w.facts x z.0 second ((good_world c clocks steps run).each m) down z.1 stays));
   call_gives = λ c clocks steps run a i none call may.
       call_steps c clocks (world_of c steps) a (good_world c clocks steps run) i none call may;
   answer_gives = λ c clocks steps run a i ok.
@@ -248,6 +255,6 @@ calls_are_steps = record {
       let x = w.member a.place in
       subst (λ (s : Setup). Gives c a.id_of w a.place (given_by (finish s a.view x.reading ok) (may_answered a.view.waiting ok (records_in a.id_of x.may)) (releases_answered (mark_at w a.place) a.view.waiting ok w.facts.releases))) (sym i.seated)
       (keep_answer c a.id_of w.now a.place (placed c w a i) a.setup clocks i.below w.facts x a.view ok (g.each a.place) g.facts i.agrees
-      (subst (λ (s : Setup). ForSome a.view.waiting (λ w. Tries s a.view.term a.view.kept a.view.round w.rule w.tried)) i.seated i.view_facts.tried)
+      (subst (λ (s : Setup). ForSome a.view.waiting (λ w. TriesOf s a.view w.rule w.tried)) i.seated i.view_facts.tried)
       (lasts c w a i));
 }

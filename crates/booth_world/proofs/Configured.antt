@@ -228,9 +228,9 @@ module _ (w : World) (sound : IsSoundConfig w.config) where
       by_test false = omega arith
 
   pub setup_sound : (place : ℕ) (ticket : TicketConf) → slice_get w.config.tickets place ≡ Some ticket → (m : ℕ) → m < members_of w
-      → IsSound (setup_of (node_at w m) place ticket)
-  setup_sound place ticket is m below =
-      let own : own_place (node_at w m) ≡ m = rw (ids_apart m below) refl in
+      → (second : Bool) → IsSound (setup_of (node_at w m second) place ticket)
+  setup_sound place ticket is m below second =
+      let own : own_place (node_at w m second) ≡ m = rw (ids_apart m below) refl in
       let timed : HasTimes ticket =
       subst HasTimes (get_or_from_slice_get w.config.tickets place ticket ticket is)
       (tickets_timed w.config sound place ticket (slice_get_within w.config.tickets place ticket is)) in

@@ -2,14 +2,14 @@
 use Rattle.std.proofs.Common.{◌≡◌, ◌⊎◌, ℕ, ◌<◌, ◌≤◌, List, [], ◌∷◌, ◌++◌, Bool, true, false, refl, sym, ap, ◌∙◌, subst, inl, inr, ⊎_elim, arith}
 use Rattle.std.specs.Prelude.{Option, Some, None, IsSomeAnd}
 use Rattle.booth_rec.specs.declared.record.Record.{Record}
-use Rattle.booth_rec.specs.Record.{plain, IsInForce}
+use Rattle.booth_rec.specs.Record.{IsInForce}
 use Rattle.booth_wire.specs.declared.message.Setup.{Setup}
-use Rattle.booth_raft.specs.declared.view.Round.{Round as ViewRound}
 use Rattle.booth_raft.specs.declared.view.Rule.{Rule}
 use Rattle.booth_raft.specs.declared.view.Rule.TheVariants as rules
 use Rattle.booth_raft.specs.declared.view.View.{View}
 use Rattle.booth_raft.specs.declared.view.Waiting.{Waiting}
-use Rattle.booth_raft.specs.Facts.{Tries, ViewFacts}
+use Rattle.booth_raft.specs.Facts.{TriesOf, ViewFacts}
+use Rattle.booth_raft.specs.GainReleaseLost.{free_record}
 use Rattle.booth_node.specs.Clock.{Cluster, HasClocks, reads}
 use Rattle.booth_world.specs.Facts.{Has, Release}
 use Rattle.booth_world.specs.States.{KeptRecord, WorldState, opening}
@@ -17,22 +17,30 @@ use Rattle.booth_world.specs.Steps.{WorldStep, IsRun, world_of}
 use Rattle.booth_world.specs.Held.{IsHeldBy, Held, AreApart, IsApart, GivesBackLease, ReleasedBetween}
 use Rattle.booth_world.specs.Agreement.{record_in}
 use Rattle.booth_world.specs.Gives.{released_by, releases_answered}
-use Rattle.booth_world.specs.Cores.{CoreEntry, ReadsTime, CallsCore, HasAnswer, Stops, StartsWith, Cores, opening_cores, Cast, IsCast, MayEnter, after_call, after_answer, mark_in, entered, AreEntered, cores_after, TimePasses}
+use Rattle.booth_world.specs.Cores.{CoreEntry, ReadsTime, CallsCore, HasAnswer, Stops, StartsWith, Cores, opening_cores, Cast, IsCast, MayEnter, after_call, after_answer, mark_in, entered, AreEntered, cores_after, setup_in, TimePasses}
 use Rattle.booth_world.specs.CoreLaws.{IsReleasing, IsReleaseAt, IsReleaseIn, CoreHoldsBy, CoreHolds, CoreCourse, early_cores, late_cores, CoresHoldOne, CoresAreApart, CoreTermsNeverFall}
 use Rattle.booth_world.proofs.Views.{kept_of, record_has}
-use Rattle.booth_world.proofs.KeptSteps.{the_value}
+use Rattle.booth_world.proofs.AskSteps.{the_value}
 use Rattle.booth_world.proofs.Runs.{runs_hold_one, runs_hold_apart, runs_keep_terms}
 use Rattle.booth_world.proofs.WorldGood.{opening_good, run_good}
-use Rattle.booth_world.proofs.CoreSteps.{CoresHold, opens, enters, enter_all}
+use Rattle.booth_world.proofs.CoreSteps.{CoresHold, opens, enters, enter_all, IsSecondAt, AreSecondFrom, second_append}
+use Rattle.booth_world.specs.Steps.{AreSecond}
+use Rattle.booth_world.proofs.Lists.{none_is, put_all}
+use Rattle.booth_world.proofs.LaterTerms.{runs_rise}
+use Rattle.booth_world.specs.CoreLaws.{IsSecondStart, AreSecondStarts, LaterCoreHasLaterTerm}
+use Rattle.booth_world.specs.Cores.{CorePlace, has_given, call_given, answer_given}
+use Rattle.booth_world.specs.Rules.{lease_rules}
+use Rattle.booth_wire.specs.declared.message.Say.TheVariants as says
+use Rattle.booth_world.specs.Gives.{Given}
 
 module _ (c : Cluster) (cast : Cast) (clocks : HasClocks c) (is_cast : IsCast c cast) where
   one_released : (setup : Setup) (view : View) (w : Waiting) (m now : ℕ) (kept : Record) (releases : List Release) (z : Release) → w.tried ≡ kept
-      → Tries setup view.term view.kept view.round w.rule w.tried
+      → TriesOf setup view w.rule w.tried
       → Has (released_by w.rule (record { site = m; term = w.tried.term; at = now }) releases) z
       → Has releases z ⊎ ((z ≡ record { site = m; term = kept.term; at = now }) × (kept.lease ≡ None) × IsReleasing w.rule)
   one_released setup view w m now kept releases z same tries has = by_rule w.rule refl
     where
-      is_new : IsReleasing w.rule → w.tried ≡ plain view.term None → Has (record { site = m; term = w.tried.term; at = now } ∷ releases) z
+      is_new : IsReleasing w.rule → w.tried ≡ free_record setup view → Has (record { site = m; term = w.tried.term; at = now } ∷ releases) z
           → Has releases z ⊎ ((z ≡ record { site = m; term = kept.term; at = now }) × (kept.lease ≡ None) × IsReleasing w.rule)
       is_new gives free h = ⊎_elim
           (λ (e : record { site = m; term = w.tried.term; at = now } ≡ z).
@@ -43,10 +51,12 @@ module _ (c : Cluster) (cast : Cast) (clocks : HasClocks c) (is_cast : IsCast c 
       by_rule rules.Gain e = inl (subst (λ (r : Rule). Has (released_by r (record { site = m; term = w.tried.term; at = now }) releases) z) e has)
       by_rule (rules.Ask reason) e = inl (subst (λ (r : Rule). Has (released_by r (record { site = m; term = w.tried.term; at = now }) releases) z) e has)
       by_rule (rules.Release reason) e =
-          is_new (subst (λ (r : Rule). IsReleasing r) (sym e) tt) (subst (λ (r : Rule). Tries setup view.term view.kept view.round r w.tried) e tries)
+          is_new (subst (λ (r : Rule). IsReleasing r) (sym e) tt) (subst (λ (r : Rule). TriesOf setup view r w.tried) e tries)
           (subst (λ (r : Rule). Has (released_by r (record { site = m; term = w.tried.term; at = now }) releases) z) e has)
+      by_rule (rules.Renew number) e = inl (subst (λ (r : Rule). Has (released_by r (record { site = m; term = w.tried.term; at = now }) releases) z) e has)
+      by_rule (rules.Answer kind to number request told) e = inl (subst (λ (r : Rule). Has (released_by r (record { site = m; term = w.tried.term; at = now }) releases) z) e has)
       by_rule rules.EndRound e =
-          is_new (subst (λ (r : Rule). IsReleasing r) (sym e) tt) (subst (λ (r : Rule). Tries setup view.term view.kept view.round r w.tried) e tries)
+          is_new (subst (λ (r : Rule). IsReleasing r) (sym e) tt) (subst (λ (r : Rule). TriesOf setup view r w.tried) e tries)
           (subst (λ (r : Rule). Has (released_by r (record { site = m; term = w.tried.term; at = now }) releases) z) e has)
 
   answer_released : (cores : Cores) (w : WorldState) (m : ℕ) (kept : Record) (ok : Bool) (z : Release) → CoresHold c cast cores w → MayEnter c cast cores (HasAnswer m kept ok)
@@ -57,7 +67,7 @@ module _ (c : Cluster) (cast : Cast) (clocks : HasClocks c) (is_cast : IsCast c 
       by_answer ok v.0 t.0 ((i.each m may.0).view_facts v.0 v.1) v.1 t.1 t.2
       (subst (λ (o : Option View). Has (after_answer cast cores m ok o).releases z) v.1 has)
     where
-      by_answer : (ok : Bool) (view : View) (waits : Waiting) → ViewFacts (cast.setup m) view → (cores.place m).view ≡ Some view → view.waiting ≡ Some waits
+      by_answer : (ok : Bool) (view : View) (waits : Waiting) → ViewFacts (setup_in cast cores m) view → (cores.place m).view ≡ Some view → view.waiting ≡ Some waits
           → waits.tried ≡ kept
           → Has (releases_answered (mark_in cores m) view.waiting ok cores.releases) z → Has cores.releases z ⊎ IsReleaseAt cores (HasAnswer m kept ok) z
       by_answer false view waits facts shows e same h = inl (subst (λ (o : Option Waiting). Has (releases_answered (mark_in cores m) o false cores.releases) z) e h)
@@ -70,7 +80,7 @@ module _ (c : Cluster) (cast : Cast) (clocks : HasClocks c) (is_cast : IsCast c 
             subst (λ (o : Option View). IsSomeAnd o (λ v. IsSomeAnd v.waiting (λ x. IsReleasing x.rule))) (sym shows)
                 (subst (λ (o : Option Waiting). IsSomeAnd o (λ x. IsReleasing x.rule)) (sym e) new.2),
           ))
-          (one_released (cast.setup m) view waits m cores.now kept cores.releases z same (facts.tried waits e)
+          (one_released (setup_in cast cores m) view waits m cores.now kept cores.releases z same (facts.tried waits e)
           (subst (λ (o : Option Waiting). Has (releases_answered (mark_in cores m) o true cores.releases) z) e h))
 
   entry_released : (cores : Cores) (w : WorldState) (entry : CoreEntry) (z : Release) → CoresHold c cast cores w → MayEnter c cast cores entry
@@ -82,7 +92,7 @@ module _ (c : Cluster) (cast : Cast) (clocks : HasClocks c) (is_cast : IsCast c 
       inl (subst (λ (o : Option View). Has (after_call cast cores m call o).releases z) v.1 has)
   entry_released cores w (HasAnswer m kept ok) z i may has = answer_released cores w m kept ok z i may has
   entry_released cores w (Stops m) z i may has = inl has
-  entry_released cores w (StartsWith m kept) z i may has = inl has
+  entry_released cores w (StartsWith m second kept) z i may has = inl has
 
   pub all_released : (cores : Cores) (entries : List CoreEntry) (steps : List WorldStep) (z : Release) → IsRun c (opening c) steps → CoresHold c cast cores (world_of c steps)
       → AreEntered c cast cores entries → Has (cores_after c cast cores entries).releases z → Has cores.releases z ⊎ IsReleaseIn c cast cores entries z
@@ -100,15 +110,16 @@ module _ (c : Cluster) (cast : Cast) (clocks : HasClocks c) (is_cast : IsCast c 
 -- ---- the laws
 
 -- runs of the world for both parts
-pub record Runs (c : Cluster) (cast : Cast) (early late : List CoreEntry) : Type 0 where
+pub record Runs (c : Cluster) (cast : Cast) (early late : List CoreEntry) (i : CoreCourse c cast early late) : Type 0 where
   pub first : List WorldStep
   pub more : List WorldStep
   pub run_first : IsRun c (opening c) first
   pub run_all : IsRun c (opening c) (first ++ more)
   pub early_holds : CoresHold c cast (early_cores c cast early) (world_of c first)
   pub late_holds : CoresHold c cast (late_cores c cast early late) (world_of c (first ++ more))
+  pub all_second : AreSecondFrom c cast i.clocks i.is_cast (opening_cores c) early → AreSecondFrom c cast i.clocks i.is_cast (early_cores c cast early) late → AreSecond (first ++ more)
 
-pub runs_of : (c : Cluster) (cast : Cast) (early late : List CoreEntry) → CoreCourse c cast early late → Runs c cast early late
+pub runs_of : (c : Cluster) (cast : Cast) (early late : List CoreEntry) (i : CoreCourse c cast early late) → Runs c cast early late i
 runs_of c cast early late i =
     let one = enter_all c cast i.clocks i.is_cast (opening_cores c) early [] tt (opens c cast i.clocks i.is_cast) i.enters_early in
     let two = enter_all c cast i.clocks i.is_cast (early_cores c cast early) late one.more one.run one.holds i.enters_late in record {
@@ -118,6 +129,7 @@ runs_of c cast early late i =
       run_all = two.run;
       early_holds = one.holds;
       late_holds = two.holds;
+      all_second = λ a b. second_append one.more two.more (one.all_second a) (two.all_second b);
     }
 
 -- a record by which a core holds, as the world has it
@@ -178,13 +190,13 @@ core_terms c cast early late course s term below at k has =
     subst (λ (k : Record). term ≤ k.term) one.2 l
 
 -- a record that is tried is of its rule's term
-pub tries_term : (setup : Setup) (term : ℕ) (kept : Record) (round : Option ViewRound) (rule : Rule) (tried : Record)
-    → Tries setup term kept round rule tried → tried.term ≡ term
-tries_term setup term kept None rules.Gain tried t = absurd t.1
-tries_term setup term kept (Some round) rules.Gain tried t = ap (λ (k : Record). k.term) t.1.1
-tries_term setup term kept round (rules.Ask reason) tried t = ap (λ (k : Record). k.term) t.1
-tries_term setup term kept round (rules.Release reason) tried t = ap (λ (k : Record). k.term) t
-tries_term setup term kept round rules.EndRound tried t = ap (λ (k : Record). k.term) t
+pub tries_term : (setup : Setup) (view : View) (rule : Rule) (tried : Record) → TriesOf setup view rule tried → tried.term ≡ view.term
+tries_term setup view rules.Gain tried t = ap (λ (k : Record). k.term) (the_value _ view.round t.1).2.1
+tries_term setup view (rules.Ask reason) tried t = ap (λ (k : Record). k.term) t.1
+tries_term setup view (rules.Release reason) tried t = ap (λ (k : Record). k.term) t
+tries_term setup view rules.EndRound tried t = ap (λ (k : Record). k.term) t
+tries_term setup view (rules.Answer kind to number request told) tried t = ap (λ (k : Record). k.term) t
+tries_term setup view (rules.Renew number) tried t = ap (λ (k : Record). k.term) t
 
 -- and so of at least the term of each record that may be kept
 pub tried_is_highest : (c : Cluster) (cast : Cast) (entries : List CoreEntry) → CoreCourse c cast entries [] → (m : ℕ) → m < c.members
@@ -196,10 +208,75 @@ tried_is_highest c cast entries course m below view is waits waiting k h =
     let place = r.early_holds.each m below in
     let agrees = place.agrees view is in
     let facts = place.view_facts view is in
-    let tried = tries_term (cast.setup m) view.term view.kept view.round waits.rule waits.tried (facts.tried waits waiting) in
+    let tried = tries_term (setup_in cast (early_cores c cast entries) m) view waits.rule waits.tried (facts.tried waits waiting) in
     let z = kept_of cast.id_of (w.member m).may k (subst (λ (l : List Record). Has l k) (sym place.same_may) h) in
     let good = (run_good c course.clocks (opening c) r.first (opening_good c course.clocks.some) r.run_first).each m in
     let most : z.0.term ≤ (w.member m).term = good.term agrees.up z.0 z.1 in
     let own : view.term ≡ (w.member m).term = agrees.term in
     let same : z.0.term ≡ k.term = ap (λ (q : Record). q.term) z.2 in
     omega (arith, most, own, same, tried)
+
+-- ---- version 2 alone
+
+-- each member that is up is in version 2
+abbrev UpSecond : Cores → Type 0
+UpSecond cores = (m : ℕ) (view : View) → (cores.place m).view ≡ Some view → (cores.place m).second ≡ true
+
+given_second : (cores : Cores) (m : ℕ) (second : Bool) (given : Given) → UpSecond cores → second ≡ true → UpSecond (has_given cores m second given)
+given_second cores m second given up is =
+    put_all (λ (k : ℕ) (s : CorePlace). (view : View) → s.view ≡ Some view → s.second ≡ true) cores.place m _ (λ view e. is) (λ k other view e. up k view e)
+
+entry_second : (c : Cluster) (cast : Cast) (cores : Cores) (entry : CoreEntry) → UpSecond cores → IsSecondStart entry → UpSecond (entered c cast cores entry)
+entry_second c cast cores (TimePasses time) up so = up
+entry_second c cast cores (ReadsTime m time) up so =
+    put_all (λ (k : ℕ) (s : CorePlace). (view : View) → s.view ≡ Some view → s.second ≡ true) cores.place m _ (up m) (λ k other view e. up k view e)
+entry_second c cast cores (CallsCore m call) up so = by_view (cores.place m).view refl
+  where
+    by_view : (o : Option View) → (cores.place m).view ≡ o → UpSecond (after_call cast cores m call o)
+    by_view None e = up
+    by_view (Some view) e = given_second cores m (cores.place m).second (call_given cast cores m call view) up (up m view e)
+entry_second c cast cores (HasAnswer m kept ok) up so = by_view (cores.place m).view refl
+  where
+    by_view : (o : Option View) → (cores.place m).view ≡ o → UpSecond (after_answer cast cores m ok o)
+    by_view None e = up
+    by_view (Some view) e = given_second cores m (cores.place m).second (answer_given cast cores m ok view) up (up m view e)
+entry_second c cast cores (Stops m) up so =
+    put_all (λ (k : ℕ) (s : CorePlace). (view : View) → s.view ≡ Some view → s.second ≡ true) cores.place m _ (λ view e. absurd (none_is view e)) (λ k other view e. up k view e)
+entry_second c cast cores (StartsWith m second kept) up so = given_second cores m second (record {
+  view = lease_rules.start (cast.setup m second) kept (cores.place m).reading;
+  say = says.Nothing;
+  may = kept ∷ [];
+  releases = cores.releases;
+}) up so
+
+module _ (c : Cluster) (cast : Cast) (clocks : HasClocks c) (is_cast : IsCast c cast) where
+  at_second : (cores : Cores) (entry : CoreEntry) → UpSecond cores → IsSecondStart entry → MayEnter c cast cores entry → IsSecondAt c cast clocks is_cast cores entry
+  at_second cores (TimePasses time) up so may = tt
+  at_second cores (ReadsTime m time) up so may = tt
+  at_second cores (CallsCore m call) up so may = let v = the_value _ (cores.place m).view may.1 in up m v.0 v.1
+  at_second cores (HasAnswer m kept ok) up so may = let v = the_value _ (cores.place m).view may.1 in up m v.0 v.1
+  at_second cores (Stops m) up so may = tt
+  at_second cores (StartsWith m second kept) up so may = so
+
+  second_from : (cores : Cores) (entries : List CoreEntry) → UpSecond cores → AreSecondStarts entries → AreEntered c cast cores entries → AreSecondFrom c cast clocks is_cast cores entries
+  second_from cores [] up so all = tt
+  second_from cores (entry ∷ entries) up so all =
+      (at_second cores entry up so.0 all.0, second_from (entered c cast cores entry) entries (entry_second c cast cores entry up so.0) so.1 all.1)
+
+  up_after : (cores : Cores) (entries : List CoreEntry) → UpSecond cores → AreSecondStarts entries → UpSecond (cores_after c cast cores entries)
+  up_after cores [] up so = up
+  up_after cores (entry ∷ entries) up so = up_after (entered c cast cores entry) entries (entry_second c cast cores entry up so.0) so.1
+
+pub later_core : LaterCoreHasLaterTerm
+later_core c cast early late course es ls s t other k n l m kl nl hs ht =
+    let r = runs_of c cast early late course in
+    let w = world_of c r.first in
+    let z = world_of c (r.first ++ r.more) in
+    let none_up : UpSecond (opening_cores c) = λ m view e. absurd (none_is view e) in
+    let early_up = up_after c cast course.clocks course.is_cast (opening_cores c) early none_up es in
+    let second = r.all_second (second_from c cast course.clocks course.is_cast (opening_cores c) early none_up es course.enters_early)
+    (second_from c cast course.clocks course.is_cast (early_cores c cast early) late early_up ls course.enters_late) in
+    let a = held_by c cast (early_cores c cast early) w s k r.early_holds hs in
+    let b = held_by c cast (late_cores c cast early late) z t n r.late_holds ht in
+    runs_rise c course.clocks r.first r.more r.run_all second s t other a.0 b.0 l m
+    (ap (λ (k : Record). k.lease) a.1 ∙ kl) (ap (λ (k : Record). k.lease) b.1 ∙ nl) a.2 b.2

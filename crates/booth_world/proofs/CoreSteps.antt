@@ -1,6 +1,7 @@
 -- Entries of the lease cores make a run of the world, and so the laws hold of them.
 use Rattle.std.proofs.Common.{◌≡◌, ◌≢◌, ℕ, ◌^◌, ◌<◌, ◌≤◌, List, [], ◌∷◌, ◌++◌, Bool, true, false, refl, sym, ap, ◌∙◌, subst, inl, inr, ⊎_elim, arith}
 use Rattle.std.specs.Prelude.{Option, Some, None, ◌==◌, if◌then◌else◌}
+use Rattle.std.specs.Option.{ForSome}
 use Rattle.std.proofs.lemmas.Bool.Decides.{nat_tests}
 use Rattle.booth_rec.specs.declared.record.Record.{Record}
 use Rattle.booth_wire.specs.declared.message.Say.{Say}
@@ -16,16 +17,16 @@ use Rattle.booth_node.specs.Clock.{Cluster, HasClocks, reads}
 use Rattle.booth_world.specs.Facts.{Has, Round, Answer, Gain, Release, Facts}
 use Rattle.booth_world.specs.States.{MemberState, WorldState, opening, put}
 use Rattle.booth_world.specs.Lives.{reading_clock, crashing}
-use Rattle.booth_world.specs.Steps.{WorldStep, ReadsClock, Crashes, MemberDoes, Passes, IsRun, after_steps, world_of}
-use Rattle.booth_world.specs.Agreement.{records_in, Agrees}
+use Rattle.booth_world.specs.Steps.{WorldStep, ReadsClock, Crashes, MemberDoes, Passes, IsRun, AreSecond, after_steps, world_of}
+use Rattle.booth_world.specs.Agreement.{IsSeated, records_in, Agrees}
 use Rattle.booth_world.specs.Messages.{IsFact, IsSaid}
 use Rattle.booth_world.specs.Gives.{Mark, AddsOnly, IsMarkedRound, IsMarkedAnswer, IsMarkedGain, Given, given_by, may_answered, releases_answered}
-use Rattle.booth_world.specs.Calls.{mark_at, Caller, IsMember, MayCall, Gives}
+use Rattle.booth_world.specs.Calls.{mark_at, Caller, IsMember, MayCall, Gives, GivesIn}
 use Rattle.booth_world.specs.Rules.{MemberLetter, CoreCall, Asks, Hears, Greets, MeetsDeadline, MakesNote, RenewsLease, GivesBack, lease_call}
-use Rattle.booth_world.specs.Cores.{CoreEntry, ReadsTime, CallsCore, HasAnswer, Stops, StartsWith, CorePlace, Cores, opening_cores, Cast, IsCast, MayCallCore, MayEnter, said_more, has_given, after_call, after_answer, mark_in, entered, AreEntered, cores_after, TimePasses}
+use Rattle.booth_world.specs.Cores.{CoreEntry, ReadsTime, CallsCore, HasAnswer, Stops, StartsWith, CorePlace, Cores, opening_cores, Cast, IsCast, MayCallCore, MayEnter, said_more, has_given, after_call, after_answer, mark_in, entered, AreEntered, cores_after, setup_in, TimePasses}
 use Rattle.booth_world.proofs.Lists.{none_is, some_same, put_all}
 use Rattle.booth_world.proofs.Invariant.{Good}
-use Rattle.booth_world.proofs.KeptSteps.{the_value}
+use Rattle.booth_world.proofs.AskSteps.{the_value}
 use Rattle.booth_world.proofs.CallSteps.{calls_are_steps, good_world}
 use Rattle.booth_world.proofs.StabilityLemmas.{agreement_stays, calls_lead_on, runs_append}
 
@@ -42,11 +43,12 @@ put_both {A} {B} Q f g m x y here there k = go (k == m) refl
 -- a member's place and its state
 pub record CorePlaceHolds (c : Cluster) (cast : Cast) (f : Facts) (m : ℕ) (x : MemberState) (s : CorePlace) : Type 0 where
   pub same_may : records_in cast.id_of x.may ≡ s.may
+  pub same_second : x.second ≡ s.second
   pub same_reading : x.reading ≡ s.reading
   pub same_at : x.at ≡ s.at
   pub down : s.view ≡ None → x.up ≡ false
   pub agrees : (view : View) → s.view ≡ Some view → Agrees c cast.id_of f m view x
-  pub view_facts : (view : View) → s.view ≡ Some view → ViewFacts (cast.setup m) view
+  pub view_facts : (view : View) → s.view ≡ Some view → ViewFacts (cast.setup m s.second) view
 
 -- each round, answer and lease bears the mark of an entry
 pub record IsMarked (marks : List Mark) (f : Facts) : Type 0 where
@@ -76,16 +78,18 @@ pub record CoresHold (c : Cluster) (cast : Cast) (cores : Cores) (w : WorldState
   pub same_releases : w.facts.releases ≡ cores.releases
   pub marked : IsMarked cores.marks w.facts
 
--- more steps lead to a world that is related
-pub record Reached (c : Cluster) (cast : Cast) (cores : Cores) (steps : List WorldStep) : Type 0 where
+-- more steps lead to a world that is related; where this is so they start in version 2 alone
+pub record Reached (c : Cluster) (cast : Cast) (cores : Cores) (steps : List WorldStep) (IsSecond : Type 0) : Type 0 where
   pub more : List WorldStep
+  pub all_second : IsSecond → AreSecond more
   pub run : IsRun c (opening c) (steps ++ more)
   pub holds : CoresHold c cast cores (world_of c (steps ++ more))
 
-goes_on : (c : Cluster) (cast : Cast) (cores : Cores) (steps more : List WorldStep) → IsRun c (opening c) steps → IsRun c (world_of c steps) more
-    → CoresHold c cast cores (after_steps c (world_of c steps) more) → Reached c cast cores steps
-goes_on c cast cores steps more run further holds = record {
+goes_on : (c : Cluster) (cast : Cast) (cores : Cores) (steps more : List WorldStep) (IsSecond : Type 0) → (IsSecond → AreSecond more) → IsRun c (opening c) steps → IsRun c (world_of c steps) more
+    → CoresHold c cast cores (after_steps c (world_of c steps) more) → Reached c cast cores steps IsSecond
+goes_on c cast cores steps more IsSecond second run further holds = record {
   more = more;
+  all_second = second;
   run = runs_append.run c (opening c) steps more run further;
   holds = subst (λ (w : WorldState). CoresHold c cast cores w) (sym (runs_append.world c (opening c) steps more)) holds;
 }
@@ -93,6 +97,10 @@ goes_on c cast cores steps more run further holds = record {
 append_assoc : (a b d : List WorldStep) → (a ++ b) ++ d ≡ a ++ (b ++ d)
 append_assoc [] b d = refl
 append_assoc (x ∷ a) b d = ap (λ (l : List WorldStep). x ∷ l) (append_assoc a b d)
+
+pub second_append : (a b : List WorldStep) → AreSecond a → AreSecond b → AreSecond (a ++ b)
+second_append [] b x y = y
+second_append (step ∷ a) b x y = (x.0, second_append a b x.1 y)
 
 append_none : (a : List WorldStep) → a ++ [] ≡ a
 append_none [] = refl
@@ -104,6 +112,7 @@ module _ (c : Cluster) (cast : Cast) (clocks : HasClocks c) (is_cast : IsCast c 
     same_now = refl;
     each = λ m below. record {
       same_may = refl;
+      same_second = refl;
       same_reading = refl;
       same_at = refl;
       down = λ e. refl;
@@ -122,6 +131,7 @@ module _ (c : Cluster) (cast : Cast) (clocks : HasClocks c) (is_cast : IsCast c 
       → CorePlaceHolds c cast f m x s → CorePlaceHolds c cast f' m y s
   others_stay f f' m x y s same agree i = record {
     same_may = ap (λ (x : MemberState). records_in cast.id_of x.may) same ∙ i.same_may;
+    same_second = ap (λ (x : MemberState). x.second) same ∙ i.same_second;
     same_reading = ap (λ (x : MemberState). x.reading) same ∙ i.same_reading;
     same_at = ap (λ (x : MemberState). x.at) same ∙ i.same_at;
     down = λ e. ap (λ (x : MemberState). x.up) same ∙ i.down e;
@@ -146,48 +156,50 @@ module _ (c : Cluster) (cast : Cast) (clocks : HasClocks c) (is_cast : IsCast c 
   same_mark : (cores : Cores) (w : WorldState) (m : ℕ) → CoresHold c cast cores w → m < c.members → mark_at w m ≡ mark_in cores m
   same_mark cores w m i below = λ j. record {
     member = m;
+    second = (i.each m below).same_second j;
     reading = (i.each m below).same_reading j;
     at = (i.each m below).same_at j;
     now = i.same_now j;
   }
 
-  given_holds : (cores : Cores) (steps : List WorldStep) (m : ℕ) (given : Given) → IsRun c (opening c) steps → CoresHold c cast cores (world_of c steps)
-      → m < c.members → Gives c cast.id_of (world_of c steps) m given → ViewFacts (cast.setup m) given.view
-      → Reached c cast (has_given cores m given) steps
-  given_holds cores steps m given run i below gives view_facts =
+  given_holds : (cores : Cores) (steps : List WorldStep) (m : ℕ) (second : Bool) (given : Given) → IsRun c (opening c) steps → CoresHold c cast cores (world_of c steps)
+      → m < c.members → GivesIn second c cast.id_of (world_of c steps) m given → ViewFacts (cast.setup m second) given.view
+      → Reached c cast (has_given cores m second given) steps (second ≡ true)
+  given_holds cores steps m second given run i below gives view_facts =
       let w = world_of c steps in
-      let call = calls_lead_on c cast.id_of w m given below gives in
+      let call = calls_lead_on c cast.id_of w m second given below gives in
       let next = call.2 in
       let z = after_steps c w call.0 in
-      goes_on c cast (has_given cores m given) steps call.0 run call.1
+      goes_on c cast (has_given cores m second given) steps call.0 (second ≡ true) call.3 run call.1
       (record {
         same_now = next.same_time ∙ i.same_now;
         each = put_all (λ (k : ℕ) (s : CorePlace). k < c.members → CorePlaceHolds c cast z.facts k (z.member k) s)
-            cores.place m (record (cores.place m) { view = Some given.view; may = given.may })
+            cores.place m (record (cores.place m) { view = Some given.view; second = second; may = given.may })
             (λ within. record {
               same_may = next.reached.may_now;
+              same_second = next.reached.same_second;
               same_reading = next.reached.same_reading ∙ (i.each m below).same_reading;
               same_at = next.reached.same_at ∙ (i.each m below).same_at;
               down = λ e. absurd (none_is given.view (sym e));
               agrees = λ view e. subst (λ (v : View). Agrees c cast.id_of z.facts m v (z.member m)) (some_same given.view view e) next.reached.agrees;
-              view_facts = λ view e. subst (λ (v : View). ViewFacts (cast.setup m) v) (some_same given.view view e) view_facts;
+              view_facts = λ view e. subst (λ (v : View). ViewFacts (cast.setup m second) v) (some_same given.view view e) view_facts;
             })
             (λ k other within. others_stay w.facts z.facts k (w.member k) (z.member k) (cores.place k) (next.unmoved k other)
             (λ view a. next.others_agree k view other a) (i.each k within));
         heard_now = letters_hold z.facts m given.say cores.said below next.reached.said
             (λ l h. let q = i.heard_now l h in (q.0, next.said_on l.sender l.head l.part l.head.cmd q.1));
         same_releases = next.adds.releases_now;
-        marked = subst (λ (mark : Mark). IsMarked (mark ∷ cores.marks) z.facts) (same_mark cores w m i below)
-            (marks_more (mark_at w m) cores.marks given.releases w.facts z.facts i.marked next.adds);
+        marked = subst (λ (mark : Mark). IsMarked (record mark { second = second } ∷ cores.marks) z.facts) (same_mark cores w m i below)
+            (marks_more (record (mark_at w m) { second = second }) cores.marks given.releases w.facts z.facts i.marked next.adds);
       })
 
   member_in : (cores : Cores) (w : WorldState) (m : ℕ) (view : View) → CoresHold c cast cores w → m < c.members → (cores.place m).view ≡ Some view
-      → IsMember c w (record { id_of = cast.id_of; place = m; setup = cast.setup m; view = view })
+      → IsMember c w (record { id_of = cast.id_of; place = m; setup = setup_in cast cores m; view = view })
   member_in cores w m view i below e = record {
     ids = is_cast.ids;
     below = below;
-    seated = is_cast.seated m below;
-    sound = is_cast.sound m below;
+    seated = subst (λ (b : Bool). IsSeated c cast.id_of m b (setup_in cast cores m)) (sym (i.each m below).same_second) (is_cast.seated m below (cores.place m).second);
+    sound = is_cast.sound m below (cores.place m).second;
     view_facts = (i.each m below).view_facts view e;
     agrees = (i.each m below).agrees view e;
   }
@@ -203,11 +215,11 @@ module _ (c : Cluster) (cast : Cast) (clocks : HasClocks c) (is_cast : IsCast c 
 
   -- ---- calls
 
-  abbrev caller : ℕ → View → Caller
-  caller m view = record { id_of = cast.id_of; place = m; setup = cast.setup m; view = view }
+  abbrev caller : Cores → ℕ → View → Caller
+  caller cores m view = record { id_of = cast.id_of; place = m; setup = setup_in cast cores m; view = view }
 
   may_call : (cores : Cores) (w : WorldState) (m : ℕ) (view : View) (call : CoreCall) → CoresHold c cast cores w → m < c.members
-      → MayCallCore cast cores m view call → MayCall c w (caller m view) call
+      → MayCallCore cast cores m view call → MayCall c w (caller cores m view) call
   may_call cores w m view (Asks reason) i below may = may
   may_call cores w m view (Hears letter) i below may =
       let q = i.heard_now letter may.0 in
@@ -218,62 +230,70 @@ module _ (c : Cluster) (cast : Cast) (clocks : HasClocks c) (is_cast : IsCast c 
   may_call cores w m view RenewsLease i below may = may
   may_call cores w m view (GivesBack reason) i below may = may
 
-  call_facts : (cores : Cores) (m : ℕ) (view : View) (now : ℕ) (call : CoreCall) → view.waiting ≡ None → MayCallCore cast cores m view call → now < 2 ^ 62 → ViewFacts (cast.setup m) view
-      → ViewFacts (cast.setup m) (lease_call (cast.setup m) view now call).view
-  call_facts cores m view now (Asks reason) none may small facts = (ask_good (cast.setup m) view reason now).facts
+  -- the session's version is the member's
+  in_version : (cores : Cores) (w : WorldState) (m : ℕ) → CoresHold c cast cores w → m < c.members → (given : Given)
+      → Gives c cast.id_of w m given → GivesIn (cores.place m).second c cast.id_of w m given
+  in_version cores w m i below given gives =
+      subst (λ (b : Bool). GivesIn b c cast.id_of w m given) (i.each m below).same_second gives
+
+  call_facts : (cores : Cores) (m : ℕ) (view : View) (now : ℕ) (call : CoreCall) → view.waiting ≡ None → MayCallCore cast cores m view call → now < 2 ^ 62 → ViewFacts (setup_in cast cores m) view
+      → ViewFacts (setup_in cast cores m) (lease_call (setup_in cast cores m) view now call).view
+  call_facts cores m view now (Asks reason) none may small facts = (ask_good (setup_in cast cores m) view reason now).facts
   call_facts cores m view now (Hears letter) none may small facts =
-      (hear_good (cast.setup m) view letter.sender letter.head letter.part now letter.head.cmd none facts).facts
-  call_facts cores m view now Greets none may small facts = greeted_facts (cast.setup m) view facts
-  call_facts cores m view now MeetsDeadline none may small facts = (due_now_good (cast.setup m) view now none facts).facts
-  call_facts cores m view now (MakesNote note) none may small facts = noted_facts (cast.setup m) view now note none may facts
-  call_facts cores m view now RenewsLease none may small facts = (renew_good (cast.setup m) view now small none facts).facts
-  call_facts cores m view now (GivesBack reason) none may small facts = (release_good (cast.setup m) view reason now facts.round_fits).facts
+      (hear_good (setup_in cast cores m) view letter.sender letter.head letter.part now letter.head.cmd none facts).facts
+  call_facts cores m view now Greets none may small facts = greeted_facts (setup_in cast cores m) view facts
+  call_facts cores m view now MeetsDeadline none may small facts = (due_now_good (setup_in cast cores m) view now none facts).facts
+  call_facts cores m view now (MakesNote note) none may small facts = noted_facts (setup_in cast cores m) view now note none may facts
+  call_facts cores m view now RenewsLease none may small facts = (renew_good (setup_in cast cores m) view now small none facts).facts
+  call_facts cores m view now (GivesBack reason) none may small facts = (release_good (setup_in cast cores m) view reason now facts.round_fits).facts
 
   -- what the world gives is what the entries count
   called : (cores : Cores) (steps : List WorldStep) (m : ℕ) (view : View) (call : CoreCall) → IsRun c (opening c) steps
       → CoresHold c cast cores (world_of c steps) → m < c.members → (cores.place m).view ≡ Some view → view.waiting ≡ None → MayCallCore cast cores m view call
-      → Reached c cast (after_call cast cores m call (Some view)) steps
+      → Reached c cast (after_call cast cores m call (Some view)) steps ((cores.place m).second ≡ true)
   called cores steps m view call run i below e none may =
       let w = world_of c steps in
       let one = i.each m below in
       let gives = calls_are_steps.call_gives c clocks steps run _ (member_in cores w m view i below e) none call (may_call cores w m view call i below may) in
-      let by_reading = subst (λ (r : ℕ). Gives c cast.id_of w m (given_by (lease_call (cast.setup m) view r call) (records_in cast.id_of (w.member m).may) w.facts.releases)) one.same_reading gives in
-      let by_may = subst (λ (l : List Record). Gives c cast.id_of w m (given_by (lease_call (cast.setup m) view (cores.place m).reading call) l w.facts.releases)) one.same_may by_reading in
-      let by_all = subst (λ (l : List Release). Gives c cast.id_of w m (given_by (lease_call (cast.setup m) view (cores.place m).reading call) (cores.place m).may l)) i.same_releases by_may in
-      given_holds cores steps m _ run i below by_all
+      let by_reading = subst (λ (r : ℕ). Gives c cast.id_of w m (given_by (lease_call (setup_in cast cores m) view r call) (records_in cast.id_of (w.member m).may) w.facts.releases)) one.same_reading gives in
+      let by_may = subst (λ (l : List Record). Gives c cast.id_of w m (given_by (lease_call (setup_in cast cores m) view (cores.place m).reading call) l w.facts.releases)) one.same_may by_reading in
+      let by_all = subst (λ (l : List Release). Gives c cast.id_of w m (given_by (lease_call (setup_in cast cores m) view (cores.place m).reading call) (cores.place m).may l)) i.same_releases by_may in
+      given_holds cores steps m (cores.place m).second _ run i below (in_version cores w m i below _ by_all)
       (call_facts cores m view (cores.place m).reading call none may
       (subst (λ (r : ℕ). r < 2 ^ 62) one.same_reading (early w m (good_world c clocks steps run) below)) (one.view_facts view e))
 
   answered : (cores : Cores) (steps : List WorldStep) (m : ℕ) (view : View) (ok : Bool) → IsRun c (opening c) steps
       → CoresHold c cast cores (world_of c steps) → m < c.members → (cores.place m).view ≡ Some view
-      → Reached c cast (after_answer cast cores m ok (Some view)) steps
+      → Reached c cast (after_answer cast cores m ok (Some view)) steps ((cores.place m).second ≡ true)
   answered cores steps m view ok run i below e =
       let w = world_of c steps in
       let one = i.each m below in
       let gives = calls_are_steps.answer_gives c clocks steps run _ (member_in cores w m view i below e) ok in
-      let by_reading = subst (λ (r : ℕ). Gives c cast.id_of w m (given_by (finish (cast.setup m) view r ok) (may_answered view.waiting ok (records_in cast.id_of (w.member m).may)) (releases_answered (record { member = m; reading = r; at = (w.member m).at; now = w.now }) view.waiting ok w.facts.releases))) one.same_reading gives in
-      let by_at = subst (λ (t : ℕ). Gives c cast.id_of w m (given_by (finish (cast.setup m) view (cores.place m).reading ok) (may_answered view.waiting ok (records_in cast.id_of (w.member m).may)) (releases_answered (record { member = m; reading = (cores.place m).reading; at = t; now = w.now }) view.waiting ok w.facts.releases))) one.same_at by_reading in
-      let by_now = subst (λ (t : ℕ). Gives c cast.id_of w m (given_by (finish (cast.setup m) view (cores.place m).reading ok) (may_answered view.waiting ok (records_in cast.id_of (w.member m).may)) (releases_answered (record { member = m; reading = (cores.place m).reading; at = (cores.place m).at; now = t }) view.waiting ok w.facts.releases))) i.same_now by_at in
-      let by_may = subst (λ (l : List Record). Gives c cast.id_of w m (given_by (finish (cast.setup m) view (cores.place m).reading ok) (may_answered view.waiting ok l) (releases_answered (mark_in cores m) view.waiting ok w.facts.releases))) one.same_may by_now in
-      let by_all = subst (λ (l : List Release). Gives c cast.id_of w m (given_by (finish (cast.setup m) view (cores.place m).reading ok) (may_answered view.waiting ok (cores.place m).may) (releases_answered (mark_in cores m) view.waiting ok l))) i.same_releases by_may in
-      given_holds cores steps m _ run i below by_all
-      (finish_good (cast.setup m) view (cores.place m).reading ok
+      let by_reading = subst (λ (r : ℕ). Gives c cast.id_of w m (given_by (finish (setup_in cast cores m) view r ok) (may_answered view.waiting ok (records_in cast.id_of (w.member m).may)) (releases_answered (record { member = m; second = (w.member m).second; reading = r; at = (w.member m).at; now = w.now }) view.waiting ok w.facts.releases))) one.same_reading gives in
+      let by_at = subst (λ (t : ℕ). Gives c cast.id_of w m (given_by (finish (setup_in cast cores m) view (cores.place m).reading ok) (may_answered view.waiting ok (records_in cast.id_of (w.member m).may)) (releases_answered (record { member = m; second = (w.member m).second; reading = (cores.place m).reading; at = t; now = w.now }) view.waiting ok w.facts.releases))) one.same_at by_reading in
+      let by_now = subst (λ (t : ℕ). Gives c cast.id_of w m (given_by (finish (setup_in cast cores m) view (cores.place m).reading ok) (may_answered view.waiting ok (records_in cast.id_of (w.member m).may)) (releases_answered (record { member = m; second = (w.member m).second; reading = (cores.place m).reading; at = (cores.place m).at; now = t }) view.waiting ok w.facts.releases))) i.same_now by_at in
+      let by_version = subst (λ (b : Bool). Gives c cast.id_of w m (given_by (finish (setup_in cast cores m) view (cores.place m).reading ok) (may_answered view.waiting ok (records_in cast.id_of (w.member m).may)) (releases_answered (record { member = m; second = b; reading = (cores.place m).reading; at = (cores.place m).at; now = cores.now }) view.waiting ok w.facts.releases))) one.same_second by_now in
+      let by_may = subst (λ (l : List Record). Gives c cast.id_of w m (given_by (finish (setup_in cast cores m) view (cores.place m).reading ok) (may_answered view.waiting ok l) (releases_answered (mark_in cores m) view.waiting ok w.facts.releases))) one.same_may by_version in
+      let by_all = subst (λ (l : List Release). Gives c cast.id_of w m (given_by (finish (setup_in cast cores m) view (cores.place m).reading ok) (may_answered view.waiting ok (cores.place m).may) (releases_answered (mark_in cores m) view.waiting ok l))) i.same_releases by_may in
+      given_holds cores steps m (cores.place m).second _ run i below (in_version cores w m i below _ by_all)
+      (finish_good (setup_in cast cores m) view (cores.place m).reading ok
       (subst (λ (r : ℕ). r < 2 ^ 62) one.same_reading (early w m (good_world c clocks steps run) below)) (one.view_facts view e)).facts
 
   -- ---- time, and lives
 
   time_passed : (cores : Cores) (steps : List WorldStep) (time : ℕ) → IsRun c (opening c) steps → CoresHold c cast cores (world_of c steps)
-      → cores.now ≤ time → time < c.span → Reached c cast (entered c cast cores (TimePasses time)) steps
+      → cores.now ≤ time → time < c.span → Reached c cast (entered c cast cores (TimePasses time)) steps (Unit {0})
   time_passed cores steps time run i later within =
-      goes_on c cast (entered c cast cores (TimePasses time)) steps (Passes time ∷ []) run
+      goes_on c cast (entered c cast cores (TimePasses time)) steps (Passes time ∷ []) (Unit {0}) (λ so. (tt, tt)) run
       (record { later = let e = i.same_now in omega (arith, e, later); within = within }, tt)
       (record { same_now = refl; each = i.each; heard_now = i.heard_now; same_releases = i.same_releases; marked = i.marked })
 
   time_read : (cores : Cores) (steps : List WorldStep) (m time : ℕ) → IsRun c (opening c) steps → CoresHold c cast cores (world_of c steps)
-      → m < c.members → cores.now ≤ time → time < c.span → Reached c cast (entered c cast cores (ReadsTime m time)) steps
-  time_read cores steps m time run i below later within =
+      → m < c.members → cores.now ≤ time → time < c.span → ((cores.place m).second ≡ true → ForSome (cores.place m).view (λ view. view.waiting ≡ None))
+      → Reached c cast (entered c cast cores (ReadsTime m time)) steps (Unit {0})
+  time_read cores steps m time run i below later within idle =
       let w = world_of c steps in
-      goes_on c cast (entered c cast cores (ReadsTime m time)) steps (Passes time ∷ MemberDoes m ReadsClock ∷ []) run
+      goes_on c cast (entered c cast cores (ReadsTime m time)) steps (Passes time ∷ MemberDoes m ReadsClock ∷ []) (Unit {0}) (λ so. (tt, (tt, tt))) run
       (record { later = let e = i.same_now in omega (arith, e, later); within = within }, ((below, tt), tt))
       (record {
         same_now = refl;
@@ -281,10 +301,12 @@ module _ (c : Cluster) (cast : Cast) (clocks : HasClocks c) (is_cast : IsCast c 
             w.member cores.place m (reading_clock c time m (w.member m)) (record (cores.place m) { reading = reads c m time; at = time })
             (λ inside. record {
               same_may = (i.each m below).same_may;
+              same_second = (i.each m below).same_second;
               same_reading = refl;
               same_at = refl;
               down = (i.each m below).down;
-              agrees = λ view e. agreement_stays.clock_read c cast.id_of w.facts m time view (w.member m) ((i.each m below).agrees view e);
+              agrees = λ view e. agreement_stays.clock_read c cast.id_of w.facts m time view (w.member m)
+                  (λ second. idle (sym (i.each m below).same_second ∙ second) view e) ((i.each m below).agrees view e);
               view_facts = (i.each m below).view_facts;
             })
             (λ k other inside. i.each k inside);
@@ -294,10 +316,10 @@ module _ (c : Cluster) (cast : Cast) (clocks : HasClocks c) (is_cast : IsCast c 
       })
 
   stopped : (cores : Cores) (steps : List WorldStep) (m : ℕ) (view : View) → IsRun c (opening c) steps → CoresHold c cast cores (world_of c steps)
-      → m < c.members → (cores.place m).view ≡ Some view → Reached c cast (entered c cast cores (Stops m)) steps
+      → m < c.members → (cores.place m).view ≡ Some view → Reached c cast (entered c cast cores (Stops m)) steps (Unit {0})
   stopped cores steps m view run i below e =
       let w = world_of c steps in
-      goes_on c cast (entered c cast cores (Stops m)) steps (MemberDoes m Crashes ∷ []) run
+      goes_on c cast (entered c cast cores (Stops m)) steps (MemberDoes m Crashes ∷ []) (Unit {0}) (λ so. (tt, tt)) run
       ((below, ((i.each m below).agrees view e).up), tt)
       (record {
         same_now = i.same_now;
@@ -305,6 +327,7 @@ module _ (c : Cluster) (cast : Cast) (clocks : HasClocks c) (is_cast : IsCast c 
             w.member cores.place m (crashing (w.member m)) (record (cores.place m) { view = None })
             (λ inside. record {
               same_may = (i.each m below).same_may;
+              same_second = (i.each m below).same_second;
               same_reading = (i.each m below).same_reading;
               same_at = (i.each m below).same_at;
               down = λ e. refl;
@@ -321,37 +344,49 @@ module _ (c : Cluster) (cast : Cast) (clocks : HasClocks c) (is_cast : IsCast c 
   start_premise : (cores : Cores) (w : WorldState) (m : ℕ) (kept : Record) → CoresHold c cast cores w → m < c.members → Has (cores.place m).may kept → Has (records_in cast.id_of (w.member m).may) kept
   start_premise cores w m kept i below has = subst (λ (l : List Record). Has l kept) (sym (i.each m below).same_may) has
 
-  starts_again : (cores : Cores) (steps : List WorldStep) (m : ℕ) (kept : Record) → IsRun c (opening c) steps → CoresHold c cast cores (world_of c steps)
-      → m < c.members → (cores.place m).view ≡ None → Has (cores.place m).may kept → Reached c cast (entered c cast cores (StartsWith m kept)) steps
-  starts_again cores steps m kept run i below down has =
+  starts_again : (cores : Cores) (steps : List WorldStep) (m : ℕ) (second : Bool) (kept : Record) → IsRun c (opening c) steps → CoresHold c cast cores (world_of c steps)
+      → m < c.members → (cores.place m).view ≡ None → Has (cores.place m).may kept → ((cores.place m).second ≡ true → second ≡ true) → Reached c cast (entered c cast cores (StartsWith m second kept)) steps (second ≡ true)
+  starts_again cores steps m second kept run i below down has stays =
       let w = world_of c steps in
       let one = i.each m below in
-      let gives = calls_are_steps.start_gives c clocks steps run cast.id_of m (cast.setup m) is_cast.ids below (is_cast.seated m below) (one.down down) kept (start_premise cores w m kept i below has) in
-      let by_reading = subst (λ (r : ℕ). Gives c cast.id_of w m (record { view = started (cast.setup m) kept r; say = says.Nothing; may = kept ∷ []; releases = w.facts.releases })) one.same_reading gives in
-      let by_all = subst (λ (l : List Release). Gives c cast.id_of w m (record { view = started (cast.setup m) kept (cores.place m).reading; say = says.Nothing; may = kept ∷ []; releases = l })) i.same_releases by_reading in
-      given_holds cores steps m _ run i below by_all (start_facts (cast.setup m) kept (cores.place m).reading)
+      let gives = calls_are_steps.start_gives c clocks steps run cast.id_of m second (cast.setup m second) is_cast.ids below (is_cast.seated m below second) (one.down down) (λ was. stays (sym one.same_second ∙ was)) kept (start_premise cores w m kept i below has) in
+      let by_reading = subst (λ (r : ℕ). GivesIn second c cast.id_of w m (record { view = started (cast.setup m second) kept r; say = says.Nothing; may = kept ∷ []; releases = w.facts.releases })) one.same_reading gives in
+      let by_all = subst (λ (l : List Release). GivesIn second c cast.id_of w m (record { view = started (cast.setup m second) kept (cores.place m).reading; say = says.Nothing; may = kept ∷ []; releases = l })) i.same_releases by_reading in
+      given_holds cores steps m second _ run i below by_all (start_facts (cast.setup m second) kept (cores.place m).reading)
 
   -- ---- entries
 
+  -- what makes the steps of an entry start in version 2 alone
+  abbrev pub IsSecondAt : Cores → CoreEntry → Type 0
+  IsSecondAt cores (CallsCore m call) = (cores.place m).second ≡ true
+  IsSecondAt cores (HasAnswer m kept ok) = (cores.place m).second ≡ true
+  IsSecondAt cores (StartsWith m second kept) = second ≡ true
+  IsSecondAt cores entry = Unit {0}
+
+  abbrev pub AreSecondFrom : Cores → List CoreEntry → Type 0
+  AreSecondFrom cores [] = Unit {0}
+  AreSecondFrom cores (entry ∷ entries) = IsSecondAt cores entry × AreSecondFrom (entered c cast cores entry) entries
+
   pub enters : (cores : Cores) (entry : CoreEntry) (steps : List WorldStep) → IsRun c (opening c) steps → CoresHold c cast cores (world_of c steps) → MayEnter c cast cores entry
-      → Reached c cast (entered c cast cores entry) steps
+      → Reached c cast (entered c cast cores entry) steps (IsSecondAt cores entry)
   enters cores (TimePasses time) steps run i may = time_passed cores steps time run i may.0 may.1
-  enters cores (ReadsTime m time) steps run i may = time_read cores steps m time run i may.0 may.1 may.2
+  enters cores (ReadsTime m time) steps run i may = time_read cores steps m time run i may.0 may.1 may.2 may.3
   enters cores (CallsCore m call) steps run i may =
       let v = the_value _ (cores.place m).view may.1 in
-      subst (λ (o : Option View). Reached c cast (after_call cast cores m call o) steps) (sym v.1) (called cores steps m v.0 call run i may.0 v.1 v.2.0 v.2.1)
+      subst (λ (o : Option View). Reached c cast (after_call cast cores m call o) steps ((cores.place m).second ≡ true)) (sym v.1) (called cores steps m v.0 call run i may.0 v.1 v.2.0 v.2.1)
   enters cores (HasAnswer m kept ok) steps run i may =
       let v = the_value _ (cores.place m).view may.1 in
-      subst (λ (o : Option View). Reached c cast (after_answer cast cores m ok o) steps) (sym v.1) (answered cores steps m v.0 ok run i may.0 v.1)
+      subst (λ (o : Option View). Reached c cast (after_answer cast cores m ok o) steps ((cores.place m).second ≡ true)) (sym v.1) (answered cores steps m v.0 ok run i may.0 v.1)
   enters cores (Stops m) steps run i may =
       let v = the_value _ (cores.place m).view may.1 in
       stopped cores steps m v.0 run i may.0 v.1
-  enters cores (StartsWith m kept) steps run i may = starts_again cores steps m kept run i may.0 may.1 may.2
+  enters cores (StartsWith m second kept) steps run i may = starts_again cores steps m second kept run i may.0 may.1 may.2 may.3
 
   pub enter_all : (cores : Cores) (entries : List CoreEntry) (steps : List WorldStep) → IsRun c (opening c) steps → CoresHold c cast cores (world_of c steps) → AreEntered c cast cores entries
-      → Reached c cast (cores_after c cast cores entries) steps
+      → Reached c cast (cores_after c cast cores entries) steps (AreSecondFrom cores entries)
   enter_all cores [] steps run i all = record {
     more = [];
+    all_second = λ so. tt;
     run = subst (λ (l : List WorldStep). IsRun c (opening c) l) (sym (append_none steps)) run;
     holds = subst (λ (l : List WorldStep). CoresHold c cast cores (world_of c l)) (sym (append_none steps)) i;
   }
@@ -359,6 +394,7 @@ module _ (c : Cluster) (cast : Cast) (clocks : HasClocks c) (is_cast : IsCast c 
       let one = enters cores entry steps run i all.0 in
       let rest = enter_all (entered c cast cores entry) entries (steps ++ one.more) one.run one.holds all.1 in record {
         more = one.more ++ rest.more;
+        all_second = λ so. second_append one.more rest.more (one.all_second so.0) (rest.all_second so.1);
         run = subst (λ (l : List WorldStep). IsRun c (opening c) l) (append_assoc steps one.more rest.more) rest.run;
         holds = subst (λ (l : List WorldStep). CoresHold c cast (cores_after c cast (entered c cast cores entry) entries) (world_of c l)) (append_assoc steps one.more rest.more) rest.holds;
       }

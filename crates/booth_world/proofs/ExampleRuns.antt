@@ -126,15 +126,18 @@ second_answers = answer_of 2 second_round 7 7 ∷ answer_of 0 second_round 8 7 �
 not_one : zero ≡ suc zero → ⊥
 not_one e = cc
 
+pub inactive : false ≡ true → ⊥
+inactive e = cc
+
 -- ---- a ticket moves
 
 granted_runs : IsRun three (opening three) granted
 granted_runs = (
-  (omega arith, record { down = refl; fact = inl refl }),
+  (omega arith, record { down = refl; fact = inl refl; stays = λ e. e }),
   (
-    (omega arith, record { down = refl; fact = inl refl }),
+    (omega arith, record { down = refl; fact = inl refl; stays = λ e. e }),
     (
-      (omega arith, record { down = refl; fact = inl refl }),
+      (omega arith, record { down = refl; fact = inl refl; stays = λ e. e }),
       (
         record { later = omega arith; within = omega arith },
         (
@@ -146,25 +149,25 @@ granted_runs = (
               (
                 (omega arith, record { up = refl; above = omega arith }),
                 (
-                  (omega arith, record { up = refl; site = refl; own_term = refl; lease = tt }),
+                  (omega arith, record { up = refl; keeper = inl refl; own_term = refl; pledge = refl; lease = tt }),
                   (
-                    (omega arith, record { up = refl; site = refl; own_term = refl; lease = tt }),
+                    (omega arith, record { up = refl; keeper = inl refl; own_term = refl; pledge = refl; lease = tt }),
                     (
                       (omega arith, record { up = refl; site = refl; kept = only (λ (k : KeptRecord). k.term ≡ 1) (unleased 1) refl; unbound = nobody 0; no_round = λ r n. absurd n; no_release = λ r n. absurd n }),
                       (
-                        (omega arith, record { up = refl; to_site = refl; rested = omega arith; unpromised = no_promise 0 7; unbound = inr (refl, just 0) }),
+                        (omega arith, record { up = refl; to_site = refl; below = omega arith; rested = omega arith; unpromised = no_promise 0 7; unbound = inr (refl, just 0) }),
                         (
-                          (omega arith, record { up = refl; fact = inl refl; own_term = refl; bound = refl; stands = refl; to = refl; for_term = refl; long = omega arith; later = omega arith }),
+                          (omega arith, record { up = refl; fact = inl refl; own_term = refl; bound = refl; stands = refl; to = refl; for_term = refl; long = omega arith; later = omega arith; kept = λ second. absurd (inactive second) }),
                           (
-                            (omega arith, record { up = refl; to_site = refl; rested = omega arith; unpromised = no_promise 0 6; unbound = inl (omega arith) }),
+                            (omega arith, record { up = refl; to_site = refl; below = omega arith; rested = omega arith; unpromised = no_promise 0 6; unbound = inl (omega arith) }),
                             (
-                              (omega arith, record { up = refl; fact = inl refl; own_term = refl; bound = refl; stands = refl; to = refl; for_term = refl; long = omega arith; later = omega arith }),
+                              (omega arith, record { up = refl; fact = inl refl; own_term = refl; bound = refl; stands = refl; to = refl; for_term = refl; long = omega arith; later = omega arith; kept = λ second. absurd (inactive second) }),
                               (
                                 (omega arith, record { up = refl; open_round = refl; majority = omega arith; answered = both [] first_round 0 (answer_of 0 first_round 7 6) (answer_of 2 first_round 6 6) refl refl refl refl; soon = omega arith }),
                                 (
-                                  (omega arith, record { up = refl; site = refl; own_term = refl; lease = inr (record { gained = record { round = first_round; at = 6; answers = 0 ∷ 2 ∷ [] }; fact = inl refl; open_round = refl; same = refl }) }),
+                                  (omega arith, record { up = refl; keeper = inl refl; own_term = refl; pledge = refl; lease = inr (record { gained = record { round = first_round; at = 6; answers = 0 ∷ 2 ∷ [] }; fact = inl refl; open_round = refl; same = refl }) }),
                                   (
-                                    (omega arith, record { up = refl; site = refl; own_term = refl; lease = inl (won_by first_round, inl refl, refl) }),
+                                    (omega arith, record { up = refl; keeper = inl refl; own_term = refl; pledge = refl; lease = inl (won_by first_round, inl refl, refl) }),
                                     tt,
                                   ),
                                 ),
@@ -197,19 +200,19 @@ renewed_runs = (
         (
           (omega arith, record { up = refl; open_round = refl; own_term = refl; bound = refl }),
           (
-            (omega arith, record { up = refl; to_site = refl; rested = omega arith; unpromised = same_promise (record { to = 0; term = 1; until = 12 }) 0 8 refl; unbound = inr (refl, just 0) }),
+            (omega arith, record { up = refl; to_site = refl; below = omega arith; rested = omega arith; unpromised = same_promise (record { to = 0; term = 1; until = 12 }) 0 8 refl; unbound = inr (refl, just 0) }),
             (
-              (omega arith, record { up = refl; fact = inl refl; own_term = refl; bound = refl; stands = refl; to = refl; for_term = refl; long = omega arith; later = omega arith }),
+              (omega arith, record { up = refl; fact = inl refl; own_term = refl; bound = refl; stands = refl; to = refl; for_term = refl; long = omega arith; later = omega arith; kept = λ second. absurd (inactive second) }),
               (
-                (omega arith, record { up = refl; to_site = refl; rested = omega arith; unpromised = same_promise (record { to = 0; term = 1; until = 11 }) 0 7 refl; unbound = inr (refl, just 0) }),
+                (omega arith, record { up = refl; to_site = refl; below = omega arith; rested = omega arith; unpromised = same_promise (record { to = 0; term = 1; until = 11 }) 0 7 refl; unbound = inr (refl, just 0) }),
                 (
-                  (omega arith, record { up = refl; fact = inl refl; own_term = refl; bound = refl; stands = refl; to = refl; for_term = refl; long = omega arith; later = omega arith }),
+                  (omega arith, record { up = refl; fact = inl refl; own_term = refl; bound = refl; stands = refl; to = refl; for_term = refl; long = omega arith; later = omega arith; kept = λ second. absurd (inactive second) }),
                   (
                     (omega arith, record { up = refl; open_round = refl; majority = omega arith; answered = both first_answers second_round 0 (answer_of 0 second_round 8 7) (answer_of 2 second_round 7 7) refl refl refl refl; soon = omega arith }),
                     (
-                      (omega arith, record { up = refl; site = refl; own_term = refl; lease = inr (record { gained = record { round = second_round; at = 7; answers = 0 ∷ 2 ∷ [] }; fact = inl refl; open_round = refl; same = refl }) }),
+                      (omega arith, record { up = refl; keeper = inl refl; own_term = refl; pledge = refl; lease = inr (record { gained = record { round = second_round; at = 7; answers = 0 ∷ 2 ∷ [] }; fact = inl refl; open_round = refl; same = refl }) }),
                       (
-                        (omega arith, record { up = refl; site = refl; own_term = refl; lease = inl (won_by second_round, inl refl, refl) }),
+                        (omega arith, record { up = refl; keeper = inl refl; own_term = refl; pledge = refl; lease = inl (won_by second_round, inl refl, refl) }),
                         tt,
                       ),
                     ),
@@ -226,9 +229,9 @@ renewed_runs = (
 
 released_runs : IsRun three (world_of three (granted ++ renewed)) released
 released_runs = (
-  (omega arith, record { up = refl; site = refl; own_term = refl; lease = tt }),
+  (omega arith, record { up = refl; keeper = inl refl; own_term = refl; pledge = refl; lease = tt }),
   (
-    (omega arith, record { up = refl; site = refl; own_term = refl; lease = tt }),
+    (omega arith, record { up = refl; keeper = inl refl; own_term = refl; pledge = refl; lease = tt }),
     (
       (omega arith, record { up = refl; site = refl; own_term = only (λ (k : KeptRecord). k.term ≡ 1) (unleased 1) refl; no_lease = only (λ (k : KeptRecord). k.lease ≡ None) (unleased 1) refl }),
       (
@@ -243,25 +246,25 @@ elsewhere_runs : IsRun three (world_of three (granted ++ renewed ++ released)) g
 elsewhere_runs = (
   (omega arith, record { up = refl; above = omega arith }),
   (
-    (omega arith, record { up = refl; site = refl; own_term = refl; lease = tt }),
+    (omega arith, record { up = refl; keeper = inl refl; own_term = refl; pledge = refl; lease = tt }),
     (
-      (omega arith, record { up = refl; site = refl; own_term = refl; lease = tt }),
+      (omega arith, record { up = refl; keeper = inl refl; own_term = refl; pledge = refl; lease = tt }),
       (
         (omega arith, record { up = refl; site = refl; kept = only (λ (k : KeptRecord). k.term ≡ 2) (unleased 2) refl; unbound = nobody 1; no_round = new_or_old (λ (r : Round). r.site ≡ 1 → r.term ≢ 2) second_round (first_round ∷ []) (λ e. absurd (not_one e)) (only (λ (r : Round). r.site ≡ 1 → r.term ≢ 2) first_round (λ e. absurd (not_one e))); no_release = only (λ (r : Release). r.site ≡ 1 → r.term ≢ 2) first_release (λ e. absurd (not_one e)) }),
         (
-          (omega arith, record { up = refl; to_site = refl; rested = omega arith; unpromised = no_promise 1 7; unbound = inr (refl, just 1) }),
+          (omega arith, record { up = refl; to_site = refl; below = omega arith; rested = omega arith; unpromised = no_promise 1 7; unbound = inr (refl, just 1) }),
           (
-            (omega arith, record { up = refl; fact = inl refl; own_term = refl; bound = refl; stands = refl; to = refl; for_term = refl; long = omega arith; later = omega arith }),
+            (omega arith, record { up = refl; fact = inl refl; own_term = refl; bound = refl; stands = refl; to = refl; for_term = refl; long = omega arith; later = omega arith; kept = λ second. absurd (inactive second) }),
             (
-              (omega arith, record { up = refl; to_site = refl; rested = omega arith; unpromised = no_promise 1 7; unbound = inl (omega arith) }),
+              (omega arith, record { up = refl; to_site = refl; below = omega arith; rested = omega arith; unpromised = no_promise 1 7; unbound = inl (omega arith) }),
               (
-                (omega arith, record { up = refl; fact = inl refl; own_term = refl; bound = refl; stands = refl; to = refl; for_term = refl; long = omega arith; later = omega arith }),
+                (omega arith, record { up = refl; fact = inl refl; own_term = refl; bound = refl; stands = refl; to = refl; for_term = refl; long = omega arith; later = omega arith; kept = λ second. absurd (inactive second) }),
                 (
                   (omega arith, record { up = refl; open_round = refl; majority = omega arith; answered = both second_answers third_round 1 (answer_of 1 third_round 7 7) (answer_of 2 third_round 7 7) refl refl refl refl; soon = omega arith }),
                   (
-                    (omega arith, record { up = refl; site = refl; own_term = refl; lease = inr (record { gained = record { round = third_round; at = 7; answers = 1 ∷ 2 ∷ [] }; fact = inl refl; open_round = refl; same = refl }) }),
+                    (omega arith, record { up = refl; keeper = inl refl; own_term = refl; pledge = refl; lease = inr (record { gained = record { round = third_round; at = 7; answers = 1 ∷ 2 ∷ [] }; fact = inl refl; open_round = refl; same = refl }) }),
                     (
-                      (omega arith, record { up = refl; site = refl; own_term = refl; lease = inl (won_by third_round, inl refl, refl) }),
+                      (omega arith, record { up = refl; keeper = inl refl; own_term = refl; pledge = refl; lease = inl (won_by third_round, inl refl, refl) }),
                       tt,
                     ),
                   ),
@@ -298,9 +301,9 @@ restart_runs = (
   (
     (omega arith, refl),
     (
-      (omega arith, record { down = refl; fact = inl refl }),
+      (omega arith, record { down = refl; fact = inl refl; stays = λ e. e }),
       (
-        (omega arith, record { down = refl; fact = inl refl }),
+        (omega arith, record { down = refl; fact = inl refl; stays = λ e. e }),
         tt,
       ),
     ),
@@ -317,9 +320,6 @@ restart_held = (won_by first_round, record { below = omega arith; may = inl refl
 
 pub same_place : (members s t : ℕ) → s < members → t < members → id_of_place s ≡ id_of_place t → s ≡ t
 same_place members s t sl tl e = ap (λ (i : MemberId). i.0) e
-
-inactive : false ≡ true → ⊥
-inactive e = cc
 
 pub started_agrees : (ticket : Name) → IsMember three (world_of three start) (first_caller ticket)
 started_agrees ticket = record {
@@ -355,7 +355,6 @@ started_agrees ticket = record {
     round = λ r e. absurd (none_is r e);
     tried = λ w e. absurd (none_is w e);
     asked = λ w e. absurd (none_is w e);
-    keeping = λ w e. absurd (none_is w e);
     active = λ h. absurd (inactive h);
     repeated = λ h. absurd (omega (arith, h));
   };

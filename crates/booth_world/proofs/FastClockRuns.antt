@@ -9,10 +9,10 @@ use Rattle.booth_node.specs.Session.{AreSessions, Down}
 use Rattle.booth_node.specs.World.{HasForm, entries_of}
 use Rattle.booth_node.specs.Held.{Moment}
 use Rattle.std.proofs.lemmas.List.FromFn.{length-range_with_len, length-map-range_with_len}
-use Rattle.booth_world.specs.Premises.{Premise, OneConfiguration, TrueClocks, RecordsReturn, MembersSpeak, OneDaemon, Meets, IsWorldBut, TwoHold}
+use Rattle.booth_world.specs.Premises.{Premise, OneConfiguration, TrueClocks, RecordsReturn, VersionsRise, MembersSpeak, OneDaemon, Meets, IsWorldBut, TwoHold}
 use Rattle.booth_world.specs.WorldExamples.{site_one, site_two, arbitrator, at, sends, port_of, web, lease, grant_it, asks_votes, votes}
 use Rattle.booth_world.specs.PremiseExamples.{with_a_fast_clock, AreTrueBut}
-use Rattle.booth_world.proofs.AlongWorlds.{◌&◌, at_each, reads_true, only_web, from_client, from_member, is_read_below, reads_double, is_double_below, true_clock}
+use Rattle.booth_world.proofs.AlongWorlds.{◌&◌, at_each, versions_first, reads_true, only_web, from_client, from_member, is_read_below, reads_double, is_double_below, true_clock}
 use Rattle.booth_world.proofs.WorldParts.{three_sound, has_form, asks_votes_fit, votes_fit, is_open_fits, asks_state_fits}
 
 first_session : AreSessions Down (entries_of 0 with_a_fast_clock.entries)
@@ -218,6 +218,7 @@ meets RecordsReturn other =
     & tt
     & tt
     & tt)
+meets VersionsRise other = versions_first with_a_fast_clock refl
 meets MembersSpeak other = messages
 meets OneDaemon other = one_daemon
 

@@ -1,6 +1,6 @@
 -- Entries of the hosts of one ticket are entries of its lease cores, and so the ticket has one
 -- holder.
-use Rattle.std.proofs.Common.{◌≡◌, ◌≢◌, ℕ, ◌^◌, ◌<◌, ◌≤◌, List, [], ◌∷◌, ◌++◌, Bool, true, false, refl, sym, ap, ◌∙◌, subst, inl, inr, ⊎_elim, arith, ◌⊎◌}
+use Rattle.std.proofs.Common.{◌≡◌, ◌≢◌, ℕ, ◌^◌, ◌<◌, List, [], ◌∷◌, ◌++◌, Bool, true, false, refl, sym, ap, ◌∙◌, subst, inl, inr, ⊎_elim, arith, ◌⊎◌}
 use Rattle.std.specs.Prelude.{Option, Some, None, IsSomeAnd}
 use Rattle.std.specs.Option.{ForSome}
 use Rattle.booth_base.specs.Tree.{Ends, Does}
@@ -14,19 +14,17 @@ use Rattle.booth_raft.proofs.HeardLemmas.{start_facts}
 use Rattle.booth_node.specs.Clock.{Cluster, HasClocks, reads}
 use Rattle.booth_world.specs.Facts.{Has, Release}
 use Rattle.booth_world.specs.States.{put}
-use Rattle.booth_world.specs.Gives.{may_answered}
+use Rattle.booth_world.specs.Gives.{Given, may_answered}
 use Rattle.booth_world.specs.Rules.{MemberLetter}
-use Rattle.booth_world.specs.Cores.{CoreEntry, TimePasses, ReadsTime, HasAnswer, Stops, StartsWith, CorePlace, Cores, opening_cores, Cast, IsCast, MayEnter, answer_given, after_answer, entered, AreEntered, cores_after}
-use Rattle.booth_world.specs.CoreLaws.{CoreHoldsBy, CoreCourse, early_cores, late_cores, IsReleaseAt, IsReleaseIn}
-use Rattle.booth_world.specs.Held.{AreApart, GivesBackLease}
+use Rattle.booth_world.specs.Cores.{CoreEntry, TimePasses, ReadsTime, HasAnswer, Stops, StartsWith, CorePlace, Cores, opening_cores, Cast, IsCast, MayEnter, has_given, answer_given, after_answer, entered, AreEntered, cores_after}
+use Rattle.booth_world.specs.CoreLaws.{CoreHoldsBy, IsReleaseAt, IsReleaseIn}
 use Rattle.booth_world.specs.Turns.{TicketAsk, Keeps, Sends, AsksElse, TurnTree, Plan, turn_tree, MayTurn}
 use Rattle.booth_world.specs.Hosts.{MayBegin, HostEntry, LetsPass, BeginsTurn, DoesAsk, Halts, Boots, HostPlace, Hosts, opening_hosts, pending_in, pending, IsNextAsk, MayHost, begun, went_on, may_left, hosted, AreHosted, hosts_after}
-use Rattle.booth_world.specs.HostLaws.{RevokesAfter, IsHostReleaseAt, IsHostReleaseIn, host_may, HostHoldsBy, HostCourse, early_hosts, late_hosts, HostsHoldOne, HostsAreApart, HostTermsNeverFall}
+use Rattle.booth_world.specs.HostLaws.{RevokesAfter, IsHostReleaseAt, IsHostReleaseIn, HostHoldsBy}
 use Rattle.booth_world.proofs.Lists.{none_is, some_same, put_all}
-use Rattle.booth_world.proofs.KeptSteps.{the_value}
+use Rattle.booth_world.proofs.AskSteps.{the_value}
 use Rattle.booth_world.proofs.CallSteps.{put_same}
-use Rattle.booth_world.proofs.CoreRuns.{cores_hold_one, cores_are_apart, core_terms, tried_is_highest}
-use Rattle.booth_world.proofs.CoreReads.{ReadsAt, ReadsIn, HasRead, AreReadBy, calls_read, read_more, read_join}
+use Rattle.booth_world.proofs.CoreReads.{ReadsAt, ReadsIn, HasRead, AreReadBy, calls_read, read_more, read_join, StartsAt, StartsIn, AreStartedBy, calls_start, start_more, start_join}
 use Rattle.booth_world.proofs.TurnPlaces.{IsOwn, own_given, put_other, MayMore, more_after, IsUp, up_given, IsLater, IsIdle, IsLed, IsToldAfter, IsSeatedAt, At, Soon, at_later, at_no_more, release_split, entries_join, plan_at, heard_at}
 
 -- ---- the relation
@@ -34,7 +32,8 @@ use Rattle.booth_world.proofs.TurnPlaces.{IsOwn, own_given, put_other, MayMore, 
 -- a member's place at its host, and its place
 pub record PlaceHolds (c : Cluster) (cast : Cast) (m : ℕ) (cores : Cores) (p : HostPlace) : Type 0 where
   pub down : p.tree ≡ None → (cores.place m).view ≡ None
-  pub stands_at : (t : TurnTree) → p.tree ≡ Some t → At c cast m p.reading p.may t cores
+  pub in_version : (cores.place m).second ≡ p.second
+  pub stands_at : (t : TurnTree) → p.tree ≡ Some t → At c cast m p.reading p.second p.may t cores
   pub is_up : (t : TurnTree) → p.tree ≡ Some t → IsUp (cores.place m)
   pub more : MayMore (pending p.tree p.may) (cores.place m).may
   pub only : MayMore (cores.place m).may (pending p.tree p.may)
@@ -45,16 +44,17 @@ pub record HostsHold (c : Cluster) (cast : Cast) (hosts : Hosts) (cores : Cores)
   pub said : (l : MemberLetter) → Has hosts.sent l → Has cores.said l
 
 -- entries of the cores lead to a cores that is related, release only this, and read at these true times alone
-abbrev Follows : Cluster → Cast → Hosts → Cores → (Release → Type 0) → (ℕ → ℕ → Type 0) → Type 0
-Follows c cast hosts cores IsRelease IsReading =
+abbrev Follows : Cluster → Cast → Hosts → Cores → (Release → Type 0) → (ℕ → ℕ → Type 0) → (Bool → Type 0) → Type 0
+Follows c cast hosts cores IsRelease IsReading IsStart =
     (more : List CoreEntry) × AreEntered c cast cores more × HostsHold c cast hosts (cores_after c cast cores more)
-    × ((z : Release) → IsReleaseIn c cast cores more z → IsRelease z) × AreReadBy c cast IsReading cores more
+    × ((z : Release) → IsReleaseIn c cast cores more z → IsRelease z) × AreReadBy c cast IsReading cores more × AreStartedBy IsStart more
 
 module _ (c : Cluster) (cast : Cast) (clocks : HasClocks c) (is_cast : IsCast c cast) where
   place_later : (k : ℕ) (cores cores' : Cores) (p : HostPlace) → IsLater k cores cores' → PlaceHolds c cast k cores p → PlaceHolds c cast k cores' p
   place_later k cores cores' p later i = record {
     down = λ e. ap (λ (s : CorePlace). s.view) later.same ∙ i.down e;
-    stands_at = λ t e. at_later c cast k p.reading p.may t cores cores' later (i.stands_at t e);
+    in_version = ap (λ (s : CorePlace). s.second) later.same ∙ i.in_version;
+    stands_at = λ t e. at_later c cast k p.reading p.second p.may t cores cores' later (i.stands_at t e);
     is_up = λ t e. subst (λ (s : CorePlace). IsUp s) (sym later.same) (i.is_up t e);
     more = λ r h. subst (λ (s : CorePlace). Has s.may r) (sym later.same) (i.more r h);
     only = subst (λ (s : CorePlace). MayMore s.may (pending p.tree p.may)) (sym later.same) i.only;
@@ -73,21 +73,22 @@ module _ (c : Cluster) (cast : Cast) (clocks : HasClocks c) (is_cast : IsCast c 
   }
 
   -- what comes next is among what may be kept
-  pending_more : (m now : ℕ) (t : TurnTree) (may : List Record) (cores : Cores) → At c cast m now may t cores → MayMore may (cores.place m).may → MayMore (pending_in t may) (cores.place m).may
-  pending_more m now (Ends view) may cores h more = more
-  pending_more m now (Does (Keeps kept) g) may cores h more =
+  pending_more : (m now : ℕ) (second : Bool) (t : TurnTree) (may : List Record) (cores : Cores) → At c cast m now second may t cores → MayMore may (cores.place m).may → MayMore (pending_in t may) (cores.place m).may
+  pending_more m now second (Ends view) may cores h more = more
+  pending_more m now second (Does (Keeps kept) g) may cores h more =
       λ k i. ⊎_elim (λ (e : kept ≡ k). subst (λ (k : Record). Has (cores.place m).may k) e h.0) (λ (old : Has may k). more k old) i
-  pending_more m now (Does (Sends letter) g) may cores h more = more
-  pending_more m now (Does AsksElse g) may cores h more = more
+  pending_more m now second (Does (Sends letter) g) may cores h more = more
+  pending_more m now second (Does AsksElse g) may cores h more = more
 
-  stands : (m : ℕ) (p : HostPlace) (t : TurnTree) (cores : Cores) → p.tree ≡ Some t → At c cast m p.reading p.may t cores → IsUp (cores.place m) → MayMore p.may (cores.place m).may
+  stands : (m : ℕ) (p : HostPlace) (t : TurnTree) (cores : Cores) → p.tree ≡ Some t → (cores.place m).second ≡ p.second → At c cast m p.reading p.second p.may t cores → IsUp (cores.place m) → MayMore p.may (cores.place m).may
       → PlaceHolds c cast m cores p
-  stands m p t cores e h up more = record {
+  stands m p t cores e version h up more = record {
+    in_version = version;
     down = λ none. absurd (none_is t (sym none ∙ e));
-    stands_at = λ u d. subst (λ (t : TurnTree). At c cast m p.reading p.may t cores) (some_same t u (sym e ∙ d)) h;
+    stands_at = λ u d. subst (λ (t : TurnTree). At c cast m p.reading p.second p.may t cores) (some_same t u (sym e ∙ d)) h;
     is_up = λ u d. up;
-    more = subst (λ (o : Option TurnTree). MayMore (pending o p.may) (cores.place m).may) (sym e) (pending_more m p.reading t p.may cores h more);
-    only = subst (λ (o : Option TurnTree). MayMore (cores.place m).may (pending o p.may)) (sym e) (at_no_more c cast m p.reading p.may t cores h);
+    more = subst (λ (o : Option TurnTree). MayMore (pending o p.may) (cores.place m).may) (sym e) (pending_more m p.reading p.second t p.may cores h more);
+    only = subst (λ (o : Option TurnTree). MayMore (cores.place m).may (pending o p.may)) (sym e) (at_no_more c cast m p.reading p.second p.may t cores h);
   }
 
   still : (m : ℕ) (p : HostPlace) (cores : Cores) → PlaceHolds c cast m cores p → MayMore p.may (cores.place m).may
@@ -103,65 +104,74 @@ module _ (c : Cluster) (cast : Cast) (clocks : HasClocks c) (is_cast : IsCast c 
       by_tree None more = more
       by_tree (Some t) more = by_pending t more
 
-  own_place : (m : ℕ) → m < c.members → IsSeatedAt c cast m
-  own_place m below = (ap (λ (s : Setup). s.place) (is_cast.seated m below), ap (λ (s : Setup). s.members) (is_cast.seated m below))
+  own_place : (m : ℕ) (second : Bool) → m < c.members → IsSeatedAt c cast m second
+  own_place m second below = (ap (λ (s : Setup). s.place) (is_cast.seated m below second), ap (λ (s : Setup). s.members) (is_cast.seated m below second))
 
   small : (m time : ℕ) → m < c.members → time < c.span → reads c m time < 2 ^ 62
   small m time below within = let e = clocks.long m below in (clocks.clocks m below).small time (omega arith)
 
+  -- nothing waits at a core that is idle
+  at_rest_of : (place : CorePlace) (view : View) {s : Setup} {second : Bool} {now : ℕ} → IsIdle s second now view place → ForSome place.view (λ v. v.waiting ≡ None)
+  at_rest_of place view idle v e = ap (λ (v : View). v.waiting) (some_same v view (sym e ∙ idle.shows)) ∙ idle.at_rest
+
   -- ---- a turn
 
-  after_reading : (m time : ℕ) (view : View) (cores : Cores) (reading : ℕ) → IsIdle (cast.setup m) reading view (cores.place m)
-      → IsIdle (cast.setup m) (reads c m time) view ((entered c cast cores (ReadsTime m time)).place m)
-  after_reading m time view cores reading i =
-      subst (λ (s : CorePlace). IsIdle (cast.setup m) (reads c m time) view s) (sym (put_same cores.place m _))
-      (record { shows = i.shows; at_rest = i.at_rest; at_reading = refl; view_facts = i.view_facts })
+  after_reading : (m time : ℕ) (second : Bool) (view : View) (cores : Cores) (reading : ℕ) → IsIdle (cast.setup m second) second reading view (cores.place m)
+      → IsIdle (cast.setup m second) second (reads c m time) view ((entered c cast cores (ReadsTime m time)).place m)
+  after_reading m time second view cores reading i =
+      subst (λ (s : CorePlace). IsIdle (cast.setup m second) second (reads c m time) view s) (sym (put_same cores.place m _))
+      (record { shows = i.shows; in_version = i.in_version; at_rest = i.at_rest; at_reading = refl; view_facts = i.view_facts })
 
-  turn_soon : (m time : ℕ) (base : List Record) (view : View) (came : Option MemberLetter) (plan : View → Plan) (cores : Cores) → m < c.members → time < c.span
-      → IsIdle (cast.setup m) (reads c m time) view (cores.place m) → (cores.place m).at ≡ cores.now
+  turn_soon : (m time : ℕ) (second : Bool) (base : List Record) (view : View) (came : Option MemberLetter) (plan : View → Plan) (cores : Cores) → m < c.members → time < c.span
+      → IsIdle (cast.setup m second) second (reads c m time) view (cores.place m) → (cores.place m).at ≡ cores.now
       → MayMore (cores.place m).may base → ForSome came (λ l. (Has cores.said l) × (l.head.from ≡ cast.id_of l.sender))
-      → MayTurn (cast.setup m) (reads c m time) view came plan
-      → Soon c cast m (reads c m time) (At c cast m (reads c m time) base (turn_tree (cast.setup m) (reads c m time) view came plan)) cores
-  turn_soon m time base view None plan cores below within idle timely only so may =
-      plan_at c cast m (reads c m time) below (small m time below within) (own_place m below) (plan view) base view cores idle only may
-  turn_soon m time base view (Some letter) plan cores below within idle timely only so may =
+      → MayTurn (cast.setup m second) (reads c m time) view came plan
+      → Soon c cast m (reads c m time) second (At c cast m (reads c m time) second base (turn_tree (cast.setup m second) (reads c m time) view came plan)) cores
+  turn_soon m time second base view None plan cores below within idle timely only so may =
+      plan_at c cast m (reads c m time) second below (small m time below within) (own_place m second below) (plan view) base view cores idle only may
+  turn_soon m time second base view (Some letter) plan cores below within idle timely only so may =
       let l = so letter refl in
-      heard_at c cast m (reads c m time) below (small m time below within) (own_place m below) letter plan base view cores idle only (l.0, l.1, timely) may
+      heard_at c cast m (reads c m time) second below (small m time below within) (own_place m second below) letter plan base view cores idle only (l.0, l.1, timely) may
 
   begins : (hosts : Hosts) (cores : Cores) (m time : ℕ) (came : Option MemberLetter) (plan : View → Plan) → HostsHold c cast hosts cores → MayHost c cast hosts (BeginsTurn m time came plan)
-      → Follows c cast (hosted c cast hosts (BeginsTurn m time came plan)) cores (IsHostReleaseAt c hosts (BeginsTurn m time came plan)) (ReadsAt (BeginsTurn m time came plan))
+      → Follows c cast (hosted c cast hosts (BeginsTurn m time came plan)) cores (IsHostReleaseAt c hosts (BeginsTurn m time came plan)) (ReadsAt (BeginsTurn m time came plan)) (StartsAt (BeginsTurn m time came plan))
   begins hosts cores m time came plan i may =
       let p = the_value _ (hosts.place m).tree may.3 in
       by_tree p.0 p.1 p.2
     where
-      by_tree : (t : TurnTree) → (hosts.place m).tree ≡ Some t → MayBegin (cast.setup m) (reads c m time) came plan t → Follows c cast (hosted c cast hosts (BeginsTurn m time came plan)) cores (IsHostReleaseAt c hosts (BeginsTurn m time came plan)) (ReadsAt (BeginsTurn m time came plan))
+      by_tree : (t : TurnTree) → (hosts.place m).tree ≡ Some t → MayBegin (cast.setup m (hosts.place m).second) (reads c m time) came plan t → Follows c cast (hosted c cast hosts (BeginsTurn m time came plan)) cores (IsHostReleaseAt c hosts (BeginsTurn m time came plan)) (ReadsAt (BeginsTurn m time came plan)) (StartsAt (BeginsTurn m time came plan))
       by_tree (Does ask g) e none = absurd none
       by_tree (Ends view) e turns =
           let now = reads c m time in
           let one = entered c cast cores (ReadsTime m time) in
           let here = i.each m may.0 in
           let read = put_same cores.place m (record (cores.place m) { reading = now; at = time }) in
-          let soon = turn_soon m time (hosts.place m).may view came plan one may.0 may.2
-          (after_reading m time view cores (hosts.place m).reading (here.stands_at (Ends view) e).0)
+          let second = (hosts.place m).second in
+          let soon = turn_soon m time second (hosts.place m).may view came plan one may.0 may.2
+          (after_reading m time second view cores (hosts.place m).reading (here.stands_at (Ends view) e).0)
           (ap (λ (s : CorePlace). s.at) read)
           (subst (λ (s : CorePlace). MayMore s.may (hosts.place m).may) (sym read) (here.stands_at (Ends view) e).1)
           (λ l e. let q = may.4 l e in (i.said l q.0, q.1)) turns in
           let end = cores_after c cast one soon.0 in
-          let led : IsLed c cast m now one soon.0 = soon.2 in (
+          let led : IsLed c cast m now second one soon.0 = soon.2 in (
             ReadsTime m time ∷ soon.0,
-            ((may.0, (let t = i.same_now in let l = may.1 in omega (arith, t, l)), may.2), soon.1),
+            ((may.0, (let t = i.same_now in let l = may.1 in omega (arith, t, l)), may.2, λ so. at_rest_of (cores.place m) view (here.stands_at (Ends view) e).0), soon.1),
             moved hosts cores end m time _ hosts.sent i led.own.same_time
                 (λ k other. led.own.others k other ∙ put_other cores.place m k _ other)
                 (λ l h. led.own.said_on l h)
-                (stands m (record (hosts.place m) { tree = begun (cast.setup m) now came plan (hosts.place m).tree; reading = now })
-                (turn_tree (cast.setup m) now view came plan) end
-                (ap (λ (o : Option TurnTree). begun (cast.setup m) now came plan o) e) soon.3
+                (stands m (record (hosts.place m) { tree = begun (cast.setup m second) now came plan (hosts.place m).tree; reading = now })
+                (turn_tree (cast.setup m second) now view came plan) end
+                (ap (λ (o : Option TurnTree). begun (cast.setup m second) now came plan o) e) (led.same_version ∙ ap (λ (s : CorePlace). s.second) read ∙ here.in_version) soon.3
                 (led.up_still (subst (λ (s : CorePlace). IsUp s) (sym read) (here.is_up (Ends view) e)))
                 (λ k h. led.more k (subst (λ (s : CorePlace). Has s.may k) (sym read) (still m (hosts.place m) cores here k h))))
                 (λ l h. led.own.said_on l (i.said l h)),
             λ z h. ⊎_elim (λ (n : ⊥). n) (λ (n : IsReleaseIn c cast one soon.0 z). led.unreleased z n) h,
             ((refl, refl), calls_read c cast (ReadsAt (BeginsTurn m time came plan)) one soon.0 led.are_calls),
+            (tt, calls_start (StartsAt (BeginsTurn m time came plan)) soon.0 led.are_calls),
           )
+
+  version_given : (cores : Cores) (m : ℕ) (given : Given) → ((has_given cores m (cores.place m).second given).place m).second ≡ (cores.place m).second
+  version_given cores m given = ap (λ (s : CorePlace). s.second) (put_same cores.place m _)
 
   -- ---- an ask
 
@@ -182,13 +192,15 @@ module _ (c : Cluster) (cast : Cast) (clocks : HasClocks c) (is_cast : IsCast c 
 
   answer_own : (cores : Cores) (m : ℕ) (kept : Record) (ok : Bool) → MayEnter c cast cores (HasAnswer m kept ok)
       → IsOwn m cores (entered c cast cores (HasAnswer m kept ok)) × IsUp ((entered c cast cores (HasAnswer m kept ok)).place m)
+      × (((entered c cast cores (HasAnswer m kept ok)).place m).second ≡ (cores.place m).second)
   answer_own cores m kept ok enter =
       let v = the_value _ (cores.place m).view enter.1 in
-      subst (λ (o : Option View). IsOwn m cores (after_answer cast cores m ok o) × IsUp ((after_answer cast cores m ok o).place m)) (sym v.1)
-      (own_given cores m (answer_given cast cores m ok v.0), up_given cores m (answer_given cast cores m ok v.0))
+      subst (λ (o : Option View). IsOwn m cores (after_answer cast cores m ok o) × IsUp ((after_answer cast cores m ok o).place m)
+      × (((after_answer cast cores m ok o).place m).second ≡ (cores.place m).second)) (sym v.1)
+      (own_given cores m (cores.place m).second (answer_given cast cores m ok v.0), up_given cores m (cores.place m).second (answer_given cast cores m ok v.0), version_given cores m (answer_given cast cores m ok v.0))
 
   asks : (hosts : Hosts) (cores : Cores) (m : ℕ) (ask : TicketAsk) (ok : Bool) → HostsHold c cast hosts cores → MayHost c cast hosts (DoesAsk m ask ok)
-      → Follows c cast (hosted c cast hosts (DoesAsk m ask ok)) cores (IsHostReleaseAt c hosts (DoesAsk m ask ok)) (ReadsAt (DoesAsk m ask ok))
+      → Follows c cast (hosted c cast hosts (DoesAsk m ask ok)) cores (IsHostReleaseAt c hosts (DoesAsk m ask ok)) (ReadsAt (DoesAsk m ask ok)) (StartsAt (DoesAsk m ask ok))
   asks hosts cores m ask ok i may =
       let p = the_value _ (hosts.place m).tree may.1 in
       by_tree p.0 p.1 p.2
@@ -207,70 +219,73 @@ module _ (c : Cluster) (cast : Cast) (clocks : HasClocks c) (is_cast : IsCast c 
           )
       answer_frees kept g false z e tells h = h
 
-      by_tree : (t : TurnTree) → (hosts.place m).tree ≡ Some t → IsNextAsk ask t → Follows c cast (hosted c cast hosts (DoesAsk m ask ok)) cores (IsHostReleaseAt c hosts (DoesAsk m ask ok)) (ReadsAt (DoesAsk m ask ok))
+      by_tree : (t : TurnTree) → (hosts.place m).tree ≡ Some t → IsNextAsk ask t → Follows c cast (hosted c cast hosts (DoesAsk m ask ok)) cores (IsHostReleaseAt c hosts (DoesAsk m ask ok)) (ReadsAt (DoesAsk m ask ok)) (StartsAt (DoesAsk m ask ok))
       by_tree (Ends view) e none = absurd none
       by_tree (Does (Keeps kept) g) e same =
           let h_at = here.stands_at (Does (Keeps kept) g) e in
           let q = h_at.2 ok cores (record { same = refl; said_still = λ l h. h }) in
           let one = entered c cast cores (HasAnswer m kept ok) in
           let end = cores_after c cast one q.1.0 in
-          let led : IsLed c cast m (hosts.place m).reading one q.1.0 = q.1.2 in
+          let led : IsLed c cast m (hosts.place m).reading (hosts.place m).second one q.1.0 = q.1.2 in
           let own = answer_own cores m kept ok q.0 in
-          subst (λ (a : TicketAsk). Follows c cast (hosted c cast hosts (DoesAsk m a ok)) cores (IsHostReleaseAt c hosts (DoesAsk m a ok)) (ReadsAt (DoesAsk m a ok))) same (
+          subst (λ (a : TicketAsk). Follows c cast (hosted c cast hosts (DoesAsk m a ok)) cores (IsHostReleaseAt c hosts (DoesAsk m a ok)) (ReadsAt (DoesAsk m a ok)) (StartsAt (DoesAsk m a ok))) same (
             HasAnswer m kept ok ∷ q.1.0,
             (q.0, q.1.1),
             moved hosts cores end m hosts.now _ hosts.sent i (led.own.same_time ∙ own.0.same_time ∙ i.same_now)
                 (λ k other. led.own.others k other ∙ own.0.others k other)
                 (λ l h. led.own.said_on l (own.0.said_on l h))
                 (stands m (record (hosts.place m) { tree = went_on ok (hosts.place m).tree; may = may_left (Keeps kept) ok (hosts.place m).may })
-                (g ok) end (ap (λ (o : Option TurnTree). went_on ok o) e) q.1.3 (led.up_still own.1)
+                (g ok) end (ap (λ (o : Option TurnTree). went_on ok o) e) (led.same_version ∙ own.2 ∙ here.in_version) q.1.3 (led.up_still own.1)
                 (λ k h. led.more k (answer_may cores m kept ok (hosts.place m).may q.0 (still m (hosts.place m) cores here) (here.stands_at (Does (Keeps kept) g) e).0 k h)))
                 (λ l h. led.own.said_on l (own.0.said_on l (i.said l h))),
             λ z h. ⊎_elim
                 (λ (n : IsReleaseAt cores (HasAnswer m kept ok) z). answer_frees kept g ok z e h_at.3 n)
                 (λ (n : IsReleaseIn c cast one q.1.0 z). absurd (led.unreleased z n)) h,
             (tt, calls_read c cast (ReadsAt (DoesAsk m (Keeps kept) ok)) one q.1.0 led.are_calls),
+            (tt, calls_start (StartsAt (DoesAsk m (Keeps kept) ok)) q.1.0 led.are_calls),
           )
       by_tree (Does (Sends letter) g) e same =
           let h = here.stands_at (Does (Sends letter) g) e in
           let q = h.2 ok cores (record { same = refl; said_still = λ l h. h }) in
           let end = cores_after c cast cores q.0 in
-          let led : IsLed c cast m (hosts.place m).reading cores q.0 = q.2 in
-          subst (λ (a : TicketAsk). Follows c cast (hosted c cast hosts (DoesAsk m a ok)) cores (IsHostReleaseAt c hosts (DoesAsk m a ok)) (ReadsAt (DoesAsk m a ok))) same (
+          let led : IsLed c cast m (hosts.place m).reading (hosts.place m).second cores q.0 = q.2 in
+          subst (λ (a : TicketAsk). Follows c cast (hosted c cast hosts (DoesAsk m a ok)) cores (IsHostReleaseAt c hosts (DoesAsk m a ok)) (ReadsAt (DoesAsk m a ok)) (StartsAt (DoesAsk m a ok))) same (
             q.0,
             q.1,
             moved hosts cores end m hosts.now _ (letter ∷ hosts.sent) i (led.own.same_time ∙ i.same_now)
                 led.own.others
                 led.own.said_on
                 (stands m (record (hosts.place m) { tree = went_on ok (hosts.place m).tree; may = (hosts.place m).may })
-                (g ok) end (ap (λ (o : Option TurnTree). went_on ok o) e) q.3 (led.up_still (here.is_up _ e))
+                (g ok) end (ap (λ (o : Option TurnTree). went_on ok o) e) (led.same_version ∙ here.in_version) q.3 (led.up_still (here.is_up _ e))
                 (λ k h. led.more k (still m (hosts.place m) cores here k h)))
                 (λ l d. led.own.said_on l (⊎_elim (λ (e : letter ≡ l). subst (λ (l : MemberLetter). Has cores.said l) e h.0) (λ (old : Has hosts.sent l). i.said l old) d)),
             λ z h. led.unreleased z h,
             calls_read c cast (ReadsAt (DoesAsk m (Sends letter) ok)) cores q.0 led.are_calls,
+            calls_start (StartsAt (DoesAsk m (Sends letter) ok)) q.0 led.are_calls,
           )
       by_tree (Does AsksElse g) e same =
           let h = here.stands_at (Does AsksElse g) e in
           let q = h.1 ok cores (record { same = refl; said_still = λ l h. h }) in
           let end = cores_after c cast cores q.0 in
-          let led : IsLed c cast m (hosts.place m).reading cores q.0 = q.2 in
-          subst (λ (a : TicketAsk). Follows c cast (hosted c cast hosts (DoesAsk m a ok)) cores (IsHostReleaseAt c hosts (DoesAsk m a ok)) (ReadsAt (DoesAsk m a ok))) same (
+          let led : IsLed c cast m (hosts.place m).reading (hosts.place m).second cores q.0 = q.2 in
+          subst (λ (a : TicketAsk). Follows c cast (hosted c cast hosts (DoesAsk m a ok)) cores (IsHostReleaseAt c hosts (DoesAsk m a ok)) (ReadsAt (DoesAsk m a ok)) (StartsAt (DoesAsk m a ok))) same (
             q.0,
             q.1,
             moved hosts cores end m hosts.now _ hosts.sent i (led.own.same_time ∙ i.same_now)
                 led.own.others
                 led.own.said_on
                 (stands m (record (hosts.place m) { tree = went_on ok (hosts.place m).tree; may = (hosts.place m).may })
-                (g ok) end (ap (λ (o : Option TurnTree). went_on ok o) e) q.3 (led.up_still (here.is_up _ e))
+                (g ok) end (ap (λ (o : Option TurnTree). went_on ok o) e) (led.same_version ∙ here.in_version) q.3 (led.up_still (here.is_up _ e))
                 (λ k h. led.more k (still m (hosts.place m) cores here k h)))
                 (λ l d. led.own.said_on l (i.said l d)),
             λ z h. led.unreleased z h,
             calls_read c cast (ReadsAt (DoesAsk m AsksElse ok)) cores q.0 led.are_calls,
+            calls_start (StartsAt (DoesAsk m AsksElse ok)) q.0 led.are_calls,
           )
 
   -- ---- lives
 
-  halts : (hosts : Hosts) (cores : Cores) (m : ℕ) → HostsHold c cast hosts cores → MayHost c cast hosts (Halts m) → Follows c cast (hosted c cast hosts (Halts m)) cores (IsHostReleaseAt c hosts (Halts m)) (ReadsAt (Halts m))
+  halts : (hosts : Hosts) (cores : Cores) (m : ℕ) → HostsHold c cast hosts cores → MayHost c cast hosts (Halts m) → Follows c cast (hosted c cast hosts (Halts m)) cores (IsHostReleaseAt c hosts (Halts m)) (ReadsAt (Halts m)) (StartsAt (Halts m))
   halts hosts cores m i may =
       let p = the_value _ (hosts.place m).tree may.1 in
       let here = i.each m may.0 in
@@ -282,6 +297,7 @@ module _ (c : Cluster) (cast : Cast) (clocks : HasClocks c) (is_cast : IsCast c 
             (λ l h. h)
             (record {
               down = λ e. ap (λ (s : CorePlace). s.view) gone;
+              in_version = ap (λ (s : CorePlace). s.second) gone ∙ here.in_version;
               stands_at = λ t e. absurd (none_is t e);
               is_up = λ t e. absurd (none_is t e);
               more = λ k h. subst (λ (s : CorePlace). Has s.may k) (sym gone) (here.more k h);
@@ -290,26 +306,28 @@ module _ (c : Cluster) (cast : Cast) (clocks : HasClocks c) (is_cast : IsCast c 
             i.said,
         λ z h. ⊎_elim (λ (n : ⊥). n) (λ (n : ⊥). n) h,
         (tt, tt),
+        (tt, tt),
       )
 
-  boots : (hosts : Hosts) (cores : Cores) (m time : ℕ) (kept : Record) → HostsHold c cast hosts cores → MayHost c cast hosts (Boots m time kept)
-      → Follows c cast (hosted c cast hosts (Boots m time kept)) cores (IsHostReleaseAt c hosts (Boots m time kept)) (ReadsAt (Boots m time kept))
-  boots hosts cores m time kept i may =
+  boots : (hosts : Hosts) (cores : Cores) (m time : ℕ) (second : Bool) (kept : Record) → HostsHold c cast hosts cores → MayHost c cast hosts (Boots m time second kept)
+      → Follows c cast (hosted c cast hosts (Boots m time second kept)) cores (IsHostReleaseAt c hosts (Boots m time second kept)) (ReadsAt (Boots m time second kept)) (StartsAt (Boots m time second kept))
+  boots hosts cores m time second kept i may =
       let here = i.each m may.0 in
       let now = reads c m time in
       let one = entered c cast cores (ReadsTime m time) in
       let read = put_same cores.place m (record (cores.place m) { reading = now; at = time }) in
-      let end = entered c cast one (StartsWith m kept) in
-      let up = put_same one.place m (record (one.place m) { view = Some (started (cast.setup m) kept (one.place m).reading); may = kept ∷ [] }) in
+      let end = entered c cast one (StartsWith m second kept) in
+      let up = put_same one.place m (record (one.place m) { view = Some (started (cast.setup m second) kept (one.place m).reading); second = second; may = kept ∷ [] }) in
       let reading : (one.place m).reading ≡ now = ap (λ (s : CorePlace). s.reading) read in (
-        ReadsTime m time ∷ StartsWith m kept ∷ [],
+        ReadsTime m time ∷ StartsWith m second kept ∷ [],
         (
-          (may.0, (let t = i.same_now in let l = may.1 in omega (arith, t, l)), may.2),
+          (may.0, (let t = i.same_now in let l = may.1 in omega (arith, t, l)), may.2, λ so view e. absurd (none_is view (sym (here.down may.3) ∙ e))),
           (
             (
               may.0,
               ap (λ (s : CorePlace). s.view) read ∙ here.down may.3,
               subst (λ (s : CorePlace). Has s.may kept) (sym read) (still m (hosts.place m) cores here kept may.4),
+              λ was. may.5 (sym here.in_version ∙ (ap (λ (s : CorePlace). s.second) (sym read) ∙ was)),
             ),
             tt,
           ),
@@ -317,14 +335,15 @@ module _ (c : Cluster) (cast : Cast) (clocks : HasClocks c) (is_cast : IsCast c 
         moved hosts cores end m time _ hosts.sent i refl
             (λ k other. put_other one.place m k _ other ∙ put_other cores.place m k _ other)
             (λ l h. h)
-            (stands m (record { tree = Some (Ends (started (cast.setup m) kept now)); reading = now; may = kept ∷ [] })
-            (Ends (started (cast.setup m) kept now)) end refl (
-              subst (λ (s : CorePlace). IsIdle (cast.setup m) now (started (cast.setup m) kept now) s) (sym up)
+            (stands m (record { tree = Some (Ends (started (cast.setup m second) kept now)); second = second; reading = now; may = kept ∷ [] })
+            (Ends (started (cast.setup m second) kept now)) end refl (ap (λ (s : CorePlace). s.second) up) (
+              subst (λ (s : CorePlace). IsIdle (cast.setup m second) second now (started (cast.setup m second) kept now) s) (sym up)
                   (record {
-                    shows = ap (λ (r : ℕ). let o : Option View = Some (started (cast.setup m) kept r) in o) reading;
+                    shows = ap (λ (r : ℕ). let o : Option View = Some (started (cast.setup m second) kept r) in o) reading;
+                    in_version = refl;
                     at_rest = refl;
                     at_reading = reading;
-                    view_facts = start_facts (cast.setup m) kept now;
+                    view_facts = start_facts (cast.setup m second) kept now;
                   }),
               subst (λ (s : CorePlace). MayMore s.may (kept ∷ [])) (sym up) (λ k h. h),
             )
@@ -334,11 +353,12 @@ module _ (c : Cluster) (cast : Cast) (clocks : HasClocks c) (is_cast : IsCast c 
         λ z h. ⊎_elim (λ (n : ⊥). n) (λ (h : ⊥ ⊎ ⊥). ⊎_elim (λ (n : ⊥). n) (λ (n : ⊥). n) h) h,
         (
           (refl, refl),
-          (subst (λ (s : CorePlace). HasRead c cast (ReadsAt (Boots m time kept)) m s) (sym read) ((refl, refl), refl), tt),
+          (subst (λ (s : CorePlace). HasRead c cast (ReadsAt (Boots m time second kept)) m s) (sym read) ((refl, refl), refl), tt),
         ),
+        (tt, (refl, tt)),
       )
 
-  passes : (hosts : Hosts) (cores : Cores) (time : ℕ) → HostsHold c cast hosts cores → MayHost c cast hosts (LetsPass time) → Follows c cast (hosted c cast hosts (LetsPass time)) cores (IsHostReleaseAt c hosts (LetsPass time)) (ReadsAt (LetsPass time))
+  passes : (hosts : Hosts) (cores : Cores) (time : ℕ) → HostsHold c cast hosts cores → MayHost c cast hosts (LetsPass time) → Follows c cast (hosted c cast hosts (LetsPass time)) cores (IsHostReleaseAt c hosts (LetsPass time)) (ReadsAt (LetsPass time)) (StartsAt (LetsPass time))
   passes hosts cores time i may = (
     TimePasses time ∷ [],
     (((let t = i.same_now in let l = may.0 in omega (arith, t, l)), may.1), tt),
@@ -349,33 +369,37 @@ module _ (c : Cluster) (cast : Cast) (clocks : HasClocks c) (is_cast : IsCast c 
     },
     λ z h. ⊎_elim (λ (n : ⊥). n) (λ (n : ⊥). n) h,
     (tt, tt),
+    (tt, tt),
   )
 
   -- ---- all entries
 
-  follows : (hosts : Hosts) (cores : Cores) (entry : HostEntry) → HostsHold c cast hosts cores → MayHost c cast hosts entry → Follows c cast (hosted c cast hosts entry) cores (IsHostReleaseAt c hosts entry) (ReadsAt entry)
+  follows : (hosts : Hosts) (cores : Cores) (entry : HostEntry) → HostsHold c cast hosts cores → MayHost c cast hosts entry → Follows c cast (hosted c cast hosts entry) cores (IsHostReleaseAt c hosts entry) (ReadsAt entry) (StartsAt entry)
   follows hosts cores (LetsPass time) i may = passes hosts cores time i may
   follows hosts cores (BeginsTurn m time came plan) i may = begins hosts cores m time came plan i may
   follows hosts cores (DoesAsk m ask ok) i may = asks hosts cores m ask ok i may
   follows hosts cores (Halts m) i may = halts hosts cores m i may
-  follows hosts cores (Boots m time kept) i may = boots hosts cores m time kept i may
+  follows hosts cores (Boots m time second kept) i may = boots hosts cores m time second kept i may
 
-  pub follow_all : (hosts : Hosts) (cores : Cores) (entries : List HostEntry) → HostsHold c cast hosts cores → AreHosted c cast hosts entries → Follows c cast (hosts_after c cast hosts entries) cores (IsHostReleaseIn c cast hosts entries) (ReadsIn entries)
-  follow_all hosts cores [] i all = ([], tt, i, λ z n. n, tt)
+  pub follow_all : (hosts : Hosts) (cores : Cores) (entries : List HostEntry) → HostsHold c cast hosts cores → AreHosted c cast hosts entries → Follows c cast (hosts_after c cast hosts entries) cores (IsHostReleaseIn c cast hosts entries) (ReadsIn entries) (StartsIn entries)
+  follow_all hosts cores [] i all = ([], tt, i, λ z n. n, tt, tt)
   follow_all hosts cores (entry ∷ entries) i all =
       let one = follows hosts cores entry i all.0 in
       let rest = follow_all (hosted c cast hosts entry) (cores_after c cast cores one.0) entries one.2 all.1 in
-      let j = entries_join c cast 0 0 cores one.0 rest.0 one.1 rest.1 in (
+      let j = entries_join c cast 0 0 false cores one.0 rest.0 one.1 rest.1 in (
         one.0 ++ rest.0,
         j.0,
         subst (λ (n : Cores). HostsHold c cast (hosts_after c cast (hosted c cast hosts entry) entries) n) (sym j.1) rest.2,
         λ z h. ⊎_elim
             (λ (first : IsReleaseIn c cast cores one.0 z). inl (one.3 z first))
             (λ (second : IsReleaseIn c cast (cores_after c cast cores one.0) rest.0 z). inr (rest.3 z second))
-            (release_split c cast 0 0 cores one.0 rest.0 z h),
+            (release_split c cast 0 0 false cores one.0 rest.0 z h),
         read_join c cast (ReadsIn (entry ∷ entries)) cores one.0 rest.0
             (read_more c cast (ReadsAt entry) (ReadsIn (entry ∷ entries)) (λ m time r. inl r) cores one.0 one.4)
             (read_more c cast (ReadsIn entries) (ReadsIn (entry ∷ entries)) (λ m time r. inr r) (cores_after c cast cores one.0) rest.0 rest.4),
+        start_join (StartsIn (entry ∷ entries)) one.0 rest.0
+            (start_more (StartsAt entry) (StartsIn (entry ∷ entries)) (λ second s. inl s) one.0 one.5)
+            (start_more (StartsIn entries) (StartsIn (entry ∷ entries)) (λ second s. inr s) rest.0 rest.5),
       )
 
   pub opens_hosts : HostsHold c cast (opening_hosts c) (opening_cores c)
@@ -383,6 +407,7 @@ module _ (c : Cluster) (cast : Cast) (clocks : HasClocks c) (is_cast : IsCast c 
     same_now = refl;
     each = λ m below. record {
       down = λ e. refl;
+      in_version = refl;
       stands_at = λ t e. absurd (none_is t e);
       is_up = λ t e. absurd (none_is t e);
       more = λ k h. h;
@@ -394,72 +419,3 @@ module _ (c : Cluster) (cast : Cast) (clocks : HasClocks c) (is_cast : IsCast c 
 pub host_held : (c : Cluster) (cast : Cast) (hosts : Hosts) (cores : Cores) (s : ℕ) (k : Record) → HostsHold c cast hosts cores → HostHoldsBy c hosts s k → CoreHoldsBy c cores s k
 host_held c cast hosts cores s k i h =
     (h.0, (i.each s h.0).more k h.1, subst (λ (n : ℕ). IsInForce k (reads c s n)) (sym i.same_now) h.2)
-
-pub hosts_hold_one : HostsHoldOne
-hosts_hold_one c cast entries course s t hs ht =
-    let clocks = course.clocks in
-    let f = follow_all c cast clocks course.is_cast (opening_hosts c) (opening_cores c) entries (opens_hosts c cast clocks course.is_cast) course.hosted_early in
-    let cores = cores_after c cast (opening_cores c) f.0 in
-    let hosts = hosts_after c cast (opening_hosts c) entries in
-    cores_hold_one c cast f.0 (record { clocks = clocks; is_cast = course.is_cast; enters_early = f.1; enters_late = tt }) s t
-    (hs.0, host_held c cast hosts cores s hs.0 f.2 hs.1)
-    (ht.0, host_held c cast hosts cores t ht.0 f.2 ht.1)
-
--- entries of the cores for both parts
-record Followed (c : Cluster) (cast : Cast) (early late : List HostEntry) : Type 0 where
-  pub first : List CoreEntry
-  pub second : List CoreEntry
-  pub course : CoreCourse c cast first second
-  pub early_holds : HostsHold c cast (early_hosts c cast early) (early_cores c cast first)
-  pub late_holds : HostsHold c cast (late_hosts c cast early late) (late_cores c cast first second)
-  pub released : (z : Release) → IsReleaseIn c cast (early_cores c cast first) second z → IsHostReleaseIn c cast (early_hosts c cast early) late z
-
-followed : (c : Cluster) (cast : Cast) (early late : List HostEntry) → HostCourse c cast early late → Followed c cast early late
-followed c cast early late course =
-    let clocks = course.clocks in
-    let f = follow_all c cast clocks course.is_cast (opening_hosts c) (opening_cores c) early (opens_hosts c cast clocks course.is_cast) course.hosted_early in
-    let g = follow_all c cast clocks course.is_cast (early_hosts c cast early) (cores_after c cast (opening_cores c) f.0) late f.2 course.hosted_late in record {
-      first = f.0;
-      second = g.0;
-      course = record { clocks = clocks; is_cast = course.is_cast; enters_early = f.1; enters_late = g.1 };
-      early_holds = f.2;
-      late_holds = g.2;
-      released = g.3;
-    }
-
-pub hosts_are_apart : HostsAreApart
-hosts_are_apart c cast early late course s t other k hs ht =
-    let f = followed c cast early late course in
-    let w = early_cores c cast f.first in
-    let z = late_cores c cast f.first f.second in
-    ⊎_elim
-    (λ (apart : AreApart c w.now z.now). inl (subst (λ (a : ℕ). AreApart c a (late_hosts c cast early late).now) f.early_holds.same_now
-    (subst (λ (b : ℕ). AreApart c w.now b) f.late_holds.same_now apart)))
-    (λ (b : (release : Release) × IsReleaseIn c cast w f.second release × GivesBackLease s k.lease release).
-    inr (b.0, f.released b.0 b.1, b.2))
-    (cores_are_apart c cast f.first f.second f.course s t other k
-    (host_held c cast (early_hosts c cast early) w s k f.early_holds hs)
-    (ht.0, host_held c cast (late_hosts c cast early late) z t ht.0 f.late_holds ht.1))
-
-pub host_terms : HostTermsNeverFall
-host_terms c cast early late course s term below at k has =
-    let f = followed c cast early late course in
-    core_terms c cast f.first f.second f.course s term below
-    (λ k h. at k ((f.early_holds.each s below).only k h))
-    k ((f.late_holds.each s below).more k has)
-
--- a keep that comes next is of at least the term of each record that may be kept
-pub next_is_highest : (c : Cluster) (cast : Cast) (entries : List HostEntry) → HostCourse c cast entries [] → (m : ℕ) → m < c.members
-    → (kept : Record) (g : Bool → TurnTree) → ((early_hosts c cast entries).place m).tree ≡ Some (Does (Keeps kept) g)
-    → (k : Record) → Has (host_may (early_hosts c cast entries) m) k → k.term ≤ kept.term
-next_is_highest c cast entries course m below kept g is k h =
-    let f = followed c cast entries [] course in
-    let cores = early_cores c cast f.first in
-    let place = f.early_holds.each m below in
-    let at = place.stands_at (Does (Keeps kept) g) is in
-    let next_answer = (at.2 true cores (record { same = refl; said_still = λ l x. x })).0 in
-    let view = the_value (λ (v : View). IsSomeAnd v.waiting (λ waits. waits.tried ≡ kept)) (cores.place m).view next_answer.1 in
-    let waits = the_value (λ (x : Waiting). x.tried ≡ kept) view.0.waiting view.2 in
-    subst (λ (r : Record). k.term ≤ r.term) waits.2
-    (tried_is_highest c cast f.first (record { clocks = course.clocks; is_cast = course.is_cast; enters_early = f.course.enters_early; enters_late = tt })
-    m below view.0 view.1 waits.0 waits.1 k (place.more k h))

@@ -1,16 +1,16 @@
 -- Gains and keeps keep what holds.
-use Rattle.std.proofs.Common.{◌≡◌, ℕ, ◌≤◌, List, [], ◌∷◌, refl, ap, subst, inl, inr, ⊎_elim, arith}
-use Rattle.std.specs.Prelude.{Option, Some, None}
+use Rattle.std.proofs.Common.{◌≡◌, ℕ, ◌≤◌, List, [], ◌∷◌, Bool, true, false, refl, sym, ap, ◌∙◌, subst, inl, inr, ⊎_elim, arith}
+use Rattle.std.specs.Prelude.{Option, Some, None, if◌then◌else◌}
 use native.Mathlib.Nat.{le_of_eq, le_refl}
 use Rattle.booth_rec.specs.declared.record.Lease.{Lease}
 use Rattle.booth_node.specs.Clock.{Cluster}
-use Rattle.booth_world.specs.Facts.{Has, Round, Gain, Facts}
-use Rattle.booth_world.specs.States.{KeptRecord, MemberState}
-use Rattle.booth_world.specs.Leases.{IsWon, MayLease, MayKeep}
+use Rattle.booth_world.specs.Facts.{Has, Round, Answer, Gain, Facts}
+use Rattle.booth_world.specs.States.{Pledge, Promise, IsWithin, KeptRecord, MemberState}
+use Rattle.booth_world.specs.Leases.{IsWon, MayLease, pledge_of, MayKeep}
 use Rattle.booth_world.specs.Steps.{Gains, TriesKeep, HasKept}
 use Rattle.booth_world.proofs.Lists.{new_or_old, none_is, some_same}
-use Rattle.booth_world.proofs.Invariant.{LeaseGood, MemberGood, LeaseFact, FactsGood}
-use Rattle.booth_world.proofs.Stays.{Stays, Law, facts_stay}
+use Rattle.booth_world.proofs.Invariant.{Covers, StateGuard, Guard, Stands, PromiseGood, LeaseGood, MemberGood, LeaseFact, FactsGood}
+use Rattle.booth_world.proofs.Stays.{Stays, Law, facts_stay, not_up, stands_by}
 
 -- gain
 pub gains : (c : Cluster) (now : ℕ) (f : Facts) (m : ℕ) (x : MemberState) (r : Round) (ms : List ℕ) → Law c now f m x (Gains r ms)
@@ -23,6 +23,8 @@ gains c now f m x r ms i g below may =
       term = j.term;
       round = j.round;
       promise = j.promise;
+      within = j.within;
+      pledges = j.pledges;
       answers = j.answers;
       lease = λ z hz l e. let q = j.lease z hz l e in record { gained = q.gained; fact = inr q.fact; site = q.site; term = q.term; until = q.until; above = q.above };
     } in
@@ -66,6 +68,28 @@ kept_lease c now f m x (Some q) l i may e = subst (λ (y : Lease). LeaseGood c f
     })
     may)
 
+-- the pledge that is kept is the member's
+pub record IsPledgeOf (x : MemberState) (p : Pledge) : Type 0 where
+  pub second : x.second ≡ true
+  pub same : record { bound = x.bound; promise = x.promise; abstain = x.abstain } ≡ p
+
+kept_pledge : (x : MemberState) (p : Pledge) → pledge_of x ≡ Some p → IsPledgeOf x p
+kept_pledge x p e = by_version x.second refl e
+  where
+    by_version : (b : Bool) → x.second ≡ b → (if b then Some (record { bound = x.bound; promise = x.promise; abstain = x.abstain }) else None) ≡ Some p → IsPledgeOf x p
+    by_version true second q = record { second = second; same = some_same _ p q }
+    by_version false first q = absurd (none_is p q)
+
+no_pledge : (x : MemberState) → x.second ≡ false → pledge_of x ≡ None
+no_pledge x first = ap (λ (b : Bool). if b then Some (record { bound = x.bound; promise = x.promise; abstain = x.abstain }) else None) first
+
+-- what covers the answer at its member covers it in the record that is kept
+pledge_covers : (c : Cluster) (a : Answer) (x : MemberState) (p : Pledge) → x.up ≡ true → IsPledgeOf x p → StateGuard c a x → Covers c a p.abstain p.promise
+pledge_covers c a x p up is guard = ⊎_elim
+    (λ (down : x.up ≡ false). absurd (not_up (sym down ∙ up)))
+    (λ (covers : Covers c a x.abstain x.promise). subst (λ (y : Pledge). Covers c a y.abstain y.promise) is.same covers)
+    guard
+
 -- what is kept beside what may be kept already
 joins :
     (c : Cluster) (now : ℕ) (f : Facts) (m : ℕ) (x : MemberState) (k : KeptRecord) (rest : List KeptRecord)
@@ -85,7 +109,30 @@ joins c now f m x k rest i g may part =
       round = i.round;
       lease = new_or_old (λ (z : KeptRecord). (l : Lease) → z.lease ≡ Some l → LeaseGood c f.leases f.releases m l) k rest (λ l e. kept_lease c now f m x k.lease l i may.lease e) (λ y hy. i.lease y (part y hy));
       promise = i.promise;
-      answers = i.answers;
+      within = i.within;
+      pledges = record {
+        first = λ first. new_or_old (λ (z : KeptRecord). z.pledge ≡ None) k rest (may.pledge ∙ no_pledge x first) (λ y hy. i.pledges.first first y (part y hy));
+        good = new_or_old (λ (z : KeptRecord). (pledge : Pledge) → z.pledge ≡ Some pledge → (p : Promise) → pledge.promise ≡ Some p → PromiseGood z.term x.reading pledge.abstain p) k rest
+            (λ pledge e p has. let is = kept_pledge x pledge (sym may.pledge ∙ e) in
+            let good = subst (λ (y : Pledge). (p : Promise) → y.promise ≡ Some p → PromiseGood x.term x.reading y.abstain p) is.same i.promise p has in
+            let t = may.own_term in
+            let l = good.within in record { within = omega arith; rested = good.rested })
+            (λ y hy. i.pledges.good y (part y hy));
+        named = new_or_old (λ (z : KeptRecord). (pledge : Pledge) → z.pledge ≡ Some pledge → IsWithin c.members pledge.bound pledge.promise) k rest
+            (λ pledge e. subst (λ (y : Pledge). IsWithin c.members y.bound y.promise) (kept_pledge x pledge (sym may.pledge ∙ e)).same (record { bound_below = i.within.bound_below; promise_below = i.within.promise_below }))
+            (λ y hy. i.pledges.named y (part y hy));
+      };
+      answers = λ a h e. let b = i.answers a h e in record {
+        past = b.past;
+        stands = stands_by c f.releases a x.reading (Guard c a x) (Guard c a (record x { may = k ∷ rest }))
+            (λ q. Stands.Guarded (
+              q.0,
+              new_or_old (λ (z : KeptRecord). (p : Pledge) → z.pledge ≡ Some p → Covers c a p.abstain p.promise) k rest
+                  (λ p has. pledge_covers c a x p may.up (kept_pledge x p (sym may.pledge ∙ has)) q.0)
+                  (λ y hy. q.1 y (part y hy)),
+            ))
+            b.stands;
+      };
     })
 
 pub tries : (c : Cluster) (now : ℕ) (f : Facts) (m : ℕ) (x : MemberState) (k : KeptRecord) → Law c now f m x (TriesKeep k)

@@ -14,12 +14,15 @@ pub mod Later
 pub mod Holders
 pub mod KeptTerms
 pub mod Runs
+pub mod Firm
+pub mod LaterTerms
 pub mod ExampleRuns
 pub mod Places
 pub mod Views
 pub mod HearSteps
 pub mod GainSteps
 pub mod OpenSteps
+pub mod AskSteps
 pub mod KeptSteps
 pub mod DueSteps
 pub mod CallSteps
@@ -30,6 +33,7 @@ pub mod TurnKeeps
 pub mod TurnPlaces
 pub mod CoreReads
 pub mod HostSteps
+pub mod HostCourses
 pub mod RuleKeeps
 pub mod Mirrors
 pub mod Echoes
@@ -58,4 +62,6 @@ pub mod TwoConfigurationsRuns
 pub mod LostRecordRuns
 pub mod TwoDaemonsRuns
 pub mod FastClockRuns
+pub mod PromisesKeptRuns
+pub mod FallingVersionRuns
 pub mod OneHolds

@@ -1,13 +1,15 @@
 -- Learning a term, crashing, starting and the passing of time keep what holds.
-use Rattle.std.proofs.Common.{ℕ, ◌<◌, ◌≤◌, List, false, refl, sym, ap, ◌∙◌, subst, inl, inr, length, arith}
+use Rattle.std.proofs.Common.{◌≡◌, ℕ, ◌<◌, ◌≤◌, List, [], ◌∷◌, Bool, true, false, refl, sym, ap, ◌∙◌, subst, inl, inr, length, arith}
+use Rattle.std.specs.Prelude.{Option, Some, None}
 use native.Mathlib.Nat.{le_of_eq, le_refl}
 use Rattle.booth_node.specs.Clock.{Cluster, HasClocks, reads}
 use Rattle.booth_world.specs.Facts.{Answer, Release, Facts}
-use Rattle.booth_world.specs.States.{KeptRecord, MemberState, WorldState}
+use Rattle.booth_world.specs.States.{Pledge, Promise, IsWithin, KeptRecord, MemberState, WorldState}
+use Rattle.booth_world.specs.Lives.{pledge_at_start, MayStart, starting}
 use Rattle.booth_world.specs.Steps.{Learns, Crashes, Starts, ReadsClock, Passes, MayStep, happens}
 use Rattle.booth_world.proofs.Lists.{none_is}
-use Rattle.booth_world.proofs.Invariant.{Covers, StateGuard, Guard, Stands, Good}
-use Rattle.booth_world.proofs.Stays.{Law, facts_stay, only_one, not_up, stands_by}
+use Rattle.booth_world.proofs.Invariant.{Covers, StateGuard, RecordsCover, Guard, Stands, PromiseGood, PledgesGood, Good}
+use Rattle.booth_world.proofs.Stays.{Law, facts_stay, only_one, not_up, stands_by, stands_beside}
 
 pub learns : (c : Cluster) (now : ℕ) (f : Facts) (m : ℕ) (x : MemberState) (term : ℕ) → Law c now f m x (Learns term)
 learns c now f m x term i g below may =
@@ -18,6 +20,8 @@ learns c now f m x term i g below may =
       round = λ r e. absurd (none_is r e);
       lease = i.lease;
       promise = λ p e. let q = i.promise p e in let n = may.above in record { within = omega arith; rested = q.rested };
+      within = record { bound_below = λ s e. absurd (none_is s e); promise_below = i.within.promise_below };
+      pledges = i.pledges;
       answers = i.answers;
     })
 
@@ -34,12 +38,62 @@ crashes c now f m x i g below may =
       round = i.round;
       lease = i.lease;
       promise = i.promise;
-      answers = λ a h e. let b = i.answers a h e in record { past = b.past; stands = stands_by c f.releases a x.reading (Guard c a x) (Guard c a (record x { up = false })) (λ g. Stands.Guarded (guard_crashed c a x g)) b.stands };
+      within = i.within;
+      pledges = i.pledges;
+      answers = λ a h e. let b = i.answers a h e in record { past = b.past; stands = stands_beside c f.releases a x.reading (StateGuard c a x) (StateGuard c a (record x { up = false })) (RecordsCover c a x.may) (λ g. Stands.Guarded (guard_crashed c a x g)) b.stands };
     })
 
 -- start
-pub starts : (c : Cluster) (now : ℕ) (f : Facts) (m : ℕ) (x : MemberState) (k : KeptRecord) → Law c now f m x (Starts k)
-starts c now f m x k i g below may =
+
+-- a promise at the start is that of the record
+promise_at_start :
+    (c : Cluster) (reading : ℕ) (o : Option Pledge) (term : ℕ) (p : Promise)
+    → ((pledge : Pledge) → o ≡ Some pledge → (q : Promise) → pledge.promise ≡ Some q → PromiseGood term reading pledge.abstain q)
+    → (pledge_at_start c reading o).promise ≡ Some p → PromiseGood term reading (pledge_at_start c reading o).abstain p
+promise_at_start c reading None term p good e = absurd (none_is p e)
+promise_at_start c reading (Some pledge) term p good e = good pledge refl p e
+
+-- so are the members that are named
+pub within_at_start :
+    (c : Cluster) (reading : ℕ) (o : Option Pledge) → ((pledge : Pledge) → o ≡ Some pledge → IsWithin c.members pledge.bound pledge.promise)
+    → IsWithin c.members (pledge_at_start c reading o).bound (pledge_at_start c reading o).promise
+within_at_start c reading None named = record { bound_below = λ s e. absurd (none_is s e); promise_below = λ p e. absurd (none_is p e) }
+within_at_start c reading (Some pledge) named = named pledge refl
+
+-- an answer is covered at the start by the record, or else by the abstention
+covers_at_start :
+    (c : Cluster) (reading : ℕ) (o : Option Pledge) (a : Answer) → a.reading ≤ reading
+    → ((p : Pledge) → o ≡ Some p → Covers c a p.abstain p.promise)
+    → Covers c a (pledge_at_start c reading o).abstain (pledge_at_start c reading o).promise
+covers_at_start c reading None a past by_record = Covers.Abstains (omega arith)
+covers_at_start c reading (Some pledge) a past by_record = by_record pledge refl
+
+-- after a start an answer stands by the record, or the abstention
+start_stands :
+    (c : Cluster) (z : List Release) (a : Answer) (x : MemberState) (k : KeptRecord) (second : Bool)
+    → MayStart x k second → a.reading ≤ x.reading → Guard c a x → Stands c z a x.reading (Guard c a (starting c x k second))
+start_stands c z a x k second may past guard =
+    Stands.Guarded (
+      inr (covers_at_start c x.reading k.pledge a past (guard.1 k may.fact)),
+      λ w hw. subst (λ (y : KeptRecord). (p : Pledge) → y.pledge ≡ Some p → Covers c a p.abstain p.promise) (only_one k w hw) (guard.1 k may.fact),
+    )
+
+-- a start in version 1 is one after version 1
+start_pledges :
+    (members : ℕ) (x : MemberState) (k : KeptRecord) (second : Bool) → MayStart x k second → PledgesGood members x.second x.reading x.may
+    → PledgesGood members second x.reading (k ∷ [])
+start_pledges members x k second may good = record {
+  first = λ first w hw. subst (λ (y : KeptRecord). y.pledge ≡ None) (only_one k w hw) (good.first (by_version x.second refl first) k may.fact);
+  good = λ w hw. subst (λ (y : KeptRecord). (pledge : Pledge) → y.pledge ≡ Some pledge → (p : Promise) → pledge.promise ≡ Some p → PromiseGood y.term x.reading pledge.abstain p) (only_one k w hw) (good.good k may.fact);
+  named = λ w hw. subst (λ (y : KeptRecord). (pledge : Pledge) → y.pledge ≡ Some pledge → IsWithin members pledge.bound pledge.promise) (only_one k w hw) (good.named k may.fact);
+}
+  where
+    by_version : (b : Bool) → x.second ≡ b → second ≡ false → x.second ≡ false
+    by_version true was first = absurd (let now = may.stays was in cc)
+    by_version false was first = was
+
+pub starts : (c : Cluster) (now : ℕ) (f : Facts) (m : ℕ) (x : MemberState) (k : KeptRecord) (second : Bool) → Law c now f m x (Starts k second)
+starts c now f m x k second i g below may =
     facts_stay c now f m _ g (record {
       clock = i.clock;
       may = record {
@@ -50,8 +104,13 @@ starts c now f m x k i g below may =
       term = λ up z hz. let e = only_one k z hz in le_of_eq (ap (λ (y : KeptRecord). y.term) (sym e));
       round = λ r e. absurd (none_is r e);
       lease = λ z hz l e. i.lease k may.fact l (ap (λ (y : KeptRecord). y.lease) (only_one k z hz) ∙ e);
-      promise = λ p e. absurd (none_is p e);
-      answers = λ a h e. let b = i.answers a h e in let l = b.past in record { past = l; stands = Stands.Guarded (inr (Covers.Abstains (omega arith))) };
+      promise = λ p e. promise_at_start c x.reading k.pledge k.term p (i.pledges.good k may.fact) e;
+      within = within_at_start c x.reading k.pledge (i.pledges.named k may.fact);
+      pledges = start_pledges c.members x k second may i.pledges;
+      answers = λ a h e. let b = i.answers a h e in record {
+        past = b.past;
+        stands = stands_by c f.releases a x.reading (Guard c a x) (Guard c a (starting c x k second)) (start_stands c f.releases a x k second may b.past) b.stands;
+      };
     })
 
 -- time
@@ -71,6 +130,12 @@ reads_clock c clocks now f m x i g below may =
       round = i.round;
       lease = i.lease;
       promise = λ p e. let q = i.promise p e in let l = q.rested in record { within = q.within; rested = omega arith };
+      within = i.within;
+      pledges = record {
+        first = i.pledges.first;
+        named = i.pledges.named;
+        good = λ k h pledge e p has. let q = i.pledges.good k h pledge e p has in let l = q.rested in record { within = q.within; rested = omega arith };
+      };
       answers = λ a h e. let b = i.answers a h e in let l = b.past in record { past = omega arith; stands = stands_later c f.releases a x.reading (reads c m now) (Guard c a x) rise b.stands };
     })
 
@@ -85,6 +150,8 @@ passes c w time g may =
         round = j.round;
         lease = j.lease;
         promise = j.promise;
+        within = j.within;
+        pledges = j.pledges;
         answers = j.answers;
       };
       facts = record {

@@ -1,5 +1,5 @@
 -- The entries of the lone member may come, and the ticket is held after them.
-use Rattle.std.proofs.Common.{Bool, [], refl, inl, arith}
+use Rattle.std.proofs.Common.{Bool, false, [], refl, inl, arith}
 use Rattle.booth_base.specs.Tree.{Ends, Does}
 use Rattle.booth_base.specs.declared.name.Name.{Name}
 use Rattle.booth_raft.specs.declared.view.View.{View}
@@ -11,7 +11,7 @@ use Rattle.booth_world.specs.Turns.{TurnTree, call_tree, LeavesAlways}
 use Rattle.booth_rec.specs.Record.{no_record}
 use Rattle.booth_world.specs.HostLaws.{HostCourse, HostHolds, early_hosts}
 use Rattle.booth_world.specs.LoneExamples.{lone, lone_cast, lone_lease, lone_grant, lone_restart, lone_turn}
-use Rattle.booth_world.proofs.ExampleRuns.{same_place, each_clock}
+use Rattle.booth_world.proofs.ExampleRuns.{same_place, each_clock, inactive}
 
 lone_clocks : HasClocks lone
 lone_clocks = record { some = omega arith; long = λ m h. refl; clocks = λ m h. each_clock 2 }
@@ -19,8 +19,8 @@ lone_clocks = record { some = omega arith; long = λ m h. refl; clocks = λ m h.
 lone_is_cast : (ticket : Name) → IsCast lone (lone_cast ticket)
 lone_is_cast ticket = record {
   ids = same_place 1;
-  seated = λ m below. refl;
-  sound = λ m below. record {
+  seated = λ m below second. refl;
+  sound = λ m below second. record {
     place = below;
     members = omega arith;
     rank = omega arith;
@@ -37,15 +37,15 @@ lone_entered ticket = record {
   clocks = lone_clocks;
   is_cast = lone_is_cast ticket;
   enters_early = (
-    (omega arith, refl, inl refl),
+    (omega arith, refl, inl refl, λ e. e),
     (
-      (omega arith, omega arith, omega arith),
+      (omega arith, omega arith, omega arith, λ second. absurd (inactive second)),
       ((omega arith, (refl, refl)), ((omega arith, refl), ((omega arith, refl), tt))),
     ),
   );
   enters_late = (
     (omega arith, (refl, refl)),
-    ((omega arith, refl), ((omega arith, (refl, refl)), ((omega arith, tt), ((omega arith, refl, inl refl), tt)))),
+    ((omega arith, refl), ((omega arith, (refl, refl)), ((omega arith, tt), ((omega arith, refl, inl refl, λ e. e), tt)))),
   );
 }
 
@@ -60,7 +60,7 @@ left_so P so (Does ask go) = λ ok. left_so P so (go ok)
 -- the deeds of its call
 abbrev asks_tree : Name → TurnTree
 asks_tree ticket =
-    let s = (lone_cast ticket).setup 0 in
+    let s = (lone_cast ticket).setup 0 false in
     let view = lease_rules.start s no_record 0 in
     call_tree s 6 (lease_rules.call s view 6 Greets).view (Asks 0)
 
@@ -69,12 +69,12 @@ lone_hosted ticket = record {
   clocks = lone_clocks;
   is_cast = lone_is_cast ticket;
   hosted_early = (
-    (omega arith, omega arith, omega arith, refl, inl refl),
+    (omega arith, omega arith, omega arith, refl, inl refl, λ e. e),
     (
       (omega arith, omega arith, omega arith, (tt, (refl, left_so (λ (view : View). (ok : Bool) → Unit {0}) (λ view ok. tt) (asks_tree ticket))), λ l e. absurd (cc)),
       (
         (omega arith, refl),
-        ((omega arith, refl), ((omega arith, tt), ((omega arith, omega arith, omega arith, refl, inl refl), tt))),
+        ((omega arith, refl), ((omega arith, tt), ((omega arith, omega arith, omega arith, refl, inl refl, λ e. e), tt))),
       ),
     ),
   );

@@ -6,10 +6,10 @@ use Rattle.booth_auth.specs.Sealed.{sealed}
 use Rattle.booth_node.specs.Session.{AreSessions, Down}
 use Rattle.booth_node.specs.World.{HasForm, entries_of}
 use Rattle.booth_node.specs.Held.{Moment}
-use Rattle.booth_world.specs.Premises.{Premise, OneConfiguration, TrueClocks, RecordsReturn, MembersSpeak, OneDaemon, Meets, IsWorldBut, TwoHold}
+use Rattle.booth_world.specs.Premises.{Premise, OneConfiguration, TrueClocks, RecordsReturn, VersionsRise, MembersSpeak, OneDaemon, Meets, IsWorldBut, TwoHold}
 use Rattle.booth_world.specs.WorldExamples.{site_one, site_two, arbitrator, three_members, at, sends, port_of, web, lease, grant_it, asks_votes, votes}
 use Rattle.booth_world.specs.PremiseExamples.{with_a_lost_record}
-use Rattle.booth_world.proofs.AlongWorlds.{◌&◌, at_each, reads_true, from_client, from_member, is_read_below}
+use Rattle.booth_world.proofs.AlongWorlds.{◌&◌, at_each, versions_first, reads_true, from_client, from_member, is_read_below}
 use Rattle.booth_world.proofs.WorldParts.{three_sound, has_form, exact_clocks, asks_votes_fit, votes_fit, is_open_fits, asks_state_fits}
 
 first_session : AreSessions Down (entries_of 0 with_a_lost_record.entries)
@@ -257,6 +257,7 @@ meets TrueClocks other =
     & tt
     & tt)
 meets RecordsReturn other = absurd (other refl)
+meets VersionsRise other = versions_first with_a_lost_record refl
 meets MembersSpeak other = messages
 meets OneDaemon other = one_daemon
 

@@ -8,15 +8,13 @@ use Rattle.booth_base.specs.Tree.{Deeds, Ends, Does, next}
 use Rattle.booth_chain.proofs.NodesLemmas.{same_or_not, slice_get-set_other, slice_get-set_same}
 use Rattle.booth_conf.specs.declared.tickets.GrantKind.{GrantKind}
 use Rattle.booth_conf.specs.declared.tickets.GrantKind.TheVariants as kinds
-use Rattle.booth_rec.specs.declared.record.Record.{Record}
 use Rattle.booth_wire.specs.declared.command.Cmd.{Cmd}
-use Rattle.booth_wire.specs.declared.command.Cmd.TheVariants.{CLst, Peer as AsksPeers, CGnt, CRvk, ASet, AGet, ADel, ALst, RLst, RPer, RALs, RGnt, RRvk, RAtr, Stat, MIdx, RVot, VtFr, HrtB, Ack, UpdE, Revk, Rjc}
+use Rattle.booth_wire.specs.declared.command.Cmd.TheVariants.{Stat, MIdx, UpdE, Revk}
 use Rattle.booth_wire.specs.declared.message.Head.{Head}
 use Rattle.booth_wire.specs.declared.message.TicketPart.{TicketPart}
 use Rattle.booth_wire.specs.declared.message.Say.{Say as Words}
 use Rattle.booth_wire.specs.declared.message.Say.TheVariants as words
 use Rattle.booth_wire.specs.declared.message.Setup.{Setup}
-use Rattle.booth_wire.specs.PlainMessage.{PlainMessage}
 use Rattle.booth_host.specs.declared.host.Arrival.{Arrival}
 use Rattle.booth_host.specs.declared.host.Arrival.TheVariants as arrivals
 use Rattle.booth_host.specs.declared.host.Failed.{Failed}
@@ -25,7 +23,7 @@ use Rattle.booth_raft.specs.declared.deed.Told.TheVariants as tells
 use Rattle.booth_raft.proofs.FactsLemmas.{on_cond}
 use Rattle.booth_manual.specs.declared.view.ManualView.{ManualView}
 use Rattle.booth_manual.specs.GrantAndRevoke.{again, are_terms_spent, finish, grant, revoke}
-use Rattle.booth_manual.specs.Hearing.{hear, is_shown, learned, revoked, updated}
+use Rattle.booth_manual.specs.Hearing.{hear, is_shown}
 use Rattle.booth_manual.specs.Messages.{is_same}
 use Rattle.booth_manual.specs.Outcome.{Keep as Tries}
 use Rattle.booth_ticket.specs.declared.request.Request.{Request}
@@ -48,11 +46,11 @@ use Rattle.booth_node.specs.declared.node_config.NodeConfig.{NodeConfig}
 use Rattle.booth_node.specs.declared.state.Common.{Common}
 use Rattle.booth_node.specs.Befalling.{Befalling, comes_due, ends_job, is_told, is_asked}
 use Rattle.booth_node.specs.AttributeRequests.{is_ready}
-use Rattle.booth_node.specs.Counting.{accepted, dropped, with_send}
-use Rattle.booth_node.specs.Jobs.{job_at, job_of, with_start}
+use Rattle.booth_node.specs.Counting.{accepted, with_send}
+use Rattle.booth_node.specs.Jobs.{job_at, with_start}
 use Rattle.booth_node.specs.Reaction.{Action, Drops, Hears, Asks, Attends, Answers, Rests, Ask, Send, Keep, Start, action, acts, acts_as, all_places, arrived, befalls, due_places, dues, each_due, each_over, lifted, met, peer_of, react, sends, sent_as, turn_end}
 use Rattle.booth_node.specs.State.{State, with_ticket}
-use Rattle.booth_world.proofs.Lists.{none_is, some_same}
+use Rattle.booth_world.proofs.Lists.{some_same}
 use Rattle.booth_world.proofs.NodeTrees.{Minds, HasSetup, minds_asked, minds_due, minds_heard, minds_over}
 
 -- ---- one ticket's deeds
@@ -161,33 +159,33 @@ module _ (s : Setup) (term : ℕ) where
   GoesOn rest = (least result : ℕ) (view : ManualView) → IsHighView least view → High IsHighByHand least (rest result view)
 
   module _ (rest : ℕ → ManualView → Deeds TicketAsk ManualLeft) (on : GoesOn rest) where
-    grant_keeps : (view : ManualView) → IsHighView term view → High IsHighByHand term (tried s Grant (grant view) rest)
+    grant_keeps : (view : ManualView) → IsHighView term view → High IsHighByHand term (tried s Grant (grant s view) rest)
     grant_keeps view h = (
       omega (arith, h.0),
-      high_say IsHighByHand s (view.term + 1) None (finish s (grant view).view true).say
-          (rest (result_of_keep Grant true) (finish s (grant view).view true).view)
-          (on (view.term + 1) (result_of_keep Grant true) (finish s (grant view).view true).view (omega arith, refl)),
-      on term (result_of_keep Grant false) (finish s (grant view).view false).view (omega (arith, h.0), refl),
+      high_say IsHighByHand s (view.term + 1) None (finish s (grant s view).view true).say
+          (rest (result_of_keep Grant true) (finish s (grant s view).view true).view)
+          (on (view.term + 1) (result_of_keep Grant true) (finish s (grant s view).view true).view (omega arith, refl)),
+      on term (result_of_keep Grant false) (finish s (grant s view).view false).view (omega (arith, h.0), refl),
     )
 
-    again_keeps : (view : ManualView) → IsHighView term view → High IsHighByHand term (tried s Grant (again view) rest)
+    again_keeps : (view : ManualView) → IsHighView term view → High IsHighByHand term (tried s Grant (again s view) rest)
     again_keeps view h = (
       omega (arith, h.0, h.1),
-      on view.kept.term (result_of_keep Grant true) (finish s (again view).view true).view (omega (arith, h.1), h.1),
-      on term (result_of_keep Grant false) (finish s (again view).view false).view h,
+      on view.kept.term (result_of_keep Grant true) (finish s (again s view).view true).view (omega (arith, h.1), h.1),
+      on term (result_of_keep Grant false) (finish s (again s view).view false).view h,
     )
 
     wish_keeps : (view : ManualView) (wish : Wish) → IsHighView term view
-        → High IsHighByHand term (tried s wish (tries_for view wish) rest)
+        → High IsHighByHand term (tried s wish (tries_for s view wish) rest)
     wish_keeps view Grant h =
-        on_cond (λ (tries : Tries). High IsHighByHand term (tried s Grant tries rest)) view.owner (again view) (grant view)
+        on_cond (λ (tries : Tries). High IsHighByHand term (tried s Grant tries rest)) view.owner (again s view) (grant s view)
         (again_keeps view h) (grant_keeps view h)
     wish_keeps view Revoke h = (
       h.0,
-      high_say IsHighByHand s view.term None (finish s (revoke view).view true).say
-          (rest (result_of_keep Revoke true) (finish s (revoke view).view true).view)
-          (on view.term (result_of_keep Revoke true) (finish s (revoke view).view true).view (omega arith, refl)),
-      on term (result_of_keep Revoke false) (finish s (revoke view).view false).view h,
+      high_say IsHighByHand s view.term None (finish s (revoke s view).view true).say
+          (rest (result_of_keep Revoke true) (finish s (revoke s view).view true).view)
+          (on view.term (result_of_keep Revoke true) (finish s (revoke s view).view true).view (omega arith, refl)),
+      on term (result_of_keep Revoke false) (finish s (revoke s view).view false).view h,
     )
 
   -- the handler of a grant is over
@@ -195,7 +193,7 @@ module _ (s : Setup) (term : ℕ) where
       → High IsHighByHand term (grants_after s known.view service (tells_of s known waiters))
   after_keeps known waiters CanRun h =
       on_cond (High IsHighByHand term) (are_terms_spent known.view) (tells_of s known waiters tells.AskFailed known.view)
-      (tried s Grant (grant known.view) granted) (tells_keep s term known waiters tells.AskFailed known.view h)
+      (tried s Grant (grant s known.view) granted) (tells_keep s term known waiters tells.AskFailed known.view h)
       (grant_keeps granted (λ least result view high. tells_keep s least known waiters (tells.Gained view.sure) view high) known.view h)
     where
       granted : ℕ → ManualView → Deeds TicketAsk ManualLeft

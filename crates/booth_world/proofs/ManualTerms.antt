@@ -1,15 +1,14 @@
 -- No kept term of a manual ticket falls: what its members do, one entry after the other.
-use Rattle.std.proofs.Common.{◌≡◌, ◌≢◌, ◌⊎◌, ⊎_elim, inl, inr, ℕ, zero, suc, ◌+◌, ◌<◌, ◌≤◌, Bool, true, false, List, [], ◌∷◌, ◌++◌, length, refl, sym, ap, ◌∙◌, subst, arith, slice_get, if◌then◌else◌}
-use Rattle.std.specs.Prelude.{Option, Some, None, unwrap_or, bytes_eq, is_ok}
+use Rattle.std.proofs.Common.{◌≡◌, ◌≢◌, ◌⊎◌, ⊎_elim, inl, inr, ℕ, ◌<◌, ◌≤◌, Bool, true, false, List, [], ◌∷◌, ◌++◌, length, refl, sym, ap, ◌∙◌, subst, arith, slice_get, if◌then◌else◌}
+use Rattle.std.specs.Prelude.{Option, Some, bytes_eq, is_ok}
 use Rattle.booth_base.specs.Tree.{Deeds, Ends, Does}
 use Rattle.booth_chain.proofs.NodesLemmas.{same_or_not}
 use Rattle.booth_conf.specs.declared.tickets.TicketConf.{TicketConf}
 use Rattle.booth_rec.specs.declared.record.Record.{Record}
-use Rattle.booth_rec.specs.Record.{no_record, record_or_none}
+use Rattle.booth_rec.specs.Record.{no_record}
 use Rattle.booth_host.specs.declared.entry.Entry.{Entry}
 use Rattle.booth_host.specs.declared.entry.Entry.TheVariants as calls
 use Rattle.booth_wire.specs.declared.message.Setup.{Setup}
-use Rattle.booth_ticket.specs.Ticket.{TicketState}
 use Rattle.booth_node.specs.declared.node_config.NodeConfig.{NodeConfig}
 use Rattle.booth_node.specs.State.{State}
 use Rattle.booth_node.specs.Held.{Moment, may_at}
@@ -236,20 +235,20 @@ module _ (w : World) (is_world : IsWorld w) (place : ℕ) (ticket : TicketConf) 
   Least term before = IsLeast own term (stand_after m before) (may_of before)
 
   -- the ticket stands in the state that a start leaves
-  opened_so : (reading : ℕ) (records : List (Option Record)) → length records ≡ length w.config.tickets
-      → IsPlaced ticket.name place (record_at records place).term (opened (node_at w m) records reading).tickets
-  opened_so reading records all =
+  opened_so : (second : Bool) (reading : ℕ) (records : List (Option Record)) → length records ≡ length w.config.tickets
+      → IsPlaced ticket.name place (record_at records place).term (opened (node_at w m second) records reading).tickets
+  opened_so second reading records all =
       let now : ℕ = start_reading reading in
       let rec : Record = record_at records place in
-      let s : Setup = setup_of (node_at w m) place ticket in
+      let s : Setup = setup_of (node_at w m second) place ticket in
       record {
         ticket = opened_by ticket s rec now;
-        own = started_at (node_at w m) now 0 place w.config.tickets records ticket all there
-            ∙ ap (λ (n : ℕ). Some (opened_by ticket (setup_of (node_at w m) n ticket) rec now)) (omega arith);
+        own = started_at (node_at w m second) now 0 place w.config.tickets records ticket all there
+            ∙ ap (λ (n : ℕ). Some (opened_by ticket (setup_of (node_at w m second) n ticket) rec now)) (omega arith);
         high = subst (λ (b : Bool). IsHigh rec.term (known_at_start b s rec now)) (sym by_hand) (omega arith, refl);
         others = λ other t read ne named.
             let q : (conf : TicketConf) × (slice_get w.config.tickets other ≡ Some conf) × (t.setup.ticket ≡ conf.name) =
-            started_is (node_at w m) now 0 other w.config.tickets records t read in
+            started_is (node_at w m second) now 0 other w.config.tickets records t read in
             names other q.0 q.1 ne (sym q.2 ∙ named);
       }
 
@@ -261,11 +260,11 @@ module _ (w : World) (is_world : IsWorld w) (place : ℕ) (ticket : TicketConf) 
       by_what : (what : SessionEntry) → HasConfiguration w e what → ReadsKept w before e what → MayDo (stand_after m before) what
           → StartsSo own (may_of before) what
       by_what (Starts node reading records) config kept many =
-          let node_is : node ≡ node_at w m = config ∙ ap (λ (n : ℕ). node_at w n) is in
+          let node_is : node ≡ node_at w m node.second = config ∙ ap (λ (n : ℕ). node_at w n node.second) is in
           let all : length records ≡ length w.config.tickets = many ∙ ap (λ (n : NodeConfig). length n.config.tickets) node_is in (
             subst (λ (n : ℕ). Has (may_after_all own (no_record ∷ []) (entries_of n before)) (record_at records place)) is (kept place ticket there),
             subst (λ (n : NodeConfig). IsPlaced ticket.name place (record_at records place).term (opened n records reading).tickets) (sym node_is)
-                (opened_so reading records all),
+                (opened_so node.second reading records all),
           )
       by_what (Makes call) config kept many = tt
       by_what (IsCut call) config kept many = tt

@@ -3,6 +3,7 @@ use Rattle.std.proofs.Common.{◌≡◌, ◌≢◌, ◌⊎◌, inl, inr, ℕ, �
 use Rattle.std.specs.Prelude.{is_some}
 use Rattle.booth_base.specs.Tree.{Deeds, Ends, Does, next}
 use Rattle.booth_conf.specs.Config.{ConfigSays}
+use Rattle.booth_wire.specs.declared.command.Cmd.TheVariants.{Revk}
 use Rattle.booth_wire.specs.declared.command.Direction.TheVariants.{BetweenMembers}
 use Rattle.booth_wire.specs.declared.message.Head.{Head}
 use Rattle.booth_wire.specs.declared.message.TicketPart.{TicketPart}
@@ -88,12 +89,12 @@ sends_next config (place ∷ places) P f (Does (Start job) go) x = absurd x
 sends_next config (place ∷ places) P f (Ends state) x = absurd x
 
 module _ (node : NodeConfig) (s : Setup) where
-  -- After a keep that was done: what the host's tree says first is about the ticket, and the node's deeds begin with it,
-  -- to each other member.
+  -- After a keep that was done: where what the host's tree says first is that a term was given back, it is about the
+  -- ticket, and the node's deeds begin with it, to each other member.
   abbrev pub IsTold : {S : Type 0} → TurnTree → Deeds Ask S → Type 0
   IsTold rest deeds =
       1 < s.members → (letter : MemberLetter) (more : Bool → TurnTree) → rest ≡ Does (Sends letter) more
-      → (letter.part.ticket ≡ s.ticket) × SendsEach node.config (others s) (Repeats letter) deeds
+      → letter.head.cmd ≡ Revk → (letter.part.ticket ≡ s.ticket) × SendsEach node.config (others s) (Repeats letter) deeds
 
   -- What is sent says truly whether there is a key; and where it is a member's message about this ticket, the host's
   -- tree has said it, but for its stamp.
@@ -170,8 +171,8 @@ module _ (node : NodeConfig) (s : Setup) where
         m.1,
         m.2,
         (λ ok. mirrors_next P Q f (sent_by tree sent) (go ok) (m.1 ok) on (m.3 ok)),
-        λ others_are letter rest is.
-            let told = m.4 others_are letter rest is in
+        λ others_are letter rest is revokes.
+            let told = m.4 others_are letter rest is revokes in
             (told.0, sends_next node.config (others s) (Repeats letter) f (go true) told.1),
       )
   mirrors_next P Q f sent (Does (Start job) go) tree on (inl m) = inl (λ ok. mirrors_next P Q f sent (go ok) tree on (m ok))

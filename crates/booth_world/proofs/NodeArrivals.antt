@@ -1,5 +1,5 @@
 -- What an arrival is for one ticket: a member's message that is heard, a client's request, or nothing; and so the whole turn.
-use Rattle.std.proofs.Common.{◌≡◌, ◌≢◌, ◌⊎◌, inl, inr, ℕ, zero, suc, ◌+◌, ◌^◌, ◌<◌, ◌≤◌, Bool, List, ◌∷◌, length, refl, sym, ap, ◌∙◌, subst, arith}
+use Rattle.std.proofs.Common.{◌≡◌, ◌≢◌, ◌⊎◌, inl, inr, ℕ, zero, suc, ◌+◌, ◌^◌, ◌<◌, ◌≤◌, Bool, List, length, refl, sym, subst, arith}
 use Rattle.std.specs.Prelude.{Option, Some, None, is_some, position, Result, Ok, Err}
 use Rattle.std.specs.List.{range_with_len}
 use Rattle.std.specs.Option.{ForSome}
@@ -37,7 +37,7 @@ use Rattle.booth_node.specs.declared.state.Common.{Common}
 use Rattle.booth_node.specs.Befalling.{AttributeAsking, ends_job, is_told, is_asked}
 use Rattle.booth_node.specs.Counting.{dropped, accepted}
 use Rattle.booth_auth.specs.Verdict.{verdict}
-use Rattle.booth_conf.specs.declared.tickets.GrantKind.TheVariants.{Auto, Manual}
+use Rattle.booth_conf.specs.declared.tickets.GrantKind.TheVariants.{Manual}
 use Rattle.booth_node.specs.AttributeRequests.{attr_request_in, is_ready}
 use Rattle.booth_node.proofs.ActionLemmas.{attr_to_client}
 use Rattle.booth_node.specs.Jobs.{handler_at, job_at}

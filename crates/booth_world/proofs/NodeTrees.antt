@@ -8,7 +8,7 @@ use Rattle.booth_base.specs.Tree.{Deeds, Ends, Does, next}
 use Rattle.booth_conf.specs.Config.{ConfigSays}
 use Rattle.booth_conf.specs.declared.members.Member.{Member as MemberConf}
 use Rattle.booth_rec.specs.declared.record.Record.{Record}
-use Rattle.booth_wire.specs.declared.codes.reasons.TheConstants.{ADMN, TLST, LOCF, RACQ}
+use Rattle.booth_wire.specs.declared.codes.reasons.TheConstants.{ADMN, TLST, LOCF}
 use Rattle.booth_wire.specs.declared.command.Cmd.{Cmd}
 use Rattle.booth_wire.specs.declared.command.Cmd.TheVariants.{RGnt, RRvk}
 use Rattle.booth_wire.specs.declared.command.Direction.TheVariants.{BetweenMembers, ToClient}
@@ -23,7 +23,7 @@ use Rattle.booth_auth.specs.Sealed.{stamped_head}
 use Rattle.booth_raft.specs.declared.deed.Want.{Want}
 use Rattle.booth_raft.specs.declared.deed.Want.TheVariants as wants
 use Rattle.booth_raft.specs.declared.view.View.{View}
-use Rattle.booth_raft.specs.AskAndRenew.{acquisition_failed, are_terms_spent, finish, renew}
+use Rattle.booth_raft.specs.AskAndRenew.{are_terms_spent, finish, renew}
 use Rattle.booth_raft.specs.Deadlines.{due_now, greeted, hello}
 use Rattle.booth_raft.specs.GainReleaseLost.{lost, own_end, release}
 use Rattle.booth_raft.specs.Members.{is_promised_elsewhere, is_working}
@@ -50,7 +50,7 @@ use Rattle.booth_ticket.specs.declared.handling.Service.{Service}
 use Rattle.booth_ticket.specs.declared.handling.Service.TheVariants.{CanRun, CannotRun}
 use Rattle.booth_ticket.specs.Acts.{Ask as TicketAsk, Keep as KeepsRecord, Start as StartsJob, Say}
 use Rattle.booth_ticket.specs.Automatic.{Left, end_job, ends, hear_message, take_over, follow, role_due, rule_due, tick}
-use Rattle.booth_ticket.specs.Handling.{acquire, acquires, checks, goes_on, is_job, job_over, leads_on as leads_with, renews, renews_by, works, works_on}
+use Rattle.booth_ticket.specs.Handling.{acquire, acquires, checks, goes_on, is_job, job_over, leads_on as leads_with, renews_by, works, works_on}
 use Rattle.booth_ticket.specs.Keeping.{keep_of, keep_once, say_last, carry_out}
 use Rattle.booth_ticket.specs.Requests.{refused_grant, grant, grant_result, refused_revoke, revoke, revoke_result, replies, reply, reply_cmd, wish}
 use Rattle.booth_ticket.specs.Manual.{ManualKnown, ManualLeft, manual_heard, manual_state}
@@ -64,7 +64,7 @@ use Rattle.booth_ticket.specs.Ticket.{TicketLeft, Known, Automatic, Manual, by_h
 use Rattle.booth_node.specs.declared.node_config.NodeConfig.{NodeConfig}
 use Rattle.booth_node.specs.declared.state.Common.{Common}
 use Rattle.booth_node.specs.Counting.{with_send}
-use Rattle.booth_node.specs.Jobs.{job_of, number_after, with_start}
+use Rattle.booth_node.specs.Jobs.{number_after, with_start}
 use Rattle.booth_node.specs.Reaction.{Ask, peer_at, peer_of, sent_as, sends, lifted}
 use Rattle.booth_world.specs.Facts.{Has}
 use Rattle.booth_world.specs.Rules.{MemberLetter}
@@ -235,7 +235,7 @@ module _ (s : Setup) (now : ℕ) where
   speaks_leads view CanRun =
       on_cond (Speaks s) (nat_le (own_end view) now) (telling (lost s view now) tells.Lost) (renew s view now) tt (rules_speak.renewed s view now)
   speaks_leads view CannotRun =
-      on_cond (Speaks s) (nat_le (own_end view) now) (telling (lost s view now) tells.Lost) (release view LOCF now) tt
+      on_cond (Speaks s) (nat_le (own_end view) now) (telling (lost s view now) tells.Lost) (release s view LOCF now) tt
       (rules_speak.released s view LOCF now)
 
   speaks_over : (view : View) (job : ℕ) (service : Service) → Speaks s (job_over s view job service now)
@@ -272,7 +272,7 @@ module _ (s : Setup) (now : ℕ) where
       → Minds Any s.ticket (revoke s view refused now (replies s waiters request RRvk now))
   minds_revoke view waiters request (Some result) = minds_replies waiters request RRvk result (quiet view) refl
   minds_revoke view waiters request None =
-      minds_carried s Any None now (release view ADMN now) (λ o. replies s waiters request RRvk now (revoke_result o.deed.told) o)
+      minds_carried s Any None now (release s view ADMN now) (λ o. replies s waiters request RRvk now (revoke_result o.deed.told) o)
       (rules_speak.released s view ADMN now) (λ o. minds_replies waiters request RRvk (revoke_result o.deed.told) o refl)
 
   pub minds_wish : (view : View) (waiters : List Waiter) (spare : ℕ) (ready : Bool) (job : Option ℕ) (request : Request) (w : Wish)
@@ -308,7 +308,7 @@ module _ (s : Setup) (now : ℕ) where
       → ((result : ℕ) (known : ManualKnown) → Minds AnyKnown s.ticket (rest result known))
       → Minds AnyKnown s.ticket (begun_by_hand s known job wish now rest)
   minds_begun known None wish rest on =
-      minds_tried wish (tries_for known.view wish) (λ result view. rest result (record known { view = view }))
+      minds_tried wish (tries_for s known.view wish) (λ result view. rest result (record known { view = view }))
       (λ result view. on result (record known { view = view }))
   minds_begun known (Some number) wish rest on = minds_waits known number rest on
 
@@ -329,8 +329,8 @@ module _ (s : Setup) (now : ℕ) where
       → Minds AnyKnown s.ticket (grants_after s known.view service (tells_of s known waiters))
   minds_after known waiters CanRun =
       on_cond (Minds AnyKnown s.ticket) (are_terms_spent_by_hand known.view) (tells_of s known waiters tells.AskFailed known.view)
-      (tried s Grant (grant_by_hand known.view) granted) (minds_tells known waiters tells.AskFailed known.view)
-      (minds_tried Grant (grant_by_hand known.view) granted (λ result view. minds_tells known waiters (tells.Gained view.sure) view))
+      (tried s Grant (grant_by_hand s known.view) granted) (minds_tells known waiters tells.AskFailed known.view)
+      (minds_tried Grant (grant_by_hand s known.view) granted (λ result view. minds_tells known waiters (tells.Gained view.sure) view))
     where
       granted : ℕ → ManualView → Deeds TicketAsk ManualLeft
       granted result view = tells_of s known waiters (tells.Gained view.sure) view
@@ -466,8 +466,8 @@ module _ (s : Setup) (node : NodeConfig) (moment : ℕ) {S : Type 0} (Q : List M
         m.0,
         m.1,
         (λ ok. own_lifted all common few (sent_by tree sent) (go ok) (m.0 ok) rest (m.2 ok)),
-        λ others_are letter more is.
-            let told = m.3 others_are letter more is in (
+        λ others_are letter more is revokes.
+            let told = m.3 others_are letter more is revokes in (
               told.0,
               lifted_says (others s) common letter (go true) rest
                   (λ place h. subst (λ (n : ℕ). place < n) all (others_below s place h)) told.1,

@@ -7,7 +7,7 @@ use Rattle.booth_node.specs.World.{HasForm, HasTrueClocks, IsWorld, entries_of, 
 use Rattle.booth_node.specs.Held.{Moment}
 use Rattle.booth_world.specs.Premises.{HoldsAt}
 use Rattle.booth_world.specs.WorldExamples.{alone, one_holds, grant_it, lease, web}
-use Rattle.booth_world.proofs.AlongWorlds.{at_each, reads_true, only_web, from_client, is_read_below}
+use Rattle.booth_world.proofs.AlongWorlds.{at_each, versions_first, reads_true, only_web, from_client, is_read_below}
 use Rattle.booth_world.proofs.WorldParts.{one_sound, has_form, exact_clocks}
 
 one_form : HasForm one_holds
@@ -37,6 +37,7 @@ one_is_world = record {
   one_configuration = at_each one_holds _ (refl, (tt, (tt, (tt, (tt, tt)))));
   true_clocks = one_clocks;
   records_return = one_reads;
+  versions_rise = versions_first one_holds refl;
   members_speak = one_hears;
   one_daemon = one_daemon;
 }

@@ -39,13 +39,13 @@ use Rattle.booth_ticket.specs.declared.handling.Service.{Service}
 use Rattle.booth_ticket.specs.declared.handling.Service.TheVariants.{CanRun, CannotRun}
 use Rattle.booth_ticket.specs.Acts.{Ask, Start}
 use Rattle.booth_ticket.specs.Automatic.{Left, end_job, ends, hear_message, take_over, follow, rule_due, role_due, tick}
-use Rattle.booth_ticket.specs.Handling.{acquire, acquires as acquires_by, checks, goes_on, is_job, job_over, leads_on as leads_with, renews as renews_with, renews_by, renews_or_releases, works, works_on}
+use Rattle.booth_ticket.specs.Handling.{acquire, acquires as acquires_by, checks, goes_on, is_job, leads_on as leads_with, renews as renews_with, renews_by, renews_or_releases, works, works_on}
 use Rattle.booth_ticket.specs.Keeping.{carry_out}
 use Rattle.booth_ticket.specs.Requests.{is_holder, is_shown_elsewhere, refused_grant, grant, grant_result, refused_revoke, revoke, revoke_result, replies, reply, wish}
 use Rattle.booth_ticket.specs.declared.waiters.Waiter.{Waiter}
 use Rattle.booth_ticket.specs.Waiting.{joined, result_for, staying, tell_each, tell_one, waits}
 use Rattle.booth_world.specs.Rules.{MemberLetter, Asks, Hears, Greets, MeetsDeadline, MakesNote, RenewsLease, GivesBack}
-use Rattle.booth_world.specs.Turns.{AsksElse, TurnTree, keeps_of, says_last, says_of, deeds_of, call_tree, Plan, Calls, Waits, plan_tree, LeavesAlways, MayPlan}
+use Rattle.booth_world.specs.Turns.{TurnTree, keeps_of, says_last, says_of, deeds_of, call_tree, Plan, Calls, Waits, plan_tree, LeavesAlways, MayPlan}
 use Rattle.booth_world.proofs.RuleKeeps.{Awaits, hear_awaits, due_awaits, renew_awaits}
 use Rattle.booth_world.proofs.Mirrors.{IsKept, later}
 use Rattle.booth_world.proofs.Echoes.{Echoes, said, carried}
@@ -461,10 +461,10 @@ module _ (s : Setup) (now most : ℕ) where
     asked_anew reason view rest sent then_so = by_test (are_terms_spent view)
       where
         by_test : (b : Bool)
-            → Echoes s P sent (carry_out s None now (if b then telling (acquisition_failed s view now) tells.AskFailed else ask view reason now) rest)
+            → Echoes s P sent (carry_out s None now (if b then telling (acquisition_failed s view now) tells.AskFailed else ask s view reason now) rest)
             (plan_tree s now view (if b then Calls (MakesNote notes.AskFailed) go else Calls (Asks reason) go))
         by_test true = then_so (telling (acquisition_failed s view now) tells.AskFailed) sent
-        by_test false = called None (ask view reason now) rest sent go tt then_so
+        by_test false = called None (ask s view reason now) rest sent go tt then_so
 
     -- a handler is started, and the plan is told its number
     started_so : (h : List ℕ) (expires : ℕ) (view : View) (outcome : Bool → Outcome) (starts : ℕ → Plan) (fails : Plan) (rest : Outcome → Deeds Ask Left)
@@ -506,7 +506,7 @@ module _ (s : Setup) (now most : ℕ) where
             started_so h (own_end view / 1000) view (checks s view number now) (λ job. Calls (MakesNote (notes.JobStarted job RACQ)) go)
             (Calls (GivesBack LOCF) go) rest sent
             (λ sent'. then_so (quiet (noted s view now (notes.JobStarted number RACQ))) sent')
-            (λ sent'. called None (release view LOCF now) rest sent' go tt then_so)
+            (λ sent'. called None (release s view LOCF now) rest sent' go tt then_so)
 
         by_site : (b : Bool)
             → Echoes s P sent (renews_by s view (if b then job_now else None) now (carries rest)) (plan_tree s now view (renews_plan most (if b then handler else None) go))
@@ -577,7 +577,7 @@ module _ (s : Setup) (now most : ℕ) where
     goes_so : (service : Service) (view : View) (rest : Outcome → Deeds Ask Left) (sent : List MemberLetter) → ThenSo rest
         → Echoes s P sent (carries rest (renews_or_releases s view service now)) (plan_tree s now view (goes_on_plan service go))
     goes_so CanRun view rest sent then_so = called None (renew s view now) rest sent go (renew_awaits s view now) then_so
-    goes_so CannotRun view rest sent then_so = called None (release view LOCF now) rest sent go tt then_so
+    goes_so CannotRun view rest sent then_so = called None (release s view LOCF now) rest sent go tt then_so
 
     led_on : (service : Service) (view : View) (rest : Outcome → Deeds Ask Left) (sent : List MemberLetter) → ThenSo rest → view.role ≡ Leader
         → Echoes s P sent (carries rest (leads_with s view service now)) (plan_tree s now view (leads_plan now service go view))
@@ -649,7 +649,7 @@ module _ (s : Setup) (now most : ℕ) where
         → Echoes s P sent (revoke s view refused now (replies s waiters request RRvk now)) (plan_tree s now view (revoke_plan go view refused))
     revoked view waiters request (Some result) sent = replied waiters request RRvk result (quiet view) sent refl
     revoked view waiters request None sent =
-        called None (release view ADMN now)
+        called None (release s view ADMN now)
         (λ o. replies s waiters request RRvk now (revoke_result o.deed.told) o) sent go tt
         (λ o sent'. replied waiters request RRvk (revoke_result o.deed.told) o sent' refl)
 

@@ -5,10 +5,10 @@ use Rattle.booth_wire.specs.Layout.{word, padded_to}
 use Rattle.booth_node.specs.Session.{AreSessions, Down}
 use Rattle.booth_node.specs.World.{HasForm, entries_of}
 use Rattle.booth_node.specs.Held.{Moment}
-use Rattle.booth_world.specs.Premises.{Premise, OneConfiguration, TrueClocks, RecordsReturn, MembersSpeak, OneDaemon, Meets, IsWorldBut, TwoHold}
+use Rattle.booth_world.specs.Premises.{Premise, OneConfiguration, TrueClocks, RecordsReturn, VersionsRise, MembersSpeak, OneDaemon, Meets, IsWorldBut, TwoHold}
 use Rattle.booth_world.specs.WorldExamples.{site_one, site_two, two_sites, web, lease}
 use Rattle.booth_world.specs.PremiseExamples.{with_foreign_records, with_forged_votes}
-use Rattle.booth_world.proofs.AlongWorlds.{◌&◌, at_each, reads_true, only_web, is_read_below}
+use Rattle.booth_world.proofs.AlongWorlds.{◌&◌, at_each, versions_first, reads_true, only_web, is_read_below}
 use Rattle.booth_world.proofs.WorldParts.{two_sound, has_form, exact_clocks, asks_votes_fit, is_open_fits}
 
 -- ---- records that were never kept
@@ -22,6 +22,7 @@ foreign_meets : (premise : Premise) → premise ≢ RecordsReturn → Meets with
 foreign_meets OneConfiguration other = at_each with_foreign_records _ (refl, (refl, tt))
 foreign_meets TrueClocks other = exact_clocks two_sites _ (sym (reads_true 60000 0 (omega arith)), (sym (reads_true 60000 0 (omega arith)), tt))
 foreign_meets RecordsReturn other = absurd (other refl)
+foreign_meets VersionsRise other = versions_first with_foreign_records refl
 foreign_meets MembersSpeak other = at_each with_foreign_records _ (tt, (tt, tt))
 foreign_meets OneDaemon other = foreign_daemons
 
@@ -128,6 +129,7 @@ forged_meets RecordsReturn other =
     & tt
     & tt
     & tt)
+forged_meets VersionsRise other = versions_first with_forged_votes refl
 forged_meets MembersSpeak other = absurd (other refl)
 forged_meets OneDaemon other = forged_daemons
 

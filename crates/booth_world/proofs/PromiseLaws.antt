@@ -7,12 +7,12 @@ use native.Mathlib.Nat.{le_of_eq, le_refl}
 use native.Mathlib.Decide.{ℕ_discrete}
 use Rattle.booth_node.specs.Clock.{Cluster, promise_time}
 use Rattle.booth_world.specs.Facts.{Has, Round, Answer, Release, Facts}
-use Rattle.booth_world.specs.States.{Promise, MemberState}
-use Rattle.booth_world.specs.Rounds.{MayPromise, round_left, new_promise, new_answer}
+use Rattle.booth_world.specs.States.{Pledge, Promise, MemberState}
+use Rattle.booth_world.specs.Rounds.{MayPromise, MayAddAnswer, round_left, new_promise, new_answer}
 use Rattle.booth_world.specs.Steps.{Promises, Answers, member_after}
 use Rattle.booth_world.proofs.Lists.{new_or_old, none_is, some_same}
-use Rattle.booth_world.proofs.Invariant.{Freed, Covers, StateGuard, Guard, Stands, PromiseGood, AnswerGood, AnswerFact, Apart}
-use Rattle.booth_world.proofs.Stays.{Law, facts_stay, not_up, stands_by}
+use Rattle.booth_world.proofs.Invariant.{Freed, Covers, StateGuard, RecordsCover, Guard, Stands, PromiseGood, PledgesGood, AnswerGood, AnswerFact, Apart}
+use Rattle.booth_world.proofs.Stays.{Law, facts_stay, not_up, stands_by, stands_beside}
 
 round_kept : (m s t : ℕ) (x : MemberState) (r : Round) → round_left m x s t ≡ Some r → (x.round ≡ Some r) × (x.term ≡ t)
 round_kept m s t x r e = go (s == m) (nat_eq x.term t) refl e
@@ -55,11 +55,13 @@ promises c now f m x s t i g below may =
       round = λ r e. let p = round_kept m s t x r e in let q = i.round r p.0 in record { site = q.site; same = q.same ∙ p.1; fact = q.fact; above = q.above; last = λ z h e t. q.last z h e t };
       lease = i.lease;
       promise = λ p e. let q = some_same _ p e in record { within = le_of_eq (ap (λ (y : Promise). y.term) (sym q)); rested = may.rested };
-      answers = λ a h e. let b = i.answers a h e in record { past = b.past; stands = stands_by c f.releases a x.reading (Guard c a x) (Guard c a (member_after c 0 m x (Promises s t))) (promise_stands c f.releases a x m s t rise may i.promise b.past) b.stands };
+      within = record { bound_below = λ b e. subst (λ (b : ℕ). b < c.members) (some_same s b e) may.below; promise_below = λ p e. subst (λ (p : Promise). p.to < c.members) (some_same _ p e) may.below };
+      pledges = i.pledges;
+      answers = λ a h e. let b = i.answers a h e in record { past = b.past; stands = stands_beside c f.releases a x.reading (StateGuard c a x) (StateGuard c a (member_after c 0 m x (Promises s t))) (RecordsCover c a x.may) (promise_stands c f.releases a x m s t rise may i.promise b.past) b.stands };
     })
 
 -- answer
-answer_apart :
+pub answer_apart :
     (c : Cluster) (z : List Release) (b : Answer) (x : MemberState) (site : ℕ) (given : Promise)
     → x.up ≡ true → x.promise ≡ Some given → given.to ≡ site → b.round.site ≢ site
     → PromiseGood x.term x.reading x.abstain given
@@ -71,16 +73,29 @@ answer_apart c z b x site given up e to other good (Stands.Guarded (inl h)) = ab
 answer_apart c z b x site given up e to other good (Stands.Guarded (inr (Covers.Abstains h))) = let l = good.rested in inl (omega arith)
 answer_apart c z b x site given up e to other good (Stands.Guarded (inr (Covers.Promised p q pto term until))) = absurd (other (sym pto ∙ ap (λ (y : Promise). y.to) (some_same p given (sym q ∙ e)) ∙ to))
 
+-- each record of version 2 that may be kept covers the answer
+records_cover :
+    (c : Cluster) (f : Facts) (m : ℕ) (x : MemberState) (r : Round) (given : Promise)
+    → PledgesGood c.members x.second x.reading x.may → MayAddAnswer c f x r given → RecordsCover c (new_answer m x r) x.may
+records_cover c f m x r given good may k h p e = by_version x.second refl
+  where
+    by_version : (b : Bool) → x.second ≡ b → Covers c (new_answer m x r) p.abstain p.promise
+    by_version true second =
+        let q = may.kept second k h in
+        subst (λ (y : Pledge). Covers c (new_answer m x r) y.abstain y.promise) (some_same q.pledge p (sym q.second ∙ e))
+        (Covers.Promised q.given q.stands q.to (le_of_eq (sym q.for_term)) q.long)
+    by_version false first = absurd (none_is p (sym (good.first first k h) ∙ e))
+
 pub answers : (c : Cluster) (now : ℕ) (f : Facts) (m : ℕ) (x : MemberState) (r : Round) (given : Promise) → Law c now f m x (Answers r given)
 answers c now f m x r given i g below may =
     let new : Answer = new_answer m x r in
     let good = i.promise given may.stands in
     let here : AnswerGood c f.releases new x.reading (Guard c new x) = record {
       past = le_refl _;
-      stands = Stands.Guarded (inr (Covers.Promised given may.stands may.to (le_of_eq (sym may.for_term)) may.long));
+      stands = Stands.Guarded (inr (Covers.Promised given may.stands may.to (le_of_eq (sym may.for_term)) may.long), records_cover c f m x r given i.pledges may);
     } in
     let apart : (b : Answer) → Has f.answers b → b.member ≡ m → b.round.site ≢ r.site → (b.reading + promise_time c ≤ x.reading) ⊎ Freed f.releases b.round
-    = λ b h e other. answer_apart c f.releases b x r.site given may.up may.stands may.to other good (i.answers b h e).stands in
+    = λ b h e other. answer_apart c f.releases b x r.site given may.up may.stands may.to other good (stands_by c f.releases b x.reading (Guard c b x) (StateGuard c b x) (λ q. Stands.Guarded q.0) (i.answers b h e).stands) in
     record {
       self = record {
         clock = i.clock;
@@ -89,6 +104,8 @@ answers c now f m x r given i g below may =
         round = i.round;
         lease = i.lease;
         promise = i.promise;
+        within = i.within;
+        pledges = i.pledges;
         answers = new_or_old (λ (a : Answer). a.member ≡ m → AnswerGood c f.releases a x.reading (Guard c a x)) new f.answers (λ _. here) i.answers;
       };
       others = λ k y other j. record {
@@ -98,6 +115,8 @@ answers c now f m x r given i g below may =
         round = j.round;
         lease = j.lease;
         promise = j.promise;
+        within = j.within;
+        pledges = j.pledges;
         answers = new_or_old (λ (a : Answer). a.member ≡ k → AnswerGood c f.releases a y.reading (Guard c a y)) new f.answers (λ e. absurd (other (sym e))) j.answers;
       };
       facts = record {

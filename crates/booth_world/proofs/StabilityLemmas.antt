@@ -1,5 +1,5 @@
 -- A member's agreement stays while others step.
-use Rattle.std.proofs.Common.{List, ◌++◌, ◌∷◌, ◌≢◌, ◌≡◌, ℕ, Bool, true, false, cond, refl, sym, subst, inr, arith, [], ◌∙◌}
+use Rattle.std.proofs.Common.{List, ◌++◌, ◌∷◌, ◌≢◌, ◌≡◌, ℕ, Bool, true, false, cond, refl, sym, ap, subst, inr, arith, [], ◌∙◌}
 use Rattle.std.specs.Prelude.{◌==◌}
 use Rattle.std.proofs.lemmas.Bool.Decides.{nat_tests}
 use Rattle.booth_base.specs.declared.address.MemberId.{MemberId}
@@ -7,21 +7,24 @@ use Rattle.booth_wire.specs.declared.command.Cmd.{Cmd}
 use Rattle.booth_wire.specs.declared.command.Cmd.TheVariants as cmds
 use Rattle.booth_wire.specs.declared.message.Head.{Head}
 use Rattle.booth_wire.specs.declared.message.TicketPart.{TicketPart}
+use Rattle.booth_raft.specs.declared.view.Rule.{Rule}
+use Rattle.booth_raft.specs.declared.view.Rule.TheVariants as rules
 use Rattle.booth_raft.specs.declared.view.View.{View}
 use Rattle.booth_node.specs.Clock.{Cluster}
 use Rattle.booth_world.specs.Facts.{Has, Round, Answer, Release, Facts}
 use Rattle.booth_world.specs.States.{MemberState, WorldState}
-use Rattle.booth_world.specs.Steps.{MemberStep, WorldStep, Elects, Renews, Promises, Answers, Gains, TriesKeep, HasKept, Releases, Clears, Learns, Crashes, Starts, ReadsClock, MemberDoes, Passes, member_after, facts_after, happens, IsRun, after_steps, world_of}
-use Rattle.booth_world.specs.Agreement.{Agrees}
+use Rattle.booth_world.specs.Steps.{MemberStep, WorldStep, Elects, Renews, Promises, Answers, Gains, TriesKeep, HasKept, Releases, Clears, Learns, Crashes, Starts, ReadsClock, MemberDoes, Passes, member_after, facts_after, happens, IsRun, AreSecond, after_steps, world_of}
+use Rattle.booth_world.specs.Agreement.{IsSeated, IsAsked, Agrees}
 use Rattle.booth_world.specs.Messages.{IsFact}
-use Rattle.booth_world.specs.MemberRuns.{world_steps, member_after_all}
+use Rattle.booth_world.specs.MemberRuns.{world_steps, member_after_all, AreStartsOf}
 use Rattle.booth_world.specs.Lives.{reading_clock}
 use Rattle.booth_world.specs.Gives.{IsReached, AddsOnly}
 use Rattle.booth_world.specs.Calls.{Caller, IsMember, mark_at}
 use Rattle.booth_world.specs.Stability.{AgreementStays, CallsLeadOn, IsOthers, AreOthers, RunsAppend, MembersStay}
 use Rattle.booth_world.specs.States.{opening}
-use Rattle.booth_world.proofs.Views.{asked_on}
+use Rattle.booth_world.proofs.Views.{asked_more}
 use Rattle.booth_world.proofs.CallSteps.{steps_of_one, put_same}
+use Rattle.booth_world.proofs.Lists.{none_is}
 use Rattle.booth_world.proofs.Later.{run_first, run_second, after-append}
 
 -- facts that were added to
@@ -45,7 +48,7 @@ step_adds now m x Releases f = record { rounds = λ r h. h; answers = λ a h. h;
 step_adds now m x (Clears release) f = all_there f
 step_adds now m x (Learns term) f = all_there f
 step_adds now m x Crashes f = all_there f
-step_adds now m x (Starts kept) f = all_there f
+step_adds now m x (Starts kept second) f = all_there f
 step_adds now m x ReadsClock f = all_there f
 
 adds : (c : Cluster) (w : WorldState) (step : WorldStep) → More w.facts (happens c w step).facts
@@ -81,8 +84,7 @@ agrees_on c id_of f f' m view x more a = record {
     answered = λ place h. let q = o.answered place h in (q.0, more.answers q.0 q.1, q.2, q.3);
   };
   tried = a.tried;
-  asked = λ w e. asked_on f f' x x view w.rule (a.asked w e);
-  keeping = a.keeping;
+  asked = λ w e. asked_more c id_of f f' m x view w.rule more.rounds (a.asked w e);
   active = a.active;
   repeated = λ h. let q = a.repeated h in (q.0, more.releases q.0 q.1, q.2, q.3);
 }
@@ -95,6 +97,16 @@ others_stay c w m (MemberDoes k step) other = by_test (m == k) refl
     by_test true e = absurd (other (grind (arith, nat_tests)))
     by_test false e = refl
 
+-- what is asked of a view stays while its member reads its clock, where that is of version 1
+asked_read : (c : Cluster) (id_of : ℕ → MemberId) (f : Facts) (m now : ℕ) (view : View) (x : MemberState) (rule : Rule) → (x.second ≡ true → ⊥)
+    → IsAsked c id_of f m x view rule → IsAsked c id_of f m (reading_clock c now m x) view rule
+asked_read c id_of f m now view x rules.Gain first a = a
+asked_read c id_of f m now view x (rules.Ask reason) first a = (a.0, a.1, a.2, λ second. absurd (first second))
+asked_read c id_of f m now view x (rules.Release reason) first a = a
+asked_read c id_of f m now view x rules.EndRound first a = a
+asked_read c id_of f m now view x (rules.Renew number) first a = (a.0, a.1, a.2, λ second. absurd (first second))
+asked_read c id_of f m now view x (rules.Answer kind to number request told) first a = absurd (first a.in_second)
+
 pub agreement_stays : AgreementStays
 agreement_stays = record {
   unmoved = others_stay;
@@ -102,7 +114,7 @@ agreement_stays = record {
       subst (λ (x : MemberState). Agrees c id_of (happens c w step).facts m view x) (sym (others_stay c w m step other))
       (agrees_on c id_of w.facts (happens c w step).facts m view (w.member m) (adds c w step) a);
   said_on = λ c id_of w step s head part cmd said. fact_stays id_of s w.facts (happens c w step).facts head part cmd (adds c w step) said;
-  clock_read = λ c id_of f m now view x a. record {
+  clock_read = λ c id_of f m now view x none a. record {
     up = a.up;
     term = a.term;
     bound = a.bound;
@@ -111,9 +123,8 @@ agreement_stays = record {
     within = a.within;
     kept = a.kept;
     round = a.round;
-    tried = a.tried;
-    asked = λ w e. asked_on f f x (reading_clock c now m x) view w.rule (a.asked w e);
-    keeping = a.keeping;
+    tried = λ w e. let t = a.tried w e in record { kept = t.kept; may = t.may; same = t.same; pledge = t.pledge };
+    asked = λ w e. asked_read c id_of f m now view x w.rule (λ second. none_is w (sym (none second) ∙ e)) (a.asked w e);
     active = a.active;
     repeated = a.repeated;
   };
@@ -142,21 +153,26 @@ said_by_all c id_of w m [] s head part cmd said = said
 said_by_all c id_of w m (step ∷ steps) s head part cmd said =
     said_by_all c id_of (happens c w (MemberDoes m step)) m steps s head part cmd (agreement_stays.said_on c id_of w (MemberDoes m step) s head part cmd said)
 
+starts_second : (m : ℕ) (steps : List MemberStep) → AreStartsOf true steps → AreSecond (world_steps m steps)
+starts_second m [] so = tt
+starts_second m (step ∷ steps) so = (so.0, starts_second m steps so.1)
+
 pub calls_lead_on : CallsLeadOn
-calls_lead_on c id_of w m given below gives =
+calls_lead_on c id_of w m second given below gives =
     let one = steps_of_one c w m gives.steps below gives.run in
     let after = after_steps c w (world_steps m gives.steps) in (
       world_steps m gives.steps,
       one.0,
       record {
-        reached = subst (λ (x : MemberState). IsReached c id_of (mark_at w m) given after.facts x) (sym one.1)
-            (subst (λ (f : Facts). IsReached c id_of (mark_at w m) given f (member_after_all c w.now m (w.member m) gives.steps)) (sym one.2) gives.reached);
-        adds = subst (λ (f : Facts). AddsOnly (mark_at w m) given.releases w.facts f) (sym one.2) gives.adds;
+        reached = subst (λ (x : MemberState). IsReached c id_of (record (mark_at w m) { second = second }) given after.facts x) (sym one.1)
+            (subst (λ (f : Facts). IsReached c id_of (record (mark_at w m) { second = second }) given f (member_after_all c w.now m (w.member m) gives.steps)) (sym one.2) gives.reached);
+        adds = subst (λ (f : Facts). AddsOnly (record (mark_at w m) { second = second }) given.releases w.facts f) (sym one.2) gives.adds;
         same_time = time_stays c w m gives.steps;
         unmoved = λ k other. unmoved_by_all c w m k gives.steps other;
         others_agree = λ k view other a. agree_on c id_of w m k view gives.steps other a;
         said_on = λ s head part cmd said. said_by_all c id_of w m gives.steps s head part cmd said;
       },
+      λ is. starts_second m gives.steps (subst (λ (b : Bool). AreStartsOf b gives.steps) is gives.starts_so),
     )
 
 -- ---- one run after another
@@ -178,11 +194,12 @@ agrees_by_all c id_of w m view [] others a = a
 agrees_by_all c id_of w m view (step ∷ more) others a =
     agrees_by_all c id_of (happens c w step) m view more others.1 (agreement_stays.agreed c id_of w m view step others.0 a)
 
-member_on : (c : Cluster) (w z : WorldState) (a : Caller) → IsMember c w a → Agrees c a.id_of z.facts a.place a.view (z.member a.place) → IsMember c z a
-member_on c w z a i agrees = record {
+member_on : (c : Cluster) (w z : WorldState) (a : Caller) → IsMember c w a → (z.member a.place).second ≡ (w.member a.place).second
+    → Agrees c a.id_of z.facts a.place a.view (z.member a.place) → IsMember c z a
+member_on c w z a i version agrees = record {
   ids = i.ids;
   below = i.below;
-  seated = i.seated;
+  seated = subst (λ (b : Bool). IsSeated c a.id_of a.place b a.setup) (sym version) i.seated;
   sound = i.sound;
   view_facts = i.view_facts;
   agrees = agrees;
@@ -194,11 +211,13 @@ members_stay = record {
   is_member = λ c steps more a others i.
       subst (λ (w : WorldState). IsMember c w a) (sym (after-append c (opening c) steps more))
       (member_on c (world_of c steps) (after_steps c (world_of c steps) more) a i
+      (ap (λ (x : MemberState). x.second) (stays_by_all c (world_of c steps) a.place more others))
       (agrees_by_all c a.id_of (world_of c steps) a.place a.view more others i.agrees));
-  is_member_later = λ c steps a i.
+  is_member_later = λ c steps a none i.
       let w = world_of c steps in
       subst (λ (w : WorldState). IsMember c w a) (sym (after-append c (opening c) steps (MemberDoes a.place ReadsClock ∷ [])))
       (member_on c w (happens c w (MemberDoes a.place ReadsClock)) a i
+      (ap (λ (x : MemberState). x.second) (put_same w.member a.place (reading_clock c w.now a.place (w.member a.place))))
       (subst (λ (x : MemberState). Agrees c a.id_of w.facts a.place a.view x) (sym (put_same w.member a.place (reading_clock c w.now a.place (w.member a.place))))
-      (agreement_stays.clock_read c a.id_of w.facts a.place w.now a.view (w.member a.place) i.agrees)));
+      (agreement_stays.clock_read c a.id_of w.facts a.place w.now a.view (w.member a.place) none i.agrees)));
 }

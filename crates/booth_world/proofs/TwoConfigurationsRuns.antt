@@ -5,10 +5,10 @@ use Rattle.booth_wire.specs.Layout.{word, padded_to}
 use Rattle.booth_node.specs.Session.{AreSessions, Down}
 use Rattle.booth_node.specs.World.{HasForm, entries_of}
 use Rattle.booth_node.specs.Held.{Moment}
-use Rattle.booth_world.specs.Premises.{Premise, OneConfiguration, TrueClocks, RecordsReturn, MembersSpeak, OneDaemon, Meets, IsWorldBut, TwoHold}
+use Rattle.booth_world.specs.Premises.{Premise, OneConfiguration, TrueClocks, RecordsReturn, VersionsRise, MembersSpeak, OneDaemon, Meets, IsWorldBut, TwoHold}
 use Rattle.booth_world.specs.WorldExamples.{two_sites, web, lease, grant_it}
 use Rattle.booth_world.specs.PremiseExamples.{with_two_configurations}
-use Rattle.booth_world.proofs.AlongWorlds.{◌&◌, at_each, reads_true, only_web, from_client, is_read_below}
+use Rattle.booth_world.proofs.AlongWorlds.{◌&◌, at_each, versions_first, reads_true, only_web, from_client, is_read_below}
 use Rattle.booth_world.proofs.WorldParts.{two_sound, has_form, exact_clocks}
 
 first_session : AreSessions Down (entries_of 0 with_two_configurations.entries)
@@ -95,6 +95,7 @@ meets RecordsReturn other =
     & tt
     & tt
     & tt)
+meets VersionsRise other = versions_first with_two_configurations refl
 meets MembersSpeak other = messages
 meets OneDaemon other = one_daemon
 

@@ -33,18 +33,18 @@ use Rattle.booth_node.specs.Reaction.{Send, Keep, Start, used}
 use Rattle.booth_node.specs.Records.{Has as Holds, TicketPlace, may_after, may_after_all, record_at}
 use Rattle.booth_node.specs.Session.{CutSend, SessionEntry, Starts, Makes, IsCut, Stand, Down, Doing, Hearing, MayMake, MayDo, after_call, after_entry, AreSessions, after_entries}
 use Rattle.booth_node.specs.State.{State}
-use Rattle.booth_node.specs.World.{WorldEntry, World, members_of, id_at, node_at, entries_of, last_time, HasConfiguration, ReadsClock, ReadsKept, IsSend, WasSent, HearsSent, stand_after, IsWorld}
+use Rattle.booth_node.specs.World.{WorldEntry, World, members_of, id_at, node_at, entries_of, last_time, HasConfiguration, ReadsClock, ReadsKept, WasSecond, StaysSecond, IsSend, WasSent, HearsSent, stand_after, IsWorld}
 use Rattle.booth_world.specs.Facts.{Has, Release}
 use Rattle.booth_world.specs.Rules.{MemberLetter}
 use Rattle.booth_world.specs.Turns.{Keeps, TurnTree}
 use Rattle.booth_world.specs.Hosts.{HostEntry, LetsPass, HostPlace, Hosts, AreHosted, hosts_after}
 use Rattle.booth_world.specs.HostLaws.{IsHostReleaseIn}
-use Rattle.booth_world.specs.Shadows.{stands_last, IsNextAt, IsComing}
+use Rattle.booth_world.specs.Shadows.{stands_last, IsNextAt, IsComing, second_after, second_after_all, is_second_at}
 use Rattle.booth_world.proofs.Lists.{none_is, some_same}
 use Rattle.booth_world.proofs.Mirrors.{sent_by, SentMore, IsSpoken}
 use Rattle.booth_world.proofs.NodeArrivals.{IsLetIn}
-use Rattle.booth_world.proofs.CoreReads.{ReadsIn}
-use Rattle.booth_world.proofs.WorldSteps.{Trace, Frees, Reads, IsTrace, Setting, equal_bytes, cluster, setup_at, cast, own_ticket, own_place_is, StandsAt, next_at, AtCut, Shows, shows_more, Steps}
+use Rattle.booth_world.proofs.CoreReads.{ReadsIn, StartsIn}
+use Rattle.booth_world.proofs.WorldSteps.{Trace, Frees, Reads, Begins, IsTrace, Setting, equal_bytes, cluster, setup_at, cast, own_ticket, own_place_is, StandsAt, next_at, AtCut, Shows, shows_more, Steps}
 use Rattle.booth_world.proofs.WorldEntries.{read_by, used_is, HearsGoodAt, ReadsHere, makes, cuts, starts}
 
 -- ---- lists of entries
@@ -87,6 +87,18 @@ pub may_join : (ticket : TicketPlace) (may : List Record) (xs ys : List SessionE
 may_join ticket may [] ys = refl
 may_join ticket may (x ∷ xs) ys = may_join ticket (may_after ticket may x) xs ys
 
+second_join : (second : Bool) (xs ys : List SessionEntry)
+    → second_after_all second (xs ++ ys) ≡ second_after_all (second_after_all second xs) ys
+second_join second [] ys = refl
+second_join second (x ∷ xs) ys = second_join (second_after second x) xs ys
+
+-- a member whose last session is of version 2 started in it
+was_second : (second : Bool) (xs : List SessionEntry) → second_after_all second xs ≡ true → (second ≡ true) ⊎ WasSecond xs
+was_second second [] is = inl is
+was_second second (Starts node reading records ∷ xs) is = inr (was_second node.second xs is)
+was_second second (Makes call ∷ xs) is = was_second second xs is
+was_second second (IsCut call ∷ xs) is = was_second second xs is
+
 pub sessions_at : (stand : Stand) (xs ys : List SessionEntry) (x : SessionEntry) → AreSessions stand (xs ++ x ∷ ys) → MayDo (after_entries stand xs) x
 sessions_at stand [] ys x are = are.0
 sessions_at stand (y ∷ xs) ys x are = sessions_at (after_entry stand y) xs ys x are.1
@@ -95,6 +107,11 @@ pub stand_own : (m : ℕ) (before : List WorldEntry) (e : WorldEntry) → e.memb
 stand_own m before e is =
     ap (λ (xs : List SessionEntry). after_entries Down xs) (entries_join m before (e ∷ []) ∙ ap (λ (xs : List SessionEntry). entries_of m before ++ xs) (entry_own m e [] is))
     ∙ after_entries_join Down (entries_of m before) (e.what ∷ [])
+
+second_own : (m : ℕ) (before : List WorldEntry) (e : WorldEntry) → e.member ≡ m → is_second_at m (before ++ e ∷ []) ≡ second_after (is_second_at m before) e.what
+second_own m before e is =
+    ap (λ (xs : List SessionEntry). second_after_all false xs) (entries_join m before (e ∷ []) ∙ ap (λ (xs : List SessionEntry). entries_of m before ++ xs) (entry_own m e [] is))
+    ∙ second_join false (entries_of m before) (e.what ∷ [])
 
 pub append_none : {A : Type 0} (xs : List A) → xs ++ [] ≡ xs
 append_none [] = refl
@@ -133,7 +150,7 @@ module _ (w : World) (is_world : IsWorld w) (place : ℕ) (ticket : TicketConf) 
 
   -- The hosts stand where these entries of the world leave its members.
   pub record Shadows (before : List WorldEntry) (hosts : Hosts) : Type 0 where
-    pub each : (m : ℕ) → m < members_of w → Shows w place ticket setting m (stand_after m before) (may_of m before) hosts.now (hosts.place m) hosts.sent
+    pub each : (m : ℕ) → m < members_of w → Shows w place ticket setting m (is_second_at m before) (stand_after m before) (may_of m before) hosts.now (hosts.place m) hosts.sent
     pub said : (entry : WorldEntry) → Holds before entry → (bytes : List ℕ) → IsSend entry.what bytes → (letter : PlainMessage)
         → decoded bytes ≡ Ok letter → IsSaidBy hosts.sent entry.member letter
     pub coming : (m : ℕ) → m < members_of w → (kept : Record) (go : Bool → TurnTree) → (hosts.place m).tree ≡ Some (Does (Keeps kept) go)
@@ -141,10 +158,10 @@ module _ (w : World) (is_world : IsWorld w) (place : ℕ) (ticket : TicketConf) 
 
   -- ---- what was sent
 
-  sealed_said : (m : ℕ) → m < members_of w → (node : NodeConfig) (letter' letter : PlainMessage) (bytes : List ℕ) (known sent : List MemberLetter)
-      → node ≡ node_at w m → SentMore known sent → IsSpoken (node_at w m) (setup_at w place ticket setting m) known letter'
+  sealed_said : (m : ℕ) (second : Bool) → m < members_of w → (node : NodeConfig) (letter' letter : PlainMessage) (bytes : List ℕ) (known sent : List MemberLetter)
+      → node ≡ node_at w m second → SentMore known sent → IsSpoken (node_at w m second) (setup_at w place ticket setting m second) known letter'
       → bytes ≡ sealed node.key letter' → Fits letter' → decoded bytes ≡ Ok letter → IsSaidBy sent m letter
-  sealed_said m below node letter' letter bytes known sent node_is more spoken bytes_are fits read part between is named =
+  sealed_said m second below node letter' letter bytes known sent node_is more spoken bytes_are fits read part between is named =
       let truly : letter'.head.auth ≡ is_some node.key = spoken.truly ∙ ap (λ (n : NodeConfig). is_some n.key) (sym node_is) in
       let same : letter' ≡ letter =
       same_letter (decoded bytes) letter' letter (ap decoded bytes_are ∙ sealed_read node.key letter' fits truly) read in
@@ -154,27 +171,27 @@ module _ (w : World) (is_world : IsWorld w) (place : ℕ) (ticket : TicketConf) 
         is_some w.key,
         q.1,
         ap (λ (l : PlainMessage). l.head) (sym same) ∙ q.2,
-        subst (λ (n : ℕ). Has sent (record { sender = n; head = q.0; part = part })) (own_place_is w place ticket setting m below) (more _ q.3),
+        subst (λ (n : ℕ). Has sent (record { sender = n; head = q.0; part = part })) (own_place_is w place ticket setting m second below) (more _ q.3),
       )
 
-  send_said : (m : ℕ) → m < members_of w → (stand : Stand) (what : SessionEntry) (may : List Record) (now : ℕ) (p : HostPlace) (sent : List MemberLetter)
-      → Shows w place ticket setting m stand may now p sent → MayDo stand what → (bytes : List ℕ) → IsSend what bytes → (letter : PlainMessage)
+  send_said : (m : ℕ) (second : Bool) → m < members_of w → (stand : Stand) (what : SessionEntry) (may : List Record) (now : ℕ) (p : HostPlace) (sent : List MemberLetter)
+      → Shows w place ticket setting m second stand may now p sent → MayDo stand what → (bytes : List ℕ) → IsSend what bytes → (letter : PlainMessage)
       → decoded bytes ≡ Ok letter → IsSaidBy sent m letter
-  send_said m below (Doing node (Does (Send peer letter') go)) (Makes (calls.Send to sent_bytes answer)) may now p sent x d bytes is letter read =
-      sealed_said m below node letter' letter bytes (sent_by x.stands.1 x.stands.2) sent x.stands.0 x.stands.4 x.stands.5.0 (sym is ∙ d.1) d.2 read
-  send_said m below (Doing node (Does (Keep name tried) go)) (Makes (calls.Send to sent_bytes answer)) may now p sent x d bytes is letter read = absurd d
-  send_said m below (Doing node (Does (Start job) go)) (Makes (calls.Send to sent_bytes answer)) may now p sent x d bytes is letter read = absurd d
-  send_said m below (Doing node (Ends old)) (Makes (calls.Send to sent_bytes answer)) may now p sent x d bytes is letter read = absurd d
-  send_said m below Down (Makes (calls.Send to sent_bytes answer)) may now p sent x d bytes is letter read = absurd d
-  send_said m below (Hearing node old got into) (Makes (calls.Send to sent_bytes answer)) may now p sent x d bytes is letter read = absurd d
-  send_said m below (Doing node (Does (Send peer letter') go)) (IsCut (CutSend to sent_bytes)) may now p sent x d bytes is letter read =
-      sealed_said m below node letter' letter bytes (sent_by x.stands.1 x.stands.2) sent x.stands.0 x.stands.4 x.stands.5.0 (sym is ∙ d.1) d.2 read
-  send_said m below (Doing node (Does (Keep name tried) go)) (IsCut (CutSend to sent_bytes)) may now p sent x d bytes is letter read = absurd d
-  send_said m below (Doing node (Does (Start job) go)) (IsCut (CutSend to sent_bytes)) may now p sent x d bytes is letter read = absurd d
-  send_said m below (Doing node (Ends old)) (IsCut (CutSend to sent_bytes)) may now p sent x d bytes is letter read = absurd d
-  send_said m below Down (IsCut (CutSend to sent_bytes)) may now p sent x d bytes is letter read = absurd d
-  send_said m below (Hearing node old got into) (IsCut (CutSend to sent_bytes)) may now p sent x d bytes is letter read = absurd d
-  send_said m below stand what may now p sent x d bytes is letter read = absurd is
+  send_said m second below (Doing node (Does (Send peer letter') go)) (Makes (calls.Send to sent_bytes answer)) may now p sent x d bytes is letter read =
+      sealed_said m second below node letter' letter bytes (sent_by x.stands.1 x.stands.2) sent x.stands.0 x.stands.4 x.stands.5.0 (sym is ∙ d.1) d.2 read
+  send_said m second below (Doing node (Does (Keep name tried) go)) (Makes (calls.Send to sent_bytes answer)) may now p sent x d bytes is letter read = absurd d
+  send_said m second below (Doing node (Does (Start job) go)) (Makes (calls.Send to sent_bytes answer)) may now p sent x d bytes is letter read = absurd d
+  send_said m second below (Doing node (Ends old)) (Makes (calls.Send to sent_bytes answer)) may now p sent x d bytes is letter read = absurd d
+  send_said m second below Down (Makes (calls.Send to sent_bytes answer)) may now p sent x d bytes is letter read = absurd d
+  send_said m second below (Hearing node old got into) (Makes (calls.Send to sent_bytes answer)) may now p sent x d bytes is letter read = absurd d
+  send_said m second below (Doing node (Does (Send peer letter') go)) (IsCut (CutSend to sent_bytes)) may now p sent x d bytes is letter read =
+      sealed_said m second below node letter' letter bytes (sent_by x.stands.1 x.stands.2) sent x.stands.0 x.stands.4 x.stands.5.0 (sym is ∙ d.1) d.2 read
+  send_said m second below (Doing node (Does (Keep name tried) go)) (IsCut (CutSend to sent_bytes)) may now p sent x d bytes is letter read = absurd d
+  send_said m second below (Doing node (Does (Start job) go)) (IsCut (CutSend to sent_bytes)) may now p sent x d bytes is letter read = absurd d
+  send_said m second below (Doing node (Ends old)) (IsCut (CutSend to sent_bytes)) may now p sent x d bytes is letter read = absurd d
+  send_said m second below Down (IsCut (CutSend to sent_bytes)) may now p sent x d bytes is letter read = absurd d
+  send_said m second below (Hearing node old got into) (IsCut (CutSend to sent_bytes)) may now p sent x d bytes is letter read = absurd d
+  send_said m second below stand what may now p sent x d bytes is letter read = absurd is
 
   -- ---- what is heard
 
@@ -184,16 +201,16 @@ module _ (w : World) (is_world : IsWorld w) (place : ℕ) (ticket : TicketConf) 
       equal_bytes part.ticket ticket.name
       (subst (λ (t : TicketConf). is_called part.ticket t ≡ true) (get_or_from_slice_get w.config.tickets place ticket ticket setting.there) q.1)
 
-  hears_so : (m : ℕ) (before : List WorldEntry) (hosts : Hosts) (node : NodeConfig) (old : State) (from : Peer) (bytes : List ℕ) (reading : ℕ) (moment : ℕ)
-      → Shadows before hosts → node ≡ node_at w m → used old.last_reading reading ≡ moment
+  hears_so : (m : ℕ) (second : Bool) (before : List WorldEntry) (hosts : Hosts) (node : NodeConfig) (old : State) (from : Peer) (bytes : List ℕ) (reading : ℕ) (moment : ℕ)
+      → Shadows before hosts → node ≡ node_at w m second → used old.last_reading reading ≡ moment
       → HearsSent w before (Hearing node old (Ok (arrivals.Datagram from)) bytes) (Makes (calls.Now reading))
       → ((entry : WorldEntry) → Holds before entry → entry.member < members_of w)
       → (sent : List MemberLetter) → sent ≡ hosts.sent
       → (member : ℕ) (head : Head) (part : TicketPart)
-      → IsLetIn (node_at w m) (verdict w.config w.key (id_at w m) moment bytes) member place head part
+      → IsLetIn (node_at w m second) (verdict w.config w.key (id_at w m) moment bytes) member place head part
       → (plain : Head) × (auth : Bool) × (time : ℕ) × (head ≡ stamped_head auth time plain)
       × Has sent (record { sender = member; head = plain; part = part }) × (plain.from ≡ id_at w member)
-  hears_so m before hosts node old from bytes reading moment shadow node_is used_so heard members sent same member head part x =
+  hears_so m second before hosts node old from bytes reading moment shadow node_is used_so heard members sent same member head part x =
       let let_in : verdict node.config node.key node.me (used old.last_reading reading) bytes ≡ Ok x.letter =
       ap (λ (n : NodeConfig). verdict n.config n.key n.me (used old.last_reading reading) bytes) node_is
       ∙ ap (λ (t : ℕ). verdict w.config w.key (id_at w m) t bytes) used_so ∙ x.let_in in
@@ -218,47 +235,53 @@ module _ (w : World) (is_world : IsWorld w) (place : ℕ) (ticket : TicketConf) 
     abbrev passed : Hosts
     passed = record hosts { now = e.time }
 
-    Shown : Stand → Type 0
-    Shown stand = Shows w place ticket setting e.member stand (may_of e.member before) e.time (hosts.place e.member) hosts.sent
-
-    good_at : (stand : Stand) (call : Entry)
-        → Shows w place ticket setting e.member stand (may_of e.member before) e.time (hosts.place e.member) hosts.sent
-        → MayMake stand call → ReadsHere w is_world.true_clocks place ticket setting e.member below passed within call
+    good_at : (second : Bool) (stand : Stand) (call : Entry)
+        → Shows w place ticket setting e.member second stand (may_of e.member before) e.time (hosts.place e.member) hosts.sent
+        → MayMake stand call → ReadsHere w is_world.true_clocks place ticket setting e.member second below passed within call
         → HearsSent w before stand (Makes call)
-        → HearsGoodAt w is_world.true_clocks place ticket setting e.member below passed within stand
-    good_at (Hearing node old (Ok (arrivals.Datagram from)) bytes) (calls.Now reading) x d r heard =
+        → HearsGoodAt w is_world.true_clocks place ticket setting e.member second below passed within stand
+    good_at second (Hearing node old (Ok (arrivals.Datagram from)) bytes) (calls.Now reading) x d r heard =
         λ member head part let_in.
-        let q = hears_so e.member before hosts node old from bytes reading
+        let q = hears_so e.member second before hosts node old from bytes reading
         (read_by w is_world.true_clocks place ticket setting e.member e.time) shadow x.stands.0
-        (used_is w is_world.true_clocks place ticket setting e.member below passed within old.last_reading x.time reading (x.stands.4 ∙ x.read) x.past r)
+        (used_is w is_world.true_clocks place ticket setting e.member second below passed within old.last_reading x.time reading (x.stands.4 ∙ x.read) x.past r)
         heard members hosts.sent refl member head part let_in in
         (q.0, q.1, q.2, q.3, (q.4, q.5))
-    good_at (Hearing node old (Ok (arrivals.Datagram from)) bytes) call x d r heard = absurd d
-    good_at (Hearing node old (Ok (arrivals.Handler job status)) bytes) call x d r heard = tt
-    good_at (Hearing node old (Ok arrivals.Quiet) bytes) call x d r heard = tt
-    good_at (Hearing node old (Ok arrivals.Stop) bytes) call x d r heard = tt
-    good_at (Hearing node old (Err failed) bytes) call x d r heard = tt
-    good_at Down call x d r heard = tt
-    good_at (Doing node deeds) call x d r heard = tt
+    good_at second (Hearing node old (Ok (arrivals.Datagram from)) bytes) call x d r heard = absurd d
+    good_at second (Hearing node old (Ok (arrivals.Handler job status)) bytes) call x d r heard = tt
+    good_at second (Hearing node old (Ok arrivals.Quiet) bytes) call x d r heard = tt
+    good_at second (Hearing node old (Ok arrivals.Stop) bytes) call x d r heard = tt
+    good_at second (Hearing node old (Err failed) bytes) call x d r heard = tt
+    good_at second Down call x d r heard = tt
+    good_at second (Doing node deeds) call x d r heard = tt
 
-    reads_here : (call : Entry) → ReadsClock w e (Makes call) → ReadsHere w is_world.true_clocks place ticket setting e.member below passed within call
-    reads_here (calls.Now reading) r = r
-    reads_here call r = tt
+    reads_here : (second : Bool) (call : Entry) → ReadsClock w e (Makes call) → ReadsHere w is_world.true_clocks place ticket setting e.member second below passed within call
+    reads_here second (calls.Now reading) r = r
+    reads_here second call r = tt
 
-    steps_for : (stand : Stand) (what : SessionEntry)
-        → Shows w place ticket setting e.member stand (may_of e.member before) e.time (hosts.place e.member) hosts.sent
-        → MayDo stand what → HasConfiguration w e what → ReadsClock w e what → ReadsKept w before e what → HearsSent w before stand what
-        → Steps w place ticket setting passed e.member (after_entry stand what) (may_after (own_ticket w place ticket setting) (may_of e.member before) what)
+    -- a member that is in version 2 stays in it
+    stays_so : (second started : Bool) → (hosts.place e.member).second ≡ second → second ≡ is_second_at e.member before
+        → (WasSecond (entries_of e.member before) → started ≡ true) → (hosts.place e.member).second ≡ true → started ≡ true
+    stays_so second started same is stays was =
+        ⊎_elim (λ (never : false ≡ true). absurd cc) stays
+        (was_second false (entries_of e.member before) (sym is ∙ (sym same ∙ was)))
+
+    steps_for : (second : Bool) (stand : Stand) (what : SessionEntry) → second ≡ is_second_at e.member before
+        → Shows w place ticket setting e.member second stand (may_of e.member before) e.time (hosts.place e.member) hosts.sent
+        → MayDo stand what → HasConfiguration w e what → ReadsClock w e what → ReadsKept w before e what → StaysSecond w before e what
+        → HearsSent w before stand what
+        → Steps w place ticket setting passed e.member (second_after second what) (after_entry stand what) (may_after (own_ticket w place ticket setting) (may_of e.member before) what)
         (IsTrace w ticket.name e.member e.time (after_entry stand what) what)
-    steps_for stand (Starts node reading records) x d configured clock kept heard =
-        starts w is_world.true_clocks place ticket setting e.member below passed node reading records within d configured clock
+    steps_for second stand (Starts node reading records) is x d configured clock kept stays heard =
+        starts w is_world.true_clocks place ticket setting e.member below passed node.second node reading records within d configured clock
+        (stays_so second node.second x.same_second is stays)
         (subst (λ (rs : List Record). Has rs (record_at records place)) (sym x.same_may)
         (has_here (may_of e.member before) (record_at records place) (kept place ticket setting.there)))
-    steps_for stand (Makes call) x d configured clock kept heard =
-        makes w is_world.true_clocks place ticket setting e.member below passed within stand call (may_of e.member before) x d
-        (reads_here call clock) (good_at stand call x d (reads_here call clock) heard)
-    steps_for stand (IsCut call) x d configured clock kept heard =
-        cuts w is_world.true_clocks place ticket setting e.member below passed within stand call (may_of e.member before) x d
+    steps_for second stand (Makes call) is x d configured clock kept stays heard =
+        makes w is_world.true_clocks place ticket setting e.member second below passed within stand call (may_of e.member before) x d
+        (reads_here second call clock) (good_at second stand call x d (reads_here second call clock) heard)
+    steps_for second stand (IsCut call) is x d configured clock kept stays heard =
+        cuts w is_world.true_clocks place ticket setting e.member second below passed within stand call (may_of e.member before) x d
 
   -- ---- entry by entry
 
@@ -270,6 +293,7 @@ module _ (w : World) (is_world : IsWorld w) (place : ℕ) (ticket : TicketConf) 
     pub shadow : Shadows before (after_hosts hosts entries)
     pub released : (z : Release) → IsHostReleaseIn (cluster w place ticket setting) (cast w place ticket setting) hosts entries z → R (Frees z)
     pub read : (k time : ℕ) → ReadsIn entries k time → R (Reads k time)
+    pub started : (version : Bool) → StartsIn entries version → R (Begins version)
 
   -- ---- a keep that comes next
 
@@ -304,26 +328,26 @@ module _ (w : World) (is_world : IsWorld w) (place : ℕ) (ticket : TicketConf) 
   up_after Down call d is = absurd d
 
   coming_own : (stand last : Stand) (what : SessionEntry) (sent : List MemberLetter) (old new : HostPlace) (sent' : List MemberLetter) (kept : Record) (go : Bool → TurnTree)
-      → (m : ℕ) → MayDo stand what → (stand ≡ Down) ⊎ (stand ≡ last)
-      → StandsAt w place ticket setting m (after_entry stand what) new sent' → AtCut w place ticket setting (after_entry stand what) old new
+      → (m : ℕ) (second : Bool) → MayDo stand what → (stand ≡ Down) ⊎ (stand ≡ last)
+      → StandsAt w place ticket setting m second (after_entry stand what) new sent' → AtCut w place ticket setting (after_entry stand what) old new
       → (old.tree ≡ Some (Does (Keeps kept) go) → IsNextAt ticket.name last kept)
       → new.tree ≡ Some (Does (Keeps kept) go)
       → IsNextAt ticket.name (stands_last last (what ∷ [])) kept
-  coming_own stand last (Starts node reading records) sent old new sent' kept go m d is at cut before tree =
+  coming_own stand last (Starts node reading records) sent old new sent' kept go m second d is at cut before tree =
       ⊎_elim (λ (n : IsNextAt ticket.name (Doing node (Ends (opened node records reading))) kept). n)
       (λ (down : Doing node (Ends (opened node records reading)) ≡ Down). absurd cc)
-      (next_at w place ticket setting m (Doing node (Ends (opened node records reading))) new sent' kept go at tree)
-  coming_own stand last (IsCut call) sent old new sent' kept go m d is at (inl none) before tree = absurd (none_is (Does (Keeps kept) go) (sym none ∙ tree))
-  coming_own stand last (IsCut call) sent old new sent' kept go m d is at (inr same) before tree =
+      (next_at w place ticket setting m second (Doing node (Ends (opened node records reading))) new sent' kept go at tree)
+  coming_own stand last (IsCut call) sent old new sent' kept go m second d is at (inl none) before tree = absurd (none_is (Does (Keeps kept) go) (sym none ∙ tree))
+  coming_own stand last (IsCut call) sent old new sent' kept go m second d is at (inr same) before tree =
       before (sym (ap (λ (p : HostPlace). p.tree) same) ∙ tree)
-  coming_own stand last (Makes call) sent old new sent' kept go m d (inl down) at cut before tree = absurd (no_call stand call down d)
+  coming_own stand last (Makes call) sent old new sent' kept go m second d (inl down) at cut before tree = absurd (no_call stand call down d)
     where
       no_call : (stand : Stand) (call : Entry) → stand ≡ Down → MayMake stand call → ⊥
       no_call stand call e d = subst (λ (s : Stand). MayMake s call) e d
-  coming_own stand last (Makes call) sent old new sent' kept go m d (inr same) at cut before tree =
+  coming_own stand last (Makes call) sent old new sent' kept go m second d (inr same) at cut before tree =
       ⊎_elim (λ (n : IsNextAt ticket.name (after_call stand call) kept). subst (λ (s : Stand). IsNextAt ticket.name (after_call s call) kept) same n)
       (λ (down : after_call stand call ≡ Down). absurd (up_after stand call d down))
-      (next_at w place ticket setting m (after_call stand call) new sent' kept go at tree)
+      (next_at w place ticket setting m second (after_call stand call) new sent' kept go at tree)
 
   has_middle : (before after : List WorldEntry) (e : WorldEntry) (entry : WorldEntry) → Holds before entry
       → (first : List WorldEntry) × (last : List WorldEntry) × (before ++ e ∷ after ≡ first ++ entry ∷ last)
@@ -347,11 +371,11 @@ module _ (w : World) (is_world : IsWorld w) (place : ℕ) (ticket : TicketConf) 
       sessions_at Down (entries_of e.member before) (entries_of e.member after) e.what
       (subst (λ (xs : List SessionEntry). AreSessions Down xs) mine (is_world.one_daemon e.member below)) in
       let passed_hosts : Hosts = record hosts { now = e.time } in
-      let shown = shows_more w place ticket setting e.member (stand_after e.member before) (may_of e.member before) hosts.now e.time
+      let shown = shows_more w place ticket setting e.member (is_second_at e.member before) (stand_after e.member before) (may_of e.member before) hosts.now e.time
       (hosts.place e.member) hosts.sent hosts.sent later (λ l h. h) (shadow.each e.member below) in
-      let steps = steps_for before e hosts shadow below within members (stand_after e.member before) e.what shown may_do
+      let steps = steps_for before e hosts shadow below within members (is_second_at e.member before) (stand_after e.member before) e.what refl shown may_do
       (is_world.one_configuration before after e whole) (is_world.true_clocks.read before after e whole)
-      (is_world.records_return before after e whole) (is_world.members_speak before after e whole) in
+      (is_world.records_return before after e whole) (is_world.versions_rise before after e whole) (is_world.members_speak before after e whole) in
       let last : Hosts = after_hosts passed_hosts steps.entries in
       record {
         entries = LetsPass e.time ∷ steps.entries;
@@ -359,7 +383,7 @@ module _ (w : World) (is_world : IsWorld w) (place : ℕ) (ticket : TicketConf) 
         now_is = steps.own.same_now;
         shadow = record {
           each = λ m m_below. by_member m m_below (same_or_not e.member m) later last steps.own.same_now steps.own.others steps.own.still_sent
-              (subst (λ (n : ℕ). Shows w place ticket setting e.member (after_entry (stand_after e.member before) e.what)
+              (subst (λ (n : ℕ). Shows w place ticket setting e.member (second_after (is_second_at e.member before) e.what) (after_entry (stand_after e.member before) e.what)
               (may_after (own_ticket w place ticket setting) (may_of e.member before) e.what) n (last.place e.member) last.sent) (sym steps.own.same_now) steps.here);
           said = λ entry h bytes is letter read. ⊎_elim
               (λ (old : Holds before entry). λ part between content named.
@@ -367,7 +391,7 @@ module _ (w : World) (is_world : IsWorld w) (place : ℕ) (ticket : TicketConf) 
               (q.0, q.1, q.2, q.3, steps.own.still_sent _ q.4))
               (λ (new : e ≡ entry). subst (λ (x : WorldEntry). IsSaidBy last.sent x.member letter) new
               (λ part between content named.
-              let q = send_said e.member below (stand_after e.member before) e.what (may_of e.member before) e.time (hosts.place e.member) hosts.sent
+              let q = send_said e.member (is_second_at e.member before) below (stand_after e.member before) e.what (may_of e.member before) e.time (hosts.place e.member) hosts.sent
               shown may_do bytes (subst (λ (x : WorldEntry). IsSend x.what bytes) (sym new) is) letter read part between content named in
               (q.0, q.1, q.2, q.3, steps.own.still_sent _ q.4)))
               (in_either before e entry h);
@@ -376,7 +400,7 @@ module _ (w : World) (is_world : IsWorld w) (place : ℕ) (ticket : TicketConf) 
               (subst (λ (s : Stand). IsNextAt ticket.name s kept)
               (sym (last_own before e))
               (coming_own (stand_after e.member before) (stands_last Down (entries_of e.member before)) e.what hosts.sent (hosts.place e.member) (last.place e.member) last.sent kept go
-              e.member may_do (last_is (entries_of e.member before) Down Down (inr refl)) steps.here.stands steps.at_cut
+              e.member (second_after (is_second_at e.member before) e.what) may_do (last_is (entries_of e.member before) Down Down (inr refl)) steps.here.stands steps.at_cut
               (λ is_old. shadow.coming e.member below kept go is_old)
               (subst (λ (k : ℕ). (last.place k).tree ≡ Some (Does (Keeps kept) go)) (sym own) is))))
               (λ (other : e.member ≢ m). subst (λ (xs : List SessionEntry). IsComing ticket.name xs kept) (sym (other_last m before e other))
@@ -385,25 +409,28 @@ module _ (w : World) (is_world : IsWorld w) (place : ℕ) (ticket : TicketConf) 
         };
         released = λ z r. ⊎_elim (λ (a : ⊥). absurd a) (λ b. steps.released z b) r;
         read = λ k t r. ⊎_elim (λ (a : ⊥). absurd a) (λ b. steps.read k t b) r;
+        started = λ v r. ⊎_elim (λ (a : ⊥). absurd a) (λ b. steps.started v b) r;
       }
     where
       by_member : (m : ℕ) → m < members_of w → (e.member ≡ m) ⊎ (e.member ≢ m) → hosts.now ≤ e.time → (last : Hosts) → last.now ≡ e.time
           → ((k : ℕ) → k ≢ e.member → last.place k ≡ hosts.place k) → SentMore hosts.sent last.sent
-          → Shows w place ticket setting e.member (after_entry (stand_after e.member before) e.what)
+          → Shows w place ticket setting e.member (second_after (is_second_at e.member before) e.what) (after_entry (stand_after e.member before) e.what)
           (may_after (own_ticket w place ticket setting) (may_of e.member before) e.what) last.now (last.place e.member) last.sent
-          → Shows w place ticket setting m (stand_after m (before ++ e ∷ [])) (may_of m (before ++ e ∷ [])) last.now (last.place m) last.sent
+          → Shows w place ticket setting m (is_second_at m (before ++ e ∷ [])) (stand_after m (before ++ e ∷ [])) (may_of m (before ++ e ∷ [])) last.now (last.place m) last.sent
       by_member m m_below (inl own) later last same_now others more here =
-          subst (λ (d : Stand). Shows w place ticket setting m d (may_of m (before ++ e ∷ [])) last.now (last.place m) last.sent) (sym (stand_own m before e own))
-          (subst (λ (rs : List Record). Shows w place ticket setting m (after_entry (stand_after m before) e.what) rs last.now (last.place m) last.sent)
+          subst (λ (d : Stand). Shows w place ticket setting m (is_second_at m (before ++ e ∷ [])) d (may_of m (before ++ e ∷ [])) last.now (last.place m) last.sent) (sym (stand_own m before e own))
+          (subst (λ (b : Bool). Shows w place ticket setting m b (after_entry (stand_after m before) e.what) (may_of m (before ++ e ∷ [])) last.now (last.place m) last.sent)
+          (sym (second_own m before e own))
+          (subst (λ (rs : List Record). Shows w place ticket setting m (second_after (is_second_at m before) e.what) (after_entry (stand_after m before) e.what) rs last.now (last.place m) last.sent)
           (sym (ap (λ (xs : List SessionEntry). may_after_all (own_ticket w place ticket setting) (no_record ∷ []) xs)
           (entries_join m before (e ∷ []) ∙ ap (λ (xs : List SessionEntry). entries_of m before ++ xs) (entry_own m e [] own))
           ∙ may_join (own_ticket w place ticket setting) (no_record ∷ []) (entries_of m before) (e.what ∷ [])))
-          (subst (λ (k : ℕ). Shows w place ticket setting k (after_entry (stand_after k before) e.what)
-          (may_after (own_ticket w place ticket setting) (may_of k before) e.what) last.now (last.place k) last.sent) own here))
+          (subst (λ (k : ℕ). Shows w place ticket setting k (second_after (is_second_at k before) e.what) (after_entry (stand_after k before) e.what)
+          (may_after (own_ticket w place ticket setting) (may_of k before) e.what) last.now (last.place k) last.sent) own here)))
       by_member m m_below (inr other) later last same_now others more here =
-          subst (λ (xs : List SessionEntry). Shows w place ticket setting m (after_entries Down xs)
+          subst (λ (xs : List SessionEntry). Shows w place ticket setting m (second_after_all false xs) (after_entries Down xs)
           (may_after_all (own_ticket w place ticket setting) (no_record ∷ []) xs) last.now (last.place m) last.sent) (sym (other_last m before e other))
-          (subst (λ (p : HostPlace). Shows w place ticket setting m (stand_after m before) (may_of m before) last.now p last.sent)
+          (subst (λ (p : HostPlace). Shows w place ticket setting m (is_second_at m before) (stand_after m before) (may_of m before) last.now p last.sent)
           (sym (others m (λ same. other (sym same))))
-          (shows_more w place ticket setting m (stand_after m before) (may_of m before) hosts.now last.now (hosts.place m) hosts.sent last.sent
+          (shows_more w place ticket setting m (is_second_at m before) (stand_after m before) (may_of m before) hosts.now last.now (hosts.place m) hosts.sent last.sent
           (subst (λ (n : ℕ). hosts.now ≤ n) (sym same_now) later) more (shadow.each m m_below)))

@@ -1,9 +1,9 @@
 -- The laws of worlds, for each ticket of their configuration.
-use Rattle.booth_world.specs.Worlds.{WorldsHoldOne, WorldsAreApart, WorldTermsNeverFall}
+use Rattle.booth_world.specs.Worlds.{WorldsHoldOne, WorldsAreApart, WorldTermsNeverFall, LaterHoldersHaveLaterTerms}
 use Rattle.std.proofs.Common.{◌≡◌, ◌≤◌, Bool, true, false, refl}
 use Rattle.booth_world.proofs.Configured.{names_apart, setting_of}
 use Rattle.booth_world.proofs.ManualTerms.{manual_terms_hold}
-use Rattle.booth_world.proofs.WorldRuns.{one_holds, are_apart, terms_hold}
+use Rattle.booth_world.proofs.WorldRuns.{one_holds, are_apart, terms_hold, terms_rise}
 
 pub worlds_hold_one : WorldsHoldOne
 worlds_hold_one w is_world place ticket automatic moment s t by_s by_t =
@@ -12,6 +12,11 @@ worlds_hold_one w is_world place ticket automatic moment s t by_s by_t =
 pub worlds_are_apart : WorldsAreApart
 worlds_are_apart w is_world place ticket automatic early late between later s t ne kept by_s by_t =
     are_apart w is_world place ticket (setting_of w is_world.form.sound place ticket automatic.0 automatic.1) early late between later s t ne kept by_s by_t
+
+pub later_holders : LaterHoldersHaveLaterTerms
+later_holders w is_world all place ticket automatic early late between later s t ne kept other first second is_first is_second by_s by_t =
+    terms_rise w is_world place ticket (setting_of w is_world.form.sound place ticket automatic.0 automatic.1) all early late between later s t ne
+    kept other first second is_first is_second by_s by_t
 
 pub world_terms : WorldTermsNeverFall
 world_terms w is_world place ticket there early late between later s term below least kept h =

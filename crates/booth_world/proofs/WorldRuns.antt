@@ -5,6 +5,7 @@ use Rattle.booth_base.specs.Tree.{Deeds, Ends, Does}
 use Rattle.booth_base.specs.declared.address.MemberId.{MemberId}
 use Rattle.booth_conf.specs.Config.{has_id}
 use Rattle.booth_conf.specs.declared.tickets.TicketConf.{TicketConf}
+use Rattle.booth_rec.specs.declared.record.Lease.{Lease}
 use Rattle.booth_rec.specs.declared.record.Record.{Record}
 use Rattle.booth_rec.specs.Record.{no_record, IsInForce}
 use Rattle.booth_wire.specs.declared.message.Setup.{Setup}
@@ -17,7 +18,7 @@ use Rattle.booth_node.specs.Opening.{is_site_at}
 use Rattle.booth_node.specs.Reaction.{Ask, Send, Keep, Start}
 use Rattle.booth_node.specs.Records.{Has as Holds, may_after_keep, may_after, may_after_all, with_next}
 use Rattle.booth_node.specs.Session.{CutKeep, SessionEntry, Starts, Makes, IsCut, Stand, Down, Doing, Hearing, MayDo, after_entry, AreSessions}
-use Rattle.booth_node.specs.World.{WorldEntry, World, members_of, entries_of, last_time, stand_after, IsWorld, cluster_of}
+use Rattle.booth_node.specs.World.{WorldEntry, World, members_of, entries_of, last_time, stand_after, IsWorld, IsSecondStart, IsSecondWorld, cluster_of}
 use Rattle.booth_node.specs.Held.{IsBefore, Moment, may_at, HoldsBy, Holds as HoldsIt}
 use Rattle.booth_world.specs.Facts.{Has, Release}
 use Rattle.booth_world.specs.Held.{AreApart, GivesBackLease}
@@ -27,12 +28,12 @@ use Rattle.booth_world.specs.Hosts.{HostEntry, LetsPass, HostPlace, Hosts, openi
 use Rattle.booth_world.specs.HostLaws.{IsHostReleaseIn, host_may, HostHoldsBy}
 use Rattle.booth_world.specs.Revocations.{AtSome}
 use Rattle.booth_world.specs.Worlds.{IsLater, GivesBack, ReleasedIn}
-use Rattle.booth_world.specs.Shadows.{GivesTermBack}
-use Rattle.booth_world.proofs.CoreReads.{ReadsIn, reads_split}
+use Rattle.booth_world.specs.Shadows.{GivesTermBack, is_second_at}
+use Rattle.booth_world.proofs.CoreReads.{ReadsIn, reads_split, StartsIn, starts_split, all_boots_second}
 use Rattle.booth_world.proofs.Lists.{none_is, some_same}
-use Rattle.booth_world.proofs.HostSteps.{hosts_hold_one, hosts_are_apart, host_terms, next_is_highest}
+use Rattle.booth_world.proofs.HostCourses.{hosts_hold_one, hosts_are_apart, host_terms, later_host, next_is_highest}
 use Rattle.booth_world.proofs.HostRuns.{hosted_join, after_join, released_join}
-use Rattle.booth_world.proofs.WorldSteps.{Trace, Frees, Reads, IsTrace, Setting, equal_bytes, cluster, setup_at, cast, own_ticket, own_place_is, Shows, shows_more}
+use Rattle.booth_world.proofs.WorldSteps.{Trace, Frees, Reads, Begins, StartsIt, IsTrace, Setting, equal_bytes, cluster, setup_at, cast, own_ticket, own_place_is, Shows, shows_more}
 use Rattle.booth_world.proofs.WorldEntries.{has_clocks}
 use Rattle.booth_world.proofs.WorldHosts.{has_here, entries_join, sessions_at, stand_own, last_of, append_none, may_of, after_hosts, Shadows, Extends, one_step}
 
@@ -81,6 +82,7 @@ module _ (w : World) (is_world : IsWorld w) (place : ℕ) (ticket : TicketConf) 
     shadow = subst (λ (es : List WorldEntry). Shadows w is_world place ticket setting es hosts) (sym (append_none before)) shadow;
     released = λ z r. absurd r;
     read = λ k t r. absurd r;
+    started = λ v r. absurd r;
   }
   extends (e ∷ between) before after hosts whole later shadow =
       let first : Extends w is_world place ticket setting hosts (before ++ e ∷ []) e.time (IsTrace w ticket.name e.member e.time (after_entry (stand_after e.member before) e.what) e.what) =
@@ -107,6 +109,10 @@ module _ (w : World) (is_world : IsWorld w) (place : ℕ) (ticket : TicketConf) 
             (λ (a : ReadsIn first.entries k t). inl (first.read k t a))
             (λ (b : ReadsIn rest.entries k t). inr (rest.read k t b))
             (reads_split first.entries rest.entries k t r);
+        started = λ v r. ⊎_elim
+            (λ (a : StartsIn first.entries v). inl (first.started v a))
+            (λ (b : StartsIn rest.entries v). inr (rest.started v b))
+            (starts_split first.entries rest.entries v r);
       }
     where
       next_later : (es : List WorldEntry) (now : ℕ) → now ≡ e.time → w.entries ≡ (before ++ e ∷ []) ++ (es ++ after) → IsBefore now es
@@ -116,7 +122,7 @@ module _ (w : World) (is_world : IsWorld w) (place : ℕ) (ticket : TicketConf) 
 
   opening_shadow : Shadows w is_world place ticket setting [] Opening
   opening_shadow = record {
-    each = λ m below. record { same_may = refl; time = 0; past = omega arith; read = refl; stands = tt };
+    each = λ m below. record { same_second = refl; same_may = refl; time = 0; past = omega arith; read = refl; stands = tt };
     said = λ entry h bytes is letter read. absurd h;
     coming = λ m below kept go is. absurd (none_is (Does (Keeps kept) go) is);
   }
@@ -131,6 +137,7 @@ module _ (w : World) (is_world : IsWorld w) (place : ℕ) (ticket : TicketConf) 
     pub shadow : Shadows w is_world place ticket setting before (after_hosts w is_world place ticket setting hosts entries)
     pub released : (z : Release) → IsHostReleaseIn (cluster w place ticket setting) (cast w place ticket setting) hosts entries z → R (Frees z)
     pub read : (k time : ℕ) → ReadsIn entries k time → R (Reads k time)
+    pub started : (version : Bool) → StartsIn entries version → R (Begins version)
 
   waits : (hosts : Hosts) (before : List WorldEntry) (now time : ℕ) (R : Trace → Type 0) → now ≤ time → time < w.span
       → Extends w is_world place ticket setting hosts before now R → Reaches hosts before time R
@@ -145,7 +152,7 @@ module _ (w : World) (is_world : IsWorld w) (place : ℕ) (ticket : TicketConf) 
         hosted_all = hosted_join (cluster w place ticket setting) (cast w place ticket setting) hosts x.entries (LetsPass time ∷ []) x.hosted_all ((on, within), tt);
         now_is = ap (λ (h : Hosts). h.now) joined;
         shadow = subst (λ (h : Hosts). Shadows w is_world place ticket setting before h) (sym joined) (record {
-          each = λ m below. shows_more w place ticket setting m (stand_after m before) (may_of w is_world place ticket setting m before) last.now time (last.place m) last.sent last.sent
+          each = λ m below. shows_more w place ticket setting m (is_second_at m before) (stand_after m before) (may_of w is_world place ticket setting m before) last.now time (last.place m) last.sent last.sent
               on (λ l h. h) (x.shadow.each m below);
           said = x.shadow.said;
           coming = x.shadow.coming;
@@ -158,6 +165,10 @@ module _ (w : World) (is_world : IsWorld w) (place : ℕ) (ticket : TicketConf) 
             (λ (a : ReadsIn x.entries k t). x.read k t a)
             (λ (b : ReadsIn (LetsPass time ∷ []) k t). ⊎_elim (λ (c : ⊥). absurd c) (λ (c : ⊥). absurd c) b)
             (reads_split x.entries (LetsPass time ∷ []) k t r);
+        started = λ v r. ⊎_elim
+            (λ (a : StartsIn x.entries v). x.started v a)
+            (λ (b : StartsIn (LetsPass time ∷ []) v). ⊎_elim (λ (c : ⊥). absurd c) (λ (c : ⊥). absurd c) b)
+            (starts_split x.entries (LetsPass time ∷ []) v r);
       }
 
   pub reached : (moment : Moment w) → Reaches Opening moment.before moment.time (IsLeftIn [] moment.before)
@@ -216,11 +227,11 @@ module _ (w : World) (is_world : IsWorld w) (place : ℕ) (ticket : TicketConf) 
   in_pending (Some (Does (Keeps kept) go)) may k h = inr h
   in_pending (Some (Does ask go)) may k h = h
 
-  next_kept : (m : ℕ) (node : NodeConfig) (name : List ℕ) (tried : Record) (go : Bool → Deeds Ask State) (ticket_name : List ℕ) (rec k : Record)
+  next_kept : (m : ℕ) (second : Bool) (node : NodeConfig) (name : List ℕ) (tried : Record) (go : Bool → Deeds Ask State) (ticket_name : List ℕ) (rec k : Record)
       (may : List Record) (now : ℕ) (p : HostPlace) (sent : List MemberLetter)
-      → Shows w place ticket setting m (Doing node (Does (Keep name tried) go)) may now p sent → ticket_name ≡ name → rec ≡ tried
+      → Shows w place ticket setting m second (Doing node (Does (Keep name tried) go)) may now p sent → ticket_name ≡ name → rec ≡ tried
       → Holds (if bytes_eq ticket_name ticket.name then rec ∷ may else may) k → Has (pending p.tree p.may) k
-  next_kept m node name tried go ticket_name rec k may now p sent x named same h = by_name (bytes_eq ticket_name ticket.name) refl h
+  next_kept m second node name tried go ticket_name rec k may now p sent x named same h = by_name (bytes_eq ticket_name ticket.name) refl h
     where
       old : Holds may k → Has (pending p.tree p.may) k
       old g = in_pending p.tree p.may k (subst (λ (rs : List Record). Has rs k) (sym x.same_may) (has_here may k g))
@@ -234,24 +245,24 @@ module _ (w : World) (is_world : IsWorld w) (place : ℕ) (ticket : TicketConf) 
           (λ own. subst (λ (o : Option TurnTree). Has (pending o p.may) k) (sym (x.stands.3 ∙ ap (λ (t : TurnTree). Some t) own.2)) (inl (sym same ∙ is)))
           x.stands.5
 
-  next_covers : (m : ℕ) (stand : Stand) (x : SessionEntry) (xs : List SessionEntry) (may : List Record) (now : ℕ) (p : HostPlace) (sent : List MemberLetter) (k : Record)
-      → Shows w place ticket setting m stand may now p sent → MayDo stand x → Holds (with_next (own_ticket w place ticket setting) may (x ∷ xs)) k
+  next_covers : (m : ℕ) (second : Bool) (stand : Stand) (x : SessionEntry) (xs : List SessionEntry) (may : List Record) (now : ℕ) (p : HostPlace) (sent : List MemberLetter) (k : Record)
+      → Shows w place ticket setting m second stand may now p sent → MayDo stand x → Holds (with_next (own_ticket w place ticket setting) may (x ∷ xs)) k
       → Has (pending p.tree p.may) k
-  next_covers m (Doing node (Does (Keep name tried) go)) (Makes (calls.Keep ticket_name rec answer)) xs may now p sent k x d h =
-      next_kept m node name tried go ticket_name rec k may now p sent x d.0 d.1 h
-  next_covers m (Doing node (Does (Send peer letter) go)) (Makes (calls.Keep ticket_name rec answer)) xs may now p sent k x d h = absurd d
-  next_covers m (Doing node (Does (Start job) go)) (Makes (calls.Keep ticket_name rec answer)) xs may now p sent k x d h = absurd d
-  next_covers m (Doing node (Ends old)) (Makes (calls.Keep ticket_name rec answer)) xs may now p sent k x d h = absurd d
-  next_covers m Down (Makes (calls.Keep ticket_name rec answer)) xs may now p sent k x d h = absurd d
-  next_covers m (Hearing node old got into) (Makes (calls.Keep ticket_name rec answer)) xs may now p sent k x d h = absurd d
-  next_covers m (Doing node (Does (Keep name tried) go)) (IsCut (CutKeep ticket_name rec)) xs may now p sent k x d h =
-      next_kept m node name tried go ticket_name rec k may now p sent x d.0 d.1 h
-  next_covers m (Doing node (Does (Send peer letter) go)) (IsCut (CutKeep ticket_name rec)) xs may now p sent k x d h = absurd d
-  next_covers m (Doing node (Does (Start job) go)) (IsCut (CutKeep ticket_name rec)) xs may now p sent k x d h = absurd d
-  next_covers m (Doing node (Ends old)) (IsCut (CutKeep ticket_name rec)) xs may now p sent k x d h = absurd d
-  next_covers m Down (IsCut (CutKeep ticket_name rec)) xs may now p sent k x d h = absurd d
-  next_covers m (Hearing node old got into) (IsCut (CutKeep ticket_name rec)) xs may now p sent k x d h = absurd d
-  next_covers m stand what xs may now p sent k x d h =
+  next_covers m second (Doing node (Does (Keep name tried) go)) (Makes (calls.Keep ticket_name rec answer)) xs may now p sent k x d h =
+      next_kept m second node name tried go ticket_name rec k may now p sent x d.0 d.1 h
+  next_covers m second (Doing node (Does (Send peer letter) go)) (Makes (calls.Keep ticket_name rec answer)) xs may now p sent k x d h = absurd d
+  next_covers m second (Doing node (Does (Start job) go)) (Makes (calls.Keep ticket_name rec answer)) xs may now p sent k x d h = absurd d
+  next_covers m second (Doing node (Ends old)) (Makes (calls.Keep ticket_name rec answer)) xs may now p sent k x d h = absurd d
+  next_covers m second Down (Makes (calls.Keep ticket_name rec answer)) xs may now p sent k x d h = absurd d
+  next_covers m second (Hearing node old got into) (Makes (calls.Keep ticket_name rec answer)) xs may now p sent k x d h = absurd d
+  next_covers m second (Doing node (Does (Keep name tried) go)) (IsCut (CutKeep ticket_name rec)) xs may now p sent k x d h =
+      next_kept m second node name tried go ticket_name rec k may now p sent x d.0 d.1 h
+  next_covers m second (Doing node (Does (Send peer letter) go)) (IsCut (CutKeep ticket_name rec)) xs may now p sent k x d h = absurd d
+  next_covers m second (Doing node (Does (Start job) go)) (IsCut (CutKeep ticket_name rec)) xs may now p sent k x d h = absurd d
+  next_covers m second (Doing node (Ends old)) (IsCut (CutKeep ticket_name rec)) xs may now p sent k x d h = absurd d
+  next_covers m second Down (IsCut (CutKeep ticket_name rec)) xs may now p sent k x d h = absurd d
+  next_covers m second (Hearing node old got into) (IsCut (CutKeep ticket_name rec)) xs may now p sent k x d h = absurd d
+  next_covers m second stand what xs may now p sent k x d h =
       in_pending p.tree p.may k (subst (λ (rs : List Record). Has rs k) (sym x.same_may) (has_here may k h))
 
   pub covers : (moment : Moment w) (m : ℕ) → m < members_of w → (hosts : Hosts) → Shadows w is_world place ticket setting moment.before hosts → (k : Record)
@@ -264,7 +275,7 @@ module _ (w : World) (is_world : IsWorld w) (place : ℕ) (ticket : TicketConf) 
           in_pending (hosts.place m).tree (hosts.place m).may k
           (subst (λ (rs : List Record). Has rs k) (sym (shadow.each m below).same_may) (has_here (may_of w is_world place ticket setting m moment.before) k g))
       by_next (x ∷ xs) is g =
-          next_covers m (stand_after m moment.before) x xs (may_of w is_world place ticket setting m moment.before) hosts.now (hosts.place m) hosts.sent k
+          next_covers m (is_second_at m moment.before) (stand_after m moment.before) x xs (may_of w is_world place ticket setting m moment.before) hosts.now (hosts.place m) hosts.sent k
           (shadow.each m below)
           (sessions_at Down (entries_of m moment.before) xs x
           (subst (λ (es : List SessionEntry). AreSessions Down es)
@@ -273,14 +284,14 @@ module _ (w : World) (is_world : IsWorld w) (place : ℕ) (ticket : TicketConf) 
 
   -- ---- who stands at the places
 
-  abbrev seated_as : ℕ → ℕ → Setup
-  seated_as m n = record (setup_at w place ticket setting m) { place = n; site = is_site_at w.config.members n }
+  abbrev seated_as : ℕ → Bool → ℕ → Setup
+  seated_as m second n = record (setup_at w place ticket setting m second) { place = n; site = is_site_at w.config.members n }
 
   pub is_cast : IsCast (cluster w place ticket setting) (cast w place ticket setting)
   is_cast = record {
     ids = λ s t s_below t_below e.
         some_same s t (sym (setting.ids s s_below) ∙ ap (λ (i : MemberId). position (has_id i) w.config.members) e ∙ setting.ids t t_below);
-    seated = λ m below. ap (seated_as m) (own_place_is w place ticket setting m below);
+    seated = λ m below second. ap (seated_as m second) (own_place_is w place ticket setting m second below);
     sound = setting.sound;
   }
 
@@ -332,6 +343,39 @@ module _ (w : World) (is_world : IsWorld w) (place : ℕ) (ticket : TicketConf) 
       (hosts_are_apart (cluster w place ticket setting) (cast w place ticket setting) r.entries q.entries
       (record { clocks = has_clocks w is_world.true_clocks place ticket setting; is_cast = is_cast; hosted_early = r.hosted_all; hosted_late = q.hosted_all })
       s t ne kept (holds_so early s hosts r.now_is r.shadow kept by_s) (by_t.0, holds_so late t last q.now_is q.shadow by_t.0 by_t.1))
+
+  -- ---- version 2 alone
+
+  second_start : (what : SessionEntry) (version : Bool) → IsSecondStart what → StartsIt what version → version ≡ true
+  second_start (Starts node reading records) version is here = sym here ∙ is
+  second_start (Makes call) version is here = absurd here
+  second_start (IsCut call) version is here = absurd here
+
+  -- where each start of the world is of version 2, so is each that left its trace
+  left_second : IsSecondWorld w → (before between after : List WorldEntry) → w.entries ≡ before ++ (between ++ after) → (version : Bool)
+      → IsLeftIn before between (Begins version) → version ≡ true
+  left_second all before [] after whole version x = absurd x
+  left_second all before (e ∷ between) after whole version (inl here) =
+      second_start e.what version (all before (between ++ after) e whole) here
+  left_second all before (e ∷ between) after whole version (inr later) =
+      left_second all (before ++ e ∷ []) between after (whole ∙ sym (append_both before (e ∷ []) (between ++ after))) version later
+
+  pub terms_rise : IsSecondWorld w → (early late : Moment w) (between : List WorldEntry) → IsLater w early late between → (s t : ℕ) → s ≢ t
+      → (kept other : Record) (first second : Lease) → kept.lease ≡ Some first → other.lease ≡ Some second
+      → HoldsBy w place ticket s early kept → HoldsBy w place ticket t late other → first.term < second.term
+  terms_rise all early late between later s t ne kept other first second is_first is_second by_s by_t =
+      let r = reached early in
+      let hosts : Hosts = after_hosts w is_world place ticket setting Opening r.entries in
+      let q = reached_later early late between hosts later r.now_is r.shadow in
+      let last : Hosts = after_hosts w is_world place ticket setting hosts q.entries in
+      let whole : w.entries ≡ early.before ++ (between ++ late.after) =
+      late.whole ∙ ap (λ (es : List WorldEntry). es ++ late.after) later.entries ∙ append_both early.before between late.after in
+      later_host (cluster w place ticket setting) (cast w place ticket setting) r.entries q.entries
+      (record { clocks = has_clocks w is_world.true_clocks place ticket setting; is_cast = is_cast; hosted_early = r.hosted_all; hosted_late = q.hosted_all })
+      (all_boots_second r.entries (λ v h. left_second all [] early.before early.after early.whole v (r.started v h)))
+      (all_boots_second q.entries (λ v h. left_second all early.before between late.after whole v (q.started v h)))
+      s t ne kept other first second is_first is_second
+      (holds_so early s hosts r.now_is r.shadow kept by_s) (holds_so late t last q.now_is q.shadow other by_t)
 
   -- ---- terms
 

@@ -1,7 +1,7 @@
 -- The shadow of a world: its entries as those of the hosts of a ticket, those as entries of the cores,
 -- and those as steps.
 use Rattle.std.proofs.Common.{◌≡◌, ◌⊎◌, inl, inr, ⊎_elim, ℕ, ◌<◌, Bool, List, [], refl, sym, ap, ◌∙◌, subst}
-use Rattle.std.specs.Prelude.{Option, Some, None}
+use Rattle.std.specs.Prelude.{Option, Some, None, slice_get}
 use Rattle.booth_base.specs.Tree.{Ends, Does}
 use Rattle.booth_base.specs.declared.address.MemberId.{MemberId}
 use Rattle.booth_conf.specs.declared.tickets.TicketConf.{TicketConf}
@@ -13,6 +13,7 @@ use Rattle.booth_wire.specs.declared.message.TicketPart.{TicketPart}
 use Rattle.booth_wire.specs.PlainMessage.{PlainMessage}
 use Rattle.booth_auth.specs.Sealed.{stamped_head}
 use Rattle.booth_raft.specs.declared.view.View.{View}
+use Rattle.booth_ticket.specs.Ticket.{Automatic}
 use Rattle.booth_node.specs.Held.{Moment, may_at}
 use Rattle.booth_node.specs.Records.{Has as Holds}
 use Rattle.booth_node.specs.Session.{Stand, Down, Doing, Hearing}
@@ -25,7 +26,7 @@ use Rattle.booth_world.specs.Steps.{world_of}
 use Rattle.booth_world.specs.Cores.{Cores, opening_cores, cores_after}
 use Rattle.booth_world.specs.Turns.{Keeps, TurnTree}
 use Rattle.booth_world.specs.Hosts.{Hosts, opening_hosts, pending}
-use Rattle.booth_world.specs.Shadows.{IsComing, RestsIn, TakesReading, IsReadIn, IsSentIn, records_of, Knows, WorldsHaveShadows}
+use Rattle.booth_world.specs.Shadows.{IsComing, RestsIn, TakesReading, IsReadIn, IsSentIn, is_second_at, records_of, Knows, WorldsHaveShadows}
 use Rattle.booth_world.proofs.CoreSteps.{CoresHold, opens}
 use Rattle.booth_world.proofs.CoreReads.{opening_read, all_read, ReadsIn}
 use Rattle.booth_world.proofs.CoreRuns.{runs_of, held, all_released}
@@ -73,24 +74,30 @@ module _ (w : World) (is_world : IsWorld w) (place : ℕ) (ticket : TicketConf) 
   knows_at : (cores : Cores) (state : WorldState)
       → HostsHold (cluster w place ticket setting) (cast w place ticket setting) hosts cores
       → CoresHold (cluster w place ticket setting) (cast w place ticket setting) cores state
-      → (m : ℕ) → m < members_of w → (stand : Stand) → StandsAt w place ticket setting m stand (hosts.place m) hosts.sent
+      → (m : ℕ) → m < members_of w → (second : Bool) → (hosts.place m).second ≡ second → (stand : Stand)
+      → StandsAt w place ticket setting m second stand (hosts.place m) hosts.sent
       → (resting : State) → RestsIn stand resting → Knows w place ticket m resting state
-  knows_at cores state hold core_hold m below = by_stand
+  knows_at cores state hold core_hold m below second same_second = by_stand
     where
+      -- the steps' member is in the host's version
+      version : (state.member m).second ≡ second
+      version = (core_hold.each m below).same_second ∙ (hold.each m below).in_version ∙ same_second
+
       by_view : (view : View) (resting : State) → (hosts.place m).tree ≡ Some (Ends view)
-          → IsPlacedAt (setup_at w place ticket setting m) place view resting.tickets → resting.last_reading ≡ (hosts.place m).reading
+          → IsPlacedAt (setup_at w place ticket setting m second) place view resting.tickets → resting.last_reading ≡ (hosts.place m).reading
           → Knows w place ticket m resting state
       by_view view resting is at reading =
           let idle = ((hold.each m below).stands_at (Ends view) is).0 in
           record {
             view = view;
-            known = at.own;
+            known = subst (λ (b : Bool). slice_get resting.tickets place ≡ Some (record { setup = setup_at w place ticket setting m b; known = Automatic view }))
+                (sym version) at.own;
             none_waits = idle.at_rest;
             reading = reading ∙ sym idle.at_reading ∙ sym (core_hold.each m below).same_reading;
             agrees = (core_hold.each m below).agrees view idle.shows;
           }
 
-      by_stand : (stand : Stand) → StandsAt w place ticket setting m stand (hosts.place m) hosts.sent
+      by_stand : (stand : Stand) → StandsAt w place ticket setting m second stand (hosts.place m) hosts.sent
           → (resting : State) → RestsIn stand resting → Knows w place ticket m resting state
       by_stand (Doing node (Ends here)) x resting rests =
           subst (λ (s : State). Knows w place ticket m s state) rests
@@ -145,6 +152,8 @@ worlds_have_shadows w is_world place ticket automatic moment =
       steps = runs.first;
       run = runs.run_first;
       now = runs.early_holds.same_now ∙ f.2.same_now ∙ r.now_is;
+      versions = λ m below.
+          (runs.early_holds.each m below).same_second ∙ (f.2.each m below).in_version ∙ (r.shadow.each m below).same_second;
       records = λ m below kept h.
           holds_back w is_world place ticket setting (records_of w (world_of c runs.first) m) kept
           (subst (λ (rs : List Record). Has rs kept) (sym (runs.early_holds.each m below).same_may)
@@ -156,7 +165,7 @@ worlds_have_shadows w is_world place ticket automatic moment =
           (has_here (records_of w (world_of c runs.first) m) kept h)));
       knows = λ m below resting rests.
           knows_at w is_world place ticket setting moment hosts r.shadow cores (world_of c runs.first) f.2 runs.early_holds m below
-          (stand_after m moment.before) (r.shadow.each m below).stands resting rests;
+          (is_second_at m moment.before) (r.shadow.each m below).same_second (stand_after m moment.before) (r.shadow.each m below).stands resting rests;
       releases = λ release h.
           ⊎_elim (λ (none : ⊥). absurd none) (λ in_entries. r.released release (f.3 release in_entries))
           (all_released c k clocks seated (opening_cores c) f.0 [] release tt (opens c k clocks seated) f.1

@@ -1,20 +1,21 @@
 -- When the lease rules' view of a ticket is the state of a member in the world.
-use Rattle.std.specs.Prelude.{◌≡◌, ℕ, ◌<◌, true, false, slice_index_or, ◌||◌, IsTrue, List, [], ◌∷◌, Option, Some, None}
+use Rattle.std.specs.Prelude.{◌≡◌, ◌≢◌, ℕ, ◌+◌, ◌<◌, ◌≤◌, Bool, IsSomeAnd, true, false, slice_index_or, ◌||◌, IsTrue, List, [], ◌∷◌, Option, Some, None}
 use Rattle.std.specs.Option.{ForSome}
 use Rattle.booth_base.specs.declared.address.MemberId.{MemberId}
 use Rattle.booth_rec.specs.declared.record.Record.{Record}
-use Rattle.booth_rec.specs.Record.{plain}
 use Rattle.booth_wire.specs.declared.message.Setup.{Setup}
-use Rattle.booth_raft.specs.declared.view.Promise.{Promise as ViewPromise}
+use Rattle.booth_rec.specs.declared.record.Promise.{Promise as ViewPromise}
 use Rattle.booth_raft.specs.declared.view.Round.{Round as ViewRound}
 use Rattle.booth_raft.specs.declared.view.Rule.{Rule}
 use Rattle.booth_raft.specs.declared.view.Rule.TheVariants as rules
 use Rattle.booth_raft.specs.declared.view.View.{View}
 use Rattle.booth_raft.specs.Members.{is_candidate, is_leader}
-use Rattle.booth_node.specs.Clock.{Cluster}
+use Rattle.booth_node.specs.Clock.{Cluster, promise_time}
 use Rattle.booth_world.specs.Facts.{Has, Round, Answer, Facts}
+use Rattle.booth_world.specs.Rounds.{new_promise}
+use Rattle.booth_world.specs.Leases.{pledge_of}
 use Rattle.booth_world.specs.Messages.{ReleaseSaid}
-use Rattle.booth_world.specs.States.{KeptRecord, Promise, MemberState}
+use Rattle.booth_world.specs.States.{Pledge, KeptRecord, Promise, IsWithin, MemberState}
 
 -- ---- the names of members
 
@@ -23,18 +24,20 @@ abbrev pub AreIds : ℕ → (ℕ → MemberId) → Type 0
 AreIds members id_of =
     (s t : ℕ) → s < members → t < members → id_of s ≡ id_of t → s ≡ t
 
--- the setup of the member at this place of the cluster: its ticket's name and its rank are its own
-abbrev pub seat : Cluster → (ℕ → MemberId) → ℕ → Setup → Setup
-seat c id_of m setup = record setup {
+-- the setup of the member at this place of the cluster, in a session of version 2 or of version 1; the ticket's name
+-- and the member's rank are the setup's own
+abbrev pub seat : Cluster → (ℕ → MemberId) → ℕ → Bool → Setup → Setup
+seat c id_of m second setup = record setup {
   me = id_of m;
   place = m;
   members = c.members;
   site = c.is_site m;
   times = c.times;
+  second = second;
 }
 
-abbrev pub IsSeated : Cluster → (ℕ → MemberId) → ℕ → Setup → Type 0
-IsSeated c id_of m setup = setup ≡ seat c id_of m setup
+abbrev pub IsSeated : Cluster → (ℕ → MemberId) → ℕ → Bool → Setup → Type 0
+IsSeated c id_of m second setup = setup ≡ seat c id_of m second setup
 
 -- ---- what the rules name by ids, and the world by places
 
@@ -47,17 +50,37 @@ promise_in id_of None = None
 promise_in id_of (Some promise) =
     Some (record { to = id_of promise.to; term = promise.term; until = promise.until })
 
+-- The rules' record is one type for both versions: one of version 1 has 1 for its version, and nothing beside its term
+-- and lease.
+abbrev pub version_in : Option Pledge → ℕ
+version_in None = 1
+version_in (Some pledge) = 2
+
+abbrev pub bound_kept : Option Pledge → Option ℕ
+bound_kept None = None
+bound_kept (Some pledge) = pledge.bound
+
+abbrev pub promise_kept : Option Pledge → Option Promise
+promise_kept None = None
+promise_kept (Some pledge) = pledge.promise
+
+abbrev pub abstain_kept : Option Pledge → ℕ
+abstain_kept None = 0
+abstain_kept (Some pledge) = pledge.abstain
+
 abbrev pub record_in : (ℕ → MemberId) → KeptRecord → Record
-record_in id_of kept = plain kept.term kept.lease
+record_in id_of kept = record {
+  version = version_in kept.pledge;
+  term = kept.term;
+  lease = kept.lease;
+  bound = bound_in id_of (bound_kept kept.pledge);
+  promise = promise_in id_of (promise_kept kept.pledge);
+  abstain = abstain_kept kept.pledge;
+}
 
 abbrev pub records_in : (ℕ → MemberId) → List KeptRecord → List Record
 records_in id_of [] = []
 records_in id_of (kept ∷ others) = record_in id_of kept ∷ records_in id_of others
-
--- whom a member answered in its term, and to whom it promised, are members
-pub record IsWithin (members : ℕ) (bound : Option ℕ) (promise : Option Promise) : Type 0 where
-  pub bound_below : ForSome bound (λ s. s < members)
-  pub promise_below : ForSome promise (λ p. p.to < members)
 
 -- ---- a round
 
@@ -79,14 +102,52 @@ pub record IsOpen (f : Facts) (m : ℕ) (round : ViewRound) (open_round : Option
 
 -- ---- a view and a member
 
--- while a term is asked for, it is above that of the record, and nobody was answered in it
-abbrev pub IsAsked : Facts → MemberState → View → Rule → Type 0
-IsAsked f x view (rules.Ask reason) = (view.kept.term < view.term) × (view.bound ≡ None)
-IsAsked f x view rule = Unit {0}
+-- Where the member may promise to itself at its last reading, it has, from that reading on. So what is kept before its
+-- own round has the own answer of that round.
+abbrev pub PromisesItself : Cluster → ℕ → MemberState → Type 0
+PromisesItself c m x =
+    x.abstain ≤ x.reading → ForSome x.promise (λ promise. promise.to ≢ m → promise.until ≤ x.reading)
+    → (x.bound ≡ Some m) × (x.promise ≡ Some (new_promise c x m x.term))
 
--- What agrees. A record that is tried is one that may have been kept. The member may still have a
--- round that the view has ended. Only a site keeps records, has a round or leads, and a revocation
--- that is still to be repeated is of a release of the member.
+-- A round that a member of version 2 is to answer once its promise is kept. It is of the facts, of the site with this
+-- id, of this number and of the member's term, and was opened no later than the true time of the member's reading; and
+-- the member is bound to its site, and promised to it until this reading.
+pub record PromisesTo (id_of : ℕ → MemberId) (rounds : List Round) (second : Bool) (term at until : ℕ)
+    (bound : Option ℕ) (promise : Option Promise) (to : MemberId) (number : ℕ) : Type 0 where
+  pub in_second : second ≡ true
+  pub round : Round
+  pub fact : Has rounds round
+  pub site : to ≡ id_of round.site
+  pub own_term : round.term ≡ term
+  pub own_number : round.number ≡ number
+  pub later : round.at ≤ at
+  pub is_bound : bound ≡ Some round.site
+  pub given : promise ≡ Some (record { to = round.site; term = term; until = until })
+
+-- What is so while the keep of a rule waits. Only a site gains, asks for a term, gives back and renews. A term that is
+-- asked for is above that of the record, and the member is bound to no other in it. A renewal is of the round that is
+-- open, and the member is bound to itself. In version 2 the own promise is made by then, where it may be; and a round
+-- that is to be answered is promised to.
+abbrev pub IsAsked : Cluster → (ℕ → MemberId) → Facts → ℕ → MemberState → View → Rule → Type 0
+IsAsked c id_of f m x view (rules.Ask reason) =
+    (c.is_site m ≡ true) × (view.kept.term < view.term) × ForSome x.bound (λ bound. bound ≡ m)
+    × (x.second ≡ true → PromisesItself c m x)
+IsAsked c id_of f m x view (rules.Renew number) =
+    (c.is_site m ≡ true) × (x.bound ≡ Some m) × IsSomeAnd view.round (λ round. round.number + 1 ≡ number)
+    × (x.second ≡ true → PromisesItself c m x)
+IsAsked c id_of f m x view (rules.Answer kind to number request told) =
+    PromisesTo id_of f.rounds x.second x.term x.at (x.reading + promise_time c) x.bound x.promise to number
+IsAsked c id_of f m x view rule = c.is_site m ≡ true
+
+-- a record whose keep waits is one that may have been kept, and its pledge is the member's
+pub record IsTried (id_of : ℕ → MemberId) (x : MemberState) (tried : Record) : Type 0 where
+  pub kept : KeptRecord
+  pub may : Has x.may kept
+  pub same : record_in id_of kept ≡ tried
+  pub pledge : kept.pledge ≡ pledge_of x
+
+-- What agrees. The member may still have a round that the view has ended. Only a site is a candidate or leads, and a
+-- revocation that is still to be repeated is of a release of the member.
 pub record Agrees (c : Cluster) (id_of : ℕ → MemberId) (f : Facts) (m : ℕ) (view : View)
     (x : MemberState) : Type 0 where
   pub up : x.up ≡ true
@@ -97,8 +158,7 @@ pub record Agrees (c : Cluster) (id_of : ℕ → MemberId) (f : Facts) (m : ℕ)
   pub within : IsWithin c.members x.bound x.promise
   pub kept : Has (records_in id_of x.may) view.kept
   pub round : ForSome view.round (λ round. IsOpen f m round x.round)
-  pub tried : ForSome view.waiting (λ waits. Has (records_in id_of x.may) waits.tried)
-  pub asked : ForSome view.waiting (λ waits. IsAsked f x view waits.rule)
-  pub keeping : ForSome view.waiting (λ waits. c.is_site m ≡ true)
+  pub tried : ForSome view.waiting (λ waits. IsTried id_of x waits.tried)
+  pub asked : ForSome view.waiting (λ waits. IsAsked c id_of f m x view waits.rule)
   pub active : IsTrue (is_candidate view.role || is_leader view.role) → c.is_site m ≡ true
   pub repeated : 0 < view.repeat → ReleaseSaid f m view.repeat_term

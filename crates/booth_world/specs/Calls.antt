@@ -43,7 +43,7 @@ pub record Caller : Type 0 where
 pub record IsMember (c : Cluster) (w : WorldState) (member : Caller) : Type 0 where
   pub ids : AreIds c.members member.id_of
   pub below : member.place < c.members
-  pub seated : IsSeated c member.id_of member.place member.setup
+  pub seated : IsSeated c member.id_of member.place (w.member member.place).second member.setup
   pub sound : IsSound member.setup
   pub view_facts : ViewFacts member.setup member.view
   pub agrees : Agrees c member.id_of w.facts member.place member.view (w.member member.place)
@@ -65,6 +65,11 @@ mark_at w m = mark_of w.now m (w.member m)
 -- steps of the member lead from this world to what is given
 abbrev pub Gives : Cluster → (ℕ → MemberId) → WorldState → ℕ → Given → Type 0
 Gives c id_of w m given = LeadsTo c id_of (mark_at w m) w.facts (w.member m) given
+
+-- the same where a session of this version begins
+abbrev pub GivesIn : Bool → Cluster → (ℕ → MemberId) → WorldState → ℕ → Given → Type 0
+GivesIn second c id_of w m given =
+    LeadsTo c id_of (record (mark_at w m) { second = second }) w.facts (w.member m) given
 
 -- by a call, at the member's last reading
 abbrev pub given_by_call : Rules → WorldState → Caller → CoreCall → Given
@@ -109,15 +114,17 @@ MayCall c w member RenewsLease = IsTrue (is_leader member.view.role)
 MayCall c w member (GivesBack reason) = IsTrue member.setup.site
 MayCall c w member call = Unit {0}
 
--- a member that is down starts with a record that may be kept
+-- a member that is down starts with a record that may be kept, in a session of either version, but not of version 1
+-- after one of version 2
 abbrev pub StartsAreSteps : Rules → Type 0
 StartsAreSteps rules =
     (c : Cluster) → HasClocks c → (steps : List WorldStep) → IsRun c (opening c) steps
-    → (id_of : ℕ → MemberId) (m : ℕ) (setup : Setup)
-    → AreIds c.members id_of → m < c.members → IsSeated c id_of m setup
+    → (id_of : ℕ → MemberId) (m : ℕ) (second : Bool) (setup : Setup)
+    → AreIds c.members id_of → m < c.members → IsSeated c id_of m second setup
     → ((world_of c steps).member m).up ≡ false
+    → (((world_of c steps).member m).second ≡ true → second ≡ true)
     → (kept : Record) → Has (records_in id_of ((world_of c steps).member m).may) kept
-    → Gives c id_of (world_of c steps) m (given_by_start rules (world_of c steps) m setup kept)
+    → GivesIn second c id_of (world_of c steps) m (given_by_start rules (world_of c steps) m setup kept)
 
 -- Each start, each call and each answer of a keep gives steps. A keep's answer may come later than
 -- its call, when others have done more.

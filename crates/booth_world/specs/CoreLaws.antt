@@ -1,5 +1,6 @@
 -- The three laws, over entries of the lease cores of one ticket.
-use Rattle.std.specs.Prelude.{◌≡◌, ◌≢◌, ◌⊎◌, ℕ, ◌<◌, ◌≤◌, List, [], ◌∷◌, true, None, IsSomeAnd}
+use Rattle.std.specs.Prelude.{◌≡◌, ◌≢◌, ◌⊎◌, ℕ, ◌<◌, ◌≤◌, List, [], ◌∷◌, true, None, Some, IsSomeAnd}
+use Rattle.booth_rec.specs.declared.record.Lease.{Lease}
 use Rattle.booth_rec.specs.declared.record.Record.{Record}
 use Rattle.booth_rec.specs.Record.{IsInForce}
 use Rattle.booth_raft.specs.declared.view.Rule.{Rule}
@@ -7,7 +8,7 @@ use Rattle.booth_raft.specs.declared.view.Rule.TheVariants as rules
 use Rattle.booth_node.specs.Clock.{Cluster, HasClocks, reads}
 use Rattle.booth_world.specs.Facts.{Has, Release}
 use Rattle.booth_world.specs.Held.{AreApart, GivesBackLease}
-use Rattle.booth_world.specs.Cores.{CoreEntry, HasAnswer, Cores, opening_cores, Cast, IsCast, entered, AreEntered, cores_after}
+use Rattle.booth_world.specs.Cores.{CoreEntry, HasAnswer, StartsWith, Cores, opening_cores, Cast, IsCast, entered, AreEntered, cores_after}
 
 -- ---- releases, by the entries
 
@@ -81,3 +82,25 @@ CoreTermsNeverFall =
     → (s term : ℕ) → s < c.members
     → ((k : Record) → Has ((early_cores c cast early).place s).may k → term ≤ k.term)
     → (k : Record) → Has ((late_cores c cast early late).place s).may k → term ≤ k.term
+
+-- ---- version 2 alone
+
+-- a start is of version 2
+abbrev pub IsSecondStart : CoreEntry → Type 0
+IsSecondStart (StartsWith m second kept) = second ≡ true
+IsSecondStart entry = Unit {0}
+
+abbrev pub AreSecondStarts : List CoreEntry → Type 0
+AreSecondStarts [] = Unit {0}
+AreSecondStarts (entry ∷ entries) = IsSecondStart entry × AreSecondStarts entries
+
+-- Where each start is of version 2, and one member holds by a lease and another holds later by a lease, the later lease
+-- has the later term.
+abbrev pub LaterCoreHasLaterTerm : Type 0
+LaterCoreHasLaterTerm =
+    (c : Cluster) (cast : Cast) (early late : List CoreEntry) → CoreCourse c cast early late
+    → AreSecondStarts early → AreSecondStarts late
+    → (s t : ℕ) → s ≢ t → (k n : Record) (first second : Lease)
+    → k.lease ≡ Some first → n.lease ≡ Some second
+    → CoreHoldsBy c (early_cores c cast early) s k → CoreHoldsBy c (late_cores c cast early late) t n
+    → first.term < second.term

@@ -1,6 +1,7 @@
 -- Entries of the lease cores of one ticket, at all members, and where they leave each: the records
 -- that may be kept, what was said and what was released are counted from the entries alone.
-use Rattle.std.specs.Prelude.{◌≡◌, ℕ, ◌<◌, ◌≤◌, List, [], ◌∷◌, Bool, Option, Some, None, IsTrue, IsSomeAnd}
+use Rattle.std.specs.Prelude.{◌≡◌, ℕ, ◌<◌, ◌≤◌, List, [], ◌∷◌, Bool, true, false, Option, Some, None, IsTrue, IsSomeAnd}
+use Rattle.std.specs.Option.{ForSome}
 use Rattle.booth_base.specs.declared.address.MemberId.{MemberId}
 use Rattle.booth_rec.specs.declared.record.Record.{Record}
 use Rattle.booth_rec.specs.Record.{no_record}
@@ -20,22 +21,23 @@ use Rattle.booth_world.specs.Gives.{Mark, Given, given_by, may_answered, release
 
 -- ---- entries
 
--- What happens: true time passes; or, at one member, it reads its clock, calls its core, or has the
--- answer of a keep; it stops, or starts with a record.
+-- What happens: true time passes; or, at one member, it reads its clock, calls its core, or has the answer of a keep; it
+-- stops, or starts with a record, in a session of version 2 (`second`) or of version 1.
 pub data CoreEntry : Type 0 where
   TimePasses : (time : ℕ) → CoreEntry
   ReadsTime : (m time : ℕ) → CoreEntry
   CallsCore : (m : ℕ) (call : CoreCall) → CoreEntry
   HasAnswer : (m : ℕ) (kept : Record) (ok : Bool) → CoreEntry
   Stops : (m : ℕ) → CoreEntry
-  StartsWith : (m : ℕ) (kept : Record) → CoreEntry
+  StartsWith : (m : ℕ) (second : Bool) (kept : Record) → CoreEntry
 
 -- ---- where entries leave the members
 
--- A member: its view while it is up, its last reading and the true time of it, and the records that
--- may be kept.
+-- A member: its view while it is up; whether its last session is of version 2; its last reading and the true time of it;
+-- and the records that may be kept.
 pub record CorePlace : Type 0 where
   pub view : Option View
+  pub second : Bool
   pub reading : ℕ
   pub at : ℕ
   pub may : List Record
@@ -48,25 +50,25 @@ pub record Cores : Type 0 where
   pub releases : List Release
   pub marks : List Mark
 
--- nobody has started, and nothing is kept
+-- nobody has started, and nothing is kept; a first start may be of either version
 abbrev pub opening_cores : Cluster → Cores
 opening_cores c = record {
   now = 0;
-  place = λ m. record { view = None; reading = reads c m 0; at = 0; may = no_record ∷ [] };
+  place = λ m. record { view = None; second = false; reading = reads c m 0; at = 0; may = no_record ∷ [] };
   said = [];
   releases = [];
   marks = [];
 }
 
--- Who stands at the places: their ids, and their setups.
+-- Who stands at the places: their ids, and their setups, each for a session of version 2 and for one of version 1.
 pub record Cast : Type 0 where
   pub id_of : ℕ → MemberId
-  pub setup : ℕ → Setup
+  pub setup : ℕ → Bool → Setup
 
 pub record IsCast (c : Cluster) (cast : Cast) : Type 0 where
   pub ids : AreIds c.members cast.id_of
-  pub seated : (m : ℕ) → m < c.members → IsSeated c cast.id_of m (cast.setup m)
-  pub sound : (m : ℕ) → m < c.members → IsSound (cast.setup m)
+  pub seated : (m : ℕ) → m < c.members → (second : Bool) → IsSeated c cast.id_of m second (cast.setup m second)
+  pub sound : (m : ℕ) → m < c.members → (second : Bool) → IsSound (cast.setup m second)
 
 -- ---- what may come next
 
@@ -79,18 +81,24 @@ MayCallAlone setup view RenewsLease = IsTrue (is_leader view.role)
 MayCallAlone setup view (GivesBack reason) = IsTrue setup.site
 MayCallAlone setup view call = Unit {0}
 
+-- the setup of the member's session
+abbrev pub setup_in : Cast → Cores → ℕ → Setup
+setup_in cast cores m = cast.setup m (cores.place m).second
+
 -- a message is heard that was said, with its sender's id, at the true time of the reading
 abbrev pub MayCallCore : Cast → Cores → ℕ → View → CoreCall → Type 0
 MayCallCore cast cores m view (Hears letter) =
     (Has cores.said letter) × (letter.head.from ≡ cast.id_of letter.sender)
     × ((cores.place m).at ≡ cores.now)
-MayCallCore cast cores m view call = MayCallAlone (cast.setup m) view call
+MayCallCore cast cores m view call = MayCallAlone (setup_in cast cores m) view call
 
--- while a keep waits, its answer comes, or a stop; a start reads one of the records that may be
--- kept
+-- While a keep waits, its answer comes, or a stop; in version 2 no reading comes in between. A start reads one of the
+-- records that may be kept, and is not of version 1 after one of version 2.
 abbrev pub MayEnter : Cluster → Cast → Cores → CoreEntry → Type 0
 MayEnter c cast cores (TimePasses time) = (cores.now ≤ time) × (time < c.span)
-MayEnter c cast cores (ReadsTime m time) = (m < c.members) × (cores.now ≤ time) × (time < c.span)
+MayEnter c cast cores (ReadsTime m time) =
+    (m < c.members) × (cores.now ≤ time) × (time < c.span)
+    × ((cores.place m).second ≡ true → ForSome (cores.place m).view (λ view. view.waiting ≡ None))
 MayEnter c cast cores (CallsCore m call) =
     (m < c.members)
     × IsSomeAnd (cores.place m).view
@@ -101,8 +109,9 @@ MayEnter c cast cores (HasAnswer m kept ok) =
     (λ view. IsSomeAnd view.waiting (λ waits. waits.tried ≡ kept))
 MayEnter c cast cores (Stops m) =
     (m < c.members) × IsSomeAnd (cores.place m).view (λ view. Unit {0})
-MayEnter c cast cores (StartsWith m kept) =
+MayEnter c cast cores (StartsWith m second kept) =
     (m < c.members) × ((cores.place m).view ≡ None) × Has (cores.place m).may kept
+    × ((cores.place m).second ≡ true → second ≡ true)
 
 -- ---- what it changes
 
@@ -117,44 +126,47 @@ said_more m (says.Reply head part) said = record { sender = m; head = head; part
 abbrev pub mark_in : Cores → ℕ → Mark
 mark_in cores m = record {
   member = m;
+  second = (cores.place m).second;
   reading = (cores.place m).reading;
   at = (cores.place m).at;
   now = cores.now;
 }
 
--- a member's core has given this
-abbrev pub has_given : Cores → ℕ → Given → Cores
-has_given cores m given = record {
+-- a member's core has given this, in a session of this version
+abbrev pub has_given : Cores → ℕ → Bool → Given → Cores
+has_given cores m second given = record {
   now = cores.now;
-  place = put cores.place m (record (cores.place m) { view = Some given.view; may = given.may });
+  place = put cores.place m (record (cores.place m) { view = Some given.view; second = second; may = given.may });
   said = said_more m given.say cores.said;
   releases = given.releases;
-  marks = mark_in cores m ∷ cores.marks;
+  marks = record (mark_in cores m) { second = second } ∷ cores.marks;
 }
 
 -- what a call gives, and the answer of the keep that waits
 abbrev pub call_given : Cast → Cores → ℕ → CoreCall → View → Given
 call_given cast cores m call view =
     given_by
-    (lease_rules.call (cast.setup m) view (cores.place m).reading call)
+    (lease_rules.call (setup_in cast cores m) view (cores.place m).reading call)
     (cores.place m).may
     cores.releases
 
 abbrev pub answer_given : Cast → Cores → ℕ → Bool → View → Given
 answer_given cast cores m ok view =
     given_by
-    (lease_rules.answer (cast.setup m) view (cores.place m).reading ok)
+    (lease_rules.answer (setup_in cast cores m) view (cores.place m).reading ok)
     (may_answered view.waiting ok (cores.place m).may)
     (releases_answered (mark_in cores m) view.waiting ok cores.releases)
 
 -- where the member is up
 abbrev pub after_call : Cast → Cores → ℕ → CoreCall → Option View → Cores
 after_call cast cores m call None = cores
-after_call cast cores m call (Some view) = has_given cores m (call_given cast cores m call view)
+after_call cast cores m call (Some view) =
+    has_given cores m (cores.place m).second (call_given cast cores m call view)
 
 abbrev pub after_answer : Cast → Cores → ℕ → Bool → Option View → Cores
 after_answer cast cores m ok None = cores
-after_answer cast cores m ok (Some view) = has_given cores m (answer_given cast cores m ok view)
+after_answer cast cores m ok (Some view) =
+    has_given cores m (cores.place m).second (answer_given cast cores m ok view)
 
 abbrev pub entered : Cluster → Cast → Cores → CoreEntry → Cores
 entered c cast cores (TimePasses time) = record cores { now = time }
@@ -167,8 +179,8 @@ entered c cast cores (HasAnswer m kept ok) = after_answer cast cores m ok (cores
 entered c cast cores (Stops m) = record cores {
   place = put cores.place m (record (cores.place m) { view = None });
 }
-entered c cast cores (StartsWith m kept) = has_given cores m (record {
-  view = lease_rules.start (cast.setup m) kept (cores.place m).reading;
+entered c cast cores (StartsWith m second kept) = has_given cores m second (record {
+  view = lease_rules.start (cast.setup m second) kept (cores.place m).reading;
   say = says.Nothing;
   may = kept ∷ [];
   releases = cores.releases;

@@ -1,5 +1,5 @@
--- Small runs in which a ticket is held: the laws speak of something.
-use Rattle.std.specs.Prelude.{ℕ, zero, suc, ◌+◌, ◌++◌, nat_lt, true, List, [], ◌∷◌, Some, None}
+-- Small runs of version 1 in which a ticket is held: the laws speak of something.
+use Rattle.std.specs.Prelude.{ℕ, zero, suc, ◌+◌, ◌++◌, nat_lt, true, false, List, [], ◌∷◌, Some, None}
 use Rattle.booth_base.specs.declared.address.MemberId.{MemberId}
 use Rattle.booth_base.specs.declared.name.Name.{Name}
 use Rattle.booth_rec.specs.Record.{no_record}
@@ -40,19 +40,20 @@ three = record {
 -- ---- what they do
 
 abbrev pub unleased : ℕ → KeptRecord
-unleased term = record { term = term; lease = None }
+unleased term = record { term = term; lease = None; pledge = None }
 
 abbrev pub won_by : Round → KeptRecord
 won_by round = record {
   term = round.term;
   lease = Some (record { term = round.term; until = round.opened + 2 });
+  pledge = None;
 }
 
--- all start, and have kept nothing
+-- all start, in version 1, and have kept nothing
 abbrev pub start : List WorldStep
 start =
-    MemberDoes 0 (Starts none_kept) ∷ MemberDoes 1 (Starts none_kept)
-    ∷ MemberDoes 2 (Starts none_kept) ∷ []
+    MemberDoes 0 (Starts none_kept false) ∷ MemberDoes 1 (Starts none_kept false)
+    ∷ MemberDoes 2 (Starts none_kept false) ∷ []
 
 abbrev pub all_read_at : ℕ → List WorldStep
 all_read_at time =
@@ -117,7 +118,7 @@ granted_elsewhere =
 abbrev pub crashed_and_started : List WorldStep
 crashed_and_started =
     MemberDoes 0 Crashes ∷ MemberDoes 2 Crashes
-    ∷ MemberDoes 0 (Starts (won_by first_round)) ∷ MemberDoes 2 (Starts none_kept) ∷ []
+    ∷ MemberDoes 0 (Starts (won_by first_round) false) ∷ MemberDoes 2 (Starts none_kept false) ∷ []
 
 -- ---- a member whose view agrees with its state
 
@@ -134,6 +135,7 @@ first_setup ticket = record {
   site = true;
   rank = 0;
   times = three.times;
+  second = false;
 }
 
 abbrev pub first_caller : Name → Caller

@@ -13,7 +13,7 @@ use Rattle.booth_node.specs.Clock.{Cluster}
 use Rattle.booth_world.specs.Facts.{Has, Round, Answer, Gain, Release, Facts}
 use Rattle.booth_world.specs.States.{MemberState}
 use Rattle.booth_world.specs.Steps.{MemberStep}
-use Rattle.booth_world.specs.MemberRuns.{IsMemberRun, member_after_all, facts_after_all}
+use Rattle.booth_world.specs.MemberRuns.{IsMemberRun, member_after_all, facts_after_all, AreStartsOf}
 use Rattle.booth_world.specs.Agreement.{records_in, Agrees}
 use Rattle.booth_world.specs.Messages.{IsSaid}
 
@@ -33,16 +33,17 @@ may_answered (Some waits) false may = may
 
 -- ---- the facts of a call
 
--- What a call's facts bear: its member, the member's last reading and the true time of it, and true
--- time now.
+-- What a call's facts bear: its member, the member's last reading and the true time of it, and true time now; and the
+-- version of the member's session, which its starts are of.
 pub record Mark : Type 0 where
   pub member : ℕ
+  pub second : Bool
   pub reading : ℕ
   pub at : ℕ
   pub now : ℕ
 
 abbrev pub mark_of : ℕ → ℕ → MemberState → Mark
-mark_of now m x = record { member = m; reading = x.reading; at = x.at; now = now }
+mark_of now m x = record { member = m; second = x.second; reading = x.reading; at = x.at; now = now }
 
 abbrev pub IsMarkedRound : Mark → Round → Type 0
 IsMarkedRound mark round =
@@ -103,6 +104,7 @@ pub record IsReached (c : Cluster) (id_of : ℕ → MemberId) (mark : Mark) (giv
   pub agrees : Agrees c id_of f mark.member given.view x
   pub said : IsSaid id_of f mark.member given.say
   pub may_now : records_in id_of x.may ≡ given.may
+  pub same_second : x.second ≡ mark.second
   pub same_reading : x.reading ≡ mark.reading
   pub same_at : x.at ≡ mark.at
 
@@ -111,6 +113,7 @@ pub record LeadsTo (c : Cluster) (id_of : ℕ → MemberId) (mark : Mark) (f : F
     (given : Given) : Type 0 where
   pub steps : List MemberStep
   pub run : IsMemberRun c mark.now mark.member f x steps
+  pub starts_so : AreStartsOf mark.second steps
   pub reached : IsReached c id_of mark given (facts_after_all c mark.now mark.member f x steps)
       (member_after_all c mark.now mark.member x steps)
   pub adds : AddsOnly mark given.releases f (facts_after_all c mark.now mark.member f x steps)

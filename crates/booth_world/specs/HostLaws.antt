@@ -1,6 +1,7 @@
 -- The three laws, over entries of the hosts of one ticket.
-use Rattle.std.specs.Prelude.{◌≡◌, ◌≢◌, ◌⊎◌, ℕ, ◌<◌, ◌≤◌, List, [], ◌∷◌, Bool, true, None, IsSomeAnd}
+use Rattle.std.specs.Prelude.{◌≡◌, ◌≢◌, ◌⊎◌, ℕ, ◌<◌, ◌≤◌, List, [], ◌∷◌, Bool, true, None, Some, IsSomeAnd}
 use Rattle.booth_base.specs.Tree.{Ends, Does}
+use Rattle.booth_rec.specs.declared.record.Lease.{Lease}
 use Rattle.booth_rec.specs.declared.record.Record.{Record}
 use Rattle.booth_rec.specs.Record.{IsInForce}
 use Rattle.booth_wire.specs.declared.command.Cmd.TheVariants.{Revk}
@@ -10,7 +11,7 @@ use Rattle.booth_world.specs.Held.{AreApart, GivesBackLease}
 use Rattle.booth_world.specs.Cores.{Cast, IsCast}
 use Rattle.booth_world.specs.Rules.{MemberLetter}
 use Rattle.booth_world.specs.Turns.{Keeps, Sends, TurnTree}
-use Rattle.booth_world.specs.Hosts.{HostEntry, DoesAsk, Hosts, opening_hosts, pending, hosted, AreHosted, hosts_after}
+use Rattle.booth_world.specs.Hosts.{HostEntry, DoesAsk, Boots, Hosts, opening_hosts, pending, hosted, AreHosted, hosts_after}
 
 -- ---- releases, by the entries
 
@@ -94,3 +95,25 @@ HostTermsNeverFall =
     → (s term : ℕ) → s < c.members
     → ((k : Record) → Has (host_may (early_hosts c cast early) s) k → term ≤ k.term)
     → (k : Record) → Has (host_may (late_hosts c cast early late) s) k → term ≤ k.term
+
+-- ---- version 2 alone
+
+-- a start is of version 2
+abbrev pub IsSecondBoot : HostEntry → Type 0
+IsSecondBoot (Boots m time second kept) = second ≡ true
+IsSecondBoot entry = Unit {0}
+
+abbrev pub AreSecondBoots : List HostEntry → Type 0
+AreSecondBoots [] = Unit {0}
+AreSecondBoots (entry ∷ entries) = IsSecondBoot entry × AreSecondBoots entries
+
+-- Where each start is of version 2, and one member holds by a lease and another holds later by a lease, the later lease
+-- has the later term.
+abbrev pub LaterHostHasLaterTerm : Type 0
+LaterHostHasLaterTerm =
+    (c : Cluster) (cast : Cast) (early late : List HostEntry) → HostCourse c cast early late
+    → AreSecondBoots early → AreSecondBoots late
+    → (s t : ℕ) → s ≢ t → (k n : Record) (first second : Lease)
+    → k.lease ≡ Some first → n.lease ≡ Some second
+    → HostHoldsBy c (early_hosts c cast early) s k → HostHoldsBy c (late_hosts c cast early late) t n
+    → first.term < second.term

@@ -16,22 +16,23 @@ use Rattle.booth_world.specs.Turns.{TicketAsk, Keeps, Sends, TurnTree, Plan, tur
 
 -- ---- entries
 
--- What happens: true time passes; or, at one member, a turn begins at a reading, at whose head a
--- message may have come; the next ask of its turn is answered; it stops, wherever it is; or it
--- starts, at a reading, with a record.
+-- What happens: true time passes; or, at one member, a turn begins at a reading, at whose head a message may have come;
+-- the next ask of its turn is answered; it stops, wherever it is; or it starts, at a reading, with a record, in a session
+-- of version 2 (`second`) or of version 1.
 pub data HostEntry : Type 0 where
   LetsPass : (time : ℕ) → HostEntry
   BeginsTurn : (m time : ℕ) (came : Option MemberLetter) (plan : View → Plan) → HostEntry
   DoesAsk : (m : ℕ) (ask : TicketAsk) (ok : Bool) → HostEntry
   Halts : (m : ℕ) → HostEntry
-  Boots : (m time : ℕ) (kept : Record) → HostEntry
+  Boots : (m time : ℕ) (second : Bool) (kept : Record) → HostEntry
 
 -- ---- where entries leave the members
 
--- A member: what is still to be done while it is up, its last reading, and the records that its
--- keeps may have left.
+-- A member: what is still to be done while it is up; whether its last session is of version 2; its last reading; and the
+-- records that its keeps may have left.
 pub record HostPlace : Type 0 where
   pub tree : Option TurnTree
+  pub second : Bool
   pub reading : ℕ
   pub may : List Record
 
@@ -44,7 +45,7 @@ pub record Hosts : Type 0 where
 abbrev pub opening_hosts : Cluster → Hosts
 opening_hosts c = record {
   now = 0;
-  place = λ m. record { tree = None; reading = reads c m 0; may = no_record ∷ [] };
+  place = λ m. record { tree = None; second = false; reading = reads c m 0; may = no_record ∷ [] };
   sent = [];
 }
 
@@ -73,20 +74,22 @@ abbrev pub MayCome : Cast → Hosts → MemberLetter → Type 0
 MayCome cast hosts letter =
     (Has hosts.sent letter) × (letter.head.from ≡ cast.id_of letter.sender)
 
--- a start reads a record that a keep left that was done, or one that failed or was cut since
+-- A start reads a record that a keep left that was done, or one that failed or was cut since; and it is not of version 1
+-- after one of version 2.
 abbrev pub MayHost : Cluster → Cast → Hosts → HostEntry → Type 0
 MayHost c cast hosts (LetsPass time) = (hosts.now ≤ time) × (time < c.span)
 MayHost c cast hosts (BeginsTurn m time came plan) =
     (m < c.members) × (hosts.now ≤ time) × (time < c.span)
-    × IsSomeAnd (hosts.place m).tree (MayBegin (cast.setup m) (reads c m time) came plan)
+    × IsSomeAnd (hosts.place m).tree (MayBegin (cast.setup m (hosts.place m).second) (reads c m time) came plan)
     × ForSome came (MayCome cast hosts)
 MayHost c cast hosts (DoesAsk m ask ok) =
     (m < c.members) × IsSomeAnd (hosts.place m).tree (IsNextAsk ask)
 MayHost c cast hosts (Halts m) =
     (m < c.members) × IsSomeAnd (hosts.place m).tree (λ tree. Unit {0})
-MayHost c cast hosts (Boots m time kept) =
+MayHost c cast hosts (Boots m time second kept) =
     (m < c.members) × (hosts.now ≤ time) × (time < c.span)
     × ((hosts.place m).tree ≡ None) × Has (hosts.place m).may kept
+    × ((hosts.place m).second ≡ true → second ≡ true)
 
 -- ---- what it changes
 
@@ -113,7 +116,7 @@ hosted c cast hosts (LetsPass time) = record hosts { now = time }
 hosted c cast hosts (BeginsTurn m time came plan) = record hosts {
   now = time;
   place = put hosts.place m (record (hosts.place m) {
-    tree = begun (cast.setup m) (reads c m time) came plan (hosts.place m).tree;
+    tree = begun (cast.setup m (hosts.place m).second) (reads c m time) came plan (hosts.place m).tree;
     reading = reads c m time;
   });
 }
@@ -130,10 +133,11 @@ hosted c cast hosts (Halts m) = record hosts {
     may = pending (hosts.place m).tree (hosts.place m).may;
   });
 }
-hosted c cast hosts (Boots m time kept) = record hosts {
+hosted c cast hosts (Boots m time second kept) = record hosts {
   now = time;
   place = put hosts.place m (record {
-    tree = Some (Ends (lease_rules.start (cast.setup m) kept (reads c m time)));
+    tree = Some (Ends (lease_rules.start (cast.setup m second) kept (reads c m time)));
+    second = second;
     reading = reads c m time;
     may = kept ∷ [];
   });

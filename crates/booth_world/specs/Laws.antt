@@ -1,8 +1,9 @@
 -- The laws of a ticket's world, over every list of steps from the opening state.
-use Rattle.std.specs.Prelude.{◌≡◌, ◌≢◌, ◌⊎◌, ◌++◌, ℕ, List}
+use Rattle.std.specs.Prelude.{◌≡◌, ◌≢◌, ◌⊎◌, ◌++◌, ℕ, ◌<◌, Some, List}
+use Rattle.booth_rec.specs.declared.record.Lease.{Lease}
 use Rattle.booth_node.specs.Clock.{Cluster, HasClocks}
 use Rattle.booth_world.specs.States.{KeptRecord, opening}
-use Rattle.booth_world.specs.Steps.{WorldStep, IsRun, world_of}
+use Rattle.booth_world.specs.Steps.{WorldStep, IsRun, AreSecond, world_of}
 use Rattle.booth_world.specs.Held.{IsHeldBy, Held, ReleasedBetween, IsApart, IsAtLeast}
 
 -- at no moment is the ticket held at two sites
@@ -29,3 +30,14 @@ KeptTermsNeverFall =
     → (early late : List WorldStep) → IsRun c (opening c) (early ++ late)
     → (s term : ℕ)
     → IsAtLeast (world_of c early) s term → IsAtLeast (world_of c (early ++ late)) s term
+
+-- Where each start is of version 2, and one member holds by a lease and another holds later by a lease, the later lease
+-- has the later term.
+abbrev pub LaterHolderHasLaterTerm : Type 0
+LaterHolderHasLaterTerm =
+    (c : Cluster) → HasClocks c
+    → (early late : List WorldStep) → IsRun c (opening c) (early ++ late) → AreSecond (early ++ late)
+    → (s t : ℕ) → s ≢ t → (k n : KeptRecord) (first second : Lease)
+    → k.lease ≡ Some first → n.lease ≡ Some second
+    → IsHeldBy c (world_of c early) s k → IsHeldBy c (world_of c (early ++ late)) t n
+    → first.term < second.term

@@ -4,7 +4,7 @@ use Rattle.std.specs.Prelude.{◌≡◌, ◌⊎◌, ℕ, ◌+◌, ◌<◌, ◌&&
 use Rattle.booth_rec.specs.declared.record.Lease.{Lease}
 use Rattle.booth_node.specs.Clock.{Cluster}
 use Rattle.booth_world.specs.Facts.{Has, Round, Answer, Gain, Release, Facts, IsMajority}
-use Rattle.booth_world.specs.States.{KeptRecord, Promise, MemberState}
+use Rattle.booth_world.specs.States.{Pledge, KeptRecord, Promise, MemberState}
 
 -- ---- a gain
 -- The open round gives a lease where a majority answered it and the lease would not be over
@@ -24,9 +24,10 @@ with_gain f round now places =
     record f { leases = record { round = round; at = now; answers = places } ∷ f.leases }
 
 -- ---- a keep
--- A site keeps a record of its term: without a lease, or with one that it may have kept, or with
--- the one that its open round gave. A keep is tried, and then the record is one more that may be
--- kept; and it is done, and then that is the only one.
+-- A member keeps a record of its term and of the version of its session: without a lease, or with one that it may have
+-- kept, or with the one that its open round gave; and in version 2 with its pledge, as that is then. In version 1 only
+-- sites keep, in version 2 arbitrators too. A keep is tried, and then the record is one more that may have been kept;
+-- and it is done, and then that is the only one.
 
 -- the lease of a round that is open and gave one: it runs from the reading of the round's opening
 pub record IsWon (c : Cluster) (f : Facts) (x : MemberState) (lease : Lease) : Type 0 where
@@ -41,11 +42,19 @@ MayLease c f x None = Unit {0}
 MayLease c f x (Some lease) =
     ((k : KeptRecord) × Has x.may k × (k.lease ≡ Some lease)) ⊎ IsWon c f x lease
 
+-- what a member keeps of its pledge: in version 2 all of it, in version 1 nothing
+abbrev pub pledge_of : MemberState → Option Pledge
+pledge_of x =
+    if x.second
+    then Some (record { bound = x.bound; promise = x.promise; abstain = x.abstain })
+    else None
+
 pub record MayKeep (c : Cluster) (f : Facts) (m : ℕ) (x : MemberState) (kept : KeptRecord)
     : Type 0 where
   pub up : x.up ≡ true
-  pub site : c.is_site m ≡ true
+  pub keeper : (c.is_site m ≡ true) ⊎ (x.second ≡ true)
   pub own_term : kept.term ≡ x.term
+  pub pledge : kept.pledge ≡ pledge_of x
   pub lease : MayLease c f x kept.lease
 
 abbrev pub trying : MemberState → KeptRecord → MemberState

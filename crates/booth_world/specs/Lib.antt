@@ -28,3 +28,4 @@ pub mod Premises
 pub mod WorldExamples
 pub mod TakeOverExample
 pub mod PremiseExamples
+pub mod VersionExamples

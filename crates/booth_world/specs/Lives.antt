@@ -1,9 +1,9 @@
 -- The kinds of step by which a member learns a term, crashes and starts, and by which time passes:
 -- for each its condition, and what it changes.
-use Rattle.std.specs.Prelude.{◌≡◌, ℕ, ◌+◌, ◌<◌, ◌≤◌, true, false, None, [], ◌∷◌}
+use Rattle.std.specs.Prelude.{◌≡◌, ℕ, ◌+◌, ◌<◌, ◌≤◌, Bool, true, false, Option, Some, None, [], ◌∷◌}
 use Rattle.booth_node.specs.Clock.{Cluster, promise_time, reads}
 use Rattle.booth_world.specs.Facts.{Has}
-use Rattle.booth_world.specs.States.{KeptRecord, MemberState, WorldState}
+use Rattle.booth_world.specs.States.{Pledge, KeptRecord, MemberState, WorldState}
 
 -- ---- a term is learnt
 -- A member takes a term above its own: it answered nobody in it, and its round is closed.
@@ -22,20 +22,29 @@ abbrev pub crashing : MemberState → MemberState
 crashing x = record x { up = false }
 
 -- ---- a start
--- A member that is down starts with a record that it may have kept. It has promised nothing that it
--- knows of, so it answers nobody for a whole promise.
+-- A member that is down starts with a record that it may have kept, in a session of either version; but one whose last
+-- session was of version 2 stays in it. From a record of version 2 it has the pledge of that record, and abstains no
+-- longer than that says. From another it knows nothing of what it promised, so it answers nobody for a whole promise.
 
-pub record MayStart (x : MemberState) (kept : KeptRecord) : Type 0 where
+pub record MayStart (x : MemberState) (kept : KeptRecord) (second : Bool) : Type 0 where
   pub down : x.up ≡ false
   pub fact : Has x.may kept
+  pub stays : x.second ≡ true → second ≡ true
 
-abbrev pub starting : Cluster → MemberState → KeptRecord → MemberState
-starting c x kept = record x {
+-- the pledge of a start at this reading, by that of the record
+abbrev pub pledge_at_start : Cluster → ℕ → Option Pledge → Pledge
+pledge_at_start c reading None =
+    record { bound = None; promise = None; abstain = reading + promise_time c }
+pledge_at_start c reading (Some pledge) = pledge
+
+abbrev pub starting : Cluster → MemberState → KeptRecord → Bool → MemberState
+starting c x kept second = record x {
   up = true;
+  second = second;
   term = kept.term;
-  bound = None;
-  promise = None;
-  abstain = x.reading + promise_time c;
+  bound = (pledge_at_start c x.reading kept.pledge).bound;
+  promise = (pledge_at_start c x.reading kept.pledge).promise;
+  abstain = (pledge_at_start c x.reading kept.pledge).abstain;
   may = kept ∷ [];
   round = None;
 }

@@ -1,9 +1,9 @@
--- A member that is alone in its cluster, by the lease rules, at its core and at its host: the laws
--- over entries speak of something.
+-- A member that is alone in its cluster, by the lease rules of version 1, at its core and at its host: the laws over
+-- entries speak of something.
 use Rattle.std.specs.Prelude.{true, false, List, [], ◌∷◌, Some, None}
 use Rattle.booth_base.specs.declared.name.Name.{Name}
 use Rattle.booth_rec.specs.declared.record.Record.{Record}
-use Rattle.booth_rec.specs.Record.{plain, no_record}
+use Rattle.booth_rec.specs.Record.{first_plain, no_record}
 use Rattle.booth_raft.specs.declared.view.View.{View}
 use Rattle.booth_node.specs.Clock.{Cluster}
 use Rattle.booth_world.specs.Rules.{Asks, Greets, GivesBack}
@@ -24,7 +24,7 @@ lone = record {
 abbrev pub lone_cast : Name → Cast
 lone_cast ticket = record {
   id_of = id_of_place;
-  setup = λ m. record {
+  setup = λ m second. record {
     ticket = ticket;
     me = id_of_place m;
     place = m;
@@ -32,21 +32,22 @@ lone_cast ticket = record {
     site = true;
     rank = 0;
     times = three.times;
+    second = second;
   };
 }
 
 abbrev pub lone_term : Record
-lone_term = plain 1 None
+lone_term = first_plain 1 None
 
 abbrev pub lone_lease : Record
-lone_lease = plain 1 (Some (record { term = 1; until = 8 }))
+lone_lease = first_plain 1 (Some (record { term = 1; until = 8 }))
 
 -- ---- at its core
 
 -- it asks for a term and is granted its lease, and both keeps are done
 abbrev pub lone_grant : List CoreEntry
 lone_grant =
-    StartsWith 0 no_record ∷ ReadsTime 0 6 ∷ CallsCore 0 (Asks 0)
+    StartsWith 0 false no_record ∷ ReadsTime 0 6 ∷ CallsCore 0 (Asks 0)
     ∷ HasAnswer 0 lone_term true ∷ HasAnswer 0 lone_lease true ∷ []
 
 -- then a keep fails that would give the lease back, a second one is cut, and it starts from its
@@ -54,7 +55,7 @@ lone_grant =
 abbrev pub lone_restart : List CoreEntry
 lone_restart =
     CallsCore 0 (GivesBack 0) ∷ HasAnswer 0 lone_term false ∷ CallsCore 0 (GivesBack 0) ∷ Stops 0
-    ∷ StartsWith 0 lone_term ∷ []
+    ∷ StartsWith 0 false lone_term ∷ []
 
 -- ---- at its host
 
@@ -65,5 +66,5 @@ lone_plan view = Calls Greets (λ greeted. Calls (Asks 0) (λ asked. Waits (λ o
 -- it begins the turn and keeps twice; before the client is told it stops, and starts with its lease
 abbrev pub lone_turn : List HostEntry
 lone_turn =
-    Boots 0 0 no_record ∷ BeginsTurn 0 6 None lone_plan ∷ DoesAsk 0 (Keeps lone_term) true
-    ∷ DoesAsk 0 (Keeps lone_lease) true ∷ Halts 0 ∷ Boots 0 7 lone_lease ∷ []
+    Boots 0 0 false no_record ∷ BeginsTurn 0 6 None lone_plan ∷ DoesAsk 0 (Keeps lone_term) true
+    ∷ DoesAsk 0 (Keeps lone_lease) true ∷ Halts 0 ∷ Boots 0 7 false lone_lease ∷ []

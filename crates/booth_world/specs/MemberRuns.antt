@@ -1,9 +1,9 @@
 -- Steps of one member, one after the other, while nothing else happens.
-use Rattle.std.specs.Prelude.{ℕ, List, [], ◌∷◌}
+use Rattle.std.specs.Prelude.{Bool, ℕ, List, [], ◌∷◌}
 use Rattle.booth_node.specs.Clock.{Cluster}
 use Rattle.booth_world.specs.Facts.{Facts}
 use Rattle.booth_world.specs.States.{MemberState}
-use Rattle.booth_world.specs.Steps.{MemberStep, WorldStep, MemberDoes, May, member_after, facts_after}
+use Rattle.booth_world.specs.Steps.{MemberStep, WorldStep, MemberDoes, May, member_after, facts_after, IsStartOf}
 
 -- each step may be done where it stands
 abbrev pub IsMemberRun : Cluster → ℕ → ℕ → Facts → MemberState → List MemberStep → Type 0
@@ -26,3 +26,8 @@ facts_after_all c now m f x (step ∷ steps) =
 abbrev pub world_steps : ℕ → List MemberStep → List WorldStep
 world_steps m [] = []
 world_steps m (step ∷ steps) = MemberDoes m step ∷ world_steps m steps
+
+-- each start among them is of version 2 exactly where `second` is true
+abbrev pub AreStartsOf : Bool → List MemberStep → Type 0
+AreStartsOf second [] = Unit {0}
+AreStartsOf second (step ∷ steps) = IsStartOf second step × AreStartsOf second steps

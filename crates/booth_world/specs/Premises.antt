@@ -1,14 +1,15 @@
--- The five premises of a world, by name, and what it is to need one.
+-- The six premises of a world, by name, and what it is to need one.
 use Rattle.std.specs.Prelude.{◌≡◌, ◌≢◌, ℕ, ◌<◌}
 use Rattle.booth_conf.specs.declared.tickets.TicketConf.{TicketConf}
 use Rattle.booth_node.specs.Session.{Down, AreSessions}
-use Rattle.booth_node.specs.World.{World, members_of, entries_of, AtEach, HasForm, HasConfiguration, HasTrueClocks, ReadsKept, HearsSent, stand_after}
+use Rattle.booth_node.specs.World.{World, members_of, entries_of, AtEach, HasForm, HasConfiguration, HasTrueClocks, ReadsKept, StaysSecond, HearsSent, stand_after}
 use Rattle.booth_node.specs.Held.{Moment, IsAutomatic, Holds}
 
 pub data Premise : Type 0 where
   OneConfiguration : Premise
   TrueClocks : Premise
   RecordsReturn : Premise
+  VersionsRise : Premise
   MembersSpeak : Premise
   OneDaemon : Premise
 
@@ -17,6 +18,7 @@ abbrev pub Meets : World → Premise → Type 0
 Meets w OneConfiguration = AtEach w (λ before entry. HasConfiguration w entry entry.what)
 Meets w TrueClocks = HasTrueClocks w
 Meets w RecordsReturn = AtEach w (λ before entry. ReadsKept w before entry entry.what)
+Meets w VersionsRise = AtEach w (λ before entry. StaysSecond w before entry entry.what)
 Meets w MembersSpeak = AtEach w (λ before entry. HearsSent w before (stand_after entry.member before) entry.what)
 Meets w OneDaemon = (m : ℕ) → m < members_of w → AreSessions Down (entries_of m w.entries)
 

@@ -4,7 +4,7 @@ use Rattle.std.specs.Prelude.{◌≡◌, ◌≢◌, ◌⊎◌, ℕ, ◌+◌, ◌
 use Rattle.std.specs.Option.{ForSome}
 use Rattle.booth_node.specs.Clock.{Cluster, promise_time}
 use Rattle.booth_world.specs.Facts.{Has, Round, Answer, Release, Facts}
-use Rattle.booth_world.specs.States.{KeptRecord, Promise, MemberState}
+use Rattle.booth_world.specs.States.{Pledge, KeptRecord, Promise, MemberState}
 
 -- the round that a member opens now
 abbrev pub new_round : ℕ → MemberState → ℕ → Round
@@ -12,9 +12,8 @@ new_round m x number =
     record { site = m; term = x.term; number = number; opened = x.reading; at = x.at }
 
 -- ---- an election is opened
--- A site opens the first round of its term, where every record that it may have kept is of that
--- term, it answered no other in it, and it neither opened a round of the term nor released it. It
--- is bound to itself.
+-- A site opens the first round of its term, where every record that it may have kept is of that term, it is bound to
+-- no other in it, and it neither opened a round of the term nor released it. It is bound to itself.
 
 pub record MayElect (c : Cluster) (f : Facts) (m : ℕ) (x : MemberState) : Type 0 where
   pub up : x.up ≡ true
@@ -45,14 +44,15 @@ abbrev pub with_round : Facts → Round → Facts
 with_round f round = record f { rounds = round ∷ f.rounds }
 
 -- ---- a promise
--- A member promises to a site and a term where it may answer a round of them, whatever lease it may
--- have: it does not abstain, no promise to another is live, and the term is new to it, or is its
--- own and it answered no other in it. A round of its own stays open only where it promises to
--- itself within its term.
+-- A member promises to a site and a term where it may answer a round of them, whatever lease it may have: it does not
+-- abstain, no promise to another is live, and the term is new to it, or is its own and it is bound to no other in it.
+-- From then on it is of that term and bound to that site, and the promise lasts for a whole promise's time. A round of
+-- its own stays open only where it promises to itself within its term.
 
 pub record MayPromise (c : Cluster) (x : MemberState) (site term : ℕ) : Type 0 where
   pub up : x.up ≡ true
   pub to_site : c.is_site site ≡ true
+  pub below : site < c.members
   pub rested : x.abstain ≤ x.reading
   pub unpromised : ForSome x.promise (λ promise. promise.to ≢ site → promise.until ≤ x.reading)
   pub unbound : (x.term < term) ⊎ ((x.term ≡ term) × ForSome x.bound (λ bound. bound ≡ site))
@@ -72,9 +72,22 @@ promising c m x site term = record x {
 }
 
 -- ---- an answer
--- A member answers a round of the facts where it is of the round's term, bound to its site, and
--- promised to it for a whole promise from now on, and read its clock no earlier than the round's
--- site did. The answer is added to the facts.
+-- A member answers a round of the facts where it is of the round's term, bound to its site, and promised to it for a
+-- whole promise from now on, and read its clock no earlier than the round's site did. In version 2 all this has to be
+-- kept first: each record that the member may have kept is of version 2, and says the same. So whichever of them the
+-- next start reads, it is bound and promised so. The answer is added to the facts.
+
+-- a record of version 2, of the round's term, bound to its site and promised to it for a whole promise from a reading
+pub record KeepsAnswer (c : Cluster) (reading : ℕ) (round : Round) (k : KeptRecord) : Type 0 where
+  pub pledge : Pledge
+  pub second : k.pledge ≡ Some pledge
+  pub own_term : k.term ≡ round.term
+  pub bound : pledge.bound ≡ Some round.site
+  pub given : Promise
+  pub stands : pledge.promise ≡ Some given
+  pub to : given.to ≡ round.site
+  pub for_term : given.term ≡ round.term
+  pub long : reading + promise_time c ≤ given.until
 
 pub record MayAddAnswer (c : Cluster) (f : Facts) (x : MemberState) (round : Round) (given : Promise)
     : Type 0 where
@@ -87,6 +100,7 @@ pub record MayAddAnswer (c : Cluster) (f : Facts) (x : MemberState) (round : Rou
   pub for_term : given.term ≡ round.term
   pub long : x.reading + promise_time c ≤ given.until
   pub later : round.at ≤ x.at
+  pub kept : x.second ≡ true → (k : KeptRecord) → Has x.may k → KeepsAnswer c x.reading round k
 
 abbrev pub new_answer : ℕ → MemberState → Round → Answer
 new_answer m x round = record { member = m; round = round; reading = x.reading; at = x.at }

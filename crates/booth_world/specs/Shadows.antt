@@ -1,5 +1,5 @@
 -- Every world has a shadow: at each moment, for each automatic ticket, a list of the world's steps.
-use Rattle.std.specs.Prelude.{◌≡◌, ◌≢◌, ◌⊎◌, ◌++◌, ℕ, ◌<◌, Bool, List, [], ◌∷◌, slice_get, Ok, Some, None}
+use Rattle.std.specs.Prelude.{◌≡◌, ◌≢◌, ◌⊎◌, ◌++◌, ℕ, ◌<◌, Bool, false, List, [], ◌∷◌, slice_get, Ok, Some, None}
 use Rattle.booth_base.specs.Tree.{Deeds, Ends, Does}
 use Rattle.booth_conf.specs.declared.tickets.TicketConf.{TicketConf}
 use Rattle.booth_rec.specs.declared.record.Record.{Record}
@@ -91,32 +91,49 @@ pub record IsSentIn (name : List ℕ) (before : List WorldEntry) (m : ℕ) (lett
   pub about : letter.content ≡ Ticket part
   pub named : part.ticket ≡ name
 
+-- ---- versions
+
+-- whether a member's session is of version 2 after this entry: a start is in the version of its node
+abbrev pub second_after : Bool → SessionEntry → Bool
+second_after second (Starts node reading records) = node.second
+second_after second entry = second
+
+abbrev pub second_after_all : Bool → List SessionEntry → Bool
+second_after_all second [] = second
+second_after_all second (entry ∷ entries) = second_after_all (second_after second entry) entries
+
+-- whether the member's last session is of version 2; one that never started counts as in version 1
+abbrev pub is_second_at : ℕ → List WorldEntry → Bool
+is_second_at m before = second_after_all false (entries_of m before)
+
 -- ---- the shadow
 
 -- the records that a member may have kept, as the steps have them
 abbrev pub records_of : World → WorldState → ℕ → List Record
 records_of w state m = records_in (id_at w) (state.member m).may
 
--- What a node in this state knows of the ticket is what the steps' member is: its view agrees with the member, no keep
--- waits for its answer, and the last reading is the member's.
+-- What a node in this state knows of the ticket is what the steps' member is: its rules are of the member's version,
+-- its view agrees with the member, no keep waits for its answer, and the last reading is the member's.
 pub record Knows (w : World) (place : ℕ) (ticket : TicketConf) (m : ℕ) (resting : State) (state : WorldState) : Type 0 where
   pub view : View
   pub known : slice_get resting.tickets place
-      ≡ Some (record { setup = setup_of (node_at w m) place ticket; known = Automatic view })
+      ≡ Some (record { setup = setup_of (node_at w m (state.member m).second) place ticket; known = Automatic view })
   pub none_waits : view.waiting ≡ None
   pub reading : resting.last_reading ≡ (state.member m).reading
   pub agrees : Agrees (cluster_of w ticket.times) (id_at w) state.facts m view (state.member m)
 
--- Steps from the opening state up to this moment. After them the records that a member may have kept are the entries',
--- and that which the member's turn is to keep next; where a node rests between its turns, what it knows of the ticket
--- is what its member is; each release is an entry's, after which the member's turn goes on to tell the others; each
--- round was opened, and each answer given, at a reading that is an entry's, by the member that took it; each message
--- that an entry sent says a fact: that a round was opened, or answered, or a term released; and the ticket is held at
--- each member that holds it.
+-- Steps from the opening state up to this moment. After them each member's last session is of the version of its last
+-- start; the records that a member may have kept are the entries', and that which the member's turn is to keep next;
+-- where a node rests between its turns, what it knows of the ticket is what its member is; each release is an entry's,
+-- after which the member's turn goes on to tell the others; each round was opened, and each answer given, at a reading
+-- that is an entry's, by the member that took it; each message that an entry sent says a fact: that a round was opened,
+-- or answered, or a term released; and the ticket is held at each member that holds it.
 pub record HasShadow (w : World) (place : ℕ) (ticket : TicketConf) (moment : Moment w) : Type 0 where
   pub steps : List WorldStep
   pub run : IsRun (cluster_of w ticket.times) (opening (cluster_of w ticket.times)) steps
   pub now : (world_of (cluster_of w ticket.times) steps).now ≡ moment.time
+  pub versions : (m : ℕ) → m < members_of w
+      → ((world_of (cluster_of w ticket.times) steps).member m).second ≡ is_second_at m moment.before
   pub records : (m : ℕ) → m < members_of w → (kept : Record) → Has (may_at w place ticket m moment) kept
       → Has (records_of w (world_of (cluster_of w ticket.times) steps) m) kept
   pub no_more : (m : ℕ) → m < members_of w → (kept : Record)

@@ -1,6 +1,6 @@
 -- What stays of a member's agreement with its view while others step, while time passes, and while
 -- it reads its clock; and runs one after another.
-use Rattle.std.specs.Prelude.{◌≡◌, ◌≢◌, ◌++◌, ℕ, ◌<◌, List, [], ◌∷◌}
+use Rattle.std.specs.Prelude.{Bool, true, ◌≡◌, ◌≢◌, ◌++◌, ℕ, ◌<◌, List, [], ◌∷◌, None}
 use Rattle.booth_base.specs.declared.address.MemberId.{MemberId}
 use Rattle.booth_wire.specs.declared.command.Cmd.{Cmd}
 use Rattle.booth_wire.specs.declared.message.Head.{Head}
@@ -10,19 +10,20 @@ use Rattle.booth_node.specs.Clock.{Cluster}
 use Rattle.booth_world.specs.Facts.{Facts}
 use Rattle.booth_world.specs.States.{MemberState, WorldState}
 use Rattle.booth_world.specs.Lives.{reading_clock}
-use Rattle.booth_world.specs.Steps.{WorldStep, ReadsClock, MemberDoes, Passes, happens, IsRun, after_steps, world_of}
+use Rattle.booth_world.specs.Steps.{WorldStep, ReadsClock, MemberDoes, Passes, happens, IsRun, after_steps, world_of, AreSecond}
 use Rattle.booth_world.specs.Agreement.{Agrees}
 use Rattle.booth_world.specs.Messages.{IsFact}
 use Rattle.booth_world.specs.Gives.{Given, IsReached, AddsOnly}
-use Rattle.booth_world.specs.Calls.{Caller, IsMember, Gives, mark_at}
+use Rattle.booth_world.specs.Calls.{Caller, IsMember, GivesIn, mark_at}
 
 -- a step that is not this member's
 abbrev pub IsOthers : ℕ → WorldStep → Type 0
 IsOthers m (MemberDoes k step) = k ≢ m
 IsOthers m (Passes time) = Unit {0}
 
--- Others leave a member as it is, and its view agrees on; what was said stays a fact, whoever
--- steps; and the clock that a member reads is nothing that its view shows.
+-- Others leave a member as it is, and its view agrees on; what was said stays a fact, whoever steps; and the clock that
+-- a member reads is nothing that its view shows. In version 2 it reads it only while no keep waits, since what is being
+-- kept is promised from the last reading on.
 pub record AgreementStays : Type 0 where
   pub unmoved : (c : Cluster) (w : WorldState) (m : ℕ) (step : WorldStep) → IsOthers m step
       → (happens c w step).member m ≡ w.member m
@@ -34,17 +35,18 @@ pub record AgreementStays : Type 0 where
       → IsFact id_of w.facts s head part cmd → IsFact id_of (happens c w step).facts s head part cmd
   pub clock_read : (c : Cluster) (id_of : ℕ → MemberId) (f : Facts) (m now : ℕ)
       → (view : View) (x : MemberState)
+      → (x.second ≡ true → view.waiting ≡ None)
       → Agrees c id_of f m view x → Agrees c id_of f m view (reading_clock c now m x)
 
 -- ---- a call, as steps of the world
 
--- Where a call of one member leads from a world to another: its view agrees, what it says is a
--- fact, and it adds no other facts. True time is as before, and so are other members, whose views
+-- Where a call of one member, or a start in a session of this version, leads from a world to another: its view agrees,
+-- what it says is a fact, and it adds no other facts. True time is as before, and so are other members, whose views
 -- agree on.
-pub record IsNext (c : Cluster) (id_of : ℕ → MemberId) (w z : WorldState) (m : ℕ) (given : Given)
+pub record IsNext (c : Cluster) (id_of : ℕ → MemberId) (w z : WorldState) (m : ℕ) (second : Bool) (given : Given)
     : Type 0 where
-  pub reached : IsReached c id_of (mark_at w m) given z.facts (z.member m)
-  pub adds : AddsOnly (mark_at w m) given.releases w.facts z.facts
+  pub reached : IsReached c id_of (record (mark_at w m) { second = second }) given z.facts (z.member m)
+  pub adds : AddsOnly (record (mark_at w m) { second = second }) given.releases w.facts z.facts
   pub same_time : z.now ≡ w.now
   pub unmoved : (k : ℕ) → k ≢ m → z.member k ≡ w.member k
   pub others_agree : (k : ℕ) (other : View) → k ≢ m
@@ -52,13 +54,13 @@ pub record IsNext (c : Cluster) (id_of : ℕ → MemberId) (w z : WorldState) (m
   pub said_on : (s : ℕ) (head : Head) (part : TicketPart) (cmd : Cmd)
       → IsFact id_of w.facts s head part cmd → IsFact id_of z.facts s head part cmd
 
--- each call leads on from world to world
+-- each call leads on from world to world; and in version 2 its steps start nothing of version 1
 abbrev pub CallsLeadOn : Type 0
 CallsLeadOn =
-    (c : Cluster) (id_of : ℕ → MemberId) (w : WorldState) (m : ℕ) (given : Given) → m < c.members
-    → Gives c id_of w m given
+    (c : Cluster) (id_of : ℕ → MemberId) (w : WorldState) (m : ℕ) (second : Bool) (given : Given) → m < c.members
+    → GivesIn second c id_of w m given
     → (steps : List WorldStep) × IsRun c w steps
-    × IsNext c id_of w (after_steps c w steps) m given
+    × IsNext c id_of w (after_steps c w steps) m second given × (second ≡ true → AreSecond steps)
 
 -- ---- one run after another
 
@@ -78,8 +80,8 @@ abbrev pub AreOthers : ℕ → List WorldStep → Type 0
 AreOthers m [] = Unit {0}
 AreOthers m (step ∷ steps) = IsOthers m step × AreOthers m steps
 
--- While others step and time passes, a member stays as it is, and one that agrees still does; so
--- does one that reads its clock.
+-- While others step and time passes, a member stays as it is, and one that agrees still does; so does one that reads
+-- its clock, in version 2 while no keep waits.
 pub record MembersStay : Type 0 where
   pub state : (c : Cluster) (w : WorldState) (m : ℕ) (more : List WorldStep) → AreOthers m more
       → (after_steps c w more).member m ≡ w.member m
@@ -87,5 +89,6 @@ pub record MembersStay : Type 0 where
       → AreOthers member.place more → IsMember c (world_of c steps) member
       → IsMember c (world_of c (steps ++ more)) member
   pub is_member_later : (c : Cluster) (steps : List WorldStep) (member : Caller)
+      → (((world_of c steps).member member.place).second ≡ true → member.view.waiting ≡ None)
       → IsMember c (world_of c steps) member
       → IsMember c (world_of c (steps ++ MemberDoes member.place ReadsClock ∷ [])) member

@@ -1,5 +1,6 @@
 -- The state of one automatic ticket in a whole cluster.
-use Rattle.std.specs.Prelude.{ℕ, Bool, false, if◌then◌else◌, ◌==◌, Option, None, List, [], ◌∷◌}
+use Rattle.std.specs.Prelude.{ℕ, ◌<◌, Bool, false, if◌then◌else◌, ◌==◌, Option, None, List, [], ◌∷◌}
+use Rattle.std.specs.Option.{ForSome}
 use Rattle.booth_rec.specs.declared.record.Lease.{Lease}
 use Rattle.booth_node.specs.Clock.{Cluster, reads}
 use Rattle.booth_world.specs.Facts.{Round, Facts, no_facts}
@@ -10,20 +11,39 @@ pub record Promise : Type 0 where
   pub term : ℕ
   pub until : ℕ
 
--- A record as the world sees it: whoever it named would be named by place.
+-- whom a member is bound to, and to whom it promised, are members
+pub record IsWithin (members : ℕ) (bound : Option ℕ) (promise : Option Promise) : Type 0 where
+  pub bound_below : ForSome bound (λ s. s < members)
+  pub promise_below : ForSome promise (λ p. p.to < members)
+
+-- Sessions and records are of version 1 or 2. In version 2 a member keeps what it is pledged to before it says so, and
+-- a start has it again. In version 1 it keeps a term and perhaps a lease, and after a start it answers nobody for a
+-- whole promise. A cluster may have sessions of both.
+
+-- What a member is pledged to: the only site whose rounds of its term it answers, its promise, and the reading until
+-- which it answers nobody.
+pub record Pledge : Type 0 where
+  pub bound : Option ℕ
+  pub promise : Option Promise
+  pub abstain : ℕ
+
+-- A record as the world sees it, which names members by place. One of version 2 has a pledge, and one of version 1 has
+-- none: so what is said of each pledge is said of records of version 2 alone.
 pub record KeptRecord : Type 0 where
   pub term : ℕ
   pub lease : Option Lease
+  pub pledge : Option Pledge
 
--- no record counts as one of term 0 without a lease
+-- no record counts as one of version 1, of term 0 without a lease
 abbrev pub none_kept : KeptRecord
-none_kept = record { term = 0; lease = None }
+none_kept = record { term = 0; lease = None; pledge = None }
 
--- A member: whether it is up; its last reading and the true time of it; its term, and whom it
--- answered in that term; its promise; the reading until which it answers nobody; the records that
--- it may have kept; and the round that it opened.
+-- A member: whether it is up; whether its session, or its last one while it is down, is of version 2 (`second`); its
+-- last reading, and the true time of it; its term; what it is pledged to, as in `Pledge`; the records that it may have
+-- kept; and the round that it has open.
 pub record MemberState : Type 0 where
   pub up : Bool
+  pub second : Bool
   pub reading : ℕ
   pub at : ℕ
   pub term : ℕ
@@ -38,10 +58,12 @@ pub record WorldState : Type 0 where
   pub member : ℕ → MemberState
   pub facts : Facts
 
--- a member that never started: it is down, and has kept nothing
+-- A member that never started: it is down, and has kept nothing. It counts as in version 1, so its first start may be
+-- of either version.
 abbrev pub unstarted : Cluster → ℕ → MemberState
 unstarted c m = record {
   up = false;
+  second = false;
   reading = reads c m 0;
   at = 0;
   term = 0;

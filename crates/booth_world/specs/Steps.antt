@@ -1,5 +1,5 @@
 -- What may happen next to a ticket in a cluster, and lists of it.
-use Rattle.std.specs.Prelude.{◌≡◌, ℕ, ◌+◌, ◌<◌, true, List, [], ◌∷◌}
+use Rattle.std.specs.Prelude.{◌≡◌, ℕ, ◌+◌, ◌<◌, Bool, true, List, [], ◌∷◌}
 use Rattle.booth_node.specs.Clock.{Cluster}
 use Rattle.booth_world.specs.Facts.{Round, Release, Facts}
 use Rattle.booth_world.specs.States.{KeptRecord, Promise, MemberState, WorldState, opening, put}
@@ -20,7 +20,7 @@ pub data MemberStep : Type 0 where
   Clears : (release : Release) → MemberStep
   Learns : (term : ℕ) → MemberStep
   Crashes : MemberStep
-  Starts : (kept : KeptRecord) → MemberStep
+  Starts : (kept : KeptRecord) (second : Bool) → MemberStep
   ReadsClock : MemberStep
 
 -- a member does something, or true time rises
@@ -41,7 +41,7 @@ May c f m x Releases = MayRelease c m x
 May c f m x (Clears release) = MayClear f x release
 May c f m x (Learns term) = MayLearn x term
 May c f m x Crashes = x.up ≡ true
-May c f m x (Starts kept) = MayStart x kept
+May c f m x (Starts kept second) = MayStart x kept second
 May c f m x ReadsClock = Unit {0}
 
 -- the member after what it does
@@ -57,7 +57,7 @@ member_after c now m x Releases = releasing m x
 member_after c now m x (Clears release) = clearing x release
 member_after c now m x (Learns term) = learning x term
 member_after c now m x Crashes = crashing x
-member_after c now m x (Starts kept) = starting c x kept
+member_after c now m x (Starts kept second) = starting c x kept second
 member_after c now m x ReadsClock = reading_clock c now m x
 
 -- the facts after what a member does
@@ -96,3 +96,20 @@ after_steps c w (step ∷ steps) = after_steps c (happens c w step) steps
 -- the world that a list of steps leads to, from before anything has happened
 abbrev pub world_of : Cluster → List WorldStep → WorldState
 world_of c steps = after_steps c (opening c) steps
+
+-- ---- the versions of starts
+
+-- a start is of version 2 exactly where `second` is true; other steps start nothing
+abbrev pub IsStartOf : Bool → MemberStep → Type 0
+IsStartOf second (Starts kept started) = started ≡ second
+IsStartOf second step = Unit {0}
+
+-- of version 2
+abbrev pub StartsSecond : WorldStep → Type 0
+StartsSecond (MemberDoes m step) = IsStartOf true step
+StartsSecond (Passes time) = Unit {0}
+
+-- each start among these steps is of version 2
+abbrev pub AreSecond : List WorldStep → Type 0
+AreSecond [] = Unit {0}
+AreSecond (step ∷ steps) = StartsSecond step × AreSecond steps

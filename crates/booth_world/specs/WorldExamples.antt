@@ -1,4 +1,4 @@
--- What small worlds are made of, and the smallest, in which a member that is alone holds its ticket.
+-- What small worlds of version 1 are made of, and the smallest, in which a member that is alone holds its ticket.
 use Rattle.std.specs.Prelude.{ℕ, ◌/◌, ◌%◌, ◌*◌, false, true, List, [], ◌∷◌, codes, Option, Some, None, Ok}
 use Rattle.std.specs.List.{range_with_len}
 use Rattle.booth_base.specs.declared.address.Address.TheVariants.{V4}
@@ -9,7 +9,7 @@ use Rattle.booth_conf.specs.Config.{ConfigSays}
 use Rattle.booth_conf.specs.declared.members.Member.{Member}
 use Rattle.booth_conf.specs.declared.tickets.TicketConf.{TicketConf}
 use Rattle.booth_rec.specs.declared.record.Record.{Record}
-use Rattle.booth_rec.specs.Record.{plain}
+use Rattle.booth_rec.specs.Record.{first_plain}
 use Rattle.booth_wire.specs.declared.codes.reasons.TheConstants.{ADMN}
 use Rattle.booth_wire.specs.declared.codes.results.TheConstants.{ASYN}
 use Rattle.booth_wire.specs.declared.command.Cmd.{Cmd}
@@ -85,10 +85,10 @@ world_with = world_by (λ m. exact_clock)
 abbrev pub at : ℕ → ℕ → SessionEntry → WorldEntry
 at time place what = record { member = place; time = time; what = what }
 
--- a member starts, with one record or none
+-- a member starts in version 1, with one record or none
 abbrev pub starts : List Member → Member → ℕ → Option Record → SessionEntry
 starts members member reading kept =
-    Starts (record { config = config_with members; key = None; me = member.id }) reading (kept ∷ [])
+    Starts (record { config = config_with members; key = None; me = member.id; second = false }) reading (kept ∷ [])
 
 -- a turn begins with a datagram, and then the clock is read
 abbrev pub hears : Peer → PlainMessage → SessionEntry
@@ -113,10 +113,10 @@ is_cut_sending to letter = IsCut (CutSend to (sealed None letter))
 
 -- the record of a term without a lease, and that of a lease
 abbrev pub term : ℕ → Record
-term number = plain number None
+term number = first_plain number None
 
 abbrev pub lease : ℕ → ℕ → Record
-lease number until = plain number (Some (record { term = number; until = until }))
+lease number until = first_plain number (Some (record { term = number; until = until }))
 
 -- ---- messages
 

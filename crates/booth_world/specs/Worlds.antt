@@ -1,7 +1,8 @@
--- The three laws, over worlds of entries: of each ticket of each world.
-use Rattle.std.specs.Prelude.{◌≡◌, ◌≢◌, ◌⊎◌, ◌++◌, ℕ, ◌<◌, ◌≤◌, List, [], ◌∷◌, map, Ok, None}
+-- The laws, over worlds of entries: of each ticket of each world.
+use Rattle.std.specs.Prelude.{◌≡◌, ◌≢◌, ◌⊎◌, ◌++◌, ℕ, ◌<◌, ◌≤◌, List, [], ◌∷◌, map, Ok, Some, None}
 use Rattle.std.specs.Option.{ForSome}
 use Rattle.booth_conf.specs.declared.tickets.TicketConf.{TicketConf}
+use Rattle.booth_rec.specs.declared.record.Lease.{Lease}
 use Rattle.booth_rec.specs.declared.record.Record.{Record}
 use Rattle.booth_base.specs.Tree.{Ends}
 use Rattle.booth_host.specs.declared.entry.Entry.{Entry}
@@ -11,7 +12,7 @@ use Rattle.booth_node.specs.Log.{IsNodeLog, IsStoppedLog}
 use Rattle.booth_node.specs.State.{State}
 use Rattle.booth_node.specs.Session.{SessionEntry, Makes, Stand, Doing, AreSessions, after_entries}
 use Rattle.booth_node.specs.Records.{Has}
-use Rattle.booth_node.specs.World.{WorldEntry, World, members_of, stand_after, IsWorld, cluster_of}
+use Rattle.booth_node.specs.World.{WorldEntry, World, members_of, stand_after, IsWorld, IsSecondWorld, cluster_of}
 use Rattle.booth_node.specs.Held.{Moment, IsTicket, IsAutomatic, may_at, HoldsBy, Holds}
 use Rattle.booth_world.specs.Held.{AreApart}
 use Rattle.booth_world.specs.Revocations.{GoesOnToRevoke, AtSome}
@@ -71,6 +72,19 @@ TermsNeverFallIn w =
 
 abbrev pub WorldTermsNeverFall : Type 0
 WorldTermsNeverFall = (w : World) → IsWorld w → TermsNeverFallIn w
+
+-- Where one member holds it by a lease, and another holds it later by a lease, the later lease has the later term.
+abbrev pub LaterTermsIn : World → Type 0
+LaterTermsIn w =
+    (place : ℕ) (ticket : TicketConf) → IsAutomatic w place ticket
+    → (early late : Moment w) (between : List WorldEntry) → IsLater w early late between
+    → (s t : ℕ) → s ≢ t → (kept other : Record) (first second : Lease)
+    → kept.lease ≡ Some first → other.lease ≡ Some second
+    → HoldsBy w place ticket s early kept → HoldsBy w place ticket t late other → first.term < second.term
+
+-- So it is in each world all of whose sessions are of version 2.
+abbrev pub LaterHoldersHaveLaterTerms : Type 0
+LaterHoldersHaveLaterTerms = (w : World) → IsWorld w → IsSecondWorld w → LaterTermsIn w
 
 -- ---- node logs
 

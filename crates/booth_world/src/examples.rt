@@ -12,9 +12,10 @@ ghost use Rattle.booth_node.specs.Held.{Moment};
 ghost use Rattle.booth_world.specs.Shadows.{HasShadow};
 ghost use Rattle.booth_node.specs.World.{IsWorld, entries_of};
 ghost use Rattle.booth_node.specs.Session.{AreSessions, Down};
-ghost use Rattle.booth_world.specs.Premises.{OneConfiguration, TrueClocks, RecordsReturn, MembersSpeak, OneDaemon, IsWorldBut, TwoHold, HoldsAt, PremisesAreNeeded};
+ghost use Rattle.booth_world.specs.Premises.{OneConfiguration, TrueClocks, RecordsReturn, VersionsRise, MembersSpeak, OneDaemon, IsWorldBut, TwoHold, HoldsAt, PremisesAreNeeded};
 ghost use Rattle.booth_world.specs.TakeOverExample.{taken_over};
 ghost use Rattle.booth_world.specs.PremiseExamples.{with_foreign_records, with_a_lost_record, with_forged_votes, with_two_configurations, with_a_fast_clock, with_two_daemons, AreTrueBut, HasTwoDaemons, daemon_starts, votes_for_one, votes_for_two};
+ghost use Rattle.booth_world.specs.VersionExamples.{promises_kept, with_a_falling_version};
 ghost use Rattle.booth_world.specs.WorldExamples.{one_holds, web};
 ghost use Rattle.booth_world.specs.States.{opening};
 ghost use Rattle.booth_world.specs.Steps.{IsRun, world_of};
@@ -103,6 +104,22 @@ pub fn two_daemons_vote_twice()
     ensures two_daemons { HasTwoDaemons with_two_daemons 2 daemon_starts votes_for_one votes_for_two }
     ensures sites { (m : ℕ) → m < 2 → AreSessions Down (entries_of m with_two_daemons.entries) }
     ensures two_hold { TwoHold with_two_daemons }
+{}
+
+/// A site holds in version 1, and it and an arbitrator start in version 2. The arbitrator promises to
+/// another site, crashes after its keep, starts from that record and answers at once, and the ticket
+/// is held there.
+pub fn promises_are_kept()
+    ensures world { IsWorld promises_kept }
+    ensures first { HoldsAt promises_kept 0 web 0 12999 }
+    ensures second { HoldsAt promises_kept 0 web 1 25999 }
+{}
+
+/// Without the premise that versions rise: an arbitrator goes back from version 2 to version 1, and
+/// from one record of version 2 votes for two sites in one term.
+pub fn falling_version_gives_leases()
+    ensures others { IsWorldBut VersionsRise with_a_falling_version }
+    ensures two_hold { TwoHold with_a_falling_version }
 {}
 
 /// Without the premise that records return: a site starts without the term that it kept, and a

@@ -1,13 +1,13 @@
 //! The laws of a ticket's world, each the contract of a function that does nothing.
 ghost use Rattle.booth_world.specs.Calls.{CallsAreSteps, PromisesWhereItMayAnswer, StepsOfOneAreSteps};
-ghost use Rattle.booth_world.specs.CoreLaws.{CoreTermsNeverFall, CoresAreApart, CoresHoldOne};
-ghost use Rattle.booth_world.specs.HostLaws.{HostTermsNeverFall, HostsAreApart, HostsHoldOne};
-ghost use Rattle.booth_world.specs.Laws.{HasOneHolder, HoldersAreApart, KeptTermsNeverFall};
+ghost use Rattle.booth_world.specs.CoreLaws.{CoreTermsNeverFall, CoresAreApart, CoresHoldOne, LaterCoreHasLaterTerm};
+ghost use Rattle.booth_world.specs.HostLaws.{HostTermsNeverFall, HostsAreApart, HostsHoldOne, LaterHostHasLaterTerm};
+ghost use Rattle.booth_world.specs.Laws.{HasOneHolder, HoldersAreApart, KeptTermsNeverFall, LaterHolderHasLaterTerm};
 ghost use Rattle.booth_world.specs.Rules.{lease_rules};
 ghost use Rattle.booth_world.specs.Stability.{AgreementStays, CallsLeadOn, MembersStay, RunsAppend};
 ghost use Rattle.booth_world.specs.Shadows.{WorldsHaveShadows};
 ghost use Rattle.booth_world.specs.Worlds.{CutSessionsAreSessions, LogsAreSessions, StoppedLogsAreSessions};
-ghost use Rattle.booth_world.specs.Worlds.{WorldTermsNeverFall, WorldsAreApart, WorldsHoldOne};
+ghost use Rattle.booth_world.specs.Worlds.{LaterHoldersHaveLaterTerms, WorldTermsNeverFall, WorldsAreApart, WorldsHoldOne};
 
 /// At no moment is the ticket held at two sites.
 pub fn one_holder()
@@ -22,10 +22,17 @@ pub fn apart()
     ensures worlds { WorldsAreApart }
 {}
 
-/// The terms of the records that a site may have kept never fall.
+/// The terms of the records that a member may have kept never fall.
 pub fn terms()
     ensures steps { KeptTermsNeverFall }
     ensures worlds { WorldTermsNeverFall }
+{}
+
+/// Where each session is of version 2, and one site holds by a lease and another later by a lease, the
+/// later lease has the later term.
+pub fn later_terms()
+    ensures steps { LaterHolderHasLaterTerm }
+    ensures worlds { LaterHoldersHaveLaterTerms }
 {}
 
 /// A log of a node's turns is part of a session of a world.
@@ -43,15 +50,17 @@ pub fn cut_sessions_are_sessions()
     ensures { CutSessionsAreSessions }
 {}
 
-/// All three laws at once, as a program takes them: by a call.
+/// The laws over steps at once, as a program takes them: by a call.
 pub fn all()
     ensures one_holder { HasOneHolder }
     ensures apart { HoldersAreApart }
     ensures terms { KeptTermsNeverFall }
+    ensures later_terms { LaterHolderHasLaterTerm }
 {
     one_holder();
     apart();
     terms();
+    later_terms();
 }
 
 /// Where the lease rules may answer a round, the world's member may promise to it.
@@ -59,9 +68,9 @@ pub fn promises_where_it_may_answer()
     ensures { PromisesWhereItMayAnswer }
 {}
 
-/// Each start, each call of `Core` and each answer of a keep is a list of steps of its member. They
-/// lead to a state that agrees with the view, and to a known list of records that may be kept; what
-/// is said is a fact, and no other facts are added.
+/// Each start, each call of `Core` and each answer of a keep is a list of steps of its member, in a
+/// session of either version. They lead to a state that agrees with the view, and to a known list of
+/// records that may be kept; what is said is a fact, and no other facts are added.
 pub fn calls_are_steps()
     ensures { CallsAreSteps lease_rules }
 {}
@@ -110,6 +119,11 @@ pub fn core_terms()
     ensures { CoreTermsNeverFall }
 {}
 
+/// Where each start of the cores is of version 2, a later holder has a later term.
+pub fn later_core_terms()
+    ensures { LaterCoreHasLaterTerm }
+{}
+
 /// Entries of the hosts of a ticket, whose turns may be cut anywhere by a stop, make entries of its
 /// cores: at no moment after them is the ticket held at two sites.
 pub fn hosts_hold_one()
@@ -128,15 +142,22 @@ pub fn host_terms()
     ensures { HostTermsNeverFall }
 {}
 
-/// The three laws over entries of the hosts at once, as a program takes them: by their calls.
+/// Where each start of the hosts is of version 2, a later holder has a later term.
+pub fn later_host_terms()
+    ensures { LaterHostHasLaterTerm }
+{}
+
+/// The laws over entries of the hosts at once, as a program takes them: by their calls.
 pub fn all_over_hosts()
     ensures one_holder { HostsHoldOne }
     ensures apart { HostsAreApart }
     ensures terms { HostTermsNeverFall }
+    ensures later_terms { LaterHostHasLaterTerm }
 {
     hosts_hold_one();
     hosts_are_apart();
     host_terms();
+    later_host_terms();
 }
 
 /// Each world has a shadow: up to each of its moments, and of each automatic ticket, a list of
