@@ -8,7 +8,7 @@ use Rattle.booth_host.specs.declared.entry.Entry.TheVariants as calls
 use Rattle.booth_node.specs.Reaction.{Ask, Send, Keep, Start, IsDone, react, used}
 use Rattle.booth_node.specs.Session.{SessionEntry, Starts, Makes}
 use Rattle.booth_node.specs.State.{State}
-use Rattle.booth_node.specs.World.{WorldEntry, last_time, HasConfiguration}
+use Rattle.booth_node.specs.World.{WorldEntry, last_time, HasConfiguration, IsSecondStart}
 use Rattle.booth_world.proofs.AlongWorlds.{Along}
 use Rattle.booth_sim.specs.Happenings.{Happening, Turns, Restarts, reading_at}
 use Rattle.booth_sim.specs.Kept.{all_kept}
@@ -28,6 +28,7 @@ pub record Follows (config : ConfigSays) (before : List WorldEntry) (entry : Wor
   pub member : entry.member < length config.members
   pub order : last_time 0 before ≤ entry.time
   pub configured : HasConfiguration (world_of config []) entry entry.what
+  pub second : IsSecondStart entry.what
   pub reads : ReadsAt entry.member entry.time entry.what
   pub starts : StartsKept config before entry.member entry.what
 
@@ -35,7 +36,7 @@ pub record Follows (config : ConfigSays) (before : List WorldEntry) (entry : Wor
 calls_follow : (config : ConfigSays) (before : List WorldEntry) (place time : ℕ) (call : Entry) → place < length config.members
     → last_time 0 before ≤ time → ReadsAt place time (Makes call) → Follows config before (entry_at place time (Makes call))
 calls_follow config before place time call below order reads =
-    record { member = below; order = order; configured = tt; reads = reads; starts = tt }
+    record { member = below; order = order; configured = tt; second = tt; reads = reads; starts = tt }
 
 no_reading : (place time : ℕ) (key : Option (List ℕ)) (ask : Ask) (ok : Bool) (call : Entry) → IsDone key ask ok call
     → ReadsAt place time (Makes call)
@@ -81,4 +82,4 @@ happening_follows config before time fails (Turns place arrival bytes) last belo
     )
 happening_follows config before time fails (Restarts place) last below order is =
     subst (λ (es : List WorldEntry). Along (Follows config) before es) (sym is)
-    (record { member = below; order = order; configured = refl; reads = refl; starts = refl }, tt)
+    (record { member = below; order = order; configured = refl; second = refl; reads = refl; starts = refl }, tt)

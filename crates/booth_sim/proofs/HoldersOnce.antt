@@ -1,6 +1,6 @@
 -- After no event of a simulation do two sites hold a ticket.
 use Rattle.std.proofs.Common.{◌≡◌, ℕ, zero, suc, ◌+◌, ◌<◌, ◌≤◌, Bool, true, false, ◌&&◌, List, [], ◌∷◌, ◌++◌, length, refl, sym, ap, ◌∙◌, subst, inr, arith, if◌then◌else◌}
-use Rattle.std.specs.Prelude.{Option, Some, None, count_by, slice_get, bytes_eq}
+use Rattle.std.specs.Prelude.{Option, Some, None, IsSomeAnd, count_by, slice_get, bytes_eq}
 use Rattle.std.specs.List.{range_with_len}
 use Rattle.std.proofs.Math.Nat.{max-le}
 use Rattle.std.proofs.lemmas.Bool.Decides.{nat_tests}
@@ -69,9 +69,12 @@ both_parts : (a b : Bool) → a && b ≡ true → (a ≡ true) × (b ≡ true)
 both_parts true b e = (refl, e)
 both_parts false b e = absurd cc
 
-in_force : (lease : Option Lease) (term reading : ℕ) → is_in_force lease reading ≡ true → IsInForce (record { term = term; lease = lease }) reading
-in_force None term reading e = absurd cc
-in_force (Some lease) term reading e = let l : reading < lease.until = grind (arith, nat_tests) in l
+in_force : (kept : Record) (reading : ℕ) → is_in_force kept.lease reading ≡ true → IsInForce kept reading
+in_force kept reading e = by_lease kept.lease e
+  where
+    by_lease : (lease : Option Lease) → is_in_force lease reading ≡ true → IsSomeAnd lease (λ lease. reading < lease.until)
+    by_lease None e = absurd cc
+    by_lease (Some lease) e = let l : reading < lease.until = grind (arith, nat_tests) in l
 
 -- what may be kept may be kept while the next entry is at work
 still_kept : (ticket : TicketPlace) (may : List Record) (entries : List SessionEntry) (kept : Record) → Has may kept → Has (with_next ticket may entries) kept
@@ -122,8 +125,7 @@ module _ (holds_one : WorldsHoldOne) (config : ConfigSays) (sound : IsSound conf
             (all_follow config sound number events entries is)))),
         subst (λ (r : ℕ). IsInForce (record_or_none (kept_by m ticket.name before)) r)
             (sym (clock_value config sound number events few entries is m (last_time 0 before) is_within))
-            (in_force (record_or_none (kept_by m ticket.name before)).lease (record_or_none (kept_by m ticket.name before)).term
-            (reading_at m (last_time 0 before)) (both_parts (is_site_at config.members m) _ e).1),
+            (in_force (record_or_none (kept_by m ticket.name before)) (reading_at m (last_time 0 before)) (both_parts (is_site_at config.members m) _ e).1),
       ),
     )
 

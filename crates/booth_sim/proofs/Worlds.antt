@@ -14,7 +14,7 @@ use Rattle.booth_rec.specs.Record.{no_record}
 use Rattle.booth_node.specs.Laws.{ClientsAreAnswered, KeepsItsTickets, OpensWithItsTickets, OthersAreNotAnswered}
 use Rattle.booth_node.specs.Records.{Has, record_at, may_after_all}
 use Rattle.booth_node.specs.Session.{SessionEntry, Starts, Makes, IsCut}
-use Rattle.booth_node.specs.World.{WorldEntry, World, last_time, entries_of, ticket_at, AtEach, HasConfiguration, HasForm, HasTrueClocks, HearsSent, IsWorld, ReadsClock, ReadsKept, clock_at, stand_after}
+use Rattle.booth_node.specs.World.{WorldEntry, World, last_time, entries_of, ticket_at, AtEach, HasConfiguration, HasForm, HasTrueClocks, HearsSent, IsSecondStart, IsWorld, ReadsClock, ReadsKept, StaysSecond, clock_at, stand_after}
 use Rattle.booth_world.proofs.AlongWorlds.{Along, at_each}
 use Rattle.booth_sim.specs.declared.drawing.Draw.{Draw}
 use Rattle.booth_sim.specs.Drawing.{draw_of, keeps_fail, rise_of}
@@ -98,6 +98,7 @@ starts_follow config (suc n) first done below at nothing = (
     member = omega (arith, below);
     order = omega (arith, at);
     configured = refl;
+    second = refl;
     reads = refl;
     starts = all_the_same config.tickets first done nothing;
   },
@@ -216,12 +217,22 @@ module _ (config : ConfigSays) (sound : IsSound config) (number events : ℕ) (f
       by_what (Makes call) s = tt
       by_what (IsCut call) s = tt
 
+  -- all sessions are of version 2
+  versions : (done : List WorldEntry) (e : WorldEntry) → Follows config done e → StaysSecond TheWorld done e e.what
+  versions done e f = by_what e.what f.second
+    where
+      by_what : (what : SessionEntry) → IsSecondStart what → StaysSecond TheWorld done e what
+      by_what (Starts node reading records) s = λ was. s
+      by_what (Makes call) s = tt
+      by_what (IsCut call) s = tt
+
   pub is_world : AtEach TheWorld (λ before entry. HearsSent TheWorld before (stand_after entry.member before) entry.what) → IsWorld TheWorld
   is_world speak = record {
     form = form;
     one_configuration = each (λ done e. HasConfiguration TheWorld e e.what) configured;
     true_clocks = clocks;
     records_return = return;
+    versions_rise = each (λ done e. StaysSecond TheWorld done e e.what) versions;
     members_speak = speak;
     one_daemon = λ m below. are_sessions config number events entries is m;
   }

@@ -1,5 +1,5 @@
 -- A simulation: the entries that a configuration and a generator's words make, and their world.
-use Rattle.std.specs.Prelude.{◌≡◌, ℕ, zero, suc, ◌+◌, ◌++◌, false, Bool, List, [], ◌∷◌, length, map, None, Ok, is_err}
+use Rattle.std.specs.Prelude.{◌≡◌, ℕ, zero, suc, ◌+◌, ◌++◌, true, false, Bool, List, [], ◌∷◌, length, map, None, Ok, is_err}
 use Rattle.std.specs.List.{range_with_len}
 use Rattle.booth_base.specs.Tree.{Ends}
 use Rattle.booth_conf.specs.Config.{ConfigSays}
@@ -33,9 +33,9 @@ world_of config entries = record {
   entries = entries;
 }
 
--- the member at a place, without a key
+-- the member at a place, without a key, by the rules of version 2
 abbrev pub node_in : ConfigSays → ℕ → NodeConfig
-node_in config place = node_at (world_of config []) place
+node_in config place = node_at (world_of config []) place true
 
 abbrev pub entry_at : ℕ → ℕ → SessionEntry → WorldEntry
 entry_at place time what = record { member = place; time = time; what = what }

@@ -94,6 +94,7 @@ send client RGnt 10 0 0 0 1 10
 14582 quiet 0
 15814 quiet 0
 16189 quiet 0
+keep 1 20923
 keep 1 26189
 17573 quiet 0
 18346 restart 0
