@@ -1,9 +1,10 @@
 -- What a run of boothd is a part of: worlds, in which no automatic ticket is held at two sites and no kept term falls.
-use Rattle.std.specs.Prelude.{◌≡◌, ◌++◌, ℕ, List, ◌∷◌}
+-- Where all sessions of a world are of version 2, a later holder has a later term.
+use Rattle.std.specs.Prelude.{◌≡◌, ◌++◌, ℕ, true, List, ◌∷◌}
 use Rattle.booth_host.specs.declared.entry.Entry.{Entry}
 use Rattle.booth_node.specs.Session.{SessionEntry, Starts, Down, AreSessions}
-use Rattle.booth_node.specs.World.{World, IsWorld, node_at, entries_of}
-use Rattle.booth_world.specs.Worlds.{HoldsOneIn, TermsNeverFallIn, made}
+use Rattle.booth_node.specs.World.{World, IsWorld, IsSecondWorld, node_at, entries_of}
+use Rattle.booth_world.specs.Worlds.{HoldsOneIn, LaterTermsIn, TermsNeverFallIn, made}
 use Rattle.booth_stages.specs.declared.outcome.Outcome.{Outcome}
 use Rattle.booth_stages.specs.declared.outcome.Outcome.TheVariants.{Done, TurnsSpent}
 use Rattle.booth_words.specs.declared.asking.DaemonWords.{DaemonWords}
@@ -32,12 +33,12 @@ abbrev pub session_of :
 session_of {asked} turning =
     Starts (member_config asked.site turning.config turning.key) turning.reading turning.records ∷ made turning.turns
 
--- The daemon of this run is a member of the world, and a session of that member is this run's. What that member did
--- before and does after, and what the others do, is free.
+-- The daemon of this run is a member of the world, and a session of that member, of version 2, is this run's. What
+-- that member did before and does after, and what the others do, is free.
 pub record IsSessionIn (w : World) (words : List (List ℕ)) (outcome : Outcome) (entries : List Entry) : Type 0 where
   pub run : IsTurningRun words outcome entries
   pub member : ℕ
-  pub found : node_at w member ≡ member_config run.asked.site run.turning.config run.turning.key
+  pub found : node_at w member true ≡ member_config run.asked.site run.turning.config run.turning.key
   pub before : List SessionEntry
   pub after : List SessionEntry
   pub session : entries_of member w.entries ≡ before ++ (session_of run.turning ++ after)
@@ -49,11 +50,14 @@ IsTurningEnd TurnsSpent = Unit {0}
 IsTurningEnd outcome = ⊥
 
 -- A daemon that ends so made its whole opening and then turns; these are a session of a member; and in every world in which
--- this run is one, no automatic ticket is held at two members at one moment, and no member's kept term falls.
+-- this run is one, no automatic ticket is held at two members at one moment, and no member's kept term falls. Where all
+-- sessions of that world are of version 2, a member that holds later than another has a lease of a later term.
 pub record IsSafe (words : List (List ℕ)) (outcome : Outcome) (entries : List Entry) : Type 0 where
   pub turned : AskForDaemon words → IsTurningEnd outcome → IsTurningRun words outcome entries
   pub is_session : (run : IsTurningRun words outcome entries) → AreSessions Down (session_of run.turning)
   pub in_worlds : (w : World) → IsWorld w → IsSessionIn w words outcome entries → HoldsOneIn w × TermsNeverFallIn w
+  pub in_second_worlds : (w : World) → IsWorld w → IsSecondWorld w → IsSessionIn w words outcome entries
+      → LaterTermsIn w
 
 -- ---- the same of all runs
 

@@ -77,9 +77,10 @@ IsUnopened asked config OutOfMemory said entries = (said ≡ out_of_memory_text)
     × IsBehindSocket asked config (AreNoneOrAll config.tickets) entries
 IsUnopened asked config outcome said entries = ⊥
 
--- the node of this member
+-- the node of this member, by the rules of version 2
 abbrev pub member_config : Address → ConfigSays → Option (List ℕ) → NodeConfig
-member_config address config key = record { config = config; key = key; me = record { 0 = id_of address } }
+member_config address config key =
+    record { config = config; key = key; me = record { 0 = id_of address }; second = true }
 
 -- this node has just been opened, with these records, at this reading
 pub record IsFresh (address : Address) (config : ConfigSays) (key : Option (List ℕ))

@@ -1,4 +1,4 @@
-use Rattle.std.proofs.Common.{List, ap, ◌∙◌}
+use Rattle.std.proofs.Common.{true, List, ap, ◌∙◌}
 use Rattle.std.specs.Prelude.{Option}
 use Rattle.booth_base.specs.declared.address.MemberId.{MemberId}
 use Rattle.booth_rec.specs.declared.record.Record.{Record}
@@ -27,9 +27,9 @@ returns-in-Ok-open-clause-past g c =
     c.now-reading.ensures.past (rw c.port.ensures at c.in-Ok.ensures.past)
     (rw c.tickets.ensures.value at c.in_ok-records.ensures.past)
     (c.in-Ok-open.ensures.node
-    ∙ ap (λ (id : MemberId). record { config = c.args.config; key = c.args.key; me = id }) c.id.ensures)
+    ∙ ap (λ (id : MemberId). record { config = c.args.config; key = c.args.key; me = id; second = true }) c.id.ensures)
     (c.in-Ok-open.ensures.state
-    ∙ ap (λ (id : MemberId). start_state (record { config = c.args.config; key = c.args.key; me = id })
+    ∙ ap (λ (id : MemberId). start_state (record { config = c.args.config; key = c.args.key; me = id; second = true })
     c.deref.result.now c.now-reading.result) c.id.ensures
     ∙ ap (λ (rs : List (Option Record)).
     start_state (member_config c.args.asked.now.site c.args.config c.args.key) rs c.now-reading.result)
