@@ -5,7 +5,11 @@
 # make deb     a Debian package of the same, at out/booth-proved_VERSION_amd64.deb
 
 PROGRAMS := boothd booth geostore
-VERSION := 0.1.0
+# what is written in Python, and the modules of it
+TOOLS := booth-status booth-record
+TOOL_MODULES := changes checking configuration ending exporting frames judging key_file lists looking problems \
+  record_file showing state_file ways wording
+VERSION := 0.2.0
 PREFIX ?= /usr/local
 SBIN := $(PREFIX)/sbin
 MAN := $(PREFIX)/share/man
@@ -13,9 +17,12 @@ UNITS := $(PREFIX)/lib/systemd/system
 USERS := $(PREFIX)/lib/sysusers.d
 COMPLETIONS := $(PREFIX)/share/bash-completion/completions
 DOCS := $(PREFIX)/share/doc/booth-proved
+MODULES := $(PREFIX)/share/booth-proved
 PACKAGE := out/booth-proved_$(VERSION)_amd64.deb
 SOURCES := crates.txt HANDLES $(shell find crates/*/src crates/*/specs crates/*/proofs 2>/dev/null)
-NO_RT := the command rt is missing: install the Rattle kit, as README.md says under "Run it"
+# from the programs to the modules, so that what is installed below DESTDIR runs there too
+TO_MODULES := $(shell realpath -ms --relative-to="$(SBIN)" "$(MODULES)")
+NO_RT := the command rt is missing: install the Rattle kit, as README.md says under "Build and install"
 NEEDS_RT := command -v rt >/dev/null || { echo 'make: $(NO_RT)' >&2; exit 1; }
 
 .PHONY: build run check install uninstall deb
@@ -31,9 +38,10 @@ check:
 
 # what is installed, as TARGET:SOURCE:MODE
 INSTALLED := $(foreach program,$(PROGRAMS),$(SBIN)/$(program):out/$(program):755) \
-  $(SBIN)/booth-keygen:packaging/booth-keygen:755 \
+  $(foreach name,booth-keygen $(TOOLS),$(SBIN)/$(name):packaging/$(name):755) \
+  $(foreach name,$(TOOL_MODULES),$(MODULES)/$(name).py:tools/$(name).py:644) \
   $(foreach page,$(wildcard man/*.5 man/*.8),$(MAN)/man$(subst .,,$(suffix $(page)))/$(notdir $(page)):$(page):644) \
-  $(foreach program,$(PROGRAMS),$(COMPLETIONS)/$(program):packaging/booth.bash:644) \
+  $(foreach program,$(PROGRAMS) $(TOOLS),$(COMPLETIONS)/$(program):packaging/booth.bash:644) \
   $(USERS)/booth.conf:packaging/booth.sysusers:644 \
   $(DOCS)/README.md:README.md:644 \
   $(DOCS)/copyright:packaging/copyright:644 \
@@ -47,6 +55,8 @@ install: build
 	  install -D -m $${rest##*:} $${rest%%:*} "$(DESTDIR)$$target" || exit 1; \
 	  case $$target in \
 	    *.5 | *.8 | *.md) sed -i 's|/usr/share/doc/booth-proved|$(DOCS)|' "$(DESTDIR)$$target" || exit 1 ;; \
+	    $(SBIN)/booth-status | $(SBIN)/booth-record) \
+	      sed -i 's|^MODULES = .*|MODULES = "$(TO_MODULES)"|' "$(DESTDIR)$$target" || exit 1 ;; \
 	  esac; \
 	done
 	@install -d -m 755 "$(DESTDIR)$(UNITS)"
@@ -56,7 +66,7 @@ install: build
 uninstall:
 	@for each in $(INSTALLED); do rm -f "$(DESTDIR)$${each%%:*}"; done
 	@rm -f "$(DESTDIR)$(UNITS)/booth@.service"
-	@rmdir "$(DESTDIR)$(DOCS)/examples" "$(DESTDIR)$(DOCS)" 2>/dev/null || true
+	@rmdir "$(DESTDIR)$(DOCS)/examples" "$(DESTDIR)$(DOCS)" "$(DESTDIR)$(MODULES)" 2>/dev/null || true
 
 deb: $(PACKAGE)
 

@@ -1,11 +1,12 @@
 -- What the words ask for, from what was read of them.
 use Rattle.std.specs.Prelude.{Ok}
-use Rattle.std.proofs.Common.{◌≡◌, ℕ, Bool, true, false, cond, List, [], ◌∷◌, Option, Some, None, is_some, refl, subst}
+use Rattle.std.proofs.Common.{◌≡◌, ℕ, Bool, true, false, cond, List, [], ◌∷◌, Option, Some, None, is_some, refl, subst, sym, ap}
 use Rattle.std.proofs.Common.{inl, inr, ◌⊎◌}
 use Rattle.clap.specs.Words.{IsAmong, fault_of, takes}
 use Rattle.clap.specs.declared.error.kind.ErrorKind.{ErrorKind}
 use Rattle.clap.specs.declared.error.kind.ErrorKind.TheVariants as kinds
 use Rattle.booth_base.specs.declared.address.Address.{Address}
+use Rattle.booth_client.specs.declared.order.Order.{Order}
 use Rattle.booth_words.specs.declared.command.Verb.{Verb}
 use Rattle.booth_words.specs.declared.command.Verb.TheVariants as verbs
 use Rattle.booth_words.specs.declared.reading.Read.{Read}
@@ -17,7 +18,7 @@ use Rattle.booth_words.specs.declared.program.Program.TheVariants.{Boothd, Booth
 use Rattle.booth_words.specs.Commands.{app_for, verb_in}
 use Rattle.booth_words.specs.Given.{Texts, HasAttribute, HasNeeded, found_in}
 use Rattle.booth_words.specs.Reading.{HasAddress, HasName, IsRead}
-use Rattle.booth_words.specs.Asking.{Asks, AreTaken, AttributeRead, HasWords, IsAskedBy, IsClient, IsClientOf, IsUntaken, IsUntakenFor}
+use Rattle.booth_words.specs.Asking.{Asks, AreTaken, AttributeRead, HasOrder, HasWords, IsAskedBy, IsClient, IsClientOf, IsUntaken, IsUntakenFor, client_of}
 
 -- where there is a word there is an address
 has_address : (word : Option (List ℕ)) (read : Option Address) → HasAddress word read → is_some word ≡ true → is_some read ≡ true
@@ -159,3 +160,29 @@ pub untaken_of : (program : Program) (words : List (List ℕ)) (kind : ErrorKind
     IsUntaken program words kind
 untaken_of program words kinds.OutOfMemory not un = absurd (not refl)
 untaken_of program words kind not un = un
+
+-- ---- what a command asks for
+
+is_client : (verb : Verb) (read : Read) (asked : ClientWords) → IsClientOf verb read asked → IsAskedBy verb read (Client asked)
+is_client verbs.Daemon read asked is = is
+is_client verbs.Status read asked is = is
+is_client verbs.Simulate read asked is = is
+is_client verbs.List read asked is = is
+is_client verbs.Peers read asked is = is
+is_client verbs.Grant read asked is = is
+is_client verbs.Revoke read asked is = is
+is_client verbs.SetAttribute read asked is = is
+is_client verbs.GetAttribute read asked is = is
+is_client verbs.DeleteAttribute read asked is = is
+is_client verbs.ListAttributes read asked is = is
+
+-- a client's command asks for its order
+pub asks_client : (verb arm : Verb) (read : Read) (order : Order) (asked : ClientWords) → verb ≡ arm →
+    HasOrder arm read order → asked ≡ client_of order read → IsAskedBy verb read (Client asked)
+asks_client verb arm read order asked is has same =
+    is_client verb read asked (record {
+      order = subst (λ (v : Verb). HasOrder v read asked.order) (sym is)
+          (subst (λ (o : Order). HasOrder arm read o) (sym (ap (λ (w : ClientWords). w.order) same)) has);
+      site = ap (λ (w : ClientWords). w.site) same;
+      conf = ap (λ (w : ClientWords). w.conf) same;
+    })

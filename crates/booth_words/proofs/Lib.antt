@@ -3,3 +3,4 @@ mod GivenLemmas
 mod ReadingLemmas
 pub mod AskingLemmas
 pub mod ValidLemmas
+mod CommandLemmas

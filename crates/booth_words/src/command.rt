@@ -13,7 +13,7 @@ use clap::{Arg, ArgAction, Command};
 use std::alloc::{AllocError, Global};
 
 /// The version of the product.
-const VERSION: &str = "0.1.0";
+const VERSION: &str = "0.2.0";
 
 /// Where more is said of the daemon.
 const MORE: &str = "See boothd(8) for more.";

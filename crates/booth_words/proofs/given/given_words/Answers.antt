@@ -1,5 +1,6 @@
-use Rattle.std.proofs.Common.{◌∙◌, ap, ◌≡◌, map, string_bytes, List, [], subst}
-use Rattle.clap.specs.Words.{App, Row, HasKind, fault_of, found_of, is_simple, is_simple_and_free, matches_of}
+use Rattle.std.proofs.Common.{◌∙◌, ap, ◌≡◌, map, string_bytes, List, [], subst, true}
+use Rattle.clap.specs.Words.{App, Row, HasKind, fault_of, found_of, is_simple, is_simple_and_free, kind_of, matches_of, takes}
+use Rattle.clap.specs.declared.error.kind.ErrorKind.TheVariants.{OutOfMemory}
 use Rattle.clap.specs.Words.{rows_of}
 use Rattle.booth_words.specs.Commands.{app_for}
 use Rattle.booth_words.proofs.GivenLemmas.{has_needed, texts_are, simple, simple_and_free}
@@ -33,3 +34,29 @@ pub returns-clause-needed : goal.returns-clause-needed
 returns-clause-needed c =
     has_needed c.in-Ok.command c.in-Ok-try_get_matches_from.matches c.in-Ok-try_get_matches_from.ensures.parsed c.args.verb _ c.in-Ok.ensures
     c.get_str.ensures c.get_str-2.ensures c.get_str-3.ensures c.get_str-4.ensures
+
+pub returns-in-Err-clause-given : goal.returns-in-Err-clause-given
+returns-in-Err-clause-given c = tt
+
+pub returns-in-Err-clause-needed : goal.returns-in-Err-clause-needed
+returns-in-Err-clause-needed c = tt
+
+pub returns-in-Err-clause-passes : goal.returns-in-Err-clause-passes
+returns-in-Err-clause-passes c = λ taken. c.from.ensures
+
+pub returns-in-Err-try_get_matches_from-clause-given :
+    goal.returns-in-Err-try_get_matches_from-clause-given
+returns-in-Err-try_get_matches_from-clause-given c = tt
+
+pub returns-in-Err-try_get_matches_from-clause-needed :
+    goal.returns-in-Err-try_get_matches_from-clause-needed
+returns-in-Err-try_get_matches_from-clause-needed c = tt
+
+pub returns-in-Err-try_get_matches_from-clause-passes :
+    goal.returns-in-Err-try_get_matches_from-clause-passes
+returns-in-Err-try_get_matches_from-clause-passes c =
+    subst (λ (a : App). takes a (map string_bytes c.args.words.now) ≡ true → kind_of c.in-Err-try_get_matches_from.error ≡ OutOfMemory)
+    c.in-Ok.ensures c.in-Err-try_get_matches_from.ensures.passes
+
+pub returns-clause-passes : goal.returns-clause-passes
+returns-clause-passes c = tt
