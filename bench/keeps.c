@@ -29,19 +29,19 @@ int main(int argc, char **argv) {
     if (argc != 3)
         return 1;
     int file = open(argv[1], O_RDWR | O_CREAT, 0600);
-    char slot[64] = {1}, entry[40] = {0};
+    char slot[80] = {1}, entry[72] = {0};
     if (file < 0)
         return 1;
-    put(file, slot, 64, 0);
-    put(file, slot, 64, 64);
+    put(file, slot, 80, 128);
+    put(file, slot, 80, 256);
     double started = now(), before = cpu();
     for (long i = atol(argv[2]); i > 0; i--) {
-        off_t at = i % 2 * 64;
+        off_t at = 128 + i % 2 * 128;
         entry[7] = (char)i;
         if (fdatasync(file) != 0)
             return 1;
         put(file, "\0", 1, at);
-        put(file, entry, 40, at + 8);
+        put(file, entry, 72, at + 8);
         put(file, "\1", 1, at);
     }
     printf("%.9f %.9f\n", now() - started, cpu() - before);

@@ -1,6 +1,6 @@
-//! Reads what torn writes leave of a record file: each byte string of one and of two bytes, in each place that a step
-//! of a put writes, opened over a disk in memory. It says how many were read, and fails at the first that is neither
-//! record.
+//! Reads what torn writes leave of a record file: each byte string of one byte in each place that a step of a put
+//! writes, and of two bytes in each second place, opened over a disk in memory. It says how many were read, and fails
+//! at the first that is neither record.
 #![tactic(auto)]
 
 use booth_rec::{MemoryDisk, Record, Slots};
@@ -8,54 +8,82 @@ use std::alloc::Global;
 use std::io::Write;
 use std::process::ExitCode;
 
-const FILE_BYTES: usize = 128;
+const FILE_BYTES: usize = 336;
 
-/// Where the number of a slot begins, and where its record ends.
-const ENTRY: std::ops::Range<usize> = 8..48;
+/// Where the slot begins that is put into, the first of version 2.
+const SLOT: usize = 128;
+
+/// Where its number begins, and where its record ends.
+const ENTRY: std::ops::Range<usize> = 136..208;
 
 /// An open reads once and syncs once.
 const CALLS: u64 = 2;
 
-/// The term of the record before the put, which is in the second slot.
+/// The term of the record before the put.
 const OLD: u32 = 6;
 
-/// The term of the record of the put, which goes into the first slot.
+/// The term of the record of the put.
 const NEW: u32 = 7;
 
 type File = [u8; FILE_BYTES];
 
-// A file whose first slot has this commit byte, number and term, and whose second one is open, with number 2.
-fn file(commit: u8, number: u8, term: u8) -> File {
+/// The version of the slot that the record before the put stands in.
+#[derive(Clone, Copy)]
+enum Before {
+    First,
+    Second,
+}
+
+// A file whose first slot of version 2 has this commit byte, number and term, and whose open slot has number 2.
+fn file(before: Before, commit: u8, number: u8, term: u8) -> File {
     let mut bytes = [0u8; FILE_BYTES];
-    bytes[0] = commit;
-    bytes[15] = number;
-    bytes[19] = 1;
-    bytes[23] = term;
-    bytes[64] = 1;
-    bytes[79] = 2;
-    bytes[83] = 1;
-    bytes[87] = OLD as u8;
+    bytes[SLOT] = commit;
+    bytes[SLOT + 15] = number;
+    bytes[SLOT + 19] = 2;
+    bytes[SLOT + 23] = term;
+    match before {
+        Before::First => {
+            bytes[0] = 1;
+            bytes[15] = 2;
+            bytes[19] = 1;
+            bytes[23] = OLD as u8;
+        }
+        Before::Second => {
+            bytes[256] = 1;
+            bytes[271] = 2;
+            bytes[275] = 2;
+            bytes[279] = OLD as u8;
+        }
+    }
     bytes
 }
 
-// Whether the file is opened, and stands for this term.
-fn stands_for(alloc: Global, bytes: &File, term: u32) -> bool {
+// The record before the put.
+fn old_record(before: Before) -> Record {
+    match before {
+        Before::First => Record::first(OLD, None),
+        Before::Second => Record::plain(OLD, None),
+    }
+}
+
+// Whether the file is opened, and stands for this record.
+fn stands_for(alloc: Global, bytes: &File, record: Record) -> bool {
     let Ok(disk) = MemoryDisk::new(alloc, bytes, CALLS) else {
         return false;
     };
     match Slots::open(disk) {
-        Ok(slots) => slots.record() == Some(Record::plain(term, None)),
+        Ok(slots) => slots.record() == Some(record),
         Err(_) => false,
     }
 }
 
-// The first slot is closed: it held a record of the number before, and stands for nothing whatever the byte is.
-fn closing(alloc: Global) -> Option<u32> {
-    let mut bytes = file(1, 1, 5);
+// The slot is closed: it held a record of the number before, and stands for nothing whatever the byte is.
+fn closing(alloc: Global, before: Before) -> Option<u32> {
+    let mut bytes = file(before, 1, 1, 5);
     let mut count = 0u32;
     for byte in 0..=255u8 {
-        bytes[0] = byte;
-        if !stands_for(alloc, &bytes, OLD) {
+        bytes[SLOT] = byte;
+        if !stands_for(alloc, &bytes, old_record(before)) {
             return None;
         }
         count = count.saturating_add(1);
@@ -64,13 +92,13 @@ fn closing(alloc: Global) -> Option<u32> {
 }
 
 // One byte of the number or the record, in a closed slot.
-fn filling_one(alloc: Global) -> Option<u32> {
+fn filling_one(alloc: Global, before: Before) -> Option<u32> {
     let mut count = 0u32;
     for place in ENTRY.start..ENTRY.end {
-        let mut bytes = file(0, 1, 5);
+        let mut bytes = file(before, 0, 1, 5);
         for byte in 0..=255u8 {
             bytes[place] = byte;
-            if !stands_for(alloc, &bytes, OLD) {
+            if !stands_for(alloc, &bytes, old_record(before)) {
                 return None;
             }
             count = count.saturating_add(1);
@@ -79,16 +107,17 @@ fn filling_one(alloc: Global) -> Option<u32> {
     Some(count)
 }
 
-// Two bytes of them, one beside the other.
-fn filling_two(alloc: Global) -> Option<u32> {
+// Two bytes of them, one beside the other, at each second place.
+fn filling_two(alloc: Global, before: Before) -> Option<u32> {
     let mut count = 0u32;
-    for place in ENTRY.start..ENTRY.end - 1 {
-        let mut bytes = file(0, 1, 5);
-        for pair in 0..=65_535u16 {
-            let [first, second] = pair.to_be_bytes();
+    for pair in 0..(ENTRY.end - ENTRY.start) / 2 {
+        let place = ENTRY.start + 2 * pair;
+        let mut bytes = file(before, 0, 1, 5);
+        for both in 0..=65_535u16 {
+            let [first, second] = both.to_be_bytes();
             bytes[place] = first;
             bytes[place + 1] = second;
-            if !stands_for(alloc, &bytes, OLD) {
+            if !stands_for(alloc, &bytes, old_record(before)) {
                 return None;
             }
             count = count.saturating_add(1);
@@ -97,13 +126,18 @@ fn filling_two(alloc: Global) -> Option<u32> {
     Some(count)
 }
 
-// The first slot is opened, with the new record in it: it counts by one byte alone.
-fn committing(alloc: Global) -> Option<u32> {
-    let mut bytes = file(0, 3, 7);
+// The slot is opened, with the new record in it: it counts by one byte alone.
+fn committing(alloc: Global, before: Before) -> Option<u32> {
+    let mut bytes = file(before, 0, 3, 7);
     let mut count = 0u32;
     for byte in 0..=255u8 {
-        bytes[0] = byte;
-        if !stands_for(alloc, &bytes, if byte == 1 { NEW } else { OLD }) {
+        bytes[SLOT] = byte;
+        let record = if byte == 1 {
+            Record::plain(NEW, None)
+        } else {
+            old_record(before)
+        };
+        if !stands_for(alloc, &bytes, record) {
             return None;
         }
         count = count.saturating_add(1);
@@ -114,11 +148,24 @@ fn committing(alloc: Global) -> Option<u32> {
 fn main(rt: HostRuntime) -> ExitCode {
     let alloc = rt.alloc();
     let mut stdout = rt.stdout();
+    let (first, second) = (Before::First, Before::Second);
     for (step, count) in [
-        ("closing", closing(alloc)),
-        ("filling, one byte", filling_one(alloc)),
-        ("filling, two bytes", filling_two(alloc)),
-        ("committing", committing(alloc)),
+        ("closing, after version 1", closing(alloc, first)),
+        ("closing, after version 2", closing(alloc, second)),
+        (
+            "filling, one byte, after version 1",
+            filling_one(alloc, first),
+        ),
+        (
+            "filling, one byte, after version 2",
+            filling_one(alloc, second),
+        ),
+        (
+            "filling, two bytes, after version 2",
+            filling_two(alloc, second),
+        ),
+        ("committing, after version 1", committing(alloc, first)),
+        ("committing, after version 2", committing(alloc, second)),
     ] {
         let Some(count) = count else {
             let _ = writeln!(stdout, "{step}: another record");
