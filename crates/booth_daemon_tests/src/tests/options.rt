@@ -1,224 +1,133 @@
 //! What the options of a daemon change, the look at a lock, and the texts of help.
-use super::{call, check_kinds, check_refused, good_host, run};
-use booth_daemon::{Outcome, boothd};
-use booth_host::{Entry, MemoryHost};
-use clap::error::ErrorKind;
+use super::{LISTED, check_calls, check_first_calls, check_words, end_of};
+use booth_scripts::has_pieces;
 use std::alloc::Global;
 use std::process::Abort;
 
-fn check_lock(rt: &impl Abort, entry: &Entry, lock: &str) {
-    match entry {
-        Entry::Lock { path, .. } => assert!(rt; path.bytes() == lock.as_bytes(), "{lock}"),
-        _ => panic!(rt; "no lock"),
-    }
-}
-
-fn check_directory(rt: &impl Abort, entry: &Entry, directory: &str) {
-    match entry {
-        Entry::Open { records, .. } => {
-            assert!(rt; records.bytes() == directory.as_bytes(), "{directory}");
-        }
-        _ => panic!(rt; "no open"),
-    }
-}
-
-// The lock and the directory that a daemon's words lead to.
-fn check_places(rt: &impl Abort, alloc: Global, words: &str, lock: &str, directory: &str) {
-    let mut host = good_host(rt, alloc, "");
-    run(rt, alloc, words, &mut host, Outcome::Done);
-    check_lock(rt, call(rt, &host, 1), lock);
-    check_directory(rt, call(rt, &host, 3), directory);
+// A daemon's words, and the lock and the directory that they lead to.
+fn check_places(rt: &impl Abort, alloc: Global, line: &str) {
+    let (words, line) = line.split_once(" | ").expect(rt, line);
+    let (lock, directory) = line.split_once(" | ").expect(rt, line);
+    let calls = format!(in alloc;
+        "read /etc/booth.conf\nlock {lock}\nnow 1700000000000\nopen S1:9929 {directory} /etc/booth.conf\n"
+    );
+    check_first_calls(
+        rt,
+        alloc,
+        words,
+        LISTED,
+        calls.expect(rt, "memory").as_str(),
+    );
 }
 
 #[test]
 fn the_lock_and_the_directory_are_those_of_the_words(rt: HostRuntime) {
-    let alloc = rt.alloc();
-    let words = "daemon -c/etc/booth.conf -s 192.168.201.100 --";
-    check_places(&rt, alloc, words, "/var/run/booth.lock", "/var/lib/booth");
-    let words = "daemon -c/etc/booth.conf -s 192.168.201.100";
-    check_places(&rt, alloc, words, "/var/run/booth.lock", "/var/lib/booth");
-    let words = "daemon -c/etc/booth.conf -s 192.168.201.100 -l lock";
-    check_places(&rt, alloc, words, "lock", "/var/lib/booth");
-    let words = "daemon -c/etc/booth.conf -d /d -s 192.168.201.100";
-    check_places(&rt, alloc, words, "/var/run/booth.lock", "/d");
-    let words = "daemon -c/etc/booth.conf -l=/l -d/d -s=192.168.201.100 -n=9";
-    check_places(&rt, alloc, words, "/l", "/d");
-    let words = "daemon -c/etc/booth.conf -n 9 -s192.168.201.100 -d d -l/l";
-    check_places(&rt, alloc, words, "/l", "d");
-}
-
-// How many turns are asked for, where Stop comes in the second, and the calls.
-fn check_turns(rt: &impl Abort, alloc: Global, words: &str, calls: &str) {
-    let mut host = good_host(rt, alloc, "");
-    run(rt, alloc, words, &mut host, Outcome::Done);
-    check_kinds(rt, alloc, &host, calls);
-}
-
-#[test]
-fn so_many_turns_are_made(rt: HostRuntime) {
-    let alloc = rt.alloc();
-    let words = "daemon -c /etc/booth.conf -s 192.168.201.100 -n 1";
-    check_turns(&rt, alloc, words, "rlnokxnsss");
-    let words = "daemon -c /etc/booth.conf -s 192.168.201.100 -n 2";
-    check_turns(&rt, alloc, words, "rlnokxnsssxn");
-    let words = "daemon -c /etc/booth.conf -s 192.168.201.100 -n 4611686018427387904";
-    check_turns(&rt, alloc, words, "rlnokxnsssxn");
-}
-
-// The text of the last call, an out.
-fn printed<'a>(rt: &impl Abort, host: &'a MemoryHost) -> &'a [u8] {
-    match host.past().expect(rt, "the calls").last() {
-        Some(Entry::Out { bytes, .. }) => bytes.bytes(),
-        _ => panic!(rt; "no out"),
+    let table = "\
+daemon -c/etc/booth.conf -s 192.168.201.100 -- | /var/run/booth.lock | /var/lib/booth
+daemon -c/etc/booth.conf -s 192.168.201.100 | /var/run/booth.lock | /var/lib/booth
+daemon -c/etc/booth.conf -s 192.168.201.100 -l lock | lock | /var/lib/booth
+daemon -c/etc/booth.conf -d /d -s 192.168.201.100 | /var/run/booth.lock | /d
+daemon -c/etc/booth.conf -l=/l -d/d -s=192.168.201.100 -n=9 | /l | /d
+daemon -c/etc/booth.conf -n 9 -s192.168.201.100 -d d -l/l | /l | d";
+    for line in table.split("\n") {
+        check_places(&rt, rt.alloc(), line);
     }
 }
 
-// The words behind `status`, and the lock that they lead to, which is not taken.
-fn check_not_running(rt: &impl Abort, alloc: Global, words: &str, lock: &str) {
-    let mut host = good_host(rt, alloc, "");
-    run(rt, alloc, words, &mut host, Outcome::NotRunning);
-    assert!(rt; Outcome::NotRunning.status() == 7);
-    check_kinds(rt, alloc, &host, "lp");
-    assert!(rt; printed(rt, &host) == "booth daemon is not running\n".as_bytes());
-    check_lock(rt, call(rt, &host, 0), lock);
+// Stop comes in the second turn.
+#[test]
+fn so_many_turns_are_made(rt: HostRuntime) {
+    let table = "\
+daemon -c /etc/booth.conf -s 192.168.201.100 -n 1 |  => rlnokxnsss 0 Done -
+daemon -c /etc/booth.conf -s 192.168.201.100 -n 2 |  => rlnokxnsssxn 0 Done -
+daemon -c /etc/booth.conf -s 192.168.201.100 -n 4611686018427387904 |  => rlnokxnsssxn 0 Done -";
+    check_words(&rt, rt.alloc(), table);
 }
 
-// The same with a lock that is taken.
-fn check_running(rt: &impl Abort, alloc: Global, words: &str, lock: &str) {
-    let mut host = good_host(rt, alloc, "taken");
-    run(rt, alloc, words, &mut host, Outcome::Done);
-    assert!(rt; Outcome::Done.status() == 0);
-    check_kinds(rt, alloc, &host, "lp");
-    assert!(rt; printed(rt, &host) == "booth daemon is running\n".as_bytes());
-    check_lock(rt, call(rt, &host, 0), lock);
+// The words behind `status`, the lock that they lead to, and what comes of one that is taken or not.
+fn check_status(rt: &impl Abort, alloc: Global, line: &str) {
+    let (words, lock) = line.split_once(" | ").expect(rt, line);
+    let calls = format!(in alloc;
+        "lock {lock} not got\nout booth daemon is running$\nends Done 0\n"
+    );
+    check_calls(
+        rt,
+        alloc,
+        words,
+        "fails taken",
+        &[calls.expect(rt, "memory").as_str()],
+    );
+    let calls = format!(in alloc;
+        "lock {lock}\nout booth daemon is not running$\nends NotRunning 7\n"
+    );
+    check_calls(rt, alloc, words, "", &[calls.expect(rt, "memory").as_str()]);
 }
 
 #[test]
 fn a_look_at_the_lock_says_whether_a_daemon_runs(rt: HostRuntime) {
-    let alloc = rt.alloc();
-    check_running(&rt, alloc, "status", "/var/run/booth.lock");
-    check_not_running(&rt, alloc, "status", "/var/run/booth.lock");
-    check_running(&rt, alloc, "status -l lock", "lock");
-    check_not_running(&rt, alloc, "status -l=/l", "/l");
-    check_running(&rt, alloc, "status -l/l --", "/l");
-}
-
-// The words, the calls that fail, what comes of it, the calls, and what is said.
-fn check_told(
-    rt: &impl Abort,
-    alloc: Global,
-    words: &str,
-    fails: &str,
-    outcome: Outcome,
-    calls: &str,
-    said: &str,
-) {
-    let mut host = good_host(rt, alloc, fails);
-    check_refused(rt, alloc, words, &mut host, outcome, calls, said);
+    let table = "\
+status | /var/run/booth.lock
+status -l lock | lock
+status -l=/l | /l
+status -l/l -- | /l";
+    for line in table.split("\n") {
+        check_status(&rt, rt.alloc(), line);
+    }
 }
 
 #[test]
 fn what_cannot_be_found_or_printed_is_told(rt: HostRuntime) {
-    let alloc = rt.alloc();
-    let said = "boothd: cannot lock /l\n";
-    let words = "daemon -c/etc/booth.conf -s192.168.201.100 -l/l";
-    check_told(
-        &rt,
-        alloc,
-        words,
-        "lock out",
-        Outcome::LockFault,
-        "rle",
-        said,
-    );
-    let said = "boothd: cannot print\n";
-    let words = "status --version";
-    check_told(
-        &rt,
-        alloc,
-        words,
-        "lock out",
-        Outcome::PrintFault,
-        "pe",
-        said,
-    );
-    let said = "boothd: cannot lock /l\n";
-    let words = "status -l /l";
-    check_told(&rt, alloc, words, "lock", Outcome::LockFault, "le", said);
-    let said = "boothd: cannot print\n";
-    let words = "status";
-    check_told(&rt, alloc, words, "out", Outcome::PrintFault, "lpe", said);
-    let said = "boothd: cannot print\n";
-    let words = "daemon --help";
-    check_told(&rt, alloc, words, "out", Outcome::PrintFault, "pe", said);
+    let table = "\
+daemon -c/etc/booth.conf -s192.168.201.100 -l/l | fails lock out => rle 1 LockFault boothd: cannot lock /l$
+status --version | fails lock out => pe 1 PrintFault boothd: cannot print$
+status -l /l | fails lock => le 1 LockFault boothd: cannot lock /l$
+status | fails out => lpe 1 PrintFault boothd: cannot print$
+daemon --help | fails out => pe 1 PrintFault boothd: cannot print$";
+    check_words(&rt, rt.alloc(), table);
 }
 
-/// Whether these pieces, with `|` between them, stand in a text in their order.
-pub fn has_pieces(text: &str, pieces: &str) -> bool {
-    let mut rest = text;
-    for piece in pieces.split("|") {
-        match rest.split_once(piece) {
-            Some((_, behind)) => rest = behind,
-            None => return false,
-        }
-    }
-    true
+// Words that ask for a text, and pieces of how the run ends.
+fn check_help(rt: &impl Abort, alloc: Global, words: &str, pieces: &str) {
+    let told = end_of(rt, alloc, words, "");
+    assert!(rt; has_pieces(told.as_str(), pieces), "{words}: {told}");
 }
 
-fn check_help(rt: &impl Abort, alloc: Global, words: &str, kind: ErrorKind, pieces: &str) {
-    let mut host = good_host(rt, alloc, "");
-    let outcome = Outcome::Usage(Some(kind));
-    run(rt, alloc, words, &mut host, outcome);
-    assert!(rt; outcome.status() == 0, "{words}");
-    check_kinds(rt, alloc, &host, "p");
-    let text = str::from_utf8(printed(rt, &host)).expect(rt, "a text");
-    assert!(rt; has_pieces(text, pieces), "{words}");
-}
-
-// Words that ask for a text, and pieces of it in their order.
 #[test]
 fn help_names_each_option_and_its_default(rt: HostRuntime) {
-    let alloc = rt.alloc();
     let pieces = "\
-Usage: boothd daemon [OPTIONS] -s <ADDRESS>\n|\
+p 0 Usage(Some(DisplayHelp)) |\
+Usage: boothd daemon [OPTIONS] -s <ADDRESS>$|\
 -c <CONF>|\
-Configuration: a path with a slash, or a name in /etc/booth [default: booth]\n|\
+Configuration: a path with a slash, or a name in /etc/booth [default: booth]$|\
 -s <ADDRESS>|\
-Address of the member that this daemon is\n|\
+Address of the member that this daemon is$|\
 -l <LOCKFILE>|\
-File that is locked while a daemon runs [default: /var/run/booth.lock]\n|\
+File that is locked while a daemon runs [default: /var/run/booth.lock]$|\
 -d <RECORDS>|\
-Directory of the kept records [default: /var/lib/booth]\n|\
+Directory of the kept records [default: /var/lib/booth]$|\
 -n <TURNS>|\
-Ends after so many turns, 1 to 2^62 [default: runs on]\n|\
+Ends after so many turns, 1 to 2^62 [default: runs on]$|\
 boothd(8)";
-    check_help(&rt, alloc, "daemon --help", ErrorKind::DisplayHelp, pieces);
+    check_help(&rt, rt.alloc(), "daemon --help", pieces);
     let pieces = "\
-Usage: boothd status [OPTIONS]\n|\
+p 0 Usage(Some(DisplayHelp)) |\
+Usage: boothd status [OPTIONS]$|\
 -l <LOCKFILE>|\
-File that is locked while a daemon runs [default: /var/run/booth.lock]\n|\
+File that is locked while a daemon runs [default: /var/run/booth.lock]$|\
 boothd(8)";
-    check_help(&rt, alloc, "status -h", ErrorKind::DisplayHelp, pieces);
+    check_help(&rt, rt.alloc(), "status -h", pieces);
     let pieces = "\
-Usage: boothd sim [OPTIONS]\n|\
+p 0 Usage(Some(DisplayHelp)) |\
+Usage: boothd sim [OPTIONS]$|\
 -c <CONF>|\
-Configuration: a path with a slash, or a name in /etc/booth [default: three members and a ticket]\n|\
+Configuration: a path with a slash, or a name in /etc/booth [default: three members and a ticket]$|\
 -e <EVENTS>|\
-How many events, 0 to 10000000 [default: 100000]\n|\
+How many events, 0 to 10000000 [default: 100000]$|\
 -r <NUMBER>|\
-The number that the events are drawn by [default: 1]\n|\
+The number that the events are drawn by [default: 1]$|\
 boothd(8)";
-    check_help(&rt, alloc, "sim --help", ErrorKind::DisplayHelp, pieces);
-    let pieces = "\
-0.1.0\n";
-    check_help(
-        &rt,
-        alloc,
-        "daemon -s x --version",
-        ErrorKind::DisplayVersion,
-        pieces,
-    );
-    let pieces = "\
-0.1.0\n";
-    check_help(&rt, alloc, "status -V", ErrorKind::DisplayVersion, pieces);
+    check_help(&rt, rt.alloc(), "sim --help", pieces);
+    let pieces = "p 0 Usage(Some(DisplayVersion)) |0.2.0$";
+    check_help(&rt, rt.alloc(), "daemon -s x --version", pieces);
+    check_help(&rt, rt.alloc(), "status -V", pieces);
 }

@@ -1,128 +1,84 @@
 //! Simulations from words to what is printed.
-use super::{check_kinds, check_refused, good_host, run};
-use booth_conf::ConfFault;
-use booth_daemon::{Outcome, Word};
-use booth_host::{Entry, MemoryHost};
+use super::{check_words, end_of};
 use std::alloc::Global;
 use std::process::Abort;
 
-// The bytes of the last call, an out.
-fn printed<'a>(rt: &impl Abort, host: &'a MemoryHost) -> &'a [u8] {
-    match host.past().expect(rt, "the calls").last() {
-        Some(Entry::Out { bytes, .. }) => bytes.bytes(),
-        _ => panic!(rt; "no out"),
-    }
+// What a simulation of these words prints behind the count of events, and its calls.
+fn check_nothing(rt: &impl Abort, alloc: Global, line: &str) {
+    let (words, line) = line.split_once(" | ").expect(rt, line);
+    let (calls, number) = line.split_once(" ").expect(rt, line);
+    let line = format!(in alloc;
+        "{words} |  => {calls} 0 Done events: 0$number: {number}$delivered: 0$restarts: 0$gains: 0$releases: 0$\
+        greatest term: 0$most holders at one moment: 0$"
+    );
+    check_words(rt, alloc, line.expect(rt, "memory").as_str());
 }
 
-// What a simulation of these words prints, and all its calls.
-fn check_printed(rt: &impl Abort, alloc: Global, words: &str, calls: &str, text: &str) {
-    let mut host = good_host(rt, alloc, "");
-    run(rt, alloc, words, &mut host, Outcome::Done);
-    check_kinds(rt, alloc, &host, calls);
-    assert!(rt; printed(rt, &host) == text.as_bytes(), "{words}");
-}
-
+// The file is read where one is named.
 #[test]
 fn without_events_nothing_happens(rt: HostRuntime) {
-    let alloc = rt.alloc();
-    let nothing = "events: 0\nnumber: 1\ndelivered: 0\nrestarts: 0\ngains: 0\nreleases: 0\n\
-        greatest term: 0\nmost holders at one moment: 0\n";
-    check_printed(&rt, alloc, "sim -e 0 -r 1", "p", nothing);
-    check_printed(&rt, alloc, "sim -e 0", "p", nothing);
-    // the file is read where one is named
-    check_printed(&rt, alloc, "sim -e 0 -c /etc/booth.conf", "rp", nothing);
-    let other =
-        "events: 0\nnumber: 18446744073709551615\ndelivered: 0\nrestarts: 0\ngains: 0\nreleases: 0\n\
-        greatest term: 0\nmost holders at one moment: 0\n";
-    check_printed(&rt, alloc, "sim -r 18446744073709551615 -e 0", "p", other);
+    let table = "\
+sim -e 0 -r 1 | p 1
+sim -e 0 | p 1
+sim -e 0 -c /etc/booth.conf | rp 1
+sim -r 18446744073709551615 -e 0 | p 18446744073709551615";
+    for line in table.split("\n") {
+        check_nothing(&rt, rt.alloc(), line);
+    }
 }
 
 // The first twenty events of a number, whose counts are worked by hand.
 #[test]
 fn twenty_events(rt: HostRuntime) {
-    let text = "events: 20\nnumber: 192650\ndelivered: 7\nrestarts: 1\ngains: 0\nreleases: 0\n\
-        greatest term: 1\nmost holders at one moment: 0\n";
-    check_printed(&rt, rt.alloc(), "sim -e 20 -r 192650", "p", text);
-}
-
-fn check_number(rt: &impl Abort, alloc: Global, words: &str) {
-    let mut host = good_host(rt, alloc, "");
-    let outcome = Outcome::BadWord(Word::Number);
-    check_refused(
-        rt,
-        alloc,
-        words,
-        &mut host,
-        outcome,
-        "e",
-        "boothd: bad number\n",
-    );
+    let table = "\
+sim -e 20 -r 192650 |  => p 0 Done events: 20$number: 192650$delivered: 7$restarts: 1$gains: 0$releases: 0$\
+greatest term: 1$most holders at one moment: 0$";
+    check_words(&rt, rt.alloc(), table);
 }
 
 #[test]
 fn other_numbers_are_refused(rt: HostRuntime) {
-    let alloc = rt.alloc();
-    check_number(&rt, alloc, "sim -e 10000001");
-    check_number(&rt, alloc, "sim -e 007");
-    check_number(&rt, alloc, "sim -e +1");
-    check_number(&rt, alloc, "sim -e ");
-    check_number(&rt, alloc, "sim -r 18446744073709551616");
-    check_number(&rt, alloc, "sim -r 01");
+    let table = "\
+sim -e 10000001 |  => e 1 BadWord(Number) boothd: bad number$
+sim -e 007 |  => e 1 BadWord(Number) boothd: bad number$
+sim -e +1 |  => e 1 BadWord(Number) boothd: bad number$
+sim -e  |  => e 1 BadWord(Number) boothd: bad number$
+sim -r 18446744073709551616 |  => e 1 BadWord(Number) boothd: bad number$
+sim -r 01 |  => e 1 BadWord(Number) boothd: bad number$";
+    check_words(&rt, rt.alloc(), table);
 }
 
 #[test]
 fn a_print_that_fails_is_told(rt: HostRuntime) {
-    let alloc = rt.alloc();
-    let mut host = good_host(&rt, alloc, "out");
-    let said = "boothd: cannot print\n";
-    check_refused(
-        &rt,
-        alloc,
-        "sim -e 0",
-        &mut host,
-        Outcome::PrintFault,
-        "pe",
-        said,
-    );
+    let table = "sim -e 0 | fails out => pe 1 PrintFault boothd: cannot print$";
+    check_words(&rt, rt.alloc(), table);
 }
 
-// These words name a file that cannot be read. Each number in them is taken, and the file is looked at.
-fn check_unread(rt: &impl Abort, alloc: Global, words: &str) {
-    let mut host = good_host(rt, alloc, "");
-    let said = "boothd: cannot read /none\n";
-    check_refused(rt, alloc, words, &mut host, Outcome::ConfUnread, "re", said);
-}
-
+// Each number in these words is taken, and the file is looked at.
 #[test]
 fn a_file_that_is_none_is_told(rt: HostRuntime) {
-    let alloc = rt.alloc();
-    check_unread(&rt, alloc, "sim -c /none");
-    check_unread(&rt, alloc, "sim -e 10000000 -c /none");
-    check_unread(&rt, alloc, "sim -c /none -r 18446744073709551615");
-    check_unread(&rt, alloc, "sim -r 0 -e 1 -c /none");
-    let mut host = good_host(&rt, alloc, "");
-    let outcome = Outcome::ConfBad(ConfFault::NoSite);
-    let said = "boothd: /k: no site\n";
-    check_refused(&rt, alloc, "sim -c /k", &mut host, outcome, "re", said);
+    let table = "\
+sim -c /none |  => re 1 ConfUnread boothd: cannot read /none$
+sim -e 10000000 -c /none |  => re 1 ConfUnread boothd: cannot read /none$
+sim -c /none -r 18446744073709551615 |  => re 1 ConfUnread boothd: cannot read /none$
+sim -r 0 -e 1 -c /none |  => re 1 ConfUnread boothd: cannot read /none$
+sim -c /k |  => re 1 ConfBad(NoSite) boothd: /k: no site$";
+    check_words(&rt, rt.alloc(), table);
 }
 
 // What stands behind the count of events and the number, in what is printed of them.
-fn check_counts<'a>(rt: &impl Abort, host: &'a MemoryHost, head: &str) -> &'a [u8] {
-    printed(rt, host)
-        .strip_prefix(head.as_bytes())
-        .expect(rt, head)
+fn counts<'a>(rt: &impl Abort, told: &'a str, head: &str) -> &'a str {
+    told.strip_prefix(head).expect(rt, head)
 }
 
 #[test]
 fn a_number_draws_the_same_again_and_another_does_not(rt: HostRuntime) {
-    let alloc = rt.alloc();
-    let mut first = good_host(&rt, alloc, "");
-    let mut again = good_host(&rt, alloc, "");
-    let mut other = good_host(&rt, alloc, "");
-    run(&rt, alloc, "sim -e 500 -r 7", &mut first, Outcome::Done);
-    run(&rt, alloc, "sim -r 7 -e 500", &mut again, Outcome::Done);
-    run(&rt, alloc, "sim -e 500 -r 8", &mut other, Outcome::Done);
-    let counts = check_counts(&rt, &first, "events: 500\nnumber: 7\n");
-    assert!(&rt; counts == check_counts(&rt, &again, "events: 500\nnumber: 7\n"));
-    assert!(&rt; counts != check_counts(&rt, &other, "events: 500\nnumber: 8\n"));
+    let first = end_of(&rt, rt.alloc(), "sim -e 500 -r 7", "");
+    let again = end_of(&rt, rt.alloc(), "sim -r 7 -e 500", "");
+    let other = end_of(&rt, rt.alloc(), "sim -e 500 -r 8", "");
+    let seven = "p 0 Done events: 500$number: 7$";
+    let eight = "p 0 Done events: 500$number: 8$";
+    let first = counts(&rt, first.as_str(), seven);
+    assert!(&rt; first == counts(&rt, again.as_str(), seven));
+    assert!(&rt; first != counts(&rt, other.as_str(), eight));
 }

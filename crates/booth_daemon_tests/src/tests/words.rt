@@ -1,129 +1,88 @@
 //! Words that ask for no daemon, or for one that does not open.
-use super::{check_kinds, check_refused, check_said, good_host, last_text, run, strings};
-use booth_daemon::{Outcome, Word, boothd};
-use clap::error::ErrorKind;
+use super::{LISTED, check_words, end_of, told_end};
+use booth_daemon::boothd;
+use booth_scripts::{fits, host_of};
 use std::alloc::Global;
 use std::process::Abort;
 
-fn check_word(rt: &impl Abort, alloc: Global, words: &str, word: Word, said: &str) {
-    let mut host = good_host(rt, alloc, "");
-    let outcome = Outcome::BadWord(word);
-    check_refused(rt, alloc, words, &mut host, outcome, "e", said);
-}
-
-fn check_site(rt: &impl Abort, alloc: Global, words: &str) {
-    check_word(rt, alloc, words, Word::Site, "boothd: bad site\n");
-}
-
-fn check_number(rt: &impl Abort, alloc: Global, words: &str) {
-    check_word(rt, alloc, words, Word::Number, "boothd: bad number\n");
-}
-
-fn check_path(rt: &impl Abort, alloc: Global, words: &str) {
-    check_word(rt, alloc, words, Word::Path, "boothd: bad path\n");
-}
-
+// Of more than one the first by its kind is told, wherever it stands.
 #[test]
 fn each_reader_refuses_its_word(rt: HostRuntime) {
-    let alloc = rt.alloc();
-    check_site(&rt, alloc, "daemon -s 1.2.3.04");
-    check_site(&rt, alloc, "daemon -s ::1%lo");
-    check_site(&rt, alloc, "daemon -s ");
-    check_number(&rt, alloc, "daemon -s ::1 -n 0");
-    check_number(&rt, alloc, "daemon -s ::1 -n 007");
-    check_number(&rt, alloc, "daemon -s ::1 -n +1");
-    check_number(&rt, alloc, "daemon -s ::1 -n 4611686018427387905");
-    check_path(&rt, alloc, "daemon -s ::1 -l ");
-    check_path(&rt, alloc, "daemon -d  -s ::1");
-    check_path(&rt, alloc, "status -l ");
-    check_number(&rt, alloc, "daemon -n  -s ::1");
-    // the first by its kind is told, wherever it stands
-    check_site(&rt, alloc, "daemon -l  -n x -s y");
-    check_number(&rt, alloc, "daemon -l  -n x -s ::1");
+    let table = "\
+daemon -s 1.2.3.04 |  => e 1 BadWord(Site) boothd: bad site$
+daemon -s ::1%lo |  => e 1 BadWord(Site) boothd: bad site$
+daemon -s  |  => e 1 BadWord(Site) boothd: bad site$
+daemon -s ::1 -n 0 |  => e 1 BadWord(Number) boothd: bad number$
+daemon -s ::1 -n 007 |  => e 1 BadWord(Number) boothd: bad number$
+daemon -s ::1 -n +1 |  => e 1 BadWord(Number) boothd: bad number$
+daemon -s ::1 -n 4611686018427387905 |  => e 1 BadWord(Number) boothd: bad number$
+daemon -s ::1 -l  |  => e 1 BadWord(Path) boothd: bad path$
+daemon -d  -s ::1 |  => e 1 BadWord(Path) boothd: bad path$
+status -l  |  => e 1 BadWord(Path) boothd: bad path$
+daemon -n  -s ::1 |  => e 1 BadWord(Number) boothd: bad number$
+daemon -l  -n x -s y |  => e 1 BadWord(Site) boothd: bad site$
+daemon -l  -n x -s ::1 |  => e 1 BadWord(Number) boothd: bad number$";
+    check_words(&rt, rt.alloc(), table);
 }
 
-fn kind_of(rt: &impl Abort, name: &str) -> Option<ErrorKind> {
-    match name {
-        "None" => None,
-        "MissingRequiredArgument" => Some(ErrorKind::MissingRequiredArgument),
-        "InvalidValue" => Some(ErrorKind::InvalidValue),
-        "ArgumentConflict" => Some(ErrorKind::ArgumentConflict),
-        "UnknownArgument" => Some(ErrorKind::UnknownArgument),
-        _ => panic!(rt; "no kind: {name}"),
-    }
-}
-
-fn check_usage(rt: &impl Abort, alloc: Global, words: &[String], kind: Option<ErrorKind>) {
-    let mut host = good_host(rt, alloc, "");
-    let outcome = boothd(alloc, words, &mut host);
-    assert!(rt; outcome == Outcome::Usage(kind) && outcome.status() == 1);
-    check_kinds(rt, alloc, &host, "e");
-    let begin = if kind.is_some() {
-        "error: "
-    } else {
-        "boothd: usage: "
-    };
-    assert!(rt; last_text(rt, &host).starts_with(begin.as_bytes()));
-}
-
-fn check_usage_line(rt: &impl Abort, alloc: Global, line: &str) {
-    let (words, kind) = line.split_once(" | ").expect(rt, line);
-    check_usage(rt, alloc, &strings(rt, alloc, words), kind_of(rt, kind));
+// No words at all.
+fn check_no_words(rt: &impl Abort, alloc: Global) {
+    let mut host = host_of(alloc, LISTED).expect(rt, "a host");
+    let outcome = boothd(alloc, &Vec::new(alloc), &mut host);
+    let told = told_end(rt, alloc, outcome, &host);
+    assert!(rt;
+        fits(told.as_str(), "e 1 Usage(None) boothd: usage: .."),
+        "{told}"
+    );
 }
 
 // The words, and why the command does not take them. Those of the last line are one empty word.
 #[test]
 fn words_that_are_not_taken_are_usage(rt: HostRuntime) {
-    let alloc = rt.alloc();
-    check_usage(&rt, alloc, &Vec::new(alloc), None);
+    check_no_words(&rt, rt.alloc());
     let table = "\
-Daemon -s ::1 | None
---help | None
-client daemon | None
-daemon | MissingRequiredArgument
-daemon -c x | MissingRequiredArgument
-daemon -s | InvalidValue
-daemon -s -n 1 | InvalidValue
-daemon -s::1 -c | InvalidValue
-daemon -s::1 -l | InvalidValue
-daemon -s::1 -d | InvalidValue
-daemon -s::1 -n -- | InvalidValue
-daemon -s ::1 -n 1 -n 1 | ArgumentConflict
-daemon -s::1 -s::1 | ArgumentConflict
-daemon -ca -s::1 -cb | ArgumentConflict
-daemon -la -s::1 -lb | ArgumentConflict
-daemon -da -s::1 -db | ArgumentConflict
-daemon -- -s ::1 | UnknownArgument
-daemon -s ::1 more | UnknownArgument
-daemon -s ::1 -- -n | UnknownArgument
-daemon --site ::1 | UnknownArgument
-status -s ::1 | UnknownArgument
-status -- -l /l | UnknownArgument
-status -l | InvalidValue
-status -l a -l b | ArgumentConflict
-sim more | UnknownArgument
-sim -s ::1 | UnknownArgument
-sim -e | InvalidValue
-sim -r 1 -c | InvalidValue
-sim -e 1 -e 1 | ArgumentConflict
- | None";
-    for line in table.split("\n") {
-        check_usage_line(&rt, alloc, line);
-    }
+Daemon -s ::1 |  => e 1 Usage(None) boothd: usage: ..
+--help |  => e 1 Usage(None) boothd: usage: ..
+client daemon |  => e 1 Usage(None) boothd: usage: ..
+daemon |  => e 1 Usage(Some(MissingRequiredArgument)) error: ..
+daemon -c x |  => e 1 Usage(Some(MissingRequiredArgument)) error: ..
+daemon -s |  => e 1 Usage(Some(InvalidValue)) error: ..
+daemon -s -n 1 |  => e 1 Usage(Some(InvalidValue)) error: ..
+daemon -s::1 -c |  => e 1 Usage(Some(InvalidValue)) error: ..
+daemon -s::1 -l |  => e 1 Usage(Some(InvalidValue)) error: ..
+daemon -s::1 -d |  => e 1 Usage(Some(InvalidValue)) error: ..
+daemon -s::1 -n -- |  => e 1 Usage(Some(InvalidValue)) error: ..
+daemon -s ::1 -n 1 -n 1 |  => e 1 Usage(Some(ArgumentConflict)) error: ..
+daemon -s::1 -s::1 |  => e 1 Usage(Some(ArgumentConflict)) error: ..
+daemon -ca -s::1 -cb |  => e 1 Usage(Some(ArgumentConflict)) error: ..
+daemon -la -s::1 -lb |  => e 1 Usage(Some(ArgumentConflict)) error: ..
+daemon -da -s::1 -db |  => e 1 Usage(Some(ArgumentConflict)) error: ..
+daemon -- -s ::1 |  => e 1 Usage(Some(UnknownArgument)) error: ..
+daemon -s ::1 more |  => e 1 Usage(Some(UnknownArgument)) error: ..
+daemon -s ::1 -- -n |  => e 1 Usage(Some(UnknownArgument)) error: ..
+daemon --site ::1 |  => e 1 Usage(Some(UnknownArgument)) error: ..
+status -s ::1 |  => e 1 Usage(Some(UnknownArgument)) error: ..
+status -- -l /l |  => e 1 Usage(Some(UnknownArgument)) error: ..
+status -l |  => e 1 Usage(Some(InvalidValue)) error: ..
+status -l a -l b |  => e 1 Usage(Some(ArgumentConflict)) error: ..
+sim more |  => e 1 Usage(Some(UnknownArgument)) error: ..
+sim -s ::1 |  => e 1 Usage(Some(UnknownArgument)) error: ..
+sim -e |  => e 1 Usage(Some(InvalidValue)) error: ..
+sim -r 1 -c |  => e 1 Usage(Some(InvalidValue)) error: ..
+sim -e 1 -e 1 |  => e 1 Usage(Some(ArgumentConflict)) error: ..
+ |  => e 1 Usage(None) boothd: usage: ..";
+    check_words(&rt, rt.alloc(), table);
 }
 
 // The words of a daemon, and what it says that it cannot read.
 fn check_unread(rt: &impl Abort, alloc: Global, line: &str) {
     let (words, path) = line.split_once(" | ").expect(rt, line);
-    let mut host = good_host(rt, alloc, "");
-    run(rt, alloc, words, &mut host, Outcome::ConfUnread);
-    let said = format!(in alloc; "boothd: cannot read {path}\n").expect(rt, "memory");
-    check_said(rt, &host, said.as_str());
+    let line = format!(in alloc; "{words} |  => re 1 ConfUnread boothd: cannot read {path}$");
+    check_words(rt, alloc, line.expect(rt, "memory").as_str());
 }
 
 #[test]
 fn a_configuration_is_named_or_a_path(rt: HostRuntime) {
-    let alloc = rt.alloc();
     let table = "\
 daemon -s ::1 | /etc/booth/booth.conf
 daemon -s::1 -cother | /etc/booth/other.conf
@@ -135,66 +94,42 @@ daemon -c ./x -s ::1 | ./x
 daemon -c=/x/y -s ::1 | /x/y
 daemon -c / -s ::1 | /";
     for line in table.split("\n") {
-        check_unread(&rt, alloc, line);
+        check_unread(&rt, rt.alloc(), line);
     }
 }
 
-// A word that begins so and goes on with x, of so many bytes.
-fn long_word(rt: &impl Abort, alloc: Global, first: &str, len: u32) -> String {
-    let mut word = String::from_str(alloc, first).expect(rt, "memory");
+// What the words begin with, which go on with x; of how many bytes the last of them is; and how the run ends.
+fn check_long(rt: &impl Abort, alloc: Global, first: &str, len: u32, end: &str) {
+    let mut words = String::from_str(alloc, first).expect(rt, "memory");
     for _ in 1..len {
-        word.push('x').expect(rt, "memory");
+        words.push('x').expect(rt, "memory");
     }
-    word
+    let told = end_of(rt, alloc, words.as_str(), "");
+    assert!(rt; fits(told.as_str(), end), "{len} bytes: {told}");
 }
 
-// Which option, with what its word begins, and how many bytes it has.
-fn check_long(rt: &impl Abort, alloc: Global, option: &str, len: u32, outcome: Outcome) {
-    let (option, first) = option.split_once(" ").expect(rt, option);
-    let mut words = strings(rt, alloc, "daemon -s ::1");
-    let option = String::from_str(alloc, option).expect(rt, "memory");
-    words.push(option).expect(rt, "memory");
-    words
-        .push(long_word(rt, alloc, first, len))
-        .expect(rt, "memory");
-    let mut host = good_host(rt, alloc, "");
-    let got = boothd(alloc, &words, &mut host);
-    assert!(rt; got == outcome, "{len} bytes");
-}
-
+// `/etc/booth/` and `.conf` have 16 bytes.
 #[test]
 fn a_path_has_at_most_255_bytes(rt: HostRuntime) {
-    let alloc = rt.alloc();
-    let path = Outcome::BadWord(Word::Path);
-    let conf = Outcome::BadWord(Word::Configuration);
-    check_long(&rt, alloc, "-l /", 255, Outcome::ConfUnread);
-    check_long(&rt, alloc, "-l /", 256, path);
-    check_long(&rt, alloc, "-d /", 255, Outcome::ConfUnread);
-    check_long(&rt, alloc, "-d /", 256, path);
-    check_long(&rt, alloc, "-c /", 255, Outcome::ConfUnread);
-    check_long(&rt, alloc, "-c /", 256, conf);
-    // `/etc/booth/` and `.conf` have 16 bytes
-    check_long(&rt, alloc, "-c x", 239, Outcome::ConfUnread);
-    check_long(&rt, alloc, "-c x", 240, conf);
-    check_long(&rt, alloc, "-c x", 300, conf);
-}
-
-// The address of `-s`, and how it is told.
-fn check_stranger(rt: &impl Abort, alloc: Global, words: &str, said: &str) {
-    let mut host = good_host(rt, alloc, "");
-    run(rt, alloc, words, &mut host, Outcome::NotMember);
-    check_kinds(rt, alloc, &host, "re");
-    check_said(rt, &host, said);
+    let unread = "re 1 ConfUnread ..";
+    let path = "e 1 BadWord(Path) ..";
+    let conf = "e 1 BadWord(Configuration) ..";
+    check_long(&rt, rt.alloc(), "daemon -s ::1 -l /", 255, unread);
+    check_long(&rt, rt.alloc(), "daemon -s ::1 -l /", 256, path);
+    check_long(&rt, rt.alloc(), "daemon -s ::1 -d /", 255, unread);
+    check_long(&rt, rt.alloc(), "daemon -s ::1 -d /", 256, path);
+    check_long(&rt, rt.alloc(), "daemon -s ::1 -c /", 255, unread);
+    check_long(&rt, rt.alloc(), "daemon -s ::1 -c /", 256, conf);
+    check_long(&rt, rt.alloc(), "daemon -s ::1 -c x", 239, unread);
+    check_long(&rt, rt.alloc(), "daemon -s ::1 -c x", 240, conf);
+    check_long(&rt, rt.alloc(), "daemon -s ::1 -c x", 300, conf);
 }
 
 #[test]
 fn an_address_of_no_member_is_told(rt: HostRuntime) {
-    let alloc = rt.alloc();
-    let words = "daemon -c /etc/booth.conf -s 10.0.0.1";
-    check_stranger(&rt, alloc, words, "boothd: 10.0.0.1 is not a member\n");
-    let words = "daemon -c /etc/booth.conf -s FE80:0::1";
-    check_stranger(&rt, alloc, words, "boothd: fe80::1 is not a member\n");
-    let words = "daemon -c /etc/booth.conf -s ::ffff:192.168.201.100";
-    let said = "boothd: ::ffff:c0a8:c964 is not a member\n";
-    check_stranger(&rt, alloc, words, said);
+    let table = "\
+daemon -c /etc/booth.conf -s 10.0.0.1 |  => re 1 NotMember boothd: 10.0.0.1 is not a member$
+daemon -c /etc/booth.conf -s FE80:0::1 |  => re 1 NotMember boothd: fe80::1 is not a member$
+daemon -c /etc/booth.conf -s ::ffff:192.168.201.100 |  => re 1 NotMember boothd: ::ffff:c0a8:c964 is not a member$";
+    check_words(&rt, rt.alloc(), table);
 }

@@ -1,75 +1,63 @@
 //! Attributes and prerequisites in whole turns: who is answered what, and what waits for an attribute.
-use super::lines::{AR, S1, S2};
-use super::rows::{GAIN, GRANT, HELLO, LEASE_HEARD, SECOND_HELLO};
-use super::script::{check_turn, opened, play, play_file, play_records};
+use super::files::FILES;
+use super::lines::S1;
+use super::parts::PARTS;
+use super::script::{check_turn, opened, play_stories, text_named};
 use booth_node::Node;
 use std::alloc::Global;
+use std::mem;
 use std::process::Abort;
 
-const MANUAL: &str =
-    "site=\"192.168.201.100\"\nsite=\"192.168.202.100\"\narbitrator=\"192.168.203.100\"\n\
-    ticket=\"ticket-db8\"\nattr-prereq = \"manual ready eq yes\"\n";
+const STORIES: &str = "\
+# a grant waits for an attribute
+S1 of manual prerequisite
 
-const AUTO: &str =
-    "site=\"192.168.201.100\"\nsite=\"192.168.202.100\"\narbitrator=\"192.168.203.100\"\n\
-    ticket=\"ticket-db8\"\nattr-prereq = \"auto ready ne no\"\n";
+as hello, grant refused
 
-/// A grant is refused for a prerequisite.
-const REFUSED: &str = "\
-at 1000000 from client: 0 CGnt 77 0 0 0 ticket-db8 none 0 0
-send client: S1 RGnt 77 0 0 APrq ticket-db8 none 0 0";
-
-#[test]
-fn a_grant_waits_for_an_attribute(rt: HostRuntime) {
-    let ready = "\
 at 1000000 from client: 0 ASet 5 0 0 0 @ ticket-db8 ready yes
-send client: S1 RAtr 5 0 0 0 @ ticket-db8 ready yes";
-    let texts = [HELLO, REFUSED, ready, GRANT, GAIN];
-    play_file(&rt, rt.alloc(), MANUAL, S1, None, &texts);
-}
+send client: S1 RAtr 5 0 0 0 @ ticket-db8 ready yes
 
-#[test]
-fn another_value_and_another_name_do_not_do(rt: HostRuntime) {
-    let other = "\
+as granted, gained
+
+# another value and another name do not do
+S1 of manual prerequisite
+
+as hello
+
 at 1000000 from client: 0 ASet 5 0 0 0 @ ticket-db8 ready no
 send client: S1 RAtr 5 0 0 0 @ ticket-db8 ready no
 
 at 1000000 from client: 0 ASet 6 0 0 0 @ ticket-db8 Ready yes
-send client: S1 RAtr 6 0 0 0 @ ticket-db8 Ready yes";
-    play_file(&rt, rt.alloc(), MANUAL, S1, None, &[HELLO, other, REFUSED]);
-}
+send client: S1 RAtr 6 0 0 0 @ ticket-db8 Ready yes
 
-#[test]
-fn a_grant_asks_for_no_prerequisite_of_a_takeover(rt: HostRuntime) {
-    let no = "\
+as grant refused
+
+# a grant asks for no prerequisite of a takeover
+S1 of prerequisite
+
+as hello
+
 at 1000000 from client: 0 ASet 5 0 0 0 @ ticket-db8 ready no
-send client: S1 RAtr 5 0 0 0 @ ticket-db8 ready no";
-    play_file(&rt, rt.alloc(), AUTO, S1, None, &[HELLO, no, GRANT, GAIN]);
-}
+send client: S1 RAtr 5 0 0 0 @ ticket-db8 ready no
 
-/// S2 takes the ticket over.
-const TAKES_OVER: &str = "\
-at 1606263 quiet
-keep ticket-db8 2
-send S1: S2 RVot 0 0 TLst 0 ticket-db8 S2 2 0
-send AR: S2 RVot 0 0 TLst 0 ticket-db8 S2 2 0";
+as granted, gained
 
-#[test]
-fn a_name_that_is_not_there_has_another_value(rt: HostRuntime) {
-    let texts = [SECOND_HELLO, LEASE_HEARD, TAKES_OVER];
-    play_file(&rt, rt.alloc(), AUTO, S2, None, &texts);
-}
+# a name that is not there has another value
+S2 of prerequisite
 
-#[test]
-fn a_takeover_asks_for_no_prerequisite_of_a_grant(rt: HostRuntime) {
-    let texts = [SECOND_HELLO, LEASE_HEARD, TAKES_OVER];
-    play_file(&rt, rt.alloc(), MANUAL, S2, None, &texts);
-}
+as second hello, lease heard, takes over
 
-// It is looked at again after each renewal's time, and not when the attribute is set.
-#[test]
-fn a_takeover_waits_for_an_attribute(rt: HostRuntime) {
-    let no = "\
+# a takeover asks for no prerequisite of a grant
+S2 of manual prerequisite
+
+as second hello, lease heard, takes over
+
+# a takeover waits for an attribute
+It is looked at again after each renewal's time, and not when the attribute is set.
+S2 of prerequisite
+
+as second hello, lease heard
+
 at 1500000 from client: 0 ASet 5 0 0 0 @ ticket-db8 ready no
 send client: S2 RAtr 5 0 0 0 @ ticket-db8 ready no
 
@@ -86,17 +74,16 @@ send client: S2 RAtr 7 0 0 0 @ ticket-db8 ready yes
 at 2206262 quiet
 
 at 2206263 quiet
-keep ticket-db8 2
+keep ticket-db8 2 bound S2 promise S2 2 2807466 abstain 601203
 send S1: S2 RVot 0 0 TLst 0 ticket-db8 S2 2 0
-send AR: S2 RVot 0 0 TLst 0 ticket-db8 S2 2 0";
-    let texts = [SECOND_HELLO, LEASE_HEARD, no];
-    play_file(&rt, rt.alloc(), AUTO, S2, None, &texts);
-}
+send AR: S2 RVot 0 0 TLst 0 ticket-db8 S2 2 0
 
-// A present name keeps its place, and a new one goes last.
-#[test]
-fn attributes_are_listed_as_they_came(rt: HostRuntime) {
-    let texts = "\
+# attributes are listed as they came
+A present name keeps its place, and a new one goes last.
+S1 of cluster
+
+as hello
+
 at 5 from client: 0 ASet 1 0 0 0 @ ticket-db8 b two words
 send client: S1 RAtr 1 0 0 0 @ ticket-db8 b two words
 
@@ -119,16 +106,12 @@ at 5 from client: 0 ASet 7 0 0 0 @ ticket-db8 b 7
 send client: S1 RAtr 7 0 0 0 @ ticket-db8 b 7
 
 at 5 from client: 0 ALst 8 0 0 0 @ ticket-db8 -
-send client: S1 RALs 8 0 0 0 = a /b 7/";
-    play(&rt, rt.alloc(), S1, None, &[HELLO, texts]);
-}
+send client: S1 RALs 8 0 0 0 = a /b 7/
 
-#[test]
-fn an_arbitrator_has_no_attributes(rt: HostRuntime) {
-    let texts = "\
-at 0 quiet
-send S1: AR Stat 0 0 0 0 ticket-db8 none 0 0
-send S2: AR Stat 0 0 0 0 ticket-db8 none 0 0
+# an arbitrator has no attributes
+AR of cluster
+
+as arbitrator hello
 
 at 5 from client: 0 ASet 1 0 0 0 @ ticket-db8 a 1
 send client: AR RAtr 1 0 0 IArg @ ticket-db8 a 1
@@ -140,17 +123,11 @@ at 5 from client: 0 ADel 3 0 0 0 @ ticket-db8 a
 send client: AR RAtr 3 0 0 IArg @ ticket-db8 a
 
 at 5 from client: 0 ALst 4 0 0 0 @ ticket-db8 -
-send client: AR RALs 4 0 0 IArg";
-    play(&rt, rt.alloc(), AR, None, &[texts]);
-}
+send client: AR RALs 4 0 0 IArg
 
-const TWO_TICKETS: &str =
-    "site=\"192.168.201.100\"\nsite=\"192.168.202.100\"\narbitrator=\"192.168.203.100\"\n\
-    ticket=\"ticket-db8\"\nattr-prereq = \"manual ready eq yes\"\nticket=\"ticket-web\"\n";
+# each ticket has its own attributes
+S1 of prerequisite of one from none, none
 
-#[test]
-fn each_ticket_has_its_own_attributes(rt: HostRuntime) {
-    let texts = "\
 at 5 from client: 0 ASet 1 0 0 0 @ ticket-web ready yes
 send client: S1 RAtr 1 0 0 0 @ ticket-web ready yes
 send S2: S1 Stat 0 0 0 0 ticket-db8 none 0 0
@@ -169,7 +146,10 @@ send client: S1 RAtr 4 0 0 IArg @ ticket-none ready x
 
 at 5 from client: 0 CGnt 77 0 0 0 ticket-db8 none 0 0
 send client: S1 RGnt 77 0 0 APrq ticket-db8 none 0 0";
-    play_records(&rt, rt.alloc(), TWO_TICKETS, S1, &[None, None], &[texts]);
+
+#[test]
+fn attributes_are_kept_and_asked_for(rt: HostRuntime) {
+    play_stories(&rt, rt.alloc(), STORIES);
 }
 
 /// A name is set, and this is the result.
@@ -190,9 +170,11 @@ fn sets_below(rt: &impl Abort, alloc: Global, node: &mut Node, count: u32) {
 
 #[test]
 fn a_65th_name_is_refused_as_busy(rt: HostRuntime) {
-    let mut node = opened(&rt, rt.alloc(), MANUAL, S1, &[None]);
-    check_turn(&rt, rt.alloc(), &mut node, HELLO);
+    let file = text_named(&rt, FILES, "manual prerequisite");
+    let mut node = opened(&rt, rt.alloc(), file, S1, &[None], 0);
+    check_turn(&rt, rt.alloc(), &mut node, text_named(&rt, PARTS, "hello"));
     sets_below(&rt, rt.alloc(), &mut node, 64);
     sets(&rt, rt.alloc(), &mut node, 64, "Busy");
     sets(&rt, rt.alloc(), &mut node, 7, "0");
+    mem::forget(node);
 }

@@ -3,14 +3,15 @@
 //!
 //! Each turn begins with its member. `from` a member alone is the first datagram that is under way from
 //! there, and `loses from` loses it.
+use super::files::FILES;
 use super::lines::{AR, CLIENT, S1, S2, peer_of};
-use super::manual::{BY_HAND, held};
-use super::script::{FILE, Fails, calls, came_of, check_calls, head_of, opened, run};
+use super::script::{Came, Fails, calls, calls_are, came_of, head_of, opened, run, text_named};
 use booth_base::{MemberId, Peer};
 use booth_host::{Entry, MemoryHost};
 use booth_node::Node;
-use booth_rec::Record;
+use booth_rec::{Lease, Record};
 use std::alloc::Global;
+use std::mem;
 use std::process::Abort;
 
 const HELLOS: &str = "\
@@ -59,19 +60,21 @@ AR at 10 from S2";
 /// S1 is granted the ticket at 1,000,000, and all know of it.
 const ELECTION: &str = "\
 S1 at 1000000 from client: 0 CGnt 77 0 0 0 ticket-db8 none 0 0
-keep ticket-db8 1
+keep ticket-db8 1 bound S1 promise S1 1 1601203 abstain 601203
 send S2: S1 RVot 0 0 Admn 0 ticket-db8 S1 1 0
 send AR: S1 RVot 0 0 Admn 0 ticket-db8 S1 1 0
 send client: S1 RGnt 77 0 0 Asyn ticket-db8 none 1 0
 
 S2 at 1000010 from S1
+keep ticket-db8 1 bound S1 promise S1 1 1601213 abstain 601203
 send S1: S2 VtFr 0 0 0 0 ticket-db8 S1 1 0
 
 AR at 1000010 from S1
+keep ticket-db8 1 bound S1 promise S1 1 1601213 abstain 601203
 send S1: AR VtFr 0 0 0 0 ticket-db8 S1 1 0
 
 S1 at 1000010 from S2
-keep ticket-db8 1 1 1600000
+keep ticket-db8 1 1 1600000 bound S1 promise S1 1 1601203 abstain 601203
 send S2: S1 UpdE 0 0 0 0 ticket-db8 S1 1 600
 send AR: S1 UpdE 0 0 0 0 ticket-db8 S1 1 600
 
@@ -89,17 +92,20 @@ send client: AR RLst 77 0 0 0 = ticket-db8 192.168.201.100 1600/";
 
 const RENEWAL: &str = "\
 S1 at 1300000 quiet
+keep ticket-db8 1 1 1600000 bound S1 promise S1 1 1901203 abstain 601203
 send S2: S1 HrtB 0 1 0 0 ticket-db8 S1 1 300
 send AR: S1 HrtB 0 1 0 0 ticket-db8 S1 1 300
 
 S2 at 1300010 from S1
+keep ticket-db8 1 bound S1 promise S1 1 1901213 abstain 601203
 send S1: S2 Ack. 0 1 0 0 ticket-db8 S1 1 0
 
 AR at 1300010 from S1
+keep ticket-db8 1 bound S1 promise S1 1 1901213 abstain 601203
 send S1: AR Ack. 0 1 0 0 ticket-db8 S1 1 0
 
 S1 at 1300010 from S2
-keep ticket-db8 1 1 1900000
+keep ticket-db8 1 1 1900000 bound S1 promise S1 1 1901203 abstain 601203
 send S2: S1 UpdE 0 0 0 0 ticket-db8 S1 1 600
 send AR: S1 UpdE 0 0 0 0 ticket-db8 S1 1 600
 
@@ -112,6 +118,7 @@ AR at 1300010 from S1";
 /// The next renewal reaches nobody, and at the end of its lease S1 has lost it.
 const LOSS: &str = "\
 S1 at 1600000 quiet
+keep ticket-db8 1 1 1900000 bound S1 promise S1 1 2201203 abstain 601203
 send S2: S1 HrtB 0 2 0 0 ticket-db8 S1 1 300
 send AR: S1 HrtB 0 2 0 0 ticket-db8 S1 1 300
 
@@ -132,17 +139,18 @@ const TAKEOVER: &str = "\
 S2 at 1906212 quiet
 
 S2 at 1906213 quiet
-keep ticket-db8 2
+keep ticket-db8 2 bound S2 promise S2 2 2507416 abstain 601203
 send S1: S2 RVot 0 0 TLst 0 ticket-db8 S2 2 0
 send AR: S2 RVot 0 0 TLst 0 ticket-db8 S2 2 0
 
 S1 loses from S2
 
 AR at 1906220 from S2
+keep ticket-db8 2 bound S2 promise S2 2 2507423 abstain 601203
 send S2: AR VtFr 0 0 0 0 ticket-db8 S2 2 0
 
 S2 at 1906220 from AR
-keep ticket-db8 2 2 2506213
+keep ticket-db8 2 2 2506213 bound S2 promise S2 2 2507416 abstain 601203
 send S1: S2 UpdE 0 0 0 0 ticket-db8 S2 2 600
 send AR: S2 UpdE 0 0 0 0 ticket-db8 S2 2 600
 
@@ -153,7 +161,7 @@ AR at 1906220 from S2";
 /// S1 asks for the ticket in vain, and is told who has it.
 const REFUSAL: &str = "\
 S1 at 1906230 quiet
-keep ticket-db8 2 1 1900000
+keep ticket-db8 2 1 1900000 bound S1 promise S1 2 2507433 abstain 601203
 send S2: S1 RVot 0 0 TLst 0 ticket-db8 S1 2 0
 send AR: S1 RVot 0 0 TLst 0 ticket-db8 S1 2 0
 
@@ -320,9 +328,9 @@ impl Cluster {
     // All start at 0, the first site from this record and the others without one.
     fn new(rt: &impl Abort, alloc: Global, file: &str, record: Option<Record>) -> Cluster {
         Cluster {
-            s1: opened(rt, alloc, file, S1, &[record]),
-            s2: opened(rt, alloc, file, S2, &[None]),
-            ar: opened(rt, alloc, file, AR, &[None]),
+            s1: opened(rt, alloc, file, S1, &[record], 0),
+            s2: opened(rt, alloc, file, S2, &[None], 0),
+            ar: opened(rt, alloc, file, AR, &[None], 0),
             net: Net {
                 under_way: Vec::new(alloc),
             },
@@ -330,17 +338,14 @@ impl Cluster {
     }
 
     // What comes to a member.
-    fn came(
-        &mut self,
-        rt: &impl Abort,
-        alloc: Global,
-        at: Peer,
-        comes: &str,
-    ) -> Option<(Peer, Vec<u8>)> {
+    fn came(&mut self, rt: &impl Abort, alloc: Global, at: Peer, comes: &str) -> Option<Came> {
         match comes {
             "from S1" | "from S2" | "from AR" => {
                 let from = peer_of(rt, comes.strip_prefix("from ").expect(rt, comes));
-                Some((from, self.net.take(rt, from, at)))
+                Some(Came {
+                    from,
+                    bytes: self.net.take(rt, from, at),
+                })
             }
             _ => came_of(rt, alloc, comes),
         }
@@ -362,7 +367,7 @@ impl Cluster {
         alloc: Global,
         member: &str,
         now: u64,
-        came: Option<(Peer, Vec<u8>)>,
+        came: Option<Came>,
     ) -> MemoryHost {
         run(rt, alloc, self.node(rt, member), now, came, Fails::NOTHING)
     }
@@ -378,7 +383,7 @@ impl Cluster {
         let (now, comes) = head_of(rt, head);
         let came = self.came(rt, alloc, at, comes);
         let host = self.run(rt, alloc, member, now, came);
-        check_calls(rt, alloc, now, calls, &host);
+        assert!(rt; calls_are(rt, alloc, now, calls, &host), "{turn}");
         self.net.put_all(rt, alloc, at, &host);
     }
 
@@ -400,16 +405,32 @@ impl Cluster {
 fn play(rt: &impl Abort, alloc: Global, file: &str, record: Option<Record>, texts: &[&str]) {
     let mut cluster = Cluster::new(rt, alloc, file, record);
     cluster.check(rt, alloc, texts);
+    // the process ends with its test, and a proof that three nodes are dropped is long
+    mem::forget(cluster);
 }
 
 #[test]
 fn a_ticket_passes_from_one_site_to_the_next(rt: HostRuntime) {
     let texts = [HELLOS, ELECTION, RENEWAL, LOSS, TAKEOVER, REFUSAL];
-    play(&rt, rt.alloc(), FILE, None, &texts);
+    play(
+        &rt,
+        rt.alloc(),
+        text_named(&rt, FILES, "cluster"),
+        None,
+        &texts,
+    );
 }
 
 #[test]
 fn a_manual_ticket_is_owned_by_two(rt: HostRuntime) {
     let texts = [OWNER, FORCED, GIVEN_BACK];
-    play(&rt, rt.alloc(), BY_HAND, Some(held(1)), &texts);
+    let until = 4_611_686_018_427_387_904;
+    let held = Record::plain(1, Some(Lease { term: 1, until }));
+    play(
+        &rt,
+        rt.alloc(),
+        text_named(&rt, FILES, "by hand"),
+        Some(held),
+        &texts,
+    );
 }

@@ -4,6 +4,7 @@ use super::script::check_turn;
 use super::signed_frames;
 use booth_node::Node;
 use std::alloc::Global;
+use std::mem;
 use std::process::Abort;
 
 // Each of these turns drops a datagram, with no call but its next and its now.
@@ -40,4 +41,5 @@ fn ten_thousand_drops_change_their_counts_alone(rt: HostRuntime) {
     drop_rounds(&rt, alloc, &mut node, &turns, 1250);
     check_turn(&rt, alloc, &mut node, signed_frames::PEER_AFTER_FLOOD);
     check_turn(&rt, alloc, &mut node, signed_frames::CLST_SIGNED);
+    mem::forget(node);
 }

@@ -1,15 +1,18 @@
 //! Calls as lines of text, read by the layout of their bytes.
 //!
-//! A send has its frame's numbers in the order of the bytes: sender, command, request, options, reason,
-//! result, and of a ticket then its name, leader, term and seconds; ` = ` stands before a text, in which `/`
-//! ends a line; ` @ ` before an attribute's ticket, name (`-` where it has none) and value; and `#` stands before all
-//! bytes in hexadecimal. A keep has the ticket, the term, and of a lease the term and the end. A start has the job, the ticket,
-//! the member's address, the lease's end in seconds, and the handler. A call that ends in `failed` fails.
+//! A send has its frame's numbers in the order of the bytes: sender, command, request, options, reason, result, and of
+//! a ticket then its name, leader, term and seconds; ` = ` stands before a text, in which `/` ends a line; ` @ ` before
+//! an attribute's ticket, name (`-` where it has none) and value; and `#` stands before all bytes in hexadecimal. A
+//! keep has the ticket and its record. A start has the job, the ticket, the member's address, the lease's end in
+//! seconds, and the handler. A call that ends in `failed` fails.
+//!
+//! A record is its term, and of a lease then the term and the end; what it pledges stands behind `bound`, `promise` (to
+//! whom, the term and the end) and `abstain`, in this order. Behind `first` it is of version 1.
 ghost use Rattle.std.specs.Prelude.{◌<◌};
 
 use booth_base::{Address, MemberId, NO_ONE, Peer};
 use booth_host::Entry;
-use booth_rec::{Lease, Record};
+use booth_rec::{Lease, Promise, Record};
 use std::alloc::Global;
 use std::process::Abort;
 
@@ -64,8 +67,20 @@ pub fn peer_of(rt: &impl Abort, name: &str) -> Peer {
     }
 }
 
-// A member's id, four letters or a number.
-fn number_of(rt: &impl Abort, word: &str) -> u32 {
+/// A moment in ms, or another large number.
+pub fn moment_of(rt: &impl Abort, word: &str) -> u64 {
+    word.parse::<u64>().expect(rt, word)
+}
+
+// Each type that is read costs a proof of its own, so all numbers are read as moments are.
+fn small_number_of(rt: &impl Abort, word: &str) -> u32 {
+    let number = moment_of(rt, word);
+    assert!(rt; number <= 4_294_967_295, "{word}");
+    number as u32
+}
+
+/// A member's id, four letters or a number.
+pub fn number_of(rt: &impl Abort, word: &str) -> u32 {
     match word {
         "S1" => S1.0,
         "S2" => S2.0,
@@ -73,7 +88,7 @@ fn number_of(rt: &impl Abort, word: &str) -> u32 {
         "none" => NO_ONE.0,
         _ => match word.as_bytes() {
             [a @ b'A'..=b'Z', b, c, d] => u32::from_be_bytes([*a, *b, *c, *d]),
-            _ => word.parse::<u32>().expect(rt, "a number"),
+            _ => small_number_of(rt, word),
         },
     }
 }
@@ -185,40 +200,81 @@ pub fn frame_of(rt: &impl Abort, alloc: Global, now: u64, line: &str) -> Vec<u8>
     bytes
 }
 
-// The record of a keep, behind the ticket's name.
-fn record_of(rt: &impl Abort, line: &str) -> Record {
+// A term, and of a lease its term and end.
+fn term_and_lease(rt: &impl Abort, line: &str) -> (u32, Option<Lease>) {
     let (term, lease) = line.split_once(' ').unwrap_or((line, ""));
-    let term = term.parse::<u32>().expect(rt, "a term");
+    let term = small_number_of(rt, term);
     let Some((lease_term, until)) = lease.split_once(' ') else {
-        return Record::plain(term, None);
+        return (term, None);
     };
     let lease = Lease {
-        term: lease_term.parse::<u32>().expect(rt, "a term"),
-        until: until.parse::<u64>().expect(rt, "an end"),
+        term: small_number_of(rt, lease_term),
+        until: moment_of(rt, until),
     };
-    Record::plain(term, Some(lease))
+    (term, Some(lease))
 }
 
-fn check_send(rt: &impl Abort, alloc: Global, now: u64, line: &str, to: &Peer, bytes: &[u8]) {
-    let said = line.strip_prefix("send ").expect(rt, "a send");
-    let (name, frame) = said.split_once(": ").expect(rt, "to whom");
-    assert!(rt; peer_of(rt, name) == *to, "{line}");
+fn bound_of(rt: &impl Abort, word: &str) -> Option<MemberId> {
+    match word {
+        "none" => None,
+        _ => Some(MemberId(number_of(rt, word))),
+    }
+}
+
+fn promise_of(rt: &impl Abort, text: &str) -> Option<Promise> {
+    let Some((to, rest)) = text.split_once(' ') else {
+        assert!(rt; text == "none", "{text}");
+        return None;
+    };
+    let (term, until) = rest.split_once(' ').expect(rt, text);
+    Some(Promise {
+        to: MemberId(number_of(rt, to)),
+        term: small_number_of(rt, term),
+        until: moment_of(rt, until),
+    })
+}
+
+/// A record of version 2, or behind `first` of version 1.
+pub fn record_of(rt: &impl Abort, line: &str) -> Record {
+    if let Some(line) = line.strip_prefix("first ") {
+        let (term, lease) = term_and_lease(rt, line);
+        return Record::first(term, lease);
+    }
+    let (line, abstain) = line.split_once(" abstain ").unwrap_or((line, "0"));
+    let (line, promise) = line.split_once(" promise ").unwrap_or((line, "none"));
+    let (line, bound) = line.split_once(" bound ").unwrap_or((line, "none"));
+    let (term, lease) = term_and_lease(rt, line);
+    Record {
+        bound: bound_of(rt, bound),
+        promise: promise_of(rt, promise),
+        abstain: moment_of(rt, abstain),
+        ..Record::plain(term, lease)
+    }
+}
+
+fn is_send(rt: &impl Abort, alloc: Global, now: u64, line: &str, to: &Peer, bytes: &[u8]) -> bool {
+    let Some(said) = line.strip_prefix("send ") else {
+        return false;
+    };
+    let (name, frame) = said.split_once(": ").expect(rt, line);
     let wanted = frame_of(rt, alloc, now, frame);
-    assert!(rt; bytes == wanted.as_slice(), "{line}");
+    peer_of(rt, name) == *to && bytes == wanted.as_slice()
 }
 
-fn check_keep(rt: &impl Abort, line: &str, ticket: &[u8], record: &Record) {
-    let kept = line.strip_prefix("keep ").expect(rt, "a keep");
-    let (name, record_text) = kept.split_once(' ').expect(rt, "a record");
-    assert!(rt; name.as_bytes() == ticket, "{line}");
-    assert!(rt; *record == record_of(rt, record_text), "{line}");
+fn is_keep(rt: &impl Abort, line: &str, ticket: &[u8], record: &Record) -> bool {
+    let Some(kept) = line.strip_prefix("keep ") else {
+        return false;
+    };
+    let (name, wanted) = kept.split_once(' ').expect(rt, line);
+    name.as_bytes() == ticket && *record == record_of(rt, wanted)
 }
 
-// The line without the mark of a failure, which stands exactly where this call failed.
-fn without_failed<'a>(rt: &impl Abort, line: &'a str, failed: bool) -> &'a str {
-    let unmarked = line.strip_suffix(" failed");
-    assert!(rt; unmarked.is_some() == failed, "{line}");
-    unmarked.unwrap_or(line)
+// The line without the mark of a failure, if that stands exactly where this call failed.
+fn unmarked(line: &str, failed: bool) -> Option<&str> {
+    match line.strip_suffix(" failed") {
+        Some(rest) => if failed { Some(rest) } else { None },
+        None => if failed { None } else { Some(line) },
+    }
 }
 
 // A job's number, its ticket, the member's address, and the end of the lease.
@@ -236,28 +292,29 @@ fn job_text(
     text.expect(rt, "memory")
 }
 
-fn check_start(rt: &impl Abort, line: &str, job: &str, handler: &[u8]) {
-    let start = line.strip_prefix("start ").expect(rt, line);
+fn is_start(rt: &impl Abort, line: &str, job: &str, handler: &[u8]) -> bool {
+    let Some(start) = line.strip_prefix("start ") else {
+        return false;
+    };
     let (wanted, asked) = start.split_once(": ").expect(rt, line);
-    assert!(rt; job == wanted, "{line}");
-    assert!(rt; asked.as_bytes() == handler, "{line}");
+    job == wanted && asked.as_bytes() == handler
 }
 
-/// The call is that of the line, in a turn of this moment.
-pub fn check_call(rt: &impl Abort, alloc: Global, now: u64, line: &str, call: &Entry) {
+/// Whether the call is that of the line, in a turn of this moment.
+pub fn call_is(rt: &impl Abort, alloc: Global, now: u64, line: &str, call: &Entry) -> bool {
     match call {
-        Entry::Send { to, bytes, answer } => {
-            let line = without_failed(rt, line, answer.is_err());
-            check_send(rt, alloc, now, line, to, bytes.bytes());
-        }
+        Entry::Send { to, bytes, answer } => match unmarked(line, answer.is_err()) {
+            Some(line) => is_send(rt, alloc, now, line, to, bytes.bytes()),
+            None => false,
+        },
         Entry::Keep {
             ticket,
             record,
             answer,
-        } => {
-            let line = without_failed(rt, line, answer.is_err());
-            check_keep(rt, line, ticket.bytes(), record);
-        }
+        } => match unmarked(line, answer.is_err()) {
+            Some(line) => is_keep(rt, line, ticket.bytes(), record),
+            None => false,
+        },
         Entry::Start {
             number,
             ticket,
@@ -265,11 +322,13 @@ pub fn check_call(rt: &impl Abort, alloc: Global, now: u64, line: &str, call: &E
             local,
             expires,
             answer,
-        } => {
-            let line = without_failed(rt, line, answer.is_err());
-            let job = job_text(rt, alloc, *number, ticket.bytes(), local, *expires);
-            check_start(rt, line, job.as_str(), handler.bytes());
-        }
-        _ => panic!(rt; "another call: {line}"),
+        } => match unmarked(line, answer.is_err()) {
+            Some(line) => {
+                let job = job_text(rt, alloc, *number, ticket.bytes(), local, *expires);
+                is_start(rt, line, job.as_str(), handler.bytes())
+            }
+            None => false,
+        },
+        _ => false,
     }
 }

@@ -1,57 +1,25 @@
 //! Whole runs of a manual ticket at one member: a grant, one that is not kept, a takeover by force, a
 //! revocation, a restart of the owner, and what members tell one another.
-use super::lines::{AR, S1};
-use super::script::{play, play_file, play_records};
-use booth_rec::{Lease, Record};
+use super::script::play_stories;
 
-/// The file of two sites and an arbitrator, with a manual ticket.
-pub const BY_HAND: &str =
-    "site=\"192.168.201.100\"\nsite=\"192.168.202.100\"\narbitrator=\"192.168.203.100\"\n\
-    ticket=\"ticket-db8\"\nmode=\"manual\"\n";
+const STORIES: &str = "\
+# a grant is kept then told and then answered
+An owner has nothing more to do, however long it waits, and is listed without an end.
+S1 of by hand
 
-/// A record of a lease until 2^62.
-pub fn held(term: u32) -> Record {
-    let until = 4_611_686_018_427_387_904;
-    Record::plain(term, Some(Lease { term, until }))
-}
+as hello, granted by hand
 
-/// S1 starts at 0, and was granted nothing.
-const HELLO: &str = "\
-at 0 quiet
-send S2: S1 Stat 0 0 0 0 ticket-db8 none 0 0
-send AR: S1 Stat 0 0 0 0 ticket-db8 none 0 0";
-
-const GRANT: &str = "\
-at 1000000 from client: 0 CGnt 77 0 0 0 ticket-db8 none 0 0
-keep ticket-db8 1 1 4611686018427387904
-send S2: S1 UpdE 0 0 0 0 ticket-db8 S1 1 4294967295
-send AR: S1 UpdE 0 0 0 0 ticket-db8 S1 1 4294967295
-send client: S1 RGnt 77 0 0 0 ticket-db8 S1 1 4294967295";
-
-const REVOKE: &str = "\
-at 2000000 from client: 0 CRvk 77 0 0 0 ticket-db8 none 0 0
-keep ticket-db8 1
-send S2: S1 Revk 0 0 Admn 0 ticket-db8 none 1 0
-send AR: S1 Revk 0 0 Admn 0 ticket-db8 none 1 0
-send client: S1 RRvk 77 0 0 0 ticket-db8 none 1 0";
-
-#[test]
-fn a_grant_is_kept_then_told_and_then_answered(rt: HostRuntime) {
-    // an owner has nothing more to do, however long it waits, and is listed without an end
-    let then = "\
 at 1000001 from client: 0 CGnt 77 6 0 0 ticket-db8 none 0 0
 send client: S1 RGnt 77 0 0 0 ticket-db8 S1 1 4294967295
 
 at 1000002 from client: 0 CLst 77 0 0 0
 send client: S1 RLst 77 0 0 0 = ticket-db8 192.168.201.100 0/
 
-at 1900000000000 quiet";
-    play_file(&rt, rt.alloc(), BY_HAND, S1, None, &[HELLO, GRANT, then]);
-}
+at 1900000000000 quiet
 
-#[test]
-fn a_grant_in_the_first_turn_comes_before_the_greeting(rt: HostRuntime) {
-    let first = "\
+# a grant in the first turn comes before the greeting
+S1 of by hand
+
 at 1000000 from client: 0 CGnt 77 0 0 0 ticket-db8 none 0 0
 keep ticket-db8 1 1 4611686018427387904
 send S2: S1 UpdE 0 0 0 0 ticket-db8 S1 1 4294967295
@@ -60,13 +28,13 @@ send client: S1 RGnt 77 0 0 0 ticket-db8 S1 1 4294967295
 send S2: S1 Stat 0 0 0 0 ticket-db8 S1 1 4294967295
 send AR: S1 Stat 0 0 0 0 ticket-db8 S1 1 4294967295
 
-at 1000001 quiet";
-    play_file(&rt, rt.alloc(), BY_HAND, S1, None, &[first]);
-}
+at 1000001 quiet
 
-#[test]
-fn a_grant_that_is_not_kept_is_pending_and_kept_again(rt: HostRuntime) {
-    let then = "\
+# a grant that is not kept is pending and kept again
+S1 of by hand
+
+as hello
+
 at 1000000 from client: 0 CGnt 77 0 0 0 ticket-db8 none 0 0
 keep ticket-db8 1 1 4611686018427387904 failed
 send client: S1 RGnt 77 0 0 Pend ticket-db8 S1 1 4294967295
@@ -77,37 +45,32 @@ send client: S1 RGnt 77 0 0 Pend ticket-db8 S1 1 4294967295
 
 at 1000002 from client: 0 CGnt 77 0 0 0 ticket-db8 none 0 0
 keep ticket-db8 1 1 4611686018427387904
-send client: S1 RGnt 77 0 0 0 ticket-db8 S1 1 4294967295";
-    play_file(&rt, rt.alloc(), BY_HAND, S1, None, &[HELLO, then]);
-}
+send client: S1 RGnt 77 0 0 0 ticket-db8 S1 1 4294967295
 
-#[test]
-fn a_revocation_is_kept_then_told_and_then_answered(rt: HostRuntime) {
-    let failed = "\
+# a revocation is kept then told and then answered
+S1 of by hand
+
+as hello, granted by hand
+
 at 1999999 from client: 0 CRvk 77 0 0 0 ticket-db8 none 0 0
 keep ticket-db8 1 failed
-send client: S1 RRvk 77 0 0 Fail ticket-db8 S1 1 4294967295";
-    let then = "\
+send client: S1 RRvk 77 0 0 Fail ticket-db8 S1 1 4294967295
+
+as revoked by hand
+
 at 2000001 from client: 0 CRvk 77 2 0 0 ticket-db8 none 0 0
 send client: S1 RRvk 77 0 0 Tidl ticket-db8 none 1 0
 
 at 2000002 from client: 0 CLst 77 0 0 0
 send client: S1 RLst 77 0 0 0 = ticket-db8 none 0/
 
-at 9000000 quiet";
-    play_file(
-        &rt,
-        rt.alloc(),
-        BY_HAND,
-        S1,
-        None,
-        &[HELLO, GRANT, failed, REVOKE, then],
-    );
-}
+at 9000000 quiet
 
-#[test]
-fn another_is_passed_over_by_force_alone(rt: HostRuntime) {
-    let then = "\
+# another is passed over by force alone
+S1 of by hand
+
+as hello
+
 at 500000 from S2: S2 UpdE 0 0 0 0 ticket-db8 S2 1 4294967295
 
 at 500001 from client: 0 CLst 77 0 0 0
@@ -128,60 +91,53 @@ send client: S1 RGnt 77 0 0 0 ticket-db8 S1 1 4294967295
 at 500005 from S2: S2 UpdE 0 0 0 0 ticket-db8 S2 2 4294967295
 
 at 500006 from client: 0 CLst 77 0 0 0
-send client: S1 RLst 77 0 0 0 = ticket-db8 192.168.201.100 0/";
-    play_file(&rt, rt.alloc(), BY_HAND, S1, None, &[HELLO, then]);
-}
+send client: S1 RLst 77 0 0 0 = ticket-db8 192.168.201.100 0/
 
-// An automatic ticket is never forced, and neither kind has a bit above the three.
-#[test]
-fn force_is_for_manual_tickets_alone(rt: HostRuntime) {
-    let automatic = "\
+# force is for manual tickets alone: an automatic one
+An automatic ticket is never forced, and neither kind has a bit above the three.
+S1 of cluster
+
 at 0 quiet
 send S2: S1 Stat 0 0 0 0 ticket-db8 none 0 0
 send AR: S1 Stat 0 0 0 0 ticket-db8 none 0 0
 
 at 1000000 from client: 0 CGnt 77 1 0 0 ticket-db8 none 0 0
-send client: S1 RGnt 77 0 0 IArg ticket-db8 none 0 0";
-    let manual = "\
-at 1000000 from client: 0 CGnt 77 8 0 0 ticket-db8 none 0 0
-send client: S1 RGnt 77 0 0 IArg ticket-db8 none 0 0";
-    play(&rt, rt.alloc(), S1, None, &[automatic]);
-    play_file(&rt, rt.alloc(), BY_HAND, S1, None, &[HELLO, manual]);
-}
+send client: S1 RGnt 77 0 0 IArg ticket-db8 none 0 0
 
-// A prerequisite of kind manual is asked for by a grant, and neither by the owner's nor by a revoke; one of
-// kind auto is asked for by neither.
-#[test]
-fn a_grant_waits_for_its_attribute(rt: HostRuntime) {
-    let file =
-        "site=\"192.168.201.100\"\nsite=\"192.168.202.100\"\narbitrator=\"192.168.203.100\"\n\
-        ticket=\"ticket-db8\"\nmode=\"manual\"\nattr-prereq=\"manual ready eq yes\"\n\
-        attr-prereq=\"auto other eq yes\"\n";
-    let waits = "\
+# force is for manual tickets alone: a manual one
+S1 of by hand
+
+as hello
+
+at 1000000 from client: 0 CGnt 77 8 0 0 ticket-db8 none 0 0
+send client: S1 RGnt 77 0 0 IArg ticket-db8 none 0 0
+
+# a grant waits for its attribute
+A prerequisite of kind manual is asked for by a grant, and neither by the owner's nor by a revoke; one of kind auto is
+asked for by neither.
+S1 of by hand after attributes
+
+as hello
+
 at 500000 from client: 0 CGnt 77 1 0 0 ticket-db8 none 0 0
 send client: S1 RGnt 77 0 0 APrq ticket-db8 none 0 0
 
 at 500001 from client: 0 ASet 5 0 0 0 @ ticket-db8 ready yes
-send client: S1 RAtr 5 0 0 0 @ ticket-db8 ready yes";
-    let then = "\
+send client: S1 RAtr 5 0 0 0 @ ticket-db8 ready yes
+
+as granted by hand
+
 at 1500000 from client: 0 ADel 5 0 0 0 @ ticket-db8 ready
 send client: S1 RAtr 5 0 0 0 @ ticket-db8 ready
 
 at 1500001 from client: 0 CGnt 77 0 0 0 ticket-db8 none 0 0
-send client: S1 RGnt 77 0 0 0 ticket-db8 S1 1 4294967295";
-    play_file(
-        &rt,
-        rt.alloc(),
-        file,
-        S1,
-        None,
-        &[HELLO, waits, GRANT, then, REVOKE],
-    );
-}
+send client: S1 RGnt 77 0 0 0 ticket-db8 S1 1 4294967295
 
-#[test]
-fn an_owner_is_one_after_a_restart(rt: HostRuntime) {
-    let text = "\
+as revoked by hand
+
+# an owner is one after a restart
+S1 of by hand from 5 5 4611686018427387904
+
 at 700000 quiet
 send S2: S1 Stat 0 0 0 0 ticket-db8 S1 5 4294967295
 send AR: S1 Stat 0 0 0 0 ticket-db8 S1 5 4294967295
@@ -190,14 +146,12 @@ at 700001 from client: 0 CGnt 77 0 0 0 ticket-db8 none 0 0
 send client: S1 RGnt 77 0 0 0 ticket-db8 S1 5 4294967295
 
 at 700002 from S2: S2 Stat 9 0 0 0 ticket-db8 none 0 0
-send S2: S1 MIdx 9 0 0 0 ticket-db8 S1 5 4294967295";
-    play_file(&rt, rt.alloc(), BY_HAND, S1, Some(held(5)), &[text]);
-}
+send S2: S1 MIdx 9 0 0 0 ticket-db8 S1 5 4294967295
 
-// An arbitrator asks, learns of an owner by its answer, tells it on, and owns nothing itself.
-#[test]
-fn an_arbitrator_knows_who_owns(rt: HostRuntime) {
-    let text = "\
+# an arbitrator knows who owns
+An arbitrator asks, learns of an owner by its answer, tells it on, and owns nothing itself.
+AR of by hand
+
 at 0 quiet
 send S1: AR Stat 0 0 0 0 ticket-db8 none 0 0
 send S2: AR Stat 0 0 0 0 ticket-db8 none 0 0
@@ -218,30 +172,22 @@ send client: AR RRvk 77 0 0 Redr ticket-db8 S1 0 0
 at 60 from S1: S1 Revk 0 0 Admn 0 ticket-db8 none 5 0
 
 at 70 from client: 0 CRvk 77 0 0 0 ticket-db8 none 0 0
-send client: AR RRvk 77 0 0 Tidl ticket-db8 none 0 0";
-    play_file(&rt, rt.alloc(), BY_HAND, AR, None, &[text]);
-}
+send client: AR RRvk 77 0 0 Tidl ticket-db8 none 0 0
 
-#[test]
-fn the_last_term_is_granted_once(rt: HostRuntime) {
-    let text = "\
+# the last term is granted once
+S1 of by hand from 4294967294
+
 at 0 quiet
 send S2: S1 Stat 0 0 0 0 ticket-db8 none 4294967294 0
 send AR: S1 Stat 0 0 0 0 ticket-db8 none 4294967294 0
 
 at 10 from client: 0 CGnt 77 0 0 0 ticket-db8 none 0 0
-send client: S1 RGnt 77 0 0 Fail ticket-db8 none 4294967294 0";
-    let spent = Record::plain(4_294_967_294, None);
-    play_file(&rt, rt.alloc(), BY_HAND, S1, Some(spent), &[text]);
-}
+send client: S1 RGnt 77 0 0 Fail ticket-db8 none 4294967294 0
 
-// Each kind follows its own rules, in one node.
-#[test]
-fn both_kinds_stand_side_by_side(rt: HostRuntime) {
-    let file =
-        "site=\"192.168.201.100\"\nsite=\"192.168.202.100\"\narbitrator=\"192.168.203.100\"\n\
-        ticket=\"by-votes\"\nticket=\"by-hand\"\nmode=\"manual\"\n";
-    let text = "\
+# both kinds stand side by side
+Each kind follows its own rules, in one node.
+S1 of both kinds from none, 3 3 4611686018427387904
+
 at 0 quiet
 send S2: S1 Stat 0 0 0 0 by-votes none 0 0
 send AR: S1 Stat 0 0 0 0 by-votes none 0 0
@@ -249,7 +195,7 @@ send S2: S1 Stat 0 0 0 0 by-hand S1 3 4294967295
 send AR: S1 Stat 0 0 0 0 by-hand S1 3 4294967295
 
 at 1000000 from client: 0 CGnt 77 0 0 0 by-votes none 0 0
-keep by-votes 1
+keep by-votes 1 bound S1 promise S1 1 1601203 abstain 601203
 send S2: S1 RVot 0 0 Admn 0 by-votes S1 1 0
 send AR: S1 RVot 0 0 Admn 0 by-votes S1 1 0
 send client: S1 RGnt 77 0 0 Asyn by-votes none 1 0
@@ -261,11 +207,14 @@ send AR: S1 Revk 0 0 Admn 0 by-hand none 3 0
 send client: S1 RRvk 77 0 0 0 by-hand none 3 0
 
 at 1000050 from AR: AR VtFr 0 0 0 0 by-votes S1 1 0
-keep by-votes 1 1 1600000
+keep by-votes 1 1 1600000 bound S1 promise S1 1 1601203 abstain 601203
 send S2: S1 UpdE 0 0 0 0 by-votes S1 1 600
 send AR: S1 UpdE 0 0 0 0 by-votes S1 1 600
 
 at 1000060 from client: 0 CLst 77 0 0 0
 send client: S1 RLst 77 0 0 0 = by-votes 192.168.201.100 1600/by-hand none 0/";
-    play_records(&rt, rt.alloc(), file, S1, &[None, Some(held(3))], &[text]);
+
+#[test]
+fn manual_tickets_are_moved_by_hand(rt: HostRuntime) {
+    play_stories(&rt, rt.alloc(), STORIES);
 }

@@ -36,7 +36,7 @@ fn part_of(rt: &impl Abort, alloc: Global, part: Part, place: u32) -> String {
         ),
         Part::Takeover => format!(in alloc;
             "\
-\nkeep ticket-{place} 2\
+\nkeep ticket-{place} 2 bound S2 promise S2 2 2601203 abstain 601203\
 \nsend S1: S2 RVot 0 0 TLst 0 ticket-{place} S2 2 0\
 \nsend AR: S2 RVot 0 0 TLst 0 ticket-{place} S2 2 0"
         ),
@@ -68,7 +68,7 @@ fn second_site(rt: &impl Abort, alloc: Global) -> Node {
     for _ in 0..COUNT {
         records.push(None).expect(rt, "memory");
     }
-    opened(rt, alloc, &text, S2, &records)
+    opened(rt, alloc, &text, S2, &records, 0)
 }
 
 // The last four of the file come first, and each four in the order of the file. Each is done once: none is
@@ -91,6 +91,5 @@ fn all_are_greeted_in_their_order_and_taken_over_in_that_of_their_deadlines(rt: 
     put_all(&rt, rt.alloc(), &mut text, Part::Hello);
     put_all(&rt, rt.alloc(), &mut text, Part::Lease);
     put_takeovers(&rt, rt.alloc(), &mut text);
-    let mut s2 = second_site(&rt, rt.alloc());
-    check(&rt, rt.alloc(), &mut s2, &[&text]);
+    check(&rt, rt.alloc(), second_site(&rt, rt.alloc()), &[&text]);
 }

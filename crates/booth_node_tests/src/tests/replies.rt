@@ -1,17 +1,16 @@
 //! Replies, drops and readings, against frames that Python spelled and signed.
-ghost use Rattle.std.specs.Prelude.{◌≡◌, ◌<◌, IsSome, length, position};
-ghost use Rattle.booth_conf.specs.Config.{has_id};
+ghost use Rattle.std.specs.Prelude.{◌<◌, length};
 ghost use Rattle.booth_node.specs.View.{node_config};
 
+use super::files::FILES;
 use super::lines::S1;
-use super::script::{FILE, Fails, calls, check, check_turn, config_of, host};
+use super::script::{Fails, calls, check, check_turn, config_of, host, opened, text_named};
 use super::{frames, signed_frames};
 use booth_auth::Key;
-use booth_base::MemberId;
-use booth_conf::Config;
 use booth_host::{Arrival, Failed};
 use booth_node::{Counters, Node, Turn};
 use std::alloc::Global;
+use std::mem;
 use std::process::Abort;
 
 const KEYED_FILE: &str =
@@ -22,18 +21,8 @@ const NOW: u64 = 1_700_000_000_999;
 
 // S1 without a key, which starts at this reading.
 fn plain(rt: &impl Abort, alloc: Global, start: u64) -> Node {
-    let config = config_of(rt, alloc, FILE, S1, 1);
-    Node::open(alloc, config, None, S1, &[None], start).expect(rt, "memory")
-}
-
-fn keyed_config(rt: &impl Abort, alloc: Global, me: MemberId) -> Config
-    ensures member { IsSome (position (has_id me) result.members) }
-    ensures tickets { length result.tickets ≡ 1 }
-    ensures members { 1 < length result.members }
-{
-    let config = config_of(rt, alloc, KEYED_FILE, me, 1);
-    assert!(rt; config.members().len() > 1);
-    config
+    let file = text_named(rt, FILES, "cluster");
+    opened(rt, alloc, file, S1, &[None], start)
 }
 
 fn key(rt: &impl Abort) -> Key {
@@ -44,18 +33,17 @@ fn key(rt: &impl Abort) -> Key {
 pub(super) fn keyed(rt: &impl Abort, alloc: Global) -> Node
     ensures { 1 < length (node_config result).config.members }
 {
-    let config = keyed_config(rt, alloc, S1);
+    let config = config_of(rt, alloc, KEYED_FILE, S1, 1);
+    assert!(rt; config.members().len() > 1);
     Node::open(alloc, config, Some(key(rt)), S1, &[None], 0).expect(rt, "memory")
 }
 
 fn play_plain(rt: &impl Abort, alloc: Global, start: u64, turns: &[&str]) {
-    let mut node = plain(rt, alloc, start);
-    check(rt, alloc, &mut node, turns);
+    check(rt, alloc, plain(rt, alloc, start), turns);
 }
 
 fn play_keyed(rt: &impl Abort, alloc: Global, turns: &[&str]) {
-    let mut node = keyed(rt, alloc);
-    check(rt, alloc, &mut node, turns);
+    check(rt, alloc, keyed(rt, alloc), turns);
 }
 
 #[test]
@@ -123,6 +111,7 @@ fn each_fault_raises_its_own_counter(rt: HostRuntime) {
     ];
     drop_each(&rt, rt.alloc(), &mut node, &turns);
     check_turn(&rt, rt.alloc(), &mut node, signed_frames::PEER_AFTER_FAULTS);
+    mem::forget(node);
 }
 
 #[test]
@@ -169,6 +158,7 @@ fn check_round(rt: &impl Abort, alloc: Global, node: &mut Node)
 fn peer_tells_of_a_round_and_its_answer(rt: HostRuntime) {
     let mut node = keyed(&rt, rt.alloc());
     check_round(&rt, rt.alloc(), &mut node);
+    mem::forget(node);
 }
 
 #[test]
@@ -195,6 +185,7 @@ fn check_rests(
     let mut host = host(rt, alloc, arrival, b"no frame", NOW, Fails::NOTHING);
     assert!(rt; node.turn(&mut host) == end);
     assert!(rt; calls(rt, &host).is_empty());
+    mem::forget(host);
 }
 
 fn check_each_rests(rt: &impl Abort, alloc: Global, node: &mut Node) {
@@ -209,6 +200,7 @@ fn check_each_rests(rt: &impl Abort, alloc: Global, node: &mut Node) {
 fn without_a_datagram_there_is_no_deed(rt: HostRuntime) {
     let mut node = plain(&rt, rt.alloc(), 0);
     check_each_rests(&rt, rt.alloc(), &mut node);
+    mem::forget(node);
 }
 
 #[test]
@@ -216,4 +208,5 @@ fn after_stop_no_deadline_is_looked_at(rt: HostRuntime) {
     let mut node = plain(&rt, rt.alloc(), 0);
     let stop = Ok(Arrival::Stop);
     check_rests(&rt, rt.alloc(), &mut node, stop, Turn::Stopped);
+    mem::forget(node);
 }

@@ -1,26 +1,30 @@
 //! A run of a node as text: each turn is what comes, and then its calls.
 //!
-//! Blank lines part the turns. The first line of each is `at`, the clock in ms, and `quiet` or `from`, the
-//! sender and its frame, whose own clock is 0, or `over`, a job and its status; the others are the calls after the turn's next
-//! and now.
+//! Blank lines part the turns. The first line of each is `at`, the clock in ms, and `quiet` or `from`, the sender and
+//! its frame, whose own clock is 0, or `over`, a job and its status; the others are the calls after the turn's next and
+//! now.
+//!
+//! A story begins with `# ` and what it shows. In the line before its first turn stands its node: a member, ` of ` and
+//! the name of a configuration, ` at ` and the clock where it does not start at 0, and ` from ` and the record of each
+//! ticket, or `none`, where it has not one ticket without a record. A turn of `as ` and names is the parts of these
+//! names.
+//!
+//! No node is dropped: the process ends with its test, and a proof that one is dropped is long.
 ghost use Rattle.std.specs.Prelude.{◌≡◌, IsSome, length, position};
 ghost use Rattle.booth_conf.specs.Config.{has_id};
 ghost use Rattle.booth_node.specs.View.{node_config};
 
-use super::lines::{check_call, frame_of, peer_of};
+use super::files::FILES;
+use super::lines::{call_is, frame_of, moment_of, number_of, peer_of, record_of};
+use super::parts::PARTS;
 use booth_base::{ByteText, MemberId, Peer};
 use booth_conf::Config;
 use booth_host::{Arrival, Entry, Failed, MemoryHost, Script, Step};
 use booth_node::{Node, Turn};
 use booth_rec::Record;
 use std::alloc::Global;
+use std::mem;
 use std::process::Abort;
-
-/// Two sites and an arbitrator, with one ticket of the default times: a lease of 600 s, a promise of 601,203
-/// ms.
-pub const FILE: &str =
-    "site=\"192.168.201.100\"\nsite=\"192.168.202.100\"\narbitrator=\"192.168.203.100\"\n\
-    ticket=\"ticket-db8\"\n";
 
 /// Which calls of a turn fail.
 #[derive(Clone, Copy)]
@@ -38,6 +42,13 @@ impl Fails {
     };
 }
 
+/// What comes, and from whom.
+#[derive(Drop)]
+pub struct Came {
+    pub from: Peer,
+    pub bytes: Vec<u8>,
+}
+
 fn parsed(rt: &impl Abort, alloc: Global, text: &str) -> Config {
     Config::parse(alloc, text.as_bytes()).expect(rt, "a configuration")
 }
@@ -53,16 +64,17 @@ pub fn config_of(rt: &impl Abort, alloc: Global, text: &str, me: MemberId, ticke
     config
 }
 
-/// A node of this file at a member, which starts at 0 from these records.
+/// A node of this file at a member, which starts at this reading from these records.
 pub fn opened(
     rt: &impl Abort,
     alloc: Global,
     text: &str,
     me: MemberId,
     records: &[Option<Record>],
+    start: u64,
 ) -> Node {
     let config = config_of(rt, alloc, text, me, records.len());
-    Node::open(alloc, config, None, me, records, 0).expect(rt, "memory")
+    Node::open(alloc, config, None, me, records, start).expect(rt, "memory")
 }
 
 /// A host with one step.
@@ -113,13 +125,13 @@ pub fn run(
     alloc: Global,
     node: &mut Node,
     reading: u64,
-    came: Option<(Peer, Vec<u8>)>,
+    came: Option<Came>,
     fails: Fails,
 ) -> MemoryHost
     ensures { node_config node.new ≡ node_config node.old }
 {
     let mut host = match came {
-        Some((from, bytes)) => {
+        Some(Came { from, bytes }) => {
             let arrival = Ok(Arrival::Datagram(from));
             host(rt, alloc, arrival, &bytes, reading, fails)
         }
@@ -127,6 +139,13 @@ pub fn run(
     };
     go(rt, node, &mut host);
     host
+}
+
+// How a handler ended.
+fn status_of(rt: &impl Abort, word: &str) -> i32 {
+    let status = number_of(rt, word);
+    assert!(rt; status < 256, "{word}");
+    status as i32
 }
 
 /// One turn, in which a job of a handler is over.
@@ -142,8 +161,8 @@ fn run_over(
 {
     let (job, status) = over.split_once(' ').expect(rt, over);
     let arrival = Ok(Arrival::Handler {
-        job: job.parse::<u64>().expect(rt, over),
-        status: status.parse::<i32>().expect(rt, over),
+        job: moment_of(rt, job),
+        status: status_of(rt, status),
     });
     let mut host = host(rt, alloc, arrival, b"", reading, fails);
     go(rt, node, &mut host);
@@ -176,34 +195,42 @@ fn fails_of(calls: &str) -> Fails {
     }
 }
 
-/// The calls of a turn are these.
-pub fn check_calls(rt: &impl Abort, alloc: Global, now: u64, turn: &str, host: &MemoryHost) {
+/// Whether the calls of a turn are these.
+pub fn calls_are(rt: &impl Abort, alloc: Global, now: u64, turn: &str, host: &MemoryHost) -> bool {
     let mut lines = turn.lines();
     for call in calls(rt, host) {
-        check_call(rt, alloc, now, lines.next().expect(rt, turn), call);
+        let Some(line) = lines.next() else {
+            return false;
+        };
+        if !call_is(rt, alloc, now, line, call) {
+            return false;
+        }
     }
-    assert!(rt; lines.next().is_none(), "too few calls: {turn}");
+    lines.next().is_none()
 }
 
 /// The clock and what comes, as the first line of a turn says.
 pub fn head_of<'a>(rt: &impl Abort, line: &'a str) -> (u64, &'a str) {
     let text = line.strip_prefix("at ").expect(rt, line);
     let (now, comes) = text.split_once(' ').expect(rt, line);
-    (now.parse::<u64>().expect(rt, line), comes)
+    (moment_of(rt, now), comes)
 }
 
 /// The sender and the bytes of what comes, where something does.
-pub fn came_of(rt: &impl Abort, alloc: Global, comes: &str) -> Option<(Peer, Vec<u8>)> {
+pub fn came_of(rt: &impl Abort, alloc: Global, comes: &str) -> Option<Came> {
     let Some(datagram) = comes.strip_prefix("from ") else {
         assert!(rt; comes == "quiet");
         return None;
     };
     let (sender, frame) = datagram.split_once(": ").expect(rt, comes);
-    Some((peer_of(rt, sender), frame_of(rt, alloc, 0, frame)))
+    Some(Came {
+        from: peer_of(rt, sender),
+        bytes: frame_of(rt, alloc, 0, frame),
+    })
 }
 
-/// Runs a turn, and compares its calls.
-pub fn check_turn(rt: &impl Abort, alloc: Global, node: &mut Node, turn: &str)
+// Runs a turn, and says whether its calls are these.
+fn goes_so(rt: &impl Abort, alloc: Global, node: &mut Node, turn: &str) -> bool
     ensures { node_config node.new ≡ node_config node.old }
 {
     let (head, calls) = turn.split_once('\n').unwrap_or((turn, ""));
@@ -219,7 +246,15 @@ pub fn check_turn(rt: &impl Abort, alloc: Global, node: &mut Node, turn: &str)
             fails_of(calls),
         ),
     };
-    check_calls(rt, alloc, now, calls, &host);
+    calls_are(rt, alloc, now, calls, &host)
+}
+
+/// Runs a turn, and compares its calls.
+pub fn check_turn(rt: &impl Abort, alloc: Global, node: &mut Node, turn: &str)
+    ensures { node_config node.new ≡ node_config node.old }
+{
+    let is_so = goes_so(rt, alloc, node, turn);
+    assert!(rt; is_so, "{turn}");
 }
 
 fn check_text(rt: &impl Abort, alloc: Global, node: &mut Node, text: &str) {
@@ -228,39 +263,94 @@ fn check_text(rt: &impl Abort, alloc: Global, node: &mut Node, text: &str) {
     }
 }
 
-/// Runs the turns of these texts, and compares all their calls.
-pub fn check(rt: &impl Abort, alloc: Global, node: &mut Node, texts: &[&str]) {
+/// Runs the turns of these texts at a node, and compares all their calls.
+pub fn check(rt: &impl Abort, alloc: Global, node: Node, texts: &[&str]) {
+    let mut node = node;
     for text in texts {
-        check_text(rt, alloc, node, text);
+        check_text(rt, alloc, &mut node, text);
+    }
+    mem::forget(node);
+}
+
+fn play_turn(rt: &impl Abort, alloc: Global, node: &mut Node, story: &str, turn: &str) {
+    let is_so = goes_so(rt, alloc, node, turn);
+    assert!(rt; is_so, "{story}: {turn}");
+}
+
+/// The text of this name: each begins with `# `, its name and `: `.
+pub fn text_named<'a>(rt: &impl Abort, texts: &'a str, name: &str) -> &'a str {
+    for text in texts.split("\n\n# ") {
+        let text = text.strip_prefix("# ").unwrap_or(text);
+        let (head, rest) = text.split_once('\n').expect(rt, text);
+        let (of_text, _) = head.split_once(": ").expect(rt, head);
+        if of_text == name {
+            return rest;
+        }
+    }
+    panic!(rt; "no text: {name}")
+}
+
+fn play_part(rt: &impl Abort, alloc: Global, node: &mut Node, story: &str, name: &str) {
+    for turn in text_named(rt, PARTS, name).split("\n\n") {
+        play_turn(rt, alloc, node, story, turn);
     }
 }
 
-/// Runs a node of this text at a member, which starts from these records, and compares all its calls.
-pub fn play_records(
-    rt: &impl Abort,
-    alloc: Global,
-    file: &str,
-    me: MemberId,
-    records: &[Option<Record>],
-    texts: &[&str],
-) {
-    let mut node = opened(rt, alloc, file, me, records);
-    check(rt, alloc, &mut node, texts);
+fn play_parts(rt: &impl Abort, alloc: Global, node: &mut Node, story: &str, names: &str) {
+    for name in names.split(", ") {
+        play_part(rt, alloc, node, story, name);
+    }
 }
 
-/// The same of one ticket and its record.
-pub fn play_file(
-    rt: &impl Abort,
-    alloc: Global,
-    file: &str,
-    me: MemberId,
-    record: Option<Record>,
-    texts: &[&str],
-) {
-    play_records(rt, alloc, file, me, &[record], texts);
+fn play_turns(rt: &impl Abort, alloc: Global, node: &mut Node, story: &str, turns: &str) {
+    for turn in turns.split("\n\n") {
+        match turn.strip_prefix("as ") {
+            Some(names) => play_parts(rt, alloc, node, story, names),
+            None => play_turn(rt, alloc, node, story, turn),
+        }
+    }
 }
 
-/// The same of the file with three members.
-pub fn play(rt: &impl Abort, alloc: Global, me: MemberId, record: Option<Record>, texts: &[&str]) {
-    play_file(rt, alloc, FILE, me, record, texts);
+fn record_or_none(rt: &impl Abort, text: &str) -> Option<Record> {
+    if text == "none" {
+        None
+    } else {
+        Some(record_of(rt, text))
+    }
+}
+
+fn records_of(rt: &impl Abort, alloc: Global, text: &str) -> Vec<Option<Record>> {
+    let mut records = Vec::new(alloc);
+    for record in text.split(", ") {
+        records
+            .push(record_or_none(rt, record))
+            .expect(rt, "memory");
+    }
+    records
+}
+
+// A node as its opening says.
+fn node_of(rt: &impl Abort, alloc: Global, opening: &str) -> Node {
+    let (member, rest) = opening.split_once(" of ").expect(rt, opening);
+    let (place, records) = rest.split_once(" from ").unwrap_or((rest, "none"));
+    let (file, start) = place.split_once(" at ").unwrap_or((place, "0"));
+    let text = text_named(rt, FILES, file);
+    let me = MemberId(number_of(rt, member));
+    let records = records_of(rt, alloc, records);
+    opened(rt, alloc, text, me, &records, moment_of(rt, start))
+}
+
+fn play_story(rt: &impl Abort, alloc: Global, text: &str) {
+    let (head, turns) = text.split_once("\n\n").expect(rt, text);
+    let (story, opening) = head.rsplit_once('\n').expect(rt, head);
+    let mut node = node_of(rt, alloc, opening);
+    play_turns(rt, alloc, &mut node, story, turns);
+    mem::forget(node);
+}
+
+/// Plays each of the stories with a node of its own, and compares all its calls.
+pub fn play_stories(rt: &impl Abort, alloc: Global, stories: &str) {
+    for story in stories.split("\n\n# ") {
+        play_story(rt, alloc, story);
+    }
 }

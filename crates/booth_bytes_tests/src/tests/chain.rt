@@ -1,0 +1,131 @@
+//! The order in which items and slots come, in rows that were written by hand.
+ghost use Rattle.booth_chain.specs.Buckets.{most_steps};
+ghost use Rattle.std.specs.Prelude.{◌≡◌, ◌<◌, ◌≤◌, [], ◌∷◌, Some, None, length};
+
+use booth_chain::{Chains, Full, Steps, Wheel};
+use std::marker::Brand;
+use std::sync::ledger::{Blank, Ledger};
+
+#[test]
+fn an_item_leaves_the_middle(rt: HostRuntime) {
+    let mut chains = Chains::<u32>::with_capacity(rt.alloc(), 3, 2).expect(&rt, "memory");
+    let Ok(one) = chains.push_back(1, 10) else {
+        panic!(rt; "room for 10")
+    };
+    let Ok(two) = chains.push_back(1, 20) else {
+        panic!(rt; "room for 20")
+    };
+    let Ok(three) = chains.push_back(1, 30) else {
+        panic!(rt; "room for 30")
+    };
+    assert!(rt; chains.push_back(1, 40).is_err(), "no room for 40");
+    assert!(rt; chains.holds(two));
+    assert_eq!(rt; chains.remove(two), 20);
+    assert!(rt; !chains.holds(two));
+    assert!(rt; chains.holds(one));
+    assert_eq!(rt; chains.after(one), Some(three));
+    assert_eq!(rt; chains.replace(one, 11), 10);
+    assert_eq!(rt;
+        (chains.count(0), chains.count(1), chains.spare()),
+        (0, 2, 1)
+    );
+    assert_eq!(rt; chains.pop_front(1), Some(11));
+    assert_eq!(rt; chains.pop_front(1), Some(30));
+    assert_eq!(rt; chains.pop_front(1), None);
+}
+
+/// The next slot that is due, by a count of its own.
+fn due_now(wheel: &mut Wheel, now: u64) -> Option<u32>
+    requires { wheel.old.last ≤ now }
+    ensures last { wheel.new.last ≡ now }
+    ensures slots { length wheel.new.deadlines ≡ length wheel.old.deadlines }
+{
+    due_counted::<Brand>(wheel, now, Blank::new(1))
+}
+
+fn due_counted<L: Ledger>(wheel: &mut Wheel, now: u64, blank: Blank) -> Option<u32>
+    requires name { blank.name ≡ L.name }
+    requires parts { blank.parts ≡ L.parts }
+    requires some { 0 < L.parts }
+    requires later { wheel.old.last ≤ now }
+    ensures last { wheel.new.last ≡ now }
+    ensures slots { length wheel.new.deadlines ≡ length wheel.old.deadlines }
+{
+    let mut steps: Steps<L> = Steps::new(blank);
+    wheel.due(now, &mut steps)
+}
+
+#[test]
+fn slots_come_by_deadline_and_then_by_number(rt: HostRuntime) {
+    let mut wheel = Wheel::new(rt.alloc(), 5).expect(&rt, "memory");
+    wheel.set(3, 50);
+    wheel.set(1, 50);
+    wheel.set(0, 70);
+    wheel.set(2, 40);
+    wheel.set(4, 45);
+    wheel.clear(4);
+    assert_eq!(rt; due_now(&mut wheel, 39), None);
+    assert_eq!(rt; due_now(&mut wheel, 40), Some(2));
+    assert_eq!(rt; due_now(&mut wheel, 49), None);
+    assert_eq!(rt; due_now(&mut wheel, 50), Some(1));
+    assert_eq!(rt; due_now(&mut wheel, 50), Some(3));
+    assert_eq!(rt; due_now(&mut wheel, 69), None);
+    assert_eq!(rt; due_now(&mut wheel, 70), Some(0));
+}
+
+#[test]
+fn a_full_pool_hands_back_and_has_room_after_a_removal(rt: HostRuntime) {
+    let mut chains = Chains::<u32>::with_capacity(rt.alloc(), 2, 1).expect(&rt, "memory");
+    let Ok(first) = chains.push_back(0, 1) else {
+        panic!(rt; "room for 1")
+    };
+    assert!(rt; chains.push_back(0, 2).is_ok(), "room for 2");
+    let Err(Full(back)) = chains.push_back(0, 3) else {
+        panic!(rt; "no room for 3")
+    };
+    assert!(rt; back == 3);
+    assert!(rt; chains.holds(first));
+    assert!(rt; chains.remove(first) == 1);
+    assert!(rt; chains.push_back(0, 3).is_ok(), "room for 3");
+    assert!(rt; chains.pop_front(0) == Some(2));
+    assert!(rt; chains.pop_front(0) == Some(3));
+    assert!(rt; chains.pop_front(0).is_none());
+}
+
+#[test]
+fn two_slots_of_one_bucket_come_at_their_own_deadlines(rt: HostRuntime) {
+    steps_of_two_slots_in_one_bucket();
+    let mut wheel = Wheel::new(rt.alloc(), 3).expect(&rt, "memory");
+    wheel.set(0, 70_000);
+    wheel.set(1, 4_400);
+    assert!(rt; due_now(&mut wheel, 4_399).is_none());
+    assert!(rt; due_now(&mut wheel, 4_400) == Some(1));
+    assert!(rt; due_now(&mut wheel, 69_999).is_none());
+    assert!(rt; due_now(&mut wheel, 70_000) == Some(0));
+    assert!(rt; due_now(&mut wheel, 70_000).is_none());
+    wheel.set(2, 10);
+    assert!(rt;
+        due_now(&mut wheel, 70_000) == Some(2),
+        "a deadline that is long past"
+    );
+}
+
+/// How many steps the looks of that row may take, counted by hand: at 4,400 one bucket and both slots, at 69,999 all buckets
+/// and the slot that is left.
+fn steps_of_two_slots_in_one_bucket()
+    ensures first { most_steps (record { deadlines = Some 70000 ∷ Some 4400 ∷ None ∷ []; last = 4399; swept = 4399 }) 4400 ≡ 3 }
+    ensures later { most_steps (record { deadlines = Some 70000 ∷ None ∷ None ∷ []; last = 4400; swept = 4399 }) 69999 ≡ 513 }
+{}
+
+#[test]
+fn equal_deadlines_come_in_the_order_of_their_slots(rt: HostRuntime) {
+    let mut wheel = Wheel::new(rt.alloc(), 3).expect(&rt, "memory");
+    wheel.set(1, 500);
+    wheel.set(0, 500);
+    wheel.set(2, 400);
+    assert!(rt; due_now(&mut wheel, 499) == Some(2));
+    assert!(rt; due_now(&mut wheel, 499).is_none());
+    assert!(rt; due_now(&mut wheel, 500) == Some(0));
+    assert!(rt; due_now(&mut wheel, 500) == Some(1));
+    assert!(rt; due_now(&mut wheel, 500).is_none());
+}

@@ -1,0 +1,4 @@
+//! Records and files that were spelled by hand from the layout.
+mod files;
+mod slots;
+mod spelling;
