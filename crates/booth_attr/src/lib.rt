@@ -5,8 +5,6 @@ mod attrs;
 mod find;
 mod pair;
 mod prereqs;
-#[cfg(test)]
-mod tests;
 
 pub use attrs::{ATTRIBUTES, Attrs, DelAnswer, LIST_BYTES, SetAnswer, TICKET_NAMES};
 pub use pair::Pair;

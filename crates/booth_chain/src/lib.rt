@@ -11,8 +11,6 @@ mod node_id;
 mod search;
 mod slot;
 mod steps;
-#[cfg(test)]
-mod tests;
 mod wheel;
 
 pub use chains::{Chains, Full};

@@ -1,0 +1,7 @@
+use Rattle.std.proofs.Common.{arith}
+use Rattle.std.proofs.lemmas.Grind.{common_steps}
+use Rattle.booth_conf.proofs.LineLemmas.{tickets_more}
+use Rattle.booth_conf.proofs.print_tickets.push_tickets.Goals as goal
+
+pub loop-ticket-preserved : goal.loop-ticket-preserved
+loop-ticket-preserved c = grind (arith, common_steps, tickets_more)

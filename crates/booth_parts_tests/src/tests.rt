@@ -1,4 +1,0 @@
-//! Names, addresses and times; the rules of manual tickets; dates, and texts line by line.
-mod base;
-mod client;
-mod manual;

@@ -1,3 +1,0 @@
-//! Records and files that were spelled by hand from the layout.
-mod slots;
-mod spelling;
