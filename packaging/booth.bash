@@ -1,10 +1,10 @@
-# Completion in bash for boothd, booth and geostore.
+# Completion in bash for boothd, booth, geostore, booth-status and booth-record.
 
 # the file that -c names on this command line
 _booth_conf() {
   local i conf=booth
   for ((i = 1; i < ${#words[@]} - 1; i++)); do
-    [[ ${words[i]} == -c ]] && conf=${words[i + 1]}
+    [[ ${words[i]} == -c || ${words[i]} == --conf ]] && conf=${words[i + 1]}
   done
   [[ $conf == */* ]] || conf=/etc/booth/${conf%.conf}.conf
   printf '%s\n' "$conf"
@@ -33,7 +33,7 @@ _booth_reply() {
   done <<<"$1"
 }
 
-# the files and directories that begin with the word, a slash behind a directory
+# the files and directories that begin with the word, a slash after a directory
 _booth_files() {
   local each slash
   while IFS= read -r each; do
@@ -44,7 +44,39 @@ _booth_files() {
   done < <(compgen "$@")
 }
 
-# What is offered for the word that the cursor is behind, by the words of the line in `words` and the number of this one.
+# the configurations in /etc/booth by their names, and files and directories
+_booth_configurations() {
+  local names
+  names=$(cd /etc/booth 2>/dev/null && for f in *.conf; do [[ -e $f ]] && printf '%s\n' "${f%.conf}"; done)
+  _booth_reply "$names" "$1"
+  _booth_files -f -X '!*.conf' -- "$1"
+  _booth_files -d -- "$1"
+}
+
+# What is offered for a word of booth-status and of booth-record.
+_booth_offer_tool() {
+  local word=${words[cword]} before=${words[cword - 1]} program=${1##*/}
+  local options=$'-c\n--conf\n'
+  if [[ $program == booth-status ]]; then
+    options+=$'-t\n--timeout\n-w\n--watch\n-b\n--brief\n-j\n--json\n-m\n--metrics\n-s\n--state\n'
+    options+=$'-f\n--may-be-free\n--check\n--members\n--sync\n'
+  fi
+  options+=$'-h\n--help\n-V\n--version'
+  case $program:$before in
+    *:-c | *:--conf | booth-status:--check) _booth_configurations "$word"; return ;;
+    booth-status:-f | booth-status:--may-be-free) _booth_reply "$(_booth_values ticket)" "$word"; return ;;
+    booth-status:-[ms] | booth-status:--metrics | booth-status:--state) _booth_files -f -- "$word"; return ;;
+    booth-status:-t | booth-status:--timeout | booth-status:--sync) return ;;
+  esac
+  if [[ $word == -* ]]; then
+    _booth_reply "$options" "$word"
+  elif [[ $program == booth-record ]]; then
+    _booth_files -f -X '!*.rec' -- "$word"
+    _booth_files -d -- "$word"
+  fi
+}
+
+# What is offered for the word before the cursor, by the words of the line in `words` and the number of this one.
 _booth_offer() {
   local word=${words[cword]} before=${words[cword - 1]} program=${1##*/}
   local command=${words[1]} commands options
@@ -53,8 +85,8 @@ _booth_offer() {
     geostore) commands=$'set\nget\ndelete\nlist' ;;
     *) commands=$'list\npeers\ngrant\nrevoke' ;;
   esac
-  # the clients pass a leading `client` over
-  [[ $program != boothd && $command == client ]] && command=${words[2]}
+  # `booth` passes a leading `client` over
+  [[ $program == booth && $command == client ]] && command=${words[2]}
   case $program:$command in
     boothd:daemon) options=$'-c\n-s\n-l\n-d\n-n\n--help\n--version' ;;
     boothd:status) options=$'-l\n--help\n--version' ;;
@@ -69,11 +101,7 @@ _booth_offer() {
     return
   fi
   case $before in
-    -c)
-      _booth_reply "$(cd /etc/booth 2>/dev/null && for f in *.conf; do [[ -e $f ]] && printf '%s\n' "${f%.conf}"; done)" "$word"
-      _booth_files -f -X '!*.conf' -- "$word"
-      _booth_files -d -- "$word"
-      return ;;
+    -c) _booth_configurations "$word"; return ;;
     -s) _booth_reply "$(_booth_values site arbitrator)" "$word"; return ;;
     -t) _booth_reply "$(_booth_values ticket)" "$word"; return ;;
     -l | -d) COMPREPLY=(); _booth_files -f -- "$word"; return ;;
@@ -83,7 +111,7 @@ _booth_offer() {
     _booth_reply "$options" "$word"
   elif [[ $program:$command == booth:grant || $program:$command == booth:revoke ]]; then
     _booth_reply "$(_booth_values ticket)" "$word"
-  elif ((cword == 2)) && [[ $program != boothd && $before == client ]]; then
+  elif ((cword == 2)) && [[ $program == booth && $before == client ]]; then
     _booth_reply "$commands" "$word"
   fi
 }
@@ -93,11 +121,14 @@ _booth_complete() {
   # (bash parts a word at a colon, as an IPv6 address has, and bash-completion has what joins it again)
   declare -F _get_comp_words_by_ref >/dev/null && _get_comp_words_by_ref -n : -w words -i cword
   COMPREPLY=()
-  _booth_offer "$1"
-  # one goes on behind a directory
+  case ${1##*/} in
+    booth-status | booth-record) _booth_offer_tool "$1" ;;
+    *) _booth_offer "$1" ;;
+  esac
+  # one goes on after a directory
   [[ ${#COMPREPLY[@]} -eq 1 && ${COMPREPLY[0]} == */ ]] && compopt -o nospace 2>/dev/null
   declare -F __ltrim_colon_completions >/dev/null && __ltrim_colon_completions "${words[cword]}"
   return 0
 }
 
-complete -F _booth_complete boothd booth geostore
+complete -F _booth_complete boothd booth geostore booth-status booth-record

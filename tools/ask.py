@@ -8,19 +8,14 @@ that is not as docs/PROTOCOL.md says.
 """
 
 import argparse
-import re
 import socket
 import sys
 import time
 
 import frames
+import lists
 
 SECONDS_TO_ANSWER = 5
-
-TICKET = re.compile(rb"([!-~]{1,63}) (none|[0-9a-f.:]+) (\d+)")
-DROPS = re.compile(rb"dropped" + rb" (\d+)" * 8)
-PEER = re.compile(rb"(site|arbitrator) ([0-9a-f.:]+)" + rb" (\d+)" * 4)
-KINDS = ["frame", "nomac", "badmac", "old", "stranger", "self", "ticket", "leader"]
 
 
 # what is said of a grant's or a revocation's result
@@ -35,10 +30,6 @@ REFUSED = {
     "Busy": "busy",
     "Redr": "ticket is owned by another site",
 }
-
-
-class BadReply(Exception):
-    """The reply is not of its form, or does not answer this request."""
 
 
 class Refused(Exception):
@@ -56,46 +47,11 @@ def ask(where, request):
         return asker.recv(frames.FRAME_BYTES + 1)
 
 
-def parts_of(reply, letters, request, address, key):
-    """The result and the body of the reply, where the rest of it is as it has to be."""
-    least = frames.HEAD_BYTES + (frames.AUTH_BYTES if key else 0)
-    if len(reply) < least:
-        raise BadReply(f"it has {len(reply)} bytes, fewer than {least}, those without a body")
-    head = frames.Head.read(reply)
-    body = reply[frames.HEAD_BYTES : len(reply) - least + frames.HEAD_BYTES]
-    result = head.result if letters in DONE else 0
-    due = frames.reply_due(letters, request, address, body, key, result, clock=head)
-    for field, found, wanted in zip(head._fields, head, frames.Head.read(due)):
-        if found != wanted:
-            name = "from" if field == "sender" else field
-            raise BadReply(f"its field {name} is {found:#010x}, and not {wanted:#010x}")
-    if reply != due:
-        raise BadReply("it has not the MAC of this key")
-    if head.usecs % 1000 or head.usecs >= 1_000_000:
-        raise BadReply(f"its field usecs is {head.usecs}, no whole milliseconds of a second")
-    return result, body
-
-
-def lines_of(text):
-    *lines, rest = text.split(b"\n")
-    if rest:
-        raise BadReply("its last line has no line end")
-    return lines
-
-
-def fields_of(form, line):
-    found = form.fullmatch(line)
-    if not found:
-        raise BadReply(f"a line of its text is {line!r}")
-    return [field.decode("ascii") for field in found.groups()]
-
-
 def tickets(text):
     """A line for each ticket."""
-    for line in lines_of(text):
-        name, owner, end = fields_of(TICKET, line)
-        expires = f", expires: {date(int(end))}" if int(end) else ""
-        yield f"ticket: {name}, leader: {owner}{expires}"
+    for name, owner, end in lists.held_in(text):
+        expires = f", expires: {date(end)}" if end else ""
+        yield f"ticket: {name}, leader: {owner or 'none'}{expires}"
 
 
 def outcome(letters, ticket, result):
@@ -118,13 +74,11 @@ def date(seconds):
 
 def peers(text):
     """A line of what was dropped, and one for each other member."""
-    first, *others = lines_of(text) or [b""]
-    counts = zip(KINDS, fields_of(DROPS, first))
-    yield "dropped: " + ", ".join(f"{kind} {count}" for kind, count in counts)
-    for line in others:
-        role, address, last, received, sent, errors = fields_of(PEER, line)
+    counts = lists.counts_in(text)
+    yield "dropped: " + ", ".join(f"{fault} {count}" for fault, count in counts.dropped.items())
+    for role, address, last, received, sent, errors in counts.peers:
         counted = f"received: {received}, sent: {sent}, errors: {errors}"
-        yield f"{role} {address}, last: {date(int(last))}, {counted}"
+        yield f"{role} {address}, last: {date(last)}, {counted}"
 
 
 def told(options):
@@ -141,9 +95,10 @@ def told(options):
         body = frames.ticket_body(ticket.encode(), frames.NO_ONE, 0, 0)
     where = socket.getaddrinfo(options.host, options.port, type=socket.SOCK_DGRAM)[0]
     reply = ask(where, frames.request_now(letters, request, body, key))
-    result, body = parts_of(reply, letters, request, where[4][0], key)
+    result = None if ticket else 0
+    head, body = lists.parts_of(reply, letters, request, where[4][0], key, result=result)
     if ticket:
-        return [outcome(letters, ticket, result)]
+        return [outcome(letters, ticket, head.result)]
     return list((peers if options.peers else tickets)(body))
 
 
@@ -167,7 +122,7 @@ def main():
         sys.exit(f"ask.py: nobody listens at {name}")
     except (OSError, OverflowError, ValueError) as error:
         sys.exit(f"ask.py: cannot ask {name}: {error}")
-    except BadReply as why:
+    except lists.BadReply as why:
         sys.exit(f"ask.py: the reply of {name} is malformed: {why}")
     except Refused as why:
         sys.exit(f"ask.py: {why}")

@@ -1,5 +1,5 @@
 #!/usr/bin/env python3
-"""Shows the main job on loopback: three members, a grant, a crash of the holder, and a takeover.
+"""Shows the main job on loopback: three members, a grant, a crash of the holder, a takeover, and a restart of all.
 
 Run it as `python3 tools/demo.py`, or as `make run`, which builds the program first. It takes half a
 minute, makes its files in a folder of its own, and needs no rights but the use of port 9929.
@@ -9,10 +9,12 @@ import sys
 import tempfile
 import time
 
-from members import TICKET, Cluster, now, run_booth, wait_for
+from members import TICKET, Cluster, Times, now, run_booth, wait_for
 from serving import NotServing, built_program, end_by_signals
 
 ADDRESSES = ("127.0.0.1", "127.0.0.2", "127.0.0.3")
+# how long one waits for what has to come, on a machine that does much else
+PATIENCE = 30
 
 
 class Story:
@@ -23,7 +25,6 @@ class Story:
 
     def tell(self, what):
         print(f"{now() - self.started:6.2f} s  {what}", flush=True)
-
 
     def booth(self, cluster, *words):
         """Runs booth with these words, as an operator would, and tells what it printed."""
@@ -45,36 +46,52 @@ def require(holds, what):
         raise NotServing(what)
 
 
+def restart_all(cluster, story, holder):
+    """Each goes on where it was: what it promised is in its records."""
+    until = holder.record().until
+    for member in cluster.members:
+        member.kill()
+    story.tell("all three are killed")
+    for member in cluster.members:
+        member.start(cluster.program, cluster.conf)
+    story.tell("all three are back")
+    require(wait_for(lambda: holder.record().until != until, PATIENCE), "the lease was not renewed")
+    require(now() < until, "the lease ended meanwhile")
+    story.tell(f"{holder.address} holds {TICKET.decode()} on, and renewed its lease")
+
+
 def show(cluster, story):
     one, two, _ = cluster.members
     for member in cluster.members:
         member.start(cluster.program, cluster.conf)
         story.tell(f"{member.role} {member.address} serves")
     started, name = now(), TICKET.decode()
-    story.tell(f"each member answers no round for {cluster.times.abstention():.3f} s after its start")
-    time.sleep(max(0, started + cluster.times.abstention() + 0.05 - now()))
+    abstention = cluster.times.abstention()
+    story.tell(f"each has no record yet, and answers no round for {abstention:.3f} s after its first start")
+    time.sleep(max(0, started + abstention + 0.05 - now()))
 
     story.booth(cluster, "grant", name)
-    require(wait_for(lambda: cluster.shown_by_all() == one.address, 3), "the grant failed")
+    require(wait_for(lambda: cluster.shown_by_all() == one.address, PATIENCE), "the grant failed")
     record = one.record()
     story.tell(f"{one.address} holds {name}, until {record.until - story.started:.2f} s")
     list_all(cluster, story)
 
-    require(wait_for(lambda: one.record().until != record.until, 6), "the lease was not renewed")
+    require(wait_for(lambda: one.record().until != record.until, PATIENCE), "the lease was not renewed")
     until = one.record().until
     story.tell(f"{one.address} renewed its lease, until {until - story.started:.2f} s")
     one.kill()
     story.tell(f"{one.address} is killed (kill -9)")
-    taken = wait_for(lambda: two.record() and two.record().until, until - now() + 3)
+    taken = wait_for(lambda: two.record() and two.record().until, until - now() + PATIENCE)
     require(taken, "nobody took over")
     story.tell(f"{two.address} took {name} over, {now() - until:.2f} s after the old lease's end")
 
     one.start(cluster.program, cluster.conf)
-    require(wait_for(lambda: cluster.shown_by_all() == two.address, 3), "the members differ")
+    require(wait_for(lambda: cluster.shown_by_all() == two.address, PATIENCE), "the members differ")
     story.tell(f"{one.address} is back and holds nothing")
     list_all(cluster, story)
+    restart_all(cluster, story, two)
     story.booth(cluster, "revoke", name)
-    require(wait_for(lambda: not any(m.shown() for m in cluster.members), 3), "an owner is listed")
+    require(wait_for(lambda: not any(m.shown() for m in cluster.members), PATIENCE), "an owner is listed")
     list_all(cluster, story)
     wrong = cluster.watch.wrong
     require(not wrong, f"two members held {name} at one moment: {wrong}")
@@ -87,7 +104,7 @@ def main():
     program = built_program() or sys.exit("demo.py: boothd is not built: run make build")
     client = built_program("booth") or sys.exit("demo.py: booth is not built: run make build")
     with tempfile.TemporaryDirectory(prefix="booth-demo-") as folder:
-        with Cluster(program, folder, ADDRESSES, client=client) as cluster:
+        with Cluster(program, folder, ADDRESSES, times=Times(expire=6), client=client) as cluster:
             with open(cluster.conf, encoding="ascii") as file:
                 print("\n".join("    " + line for line in file.read().splitlines()), flush=True)
             try:

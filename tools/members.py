@@ -12,26 +12,24 @@ import time
 from typing import NamedTuple, Optional
 
 import frames
+import record_file
 from serving import NotServing, boothd
 
 TICKET = b"ticket-db8"
 # a ticket that is granted by hand, in a cluster that has one
 MANUAL = b"by-hand"
 
-# the layout of a record file: where its slots are, and what stands in a slot
-SLOTS_AT, SLOT_BYTES = (0, 64), 64
-COMMIT_AT, NUMBER_AT, TERM_AT, LEASE_AT, UNTIL_AT = 0, 8, 20, 24, 32
-
-SECONDS_TO_ANSWER = 2
+# (of a daemon that runs; where none listens, that is told at once)
+SECONDS_TO_ANSWER = 10
 # how long booth may take, which waits 5 seconds for an answer, and for another where it is sent on
 SECONDS_OF_BOOTH = 15
 SECONDS_BETWEEN_LOOKS = 0.01
 
 
 class Times(NamedTuple):
-    """The times of the cluster's ticket, in seconds."""
+    """The times of the cluster's ticket, in seconds. A renewal has room on a machine that does much else."""
 
-    expire: int = 6
+    expire: int = 8
     timeout: int = 1
     retries: int = 3
     renewal: int = 5
@@ -41,7 +39,7 @@ class Times(NamedTuple):
         return (2 + 2 * self.expire * 1_000_000 // 999_000) / 1000
 
     def abstention(self):
-        """How long a member that started answers no round."""
+        """How long a member that started without a record answers no round."""
         return self.expire + self.guard()
 
     def text(self):
@@ -58,11 +56,6 @@ class Record(NamedTuple):
 
     def holds(self, moment):
         return self.until is not None and moment < self.until
-
-
-def number_of(slot):
-    """The number of the put that wrote a slot."""
-    return int.from_bytes(slot[NUMBER_AT : NUMBER_AT + 8], "big")
 
 
 def now():
@@ -94,6 +87,19 @@ def run_booth(client, conf, words):
 
 def letters_of(number):
     return number.to_bytes(4, "big").decode("ascii") if number else "ok"
+
+
+def path_in(directory, ticket):
+    """Where the record of a ticket is kept."""
+    return os.path.join(directory, ticket.hex() + ".rec")
+
+
+def remember(directory, tickets):
+    """Makes a directory with a record of version 2 of each ticket: who starts from it answers at once."""
+    os.makedirs(directory, mode=0o700, exist_ok=True)
+    for ticket in tickets:
+        with open(path_in(directory, ticket), "wb") as file:
+            file.write(record_file.NOTHING_PLEDGED)
 
 
 class Member:
@@ -133,23 +139,19 @@ class Member:
         return self.server.said() if self.server else b""
 
     def record_path(self, ticket=TICKET):
-        return os.path.join(self.records, ticket.hex() + ".rec")
+        return path_in(self.records, ticket)
 
     def record(self, ticket=TICKET):
         """The record that is kept of the ticket, or None where none is."""
         try:
             with open(self.record_path(ticket), "rb") as file:
-                content = file.read(len(SLOTS_AT) * SLOT_BYTES).ljust(len(SLOTS_AT) * SLOT_BYTES, b"\0")
+                slot = record_file.in_force(record_file.slots_in(file.read(record_file.FILE_BYTES)))
         except OSError:
             return None
-        slots = (content[at : at + SLOT_BYTES] for at in SLOTS_AT)
-        # (of equal numbers the first counts, as max takes it)
-        slot = max((slot for slot in slots if slot[COMMIT_AT] == 1), key=number_of, default=None)
         if slot is None:
             return None
-        term, has_lease = (int.from_bytes(slot[at : at + 4], "big") for at in (TERM_AT, LEASE_AT))
-        until = int.from_bytes(slot[UNTIL_AT : UNTIL_AT + 8], "big")
-        return Record(term, until / 1000 if has_lease else None)
+        lease = slot.record.lease
+        return Record(slot.record.term, lease.until / 1000 if lease else None)
 
     def booth(self, *words):
         """A run of booth that asks this daemon, with the configuration that it has."""
@@ -298,6 +300,11 @@ class Cluster:
     def start(self, *places):
         for place in places or range(len(self.members)):
             self.members[place].start(self.program, self.conf)
+
+    def remember(self):
+        """Gives each member a record of version 2 of each automatic ticket, before it starts."""
+        for member in self.members:
+            remember(member.records, self.tickets)
 
     def __enter__(self):
         self.watch = Watch(self.members)

@@ -16,7 +16,8 @@ import time
 
 import frames
 
-SECONDS_TO_START = 5
+# (on a machine that does much else a start takes long; one that ended is told at once)
+SECONDS_TO_START = 30
 
 TOP = os.path.dirname(os.path.dirname(os.path.abspath(__file__)))
 

@@ -1,0 +1,59 @@
+"""Which counters rose since the last look.
+
+It is imported by what booth-status is made of, and not run by itself.
+"""
+
+from typing import Dict, NamedTuple
+
+from lists import Peer
+
+
+class Rise(NamedTuple):
+    """By how much the counters of another member rose."""
+
+    received: int
+    sent: int
+    errors: int
+
+
+class Change(NamedTuple):
+    """What became of a member's counters. Of one that was started anew they count from 0."""
+
+    restarted: bool
+    dropped: Dict[str, int]
+    peers: Dict[str, Rise]
+
+
+def counters(peer):
+    return peer.received, peer.sent, peer.errors
+
+
+def rise(before, now):
+    return Rise(*(late - early for early, late in zip(counters(before), counters(now))))
+
+
+def change_of(before, now):
+    """What became of these counts."""
+    old, new = {peer.address: peer for peer in before.peers}, {peer.address: peer for peer in now.peers}
+    pairs = [(count, now.dropped[fault]) for fault, count in before.dropped.items()]
+    pairs += [pair for name in old.keys() & new.keys() for pair in zip(counters(old[name]), counters(new[name]))]
+    restarted = any(late < early for early, late in pairs)
+    if restarted or old.keys() != new.keys():
+        old = {name: Peer("", name, 0, 0, 0, 0) for name in new}
+    dropped = {fault: count - (0 if restarted else before.dropped[fault]) for fault, count in now.dropped.items()}
+    return Change(restarted, dropped, {name: rise(old[name], new[name]) for name in new})
+
+
+def since(before, answers):
+    """What became of the counters of each member of which some are remembered, by its address."""
+    changed = {}
+    for answer in answers:
+        address = answer.member.address
+        if before and answer.counts and address in before:
+            changed[address] = change_of(before[address], answer.counts)
+    return changed
+
+
+def remembered(before, answers):
+    """What is remembered of this look; of a member that does not answer, what was remembered."""
+    return {**(before or {}), **{answer.member.address: answer.counts for answer in answers if answer.counts}}

@@ -1,0 +1,196 @@
+"""A configuration as booth.conf(5) has it, for programs that ask its members.
+
+Whether a daemon takes it, boothd alone says. It is imported by booth-status, booth-record and the tests, and not run by
+itself.
+"""
+
+import ipaddress
+import os
+import re
+import stat
+from typing import List, NamedTuple, Optional
+
+import frames
+
+FOLDER = "/etc/booth"
+TEXT_BYTES = 1_048_576
+KEY_FILE_BYTES = 1_048_576
+DEFAULTS = "__default__"
+
+# blanks, a key, `=`, and a value in quotes or bare; then blanks and a comment, or the end
+LINE = re.compile(
+    r"""[ \t\r]*([A-Za-z0-9_-]+)[ \t\r]*=[ \t\r]*"""
+    r"""(?:(?:"([^"]*)"|'([^']*)')[ \t\r]*(?:\#.*)?|([^"'# \t\r].*?)(?:[ \t\r]+(?:\#.*)?)?)"""
+)
+EMPTY = re.compile(r"[ \t\r]*(?:#.*)?")
+VALUE = re.compile(r"[\t -~]*")
+NUMBER = re.compile(r"[0-9]{1,10}")
+SECONDS = 10_000_000
+
+# each number with its range, and the value where no line has one
+NUMBERS = {
+    "port": (1, 65_535, frames.PORT),
+    "maxtimeskew": (1, SECONDS, 600),
+    "expire": (1, SECONDS, 600),
+    "acquire-after": (0, SECONDS, 0),
+    "timeout": (1, SECONDS, 5),
+    "retries": (3, 100, 10),
+    "renewal-freq": (1, SECONDS, None),
+}
+MODES = {"auto": False, "AUTO": False, "manual": True, "MANUAL": True}
+OF_FILE = {"port", "maxtimeskew", "authfile", "transport", "debug"}
+OF_FILE |= {f"{who}-{what}" for who in ("site", "arbitrator") for what in ("user", "group")}
+OF_TICKET = {"expire", "acquire-after", "timeout", "retries", "renewal-freq"}
+OF_TICKET |= {"weights", "mode", "attr-prereq", "before-acquire-handler"}
+
+
+class Unreadable(Exception):
+    """A file cannot be read, or is no configuration or no key; the text says which and why."""
+
+
+class Member(NamedTuple):
+    role: str
+    address: str
+
+
+class Ticket(NamedTuple):
+    """A ticket with its times, in seconds."""
+
+    name: str
+    is_manual: bool
+    expire: int
+    after: int
+    timeout: int
+    retries: int
+    renewal: float
+    handler: Optional[str]
+
+    def promise(self):
+        """How long a member keeps a promise, and answers no election after a start."""
+        guard = (2 + 2 * self.expire * 1000 // 999) / 1000
+        return self.expire + self.after + guard
+
+
+class Configuration(NamedTuple):
+    path: str
+    members: List[Member]
+    tickets: List[Ticket]
+    port: int
+    skew: int
+    authfile: Optional[str]
+
+    def key(self):
+        """The key, or None where the file names none."""
+        return None if self.authfile is None else key_of(self.authfile)
+
+
+def path_of(word):
+    """The path of a word as `-c` has it: a path with a slash, or a name in /etc/booth."""
+    if "/" in word:
+        return word
+    return f"{FOLDER}/{word}" if word.endswith(".conf") else f"{FOLDER}/{word}.conf"
+
+
+def bytes_of(path, most):
+    """What a regular file has, up to so many bytes. Nothing else is opened, and so waited for."""
+    try:
+        handle = os.open(path, os.O_RDONLY | os.O_NONBLOCK | os.O_CLOEXEC)
+        with os.fdopen(handle, "rb") as file:
+            if not stat.S_ISREG(os.fstat(handle).st_mode):
+                raise Unreadable(f"cannot read {path}: it is no regular file")
+            return file.read(most)
+    except OSError as why:
+        raise Unreadable(f"cannot read {path}: {why.strerror}") from why
+    except ValueError as why:
+        raise Unreadable(f"cannot read {path}: {why}") from why
+
+
+def key_of(path):
+    """The key in this file."""
+    try:
+        return frames.key_in(bytes_of(path, KEY_FILE_BYTES))
+    except ValueError as why:
+        raise Unreadable(f"{path}: {why}") from why
+
+
+class Reading:
+    """What the lines before one have said."""
+
+    def __init__(self, path):
+        self.path = path
+        self.members = []
+        self.top = {}
+        self.defaults = {}
+        self.tickets = []
+        # where a ticket's key goes to, or None before the first ticket
+        self.section = None
+
+    def take(self, number, line):
+        found = LINE.fullmatch(line)
+        if found is None or not VALUE.fullmatch(value := found[2] or found[3] or found[4] or ""):
+            if EMPTY.fullmatch(line):
+                return
+            raise self.fault(number, "syntax")
+        self.set(number, found[1], value)
+
+    def set(self, number, key, value):
+        if key in ("site", "arbitrator"):
+            self.members.append(Member(key, self.address(number, key, value)))
+        elif key == "ticket":
+            self.section = self.defaults if value == DEFAULTS else {}
+            if value != DEFAULTS:
+                self.tickets.append((value, self.section))
+        elif key in OF_TICKET and self.section is None:
+            raise self.fault(number, "misplaced key")
+        elif key in OF_TICKET | OF_FILE:
+            section = self.section if key in OF_TICKET else self.top
+            section[key] = self.value(number, key, value)
+        else:
+            raise self.fault(number, "unknown key")
+
+    def address(self, number, key, value):
+        try:
+            # (an address has no zone here)
+            return str(ipaddress.ip_address(value.replace("%", " ")))
+        except ValueError as why:
+            raise self.fault(number, f"bad value for {key}") from why
+
+    def value(self, number, key, value):
+        if key == "mode" and value in MODES:
+            return MODES[value]
+        if key in NUMBERS and NUMBER.fullmatch(value):
+            least, most, _ = NUMBERS[key]
+            if least <= int(value) <= most:
+                return int(value)
+        if key == "mode" or key in NUMBERS:
+            raise self.fault(number, f"bad value for {key}")
+        return value
+
+    def fault(self, number, what):
+        return Unreadable(f"{self.path}: line {number}: {what}")
+
+    def ticket(self, name, section):
+        """The ticket of a section, with what `__default__` says and what holds where nothing does."""
+        said = {**{key: default for key, (_, _, default) in NUMBERS.items()}, **self.defaults, **section}
+        expire = said["expire"]
+        renewal = expire / 2 if said["renewal-freq"] is None else said["renewal-freq"]
+        times = (expire, said["acquire-after"], said["timeout"], said["retries"], renewal)
+        return Ticket(name, said.get("mode", False), *times, said.get("before-acquire-handler"))
+
+
+def read(path):
+    """The configuration in this file."""
+    text = bytes_of(path, TEXT_BYTES + 1)
+    if len(text) > TEXT_BYTES:
+        raise Unreadable(f"{path}: too large")
+    reading = Reading(path)
+    for number, line in enumerate(text.decode("latin-1").split("\n"), 1):
+        reading.take(number, line)
+    tickets = [reading.ticket(name, section) for name, section in reading.tickets]
+    if not any(member.role == "site" for member in reading.members):
+        raise Unreadable(f"{path}: no site")
+    if not tickets:
+        raise Unreadable(f"{path}: no ticket")
+    top = reading.top
+    port, skew = top.get("port", frames.PORT), top.get("maxtimeskew", NUMBERS["maxtimeskew"][2])
+    return Configuration(path, reading.members, tickets, port, skew, top.get("authfile"))

@@ -1,0 +1,165 @@
+"""What booth-status gives to programs: a document of JSON, and metrics for Prometheus.
+
+booth-status(8) states both forms. It is imported by booth-status, and not run by itself.
+"""
+
+import json
+
+import looking
+from problems import WORDS
+
+# the version of the document: a field more leaves it as it is, and any other change raises it
+VERSION = 1
+
+
+def seconds(number):
+    """A number of seconds, to the millisecond."""
+    # (+ 0.0 leaves no sign at 0)
+    return None if number is None else round(number, 3) + 0.0
+
+
+def of_member(answer, changed):
+    """A member, with what it counts and what it lists."""
+    change = changed.get(answer.member.address)
+    return {
+        "role": answer.member.role,
+        "address": answer.member.address,
+        "answer": answer.state,
+        "why": answer.why or None,
+        "seconds_to_answer": seconds(answer.took),
+        "clock_ahead_seconds": seconds(answer.ahead),
+        "started_anew": change.restarted if change else None,
+        "dropped": answer.counts.dropped if answer.counts else None,
+        "dropped_more": change.dropped if change else None,
+        "peers": [of_peer(answer, peer, change) for peer in answer.counts.peers] if answer.counts else None,
+        "tickets": [of_held(answer, held) for held in answer.held] if answer.held is not None else None,
+    }
+
+
+def of_peer(answer, peer, change):
+    rise = change.peers.get(peer.address) if change else None
+    return {
+        **peer._asdict(),
+        "last": peer.last or None,
+        "last_seconds_ago": seconds(answer.clock - peer.last) if peer.last else None,
+        "more": rise._asdict() if rise else None,
+    }
+
+
+def of_held(answer, held):
+    left = seconds(max(0, held.end - answer.clock)) if held.end else None
+    return {"name": held.ticket, "owner": held.owner, "until": held.end or None, "seconds_left": left}
+
+
+def of_ticket(view):
+    seen = []
+    for each in view.seen:
+        left = None if each.left is None else seconds(max(0, each.left))
+        seen.append({"owner": each.owner, "until": each.end, "seconds_left": left, "members": each.members})
+    mode = "manual" if view.ticket.is_manual else "auto"
+    return {"name": view.ticket.name, "mode": mode, "owner": view.owner(), "owners": view.owners(), "seen": seen}
+
+
+def of_problem(problem):
+    return {**problem._asdict(), "severity": WORDS[problem.severity]}
+
+
+def document(view, line):
+    """The whole view, as one line of JSON."""
+    told = {
+        "version": VERSION,
+        "configuration": view.path,
+        "time": seconds(view.moment),
+        "seconds": seconds(view.took),
+        "status": view.status(),
+        "summary": line,
+        "members": [of_member(answer, view.changed) for answer in view.answers],
+        "tickets": [of_ticket(ticket) for ticket in view.tickets],
+        "problems": [of_problem(problem) for problem in view.problems],
+    }
+    return json.dumps(told)
+
+
+# ---- metrics
+
+HELP = {
+    "booth_status": ("gauge", "0 where all is well, 1 with a warning, 2 where something is critical"),
+    "booth_look_time_seconds": ("gauge", "When the look ended, in seconds since 1970"),
+    "booth_look_seconds": ("gauge", "How long the look took"),
+    "booth_problems": ("gauge", "How many problems there are of a severity"),
+    "booth_member_up": ("gauge", "1 where the member answers for its tickets and its peers"),
+    "booth_member_clock_ahead_seconds": ("gauge", "How far the member's clock is ahead of this machine's"),
+    "booth_member_answer_seconds": ("gauge", "How long the member took to answer"),
+    "booth_member_dropped_total": ("counter", "Datagrams that the member dropped, by their fault"),
+    "booth_peer_received_total": ("counter", "Messages of another member that the member let in"),
+    "booth_peer_sent_total": ("counter", "Messages that the member sent to another one"),
+    "booth_peer_errors_total": ("counter", "Messages that the member could not send to another one"),
+    "booth_peer_last_seconds_ago": ("gauge", "How long ago the member heard another one last"),
+    "booth_ticket_held": ("gauge", "1 where the members that answer name one holder of the ticket"),
+    "booth_ticket_owners": ("gauge", "How many sites hold the ticket as they see it themselves"),
+    "booth_ticket_views": ("gauge", "In how many ways the members that answer see the ticket"),
+    "booth_ticket_holder": ("gauge", "1 for the holder that a member sees"),
+    "booth_ticket_left_seconds": ("gauge", "How long the lease runs on as a member sees it"),
+}
+
+
+def quoted(value):
+    return '"' + value.replace("\\", "\\\\").replace('"', '\\"').replace("\n", "\\n") + '"'
+
+
+def sample(name, value, **labels):
+    """A metric's name, and its line."""
+    shown = ",".join(f"{label}={quoted(text)}" for label, text in labels.items())
+    return name, f"{name}{{{shown}}} {value}" if shown else f"{name} {value}"
+
+
+def samples_of_member(answer):
+    member = answer.member.address
+    yield sample("booth_member_up", int(answer.state == looking.ANSWERS), member=member, role=answer.member.role)
+    if answer.took is not None:
+        yield sample("booth_member_clock_ahead_seconds", seconds(answer.ahead), member=member)
+        yield sample("booth_member_answer_seconds", round(answer.took, 6), member=member)
+    if answer.counts is None:
+        return
+    for fault, count in answer.counts.dropped.items():
+        yield sample("booth_member_dropped_total", count, member=member, fault=fault)
+    for peer in answer.counts.peers:
+        labels = {"member": member, "peer": peer.address}
+        yield sample("booth_peer_received_total", peer.received, **labels)
+        yield sample("booth_peer_sent_total", peer.sent, **labels)
+        yield sample("booth_peer_errors_total", peer.errors, **labels)
+        if peer.last:
+            yield sample("booth_peer_last_seconds_ago", seconds(answer.clock - peer.last), **labels)
+
+
+def samples_of_ticket(view, answers):
+    name = view.ticket.name
+    yield sample("booth_ticket_held", int(view.owner() is not None), ticket=name)
+    yield sample("booth_ticket_owners", len(view.owners()), ticket=name)
+    yield sample("booth_ticket_views", len(view.seen), ticket=name)
+    for answer in answers:
+        for held in answer.held or ():
+            if held.ticket == name and held.owner:
+                labels = {"ticket": name, "member": answer.member.address, "holder": held.owner}
+                yield sample("booth_ticket_holder", 1, **labels)
+                if held.end:
+                    yield sample("booth_ticket_left_seconds", seconds(max(0, held.end - answer.clock)), **labels)
+
+
+def metrics(view):
+    """The text for the node exporter, each metric with its lines together."""
+    samples = [
+        sample("booth_status", view.status()),
+        sample("booth_look_time_seconds", seconds(view.moment)),
+        sample("booth_look_seconds", seconds(view.took)),
+    ]
+    for severity, word in WORDS.items():
+        count = sum(problem.severity == severity for problem in view.problems)
+        samples.append(sample("booth_problems", count, severity=word))
+    samples += [each for answer in view.answers for each in samples_of_member(answer)]
+    samples += [each for ticket in view.tickets for each in samples_of_ticket(ticket, view.answers)]
+    lines = []
+    for name, (kind, what) in HELP.items():
+        of_name = [line for found, line in samples if found == name]
+        lines += [f"# HELP {name} {what}", f"# TYPE {name} {kind}", *of_name] if of_name else []
+    return "\n".join(lines) + "\n"

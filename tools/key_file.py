@@ -1,0 +1,102 @@
+"""Whether the file of a cluster's key is there, is a key, and is for its owner alone.
+
+It is imported by booth-status, and not run by itself.
+"""
+
+import grp
+import os
+import pwd
+import stat
+
+import frames
+from configuration import KEY_FILE_BYTES, Unreadable, bytes_of
+from problems import CRITICAL, NOTICE, WARNING, Problem
+
+# whom the service runs the daemon as
+DAEMON = "booth"
+
+READ, WRITE = 4, 2
+
+
+def problems(conf):
+    """What is wrong with the key of this configuration."""
+    path = conf.authfile
+    if path is None:
+        yield Problem(WARNING, "no-key", "there is no authfile: whoever reaches the port can speak as a member")
+        return
+    try:
+        about = os.stat(path)
+    except (OSError, ValueError) as why:
+        cause = getattr(why, "strerror", None) or why
+        yield Problem(CRITICAL, "key", f"{path}: {cause}: no daemon starts here without it")
+        return
+    if not stat.S_ISREG(about.st_mode):
+        yield Problem(CRITICAL, "key", f"{path}: is no regular file, and so not read")
+        return
+    yield from of_mode(path, about)
+    yield from of_owner(path, about)
+    yield from of_content(path)
+
+
+def of_mode(path, about):
+    """Who else may read or write the key."""
+    mode = stat.S_IMODE(about.st_mode)
+    if mode & (READ | WRITE) or mode & (WRITE << 3):
+        who = "others may" if mode & (READ | WRITE) else "its group may write, and"
+        yield Problem(CRITICAL, "key-mode", f"{path}: {who} use it, by its mode {mode:04o}: chmod 0600 {path}")
+    elif mode & (READ << 3) and about.st_gid != group_of_daemon():
+        group = name_of_group(about.st_gid)
+        yield Problem(WARNING, "key-mode", f"{path}: the group {group} may read it, by its mode {mode:04o}")
+
+
+def of_owner(path, about):
+    """Whether the daemon's user may read the key, and nobody but that user or root owns it."""
+    try:
+        daemon = pwd.getpwnam(DAEMON)
+    except KeyError:
+        text = f"{path}: there is no user {DAEMON} here, so whether it may read the key is not told"
+        yield Problem(NOTICE, "key-owner", text)
+        return
+    mode = stat.S_IMODE(about.st_mode)
+    if about.st_uid == daemon.pw_uid:
+        may_read = mode & (READ << 6)
+    elif about.st_gid in os.getgrouplist(DAEMON, daemon.pw_gid):
+        may_read = mode & (READ << 3)
+    else:
+        may_read = mode & READ
+    if not may_read:
+        yield Problem(CRITICAL, "key-owner", f"{path}: the user {DAEMON} may not read it: chown {DAEMON}: {path}")
+    elif about.st_uid not in (0, daemon.pw_uid):
+        owner = name_of_user(about.st_uid)
+        yield Problem(WARNING, "key-owner", f"{path}: its owner is {owner}, neither root nor {DAEMON}")
+
+
+def of_content(path):
+    """Whether the file has a key."""
+    try:
+        frames.key_in(bytes_of(path, KEY_FILE_BYTES))
+    except ValueError as why:
+        yield Problem(CRITICAL, "key", f"{path}: has {why}")
+    except Unreadable as why:
+        yield Problem(NOTICE, "key", f"{why}: whether it is a key is not told")
+
+
+def group_of_daemon():
+    try:
+        return pwd.getpwnam(DAEMON).pw_gid
+    except KeyError:
+        return None
+
+
+def name_of_group(number):
+    try:
+        return grp.getgrgid(number).gr_name
+    except KeyError:
+        return str(number)
+
+
+def name_of_user(number):
+    try:
+        return pwd.getpwuid(number).pw_name
+    except KeyError:
+        return str(number)

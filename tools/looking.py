@@ -1,0 +1,163 @@
+"""One look at all members: all are asked for list and peers at once, and none is waited for beyond the time.
+
+It is imported by booth-status and the tests, and not run by itself. What comes and is no answer is passed over.
+"""
+
+import errno
+import os
+import selectors
+import socket
+import time
+from typing import List, NamedTuple, Optional
+
+import frames
+import lists
+from configuration import Member
+
+# what is asked
+LIST, PEERS = "CLst", "Peer"
+# what was asked, by the answer's command
+ASKED = {frames.code(frames.ANSWER_TO[letters]): letters for letters in (LIST, PEERS)}
+# how often a request is sent in a look, since datagrams get lost
+TRIES = 4
+
+# how a member answered
+ANSWERS, PARTLY, SILENT, NO_DAEMON, UNREACHABLE, BAD = "answers", "partly", "silent", "no-daemon", "unreachable", "bad"
+
+
+class Answer(NamedTuple):
+    """What came of one member. `held` and `counts` are None where that answer is missing.
+
+    `why` is what was wrong. `clock` is the member's, in seconds since 1970, and `ahead` how far it is ahead of this
+    machine's; `took` is how long the first answer took. These are None where nothing came.
+    """
+
+    member: Member
+    state: str
+    why: str = ""
+    held: Optional[List[lists.Held]] = None
+    counts: Optional[lists.Counts] = None
+    clock: Optional[float] = None
+    ahead: Optional[float] = None
+    took: Optional[float] = None
+
+
+class Asking:
+    """One member that is being asked."""
+
+    def __init__(self, member, port, key, number):
+        self.member = member
+        self.key = key
+        self.number = number
+        self.wanted = {LIST, PEERS}
+        self.came = {}
+        self.times = {}
+        self.state = SILENT
+        self.why = ""
+        self.sent = None
+        family = socket.AF_INET6 if ":" in member.address else socket.AF_INET
+        self.socket = socket.socket(family, socket.SOCK_DGRAM)
+        self.socket.setblocking(False)
+        # (connected: so no other's datagram comes, and that nobody listens is told)
+        self.attempt(lambda: self.socket.connect((member.address, port)))
+
+    def attempt(self, call):
+        """What the call gives. What the system says of this member ends the asking."""
+        try:
+            return call()
+        except BlockingIOError:
+            return None
+        except OSError as why:
+            refused = why.errno == errno.ECONNREFUSED
+            self.state, self.why = NO_DAEMON if refused else UNREACHABLE, os.strerror(why.errno)
+            self.wanted = set()
+            return None
+
+    def send(self):
+        """Asks for what has not come."""
+        self.sent = time.time()
+        for letters in sorted(self.wanted):
+            request = frames.request_now(letters, self.number, key=self.key)
+            self.attempt(lambda request=request: self.socket.send(request))
+
+    def take_all(self):
+        """Takes each datagram that is there."""
+        while self.wanted:
+            datagram = self.attempt(lambda: self.socket.recv(frames.FRAME_BYTES + 1))
+            if datagram is None:
+                return
+            self.take(datagram, time.time())
+
+    def take(self, datagram, now):
+        """Takes the answer to one of the requests, and passes everything else over."""
+        head = frames.Head.read(datagram.ljust(frames.HEAD_BYTES, b"\0"))
+        letters = ASKED.get(head.cmd)
+        is_short = len(datagram) < frames.HEAD_BYTES
+        if not is_short and (letters not in self.wanted or head.request != self.number):
+            return
+        try:
+            if self.key and not is_short and not head.opts & frames.AUTH:
+                raise lists.BadReply("it has no MAC, so that member has no key")
+            head, body = lists.parts_of(datagram, letters or LIST, self.number, self.member.address, self.key)
+            self.came[letters] = (lists.held_in if letters == LIST else lists.counts_in)(body)
+        except lists.BadReply as why:
+            self.state, self.why = BAD, str(why)
+            return
+        self.times.setdefault("took", now - self.sent)
+        self.times.setdefault("clock", head.millis() / 1000)
+        # (it read its clock in the middle of that time, as far as this machine knows)
+        self.times.setdefault("ahead", head.millis() / 1000 - (now + self.sent) / 2)
+        self.wanted.discard(letters)
+
+    def answer(self):
+        """What came in all."""
+        if len(self.came) == 2:
+            self.state, self.why = ANSWERS, ""
+        elif self.came:
+            missing = "list" if PEERS in self.came else "peers"
+            self.state, self.why = PARTLY, self.why or f"no answer to {missing}"
+        return Answer(self.member, self.state, self.why, self.came.get(LIST), self.came.get(PEERS), **self.times)
+
+
+def unopened(member, why):
+    """Of a member for which this machine has no socket."""
+    return Answer(member, UNREACHABLE, os.strerror(why.errno))
+
+
+def look(configuration, key, seconds):
+    """An answer for each member, in their order, after so many seconds at most."""
+    started = time.monotonic()
+    number = time.time_ns() // 1_000_000 % 2**32
+    askings, answers = [], {}
+    with selectors.DefaultSelector() as selector:
+        for member in configuration.members:
+            try:
+                asking = Asking(member, configuration.port, key, number)
+            except OSError as why:
+                answers[member] = unopened(member, why)
+                continue
+            askings.append(asking)
+            selector.register(asking.socket, selectors.EVENT_READ, asking)
+        ask_all(askings, selector, started, seconds)
+    for asking in askings:
+        asking.socket.close()
+        answers[asking.member] = asking.answer()
+    return [answers[member] for member in configuration.members]
+
+
+def ask_all(askings, selector, started, seconds):
+    """Sends to each that has not answered, several times, and takes what comes."""
+    for turn in range(TRIES):
+        for asking in askings:
+            if asking.wanted:
+                asking.send()
+        until = started + seconds * (turn + 1) / TRIES
+        while any(asking.wanted for asking in askings):
+            # (what is there is taken even after that time: this process may have been kept waiting, and not the member)
+            left = until - time.monotonic()
+            for ready, _ in selector.select(max(0, left)):
+                ready.data.take_all()
+                if not ready.data.wanted:
+                    selector.unregister(ready.fileobj)
+            if left <= 0:
+                break

@@ -1,0 +1,73 @@
+"""The table of booth-status: the members, the tickets as each member sees them, and what is wrong.
+
+It is imported by booth-status, and not run by itself.
+"""
+
+import looking
+from judging import counted
+from problems import WORDS
+from wording import aligned, date, span
+
+STATES = {looking.NO_DAEMON: "no daemon", looking.PARTLY: "in part"}
+
+
+def members(view):
+    """A row for each member: how it answered, how long ago each other one heard it, and what it dropped."""
+    numbers = {answer.member.address: str(place) for place, answer in enumerate(view.answers, 1)}
+    heard = {}
+    for answer in view.answers:
+        for peer in answer.counts.peers if answer.counts else ():
+            heard[peer.address, answer.member.address] = span(answer.clock - peer.last) if peer.last else "never"
+    hearers = (f"BY {number}" for number in numbers.values())
+    rows = [("#", "MEMBER", "", "ANSWER", "CLOCK", *hearers, "DROPPED", "UNSENT")]
+    for answer in view.answers:
+        address = answer.member.address
+        ages = ["-" if other == address else heard.get((address, other), "?") for other in numbers]
+        names = (numbers[address], answer.member.role, address)
+        rows.append((*names, *answered(answer), *ages, *dropped(answer, numbers)))
+    return aligned(rows)
+
+
+def answered(answer):
+    """How a member answered, and how far its clock is ahead of this machine's."""
+    state = STATES.get(answer.state, answer.state)
+    if answer.took is None:
+        return state, "?"
+    # (+ 0.0 leaves no sign at 0)
+    ahead = f"{round(answer.ahead, 1) + 0.0:+.1f} s"
+    return f"{answer.took * 1000:.1f} ms" if answer.state == looking.ANSWERS else state, ahead
+
+
+def dropped(answer, numbers):
+    """What a member dropped, and what it could not send, where it is not nothing."""
+    if answer.counts is None:
+        return "?", "?"
+    faults = ", ".join(f"{fault} {count}" for fault, count in answer.counts.dropped.items() if count)
+    failed = [(peer.errors, numbers.get(peer.address, peer.address)) for peer in answer.counts.peers if peer.errors]
+    return faults or "-", ", ".join(f"{errors} to {number}" for errors, number in failed) or "-"
+
+
+def tickets(view):
+    """A row for each ticket, and a further one for each way in which members see it otherwise."""
+    numbers = {answer.member.address: str(place) for place, answer in enumerate(view.answers, 1)}
+    there = [answer.member.address for answer in view.answers if answer.held is not None]
+    rows = [("TICKET", "MODE", "HOLDER", "LEFT", "UNTIL (UTC)", "SEEN BY")]
+    for ticket_view in view.tickets:
+        name, mode = ticket_view.ticket.name, "manual" if ticket_view.ticket.is_manual else "auto"
+        if not ticket_view.seen:
+            rows.append((name, mode, "?", "-", "-", "none"))
+        for seen in ticket_view.seen:
+            left = "-" if seen.left is None else f"{max(0, seen.left):.0f} s"
+            until = date(seen.end) if seen.end else "-"
+            by = "all" if sorted(seen.members) == sorted(there) else " ".join(numbers[each] for each in seen.members)
+            rows.append((name, mode, seen.owner or "none", left, until, by))
+            name = mode = ""
+    return aligned(rows)
+
+
+def table(view):
+    """All lines of the table."""
+    lines = [f"{view.path} at {date(view.moment)} UTC", "", *members(view), "", *tickets(view), ""]
+    if view.problems:
+        lines += [*aligned([(WORDS[problem.severity], problem.text) for problem in view.problems]), ""]
+    return [*lines, ": ".join(counted(view))]

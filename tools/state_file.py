@@ -1,0 +1,56 @@
+"""The files that booth-status writes: the state in which it remembers its last look, and others, each of them whole.
+
+It is imported by booth-status, and not run by itself.
+"""
+
+import json
+import os
+import time
+
+from configuration import Unreadable, bytes_of
+from lists import Counts, Peer
+
+FORM = "booth-status state 1"
+STATE_BYTES = 1_048_576
+
+
+def load(path, configuration):
+    """What the file remembers of the last look at this configuration, or None where there is no such file.
+
+    A file that is something else is refused, and so never written over.
+    """
+    if not os.path.lexists(path):
+        return None
+    try:
+        told = json.loads(bytes_of(path, STATE_BYTES))
+        if told["form"] != FORM:
+            raise ValueError("another form")
+        if told["configuration"] != os.path.abspath(configuration.path):
+            raise Unreadable(f"{path}: is the state of {told['configuration']}: each configuration has one of its own")
+        peers = {name: [Peer(*peer) for peer in counts["peers"]] for name, counts in told["members"].items()}
+        return {name: Counts(counts["dropped"], peers[name]) for name, counts in told["members"].items()}
+    except (ValueError, TypeError, KeyError, AttributeError) as why:
+        raise Unreadable(f"{path}: is no state of booth-status: name another file, or remove it") from why
+
+
+def save(path, configuration, members):
+    """Remembers a look in this file."""
+    told = {name: {"dropped": counts.dropped, "peers": counts.peers} for name, counts in members.items()}
+    text = json.dumps({"form": FORM, "configuration": os.path.abspath(configuration.path), "members": told})
+    write_whole(path, text + "\n")
+
+
+def write_whole(path, text):
+    """Writes a file anew: who reads it meanwhile has the old text or this one."""
+    new = f"{path}.{os.getpid()}.{time.time_ns()}"
+    try:
+        handle = os.open(new, os.O_WRONLY | os.O_CREAT | os.O_EXCL | os.O_CLOEXEC, 0o644)
+        try:
+            with os.fdopen(handle, "w", encoding="utf-8") as file:
+                file.write(text)
+            os.replace(new, path)
+        except BaseException:
+            os.unlink(new)
+            raise
+    except (OSError, ValueError) as why:
+        raise Unreadable(f"cannot write {path}: {getattr(why, 'strerror', None) or why}") from why
