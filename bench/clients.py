@@ -48,8 +48,8 @@ def serving(programs, folder, tickets):
     """Three members that answer rounds."""
     addresses = list(itertools.islice(ADDRESSES, 3))
     with Cluster(programs[0], folder, addresses, client=programs[1], tickets=tickets) as made:
+        made.remember()
         made.start()
-        time.sleep(made.times.abstention() + 0.1)
         yield made
 
 

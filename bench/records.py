@@ -66,9 +66,9 @@ def keep_rows(program, folder):
 
 
 def record_file():
-    """A file with a record in each slot."""
-    slots = (b"\1" + bytes(7) + number.to_bytes(8, "big") + b"\0\0\0\1" + bytes(44) for number in (1, 2))
-    return b"".join(slots)[:112]
+    """A file with a record in each slot of version 2."""
+    slots = (b"\1" + bytes(7) + number.to_bytes(8, "big") + b"\0\0\0\2" + bytes(108) for number in (1, 2))
+    return (bytes(128) + b"".join(slots))[:336]
 
 
 def start_rows(program, folder):

@@ -42,9 +42,9 @@ def require(holds, what):
 
 
 def started(cluster):
-    """The cluster's first member, once every member answers rounds."""
+    """The first member of a cluster whose members answer rounds from their start on."""
+    cluster.remember()
     cluster.start()
-    time.sleep(cluster.times.abstention() + 0.1)
     return cluster.members[0]
 
 

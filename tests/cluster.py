@@ -2,17 +2,21 @@
 """Holds a cluster of three real boothd on loopback to the lease rules: grants, renewals, failover.
 
 Run it as `python3 tests/cluster.py [BOOTHD BOOTH GEOSTORE]`, which are what `make build` leaves where they are
-left out. It takes about three minutes, prints a line for each check, ends all that it started, and has the status 1
+left out. It takes less than two minutes, prints a line for each check, ends all that it started, and has the status 1
 where a check failed. Where a program is not built it checks nothing, with status 0.
 
 What an operator does is done by booth and geostore, at each member: their status and each text that they print or
 say are held to what they have to be. The stories of handlers and of tickets that are granted by hand stand in
-handler_stories.py.
+handler_stories.py, and those of members that are killed and started anew in promise_stories.py.
 
 Who holds a ticket is judged from the record files and this machine's clock, hundred times a second over
 the whole run, and never from what a daemon says of itself.
 """
 
+import contextlib
+import functools
+import io
+import multiprocessing
 import os
 import shutil
 import subprocess
@@ -24,12 +28,31 @@ HERE = os.path.dirname(os.path.abspath(__file__))
 sys.path[:0] = [HERE, f"{HERE}/../tools"]
 
 from handler_stories import handler_in
-from members import MANUAL, Cluster, Times, now, wait_for
+from members import MANUAL, TICKET, Cluster, Times, now, wait_for
+from promise_stories import MANY
 from serving import NotServing, built_program, end_by_signals, own_addresses
-from stories import NAME, SLACK, Wrong, abstains, counts_as, grants, is_held_by, keeps, lists, passed, require, says, stories, story
+from stories import (
+    NAME,
+    PATIENCE,
+    Wrong,
+    abstains,
+    counts_as,
+    grants,
+    is_held_by,
+    keeps,
+    lists,
+    passed,
+    require,
+    says,
+    slack,
+    stories,
+    story,
+)
 
 KEY, OTHER_KEY = b"a-key-of-the-cluster", b"another-key-than-that"
 BADMAC = 2
+# how many stories run at once
+SIDE_BY_SIDE = 3
 
 
 @story
@@ -47,7 +70,7 @@ def two_sites_and_an_arbitrator(cluster):
 
     abstains(cluster, started)
     # (the first grant has to end before)
-    record = grants(cluster, 0, times.expire)
+    record = grants(cluster, 0)
     require(now() < record.until <= now() + times.expire, f"a lease until {record.until}")
     passed("a grant is held, kept on disk, and listed by every member")
     lists(cluster, one)
@@ -79,16 +102,16 @@ def two_sites_and_an_arbitrator(cluster):
 
     one.kill()
     until = one.record().until
-    latest = until + times.guard() + times.timeout + SLACK
-    require(wait_for(lambda: (two.record() or record).until != record.until and two.record().until, latest - now() + SLACK), "nobody took over")
-    taken = now()
+    took_over = lambda: (two.record() or record).until != record.until and two.record().until
+    require(wait_for(took_over, until - now() + PATIENCE), "nobody took over")
+    taken, latest = now(), until + times.guard() + times.timeout + slack()
     require(until <= taken <= latest, f"taken over {taken - until:.3f} s after the lease's end")
-    require(wait_for(lambda: cluster.shown_by_all() == two.address, 1), "the new owner is not listed")
+    require(wait_for(lambda: cluster.shown_by_all() == two.address, PATIENCE), "the new owner is not listed")
     passed(f"another site takes over after the lease's end and within its failover time ({taken - until:.3f} s)")
 
     one.start(cluster.program, cluster.conf)
     require(not one.record().holds(now()), "the killed member holds")
-    require(wait_for(lambda: one.shown() == two.address, 2 * times.timeout), "it hears of no owner")
+    require(wait_for(lambda: one.shown() == two.address, PATIENCE), "it hears of no owner")
     passed("the killed member comes back, holds nothing, and hears who does")
 
     before = two.counts()[1]
@@ -96,13 +119,13 @@ def two_sites_and_an_arbitrator(cluster):
     says(one, ("revoke", NAME), 0, f"ticket {NAME} revoked\n")
     require(two.record().until is None, "the revoked lease is kept")
     passed("a revocation that is asked of another member is sent on to the holder, and answered once the lease is off the disk")
-    require(wait_for(lambda: cluster.shown_by_all() is None and one.shown() is None, 1), "an owner is listed")
+    require(wait_for(lambda: cluster.shown_by_all() is None and one.shown() is None, PATIENCE), "an owner is listed")
     lists(cluster, None)
     says(two, ("revoke", NAME), 1, "booth: ticket is not granted\n")
-    time.sleep(2 * times.timeout + SLACK)
+    said = lambda: {address: counts[1] - before[address][1] for address, counts in two.counts()[1].items()}
+    require(wait_for(lambda: min(said().values()) >= 3, PATIENCE), f"the revocation was said {said()} times")
+    time.sleep(slack())
     after = two.counts()[1]
-    said = {address: after[address][1] - before[address][1] for address in after}
-    require(all(3 <= count for count in said.values()), f"the revocation was said {said} times")
     time.sleep(2 * times.timeout)
     require(two.counts()[1] == after, "the revocation is said again and again")
     require(all(r.until is None or not r.holds(now()) for r in (one.record(), two.record())), "a lease is kept")
@@ -113,16 +136,15 @@ def two_sites_and_an_arbitrator(cluster):
 def clients_that_wait(cluster):
     """a cluster of which one site runs alone at first"""
     one = cluster.members[0]
+    cluster.remember()
     cluster.start(0)
-    abstains(cluster, now())
     asked = now()
     says(one, ("grant", "-w", NAME), 1, "booth: failed\n")
     took = now() - asked
     due = cluster.times.timeout * (cluster.times.retries + 1)
-    require(due - SLACK < took < due + 2 * SLACK, f"a grant without a majority failed after {took:.2f} s")
+    require(due - 0.5 < took < due + 2 * slack(), f"a grant without a majority failed after {took:.2f} s")
     passed("who waits for a grant is told where no majority answers")
     cluster.start(1, 2)
-    abstains(cluster, now())
     says(one, ("grant", "-C", NAME), 0, f"ticket {NAME} granted\n")
     require(one.record().holds(now()), "who waits for the record is told before it is kept")
     lists(cluster, one)
@@ -134,9 +156,8 @@ def clients_that_wait(cluster):
 def a_directory_that_is_gone(cluster):
     """a cluster in which one site's records cannot be written"""
     one, two, _ = cluster.members
+    cluster.remember()
     cluster.start()
-    started = now()
-    abstains(cluster, started)
     shutil.move(one.records, one.records + ".gone")
     says(one, ("grant", NAME), 1, "booth: failed\n")
     require(one.record() is None and one.is_running(), "the member keeps a record, or ended")
@@ -150,10 +171,9 @@ def a_member_with_another_key(cluster):
     """a cluster with a key, in which one member has another"""
     one, two, arbitrator = cluster.members
     arbitrator.key = OTHER_KEY
+    cluster.remember()
     one.start(cluster.program, cluster.conf)
     arbitrator.start(cluster.program, cluster.file("other.conf", OTHER_KEY))
-    started = now()
-    abstains(cluster, started)
     says(one, ("grant", NAME), 0, f"grant of {NAME} requested\n")
     right, one.conf = one.conf, arbitrator.conf
     says(one, ("list",), 1, "booth: no reply\n")
@@ -171,8 +191,8 @@ def attributes_that_are_waited_for(cluster):
     """a cluster whose sites acquire where an attribute says so, and are granted where another does not forbid it"""
     times = cluster.times
     one, two, arbitrator = cluster.members
+    cluster.remember()
     cluster.start()
-    started = now()
     keeps(one, ("list",), 0, "")
     keeps(one, ("get", "ready"), 1, "geostore: no such attribute\n")
     keeps(one, ("delete", "ready"), 1, "geostore: no such attribute\n")
@@ -199,15 +219,14 @@ def attributes_that_are_waited_for(cluster):
     keeps(two, ("list",), 0, "")
     passed("a ticket has up to 64 attributes of up to 127 bytes, which geostore takes away again")
 
-    abstains(cluster, started)
     says(one, ("grant", "-w", NAME), 1, "booth: prerequisite not met\n")
     require(one.record() is None or one.record().until is None, "it holds though a prerequisite fails")
     keeps(one, ("delete", "maintenance"), 0, "")
     says(one, ("grant", "-w", NAME), 0, f"ticket {NAME} granted\n")
     passed("a grant is refused while a prerequisite of kind manual fails, and granted when it holds")
 
-    until, end = one.record().until, now() + 2 * times.renewal
-    require(wait_for(lambda: one.record().until != until, end - now()), "it is not renewed")
+    until = one.record().until
+    require(wait_for(lambda: one.record().until != until, 2 * times.renewal), "it is not renewed")
     passed("the holder renews, whether or not a prerequisite of kind auto holds there")
     one.kill()
     until = one.record().until
@@ -221,8 +240,10 @@ def attributes_that_are_waited_for(cluster):
     keeps(two, ("set", "ready", "yes"), 0, "")
     said = now()
     # (its election takes less than a timeout on one machine)
-    require(wait_for(lambda: is_held_by(cluster, two), times.renewal + times.timeout + SLACK), "nobody took over")
-    passed(f"and takes over at its next look when it holds ({now() - said:.3f} s)")
+    require(wait_for(lambda: is_held_by(cluster, two), PATIENCE), "nobody took over")
+    took = now() - said
+    require(took < times.renewal + times.timeout + slack(), f"taken over after {took:.3f} s")
+    passed(f"and takes over at its next look when it holds ({took:.3f} s)")
     two.kill()
     two.start(cluster.program, cluster.conf)
     keeps(two, ("list",), 0, "")
@@ -248,37 +269,59 @@ attr-prereq = "manual maintenance ne yes"
 """
 
 
-def run(program, client, geostore):
-    """Runs each story in a cluster of its own. Says how many failed."""
-    failed, started, looks = 0, time.monotonic(), 0
+def made(function, folder, program, client, geostore):
+    """The cluster that a story is about, by its name."""
+    key = KEY if "key" in function.__name__ else None
     addresses = own_addresses()
-    for function in stories:
-        key = KEY if "key" in function.__name__ else None
-        with tempfile.TemporaryDirectory(prefix="booth-cluster-") as folder:
-            places = [next(addresses) for _ in range(3)]
-            manual = (MANUAL,) if "manual" in function.__name__ else ()
-            if "ipv6" in function.__name__:
-                places[0] = "::1"
-            settings = PREREQUISITES if "attributes" in function.__name__ else ""
-            settings += handler_in(folder) if "handler" in function.__name__ else ""
-            by_hand = Times().text() + handler_in(folder) if "asks" in function.__name__ else ""
-            more = {"key": key, "client": client, "geostore": geostore, "settings": settings}
-            more.update(manual=manual, by_hand=by_hand)
-            with Cluster(program, folder, places, **more) as cluster:
-                try:
-                    function(cluster)
-                    wrong = cluster.watch.wrong
-                    require(not wrong, f"two held at one moment: {wrong[:3]}")
-                    require(cluster.watch.is_looking(), f"nobody looked on after {cluster.watch.looks} looks")
-                    printed = [member.printed() for member in cluster.members]
-                    require(not any(printed), f"a daemon printed {printed}")
-                    passed(f"no two held at one moment of {cluster.watch.looks} ({function.__doc__})")
-                except (Wrong, NotServing, OSError, subprocess.TimeoutExpired) as why:
-                    print(f"FAILED  {function.__doc__}: {why}", flush=True)
-                    failed += 1
-                looks += cluster.watch.looks
+    places = [next(addresses) for _ in range(3)]
+    manual = (MANUAL,) if "manual" in function.__name__ else ()
+    if "ipv6" in function.__name__:
+        places[0] = "::1"
+    settings = PREREQUISITES if "attributes" in function.__name__ else ""
+    settings += handler_in(folder) if "handler" in function.__name__ else ""
+    by_hand = Times().text() + handler_in(folder) if "asks" in function.__name__ else ""
+    more = {"key": key, "client": client, "geostore": geostore, "settings": settings}
+    more.update(manual=manual, by_hand=by_hand)
+    more.update(tickets=(TICKET, *MANY) if "many" in function.__name__ else (TICKET,))
+    return Cluster(program, folder, places, **more)
+
+
+def is_told(function, cluster):
+    """Whether a story passes. Prints its lines."""
+    try:
+        function(cluster)
+        wrong = cluster.watch.wrong
+        require(not wrong, f"two held at one moment: {wrong[:3]}")
+        require(cluster.watch.is_looking(), f"nobody looked on after {cluster.watch.looks} looks")
+        printed = [member.printed() for member in cluster.members]
+        require(not any(printed), f"a daemon printed {printed}")
+        passed(f"no two held at one moment of {cluster.watch.looks} ({function.__doc__})")
+    except (Wrong, NotServing, OSError, subprocess.TimeoutExpired) as why:
+        print(f"FAILED  {function.__doc__}: {why}", flush=True)
+        return False
+    return True
+
+
+def outcome(place, programs):
+    """Whether the story at this place of the list passes, in a cluster of its own, and the lines that it printed."""
+    printed = io.StringIO()
+    with contextlib.redirect_stdout(printed), tempfile.TemporaryDirectory(prefix="booth-cluster-") as folder:
+        with made(stories[place], folder, *programs) as cluster:
+            passes = is_told(stories[place], cluster)
+    return passes, printed.getvalue()
+
+
+def run(*programs):
+    """Runs the stories, some side by side: most of their time they wait. Says how many failed."""
+    failed, started = 0, time.monotonic()
+    # (each process has addresses of its own, and at its end ends what it started)
+    with multiprocessing.get_context("fork").Pool(SIDE_BY_SIDE) as pool:
+        call = functools.partial(outcome, programs=programs)
+        for passes, printed in pool.imap_unordered(call, range(len(stories))):
+            print(printed, end="", flush=True)
+            failed += not passes
     took = time.monotonic() - started
-    print(f"cluster: {len(stories) - failed} passed, {failed} failed, in {took:.1f} s ({program})")
+    print(f"cluster: {len(stories) - failed} passed, {failed} failed, in {took:.1f} s ({programs[0]})")
     return failed
 
 

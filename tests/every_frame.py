@@ -1,11 +1,11 @@
 #!/usr/bin/env python3
-"""Prints a frame of every command, as constants for crates/booth_wire_tests.
+"""Prints a frame of every command, as constants for crates/booth_bytes_tests.
 
 tools/frames.py spells them, so nothing here is of the program's own making. Every byte of the free
 fields of a head and of a ticket's numbers is another one: a field at another place, or with its
 bytes in another order, shows. From the top of the repository:
 
-    python3 tests/every_frame.py > crates/booth_wire_tests/src/tests/frames.rt
+    python3 tests/every_frame.py > crates/booth_bytes_tests/src/tests/wire/frames.rt
 """
 
 import os

@@ -8,7 +8,7 @@ import subprocess
 import time
 
 from members import MANUAL, SECONDS_OF_BOOTH, Ran, now, wait_for
-from stories import BY_HAND, NAME, SLACK, abstains, is_held_by, passed, require, says, story
+from stories import BY_HAND, NAME, PATIENCE, is_held_by, passed, require, says, slack, story
 
 # What a site's handler does: it notes each run and its descriptors, and then prints, sleeps or fails where a file says so.
 HANDLER = """#!/bin/sh
@@ -87,14 +87,16 @@ def sites_with_a_handler(cluster):
     times = cluster.times
     one, two, arbitrator = cluster.members
     first, second = Handler(cluster, one), Handler(cluster, two)
+    cluster.remember()
     one.start(cluster.program, cluster.conf)
     two.start(script(cluster.folder + "/closed", CLOSED.format(program=cluster.program)), cluster.conf)
     arbitrator.start(cluster.program, cluster.conf)
-    abstains(cluster, now())
+    before = one.record()
     first.set("fails")
     second.set("prints")
     says(one, ("grant", "-w", NAME), 1, "booth: handler failed\n")
-    require(first.runs() == [[NAME, "0", "db8"]] and one.record() is None, f"ran {first.runs()}, kept {one.record()}")
+    found = first.runs(), one.record()
+    require(found == ([[NAME, "0", "db8"]], before), f"ran {found[0]}, kept {found[1]}")
     passed("a grant is refused where the handler fails, and nothing is kept or asked for")
     first.clear("fails")
 
@@ -109,7 +111,7 @@ def sites_with_a_handler(cluster):
             asker.kill()
     require((asker.returncode, printed) == (0, f"ticket {NAME} granted\n"), "the grant failed")
     require(now() - asked > 2, "the grant did not wait for its handler")
-    require(longest < SLACK, f"a list took {longest:.2f} s")
+    require(longest < slack(), f"a list took {longest:.2f} s")
     first.clear("sleeps")
     passed(f"a handler that runs delays the grant, and no list ({longest * 1000:.0f} ms at most)")
 
@@ -125,18 +127,21 @@ def sites_with_a_handler(cluster):
 
     held = one.record()
     first.set("fails")
-    require(wait_for(lambda: one.record().until is None, times.renewal + times.timeout + SLACK), "the lease is kept")
+    in_a_renewal = times.renewal + times.timeout + slack()
+    require(wait_for(lambda: one.record().until is None, in_a_renewal), "the lease is kept")
     given_back = now()
-    require(wait_for(lambda: is_held_by(cluster, two), 3 * times.timeout + SLACK), "the other site did not take over")
-    require(not second.runs()[0][1].strip("0") and now() < given_back + 3 * times.timeout + SLACK, f"{second.runs()}")
-    passed(f"a handler that begins to fail gives the lease back, and the other site takes over ({now() - given_back:.1f} s)")
+    require(wait_for(lambda: is_held_by(cluster, two), PATIENCE), "the other site did not take over")
+    took = now() - given_back
+    require(took < 3 * times.timeout + slack(), f"the other site took over after {took:.1f} s")
+    require(not second.runs()[0][1].strip("0"), f"{second.runs()}")
+    passed(f"a handler that begins to fail gives the lease back, and the other site takes over ({took:.1f} s)")
     for handler in (first, second):
         kept_out = handler.read("descriptors")
         require(kept_out and not any(word in kept_out for word in ("socket", "records", "lock")), kept_out)
     passed("no file and no socket of a daemon reaches its handler, which may print, also where its standard streams are closed")
 
     second.set("sleeps", "30")
-    require(wait_for(lambda: len(second.runs()) > 1, times.renewal + SLACK), "no renewal started the handler")
+    require(wait_for(lambda: len(second.runs()) > 1, times.renewal + slack()), "no renewal started the handler")
     last = two.record()
     time.sleep(max(0, last.until + 0.1 - now()))
     require(two.record() == last and two.shown() != two.address, "a lease is renewed whose handler runs on")
@@ -154,7 +159,7 @@ def lists_by_hand(cluster, owner):
     text = f"ticket: {NAME}, leader: none\nticket: {BY_HAND}, leader: {address}\n"
     for member in cluster.members:
         heard = lambda: member.booth("list") == Ran(0, text, "")
-        require(wait_for(heard, 2), f"{member.address} lists {member.booth('list')}, and not {address}")
+        require(wait_for(heard, PATIENCE), f"{member.address} lists {member.booth('list')}, and not {address}")
 
 
 @story
@@ -184,7 +189,7 @@ def a_manual_ticket(cluster):
 
     says(two, ("grant", "-F", BY_HAND), 0, f"ticket {BY_HAND} granted\n")
     require(all(member.record(MANUAL).holds(now()) for member in (one, two)), "one of the two does not hold")
-    require(wait_for(lambda: arbitrator.shown(MANUAL) == two.address, 2), "the arbitrator lists another")
+    require(wait_for(lambda: arbitrator.shown(MANUAL) == two.address, PATIENCE), "the arbitrator lists another")
     require(one.shown(MANUAL) == one.address and two.shown(MANUAL) == two.address, "an owner lists another")
     passed("by force another site takes it too, both hold it, and each lists itself")
 
@@ -216,7 +221,7 @@ def a_manual_ticket_that_asks(cluster):
     for command in ("grant", "revoke"):
         says(one, (command, BY_HAND), 1, "booth: busy\n")
     require(one.record(MANUAL) is None, "a record is kept while the handler runs")
-    require(wait_for(lambda: one.record(MANUAL) is not None, 2 + 2 * SLACK), "nothing is kept behind the handler")
+    require(wait_for(lambda: one.record(MANUAL) is not None, PATIENCE), "nothing is kept behind the handler")
     require(now() - asked > 2 and one.record(MANUAL).holds(now()), "it did not wait for its handler")
     lists_by_hand(cluster, one)
     passed("a grant by hand waits for its handler, and meanwhile another grant or a revoke is refused")
@@ -233,7 +238,7 @@ def a_manual_ticket_that_asks(cluster):
     asked, due = now(), cluster.times.timeout * (cluster.times.retries + 1)
     says(two, ("grant", "-w", BY_HAND), 1, "booth: handler failed\n")
     took = now() - asked
-    require(due - SLACK < took < due + 2 * SLACK and two.record(MANUAL) is None, f"refused after {took:.2f} s")
+    require(due - 0.5 < took < due + 2 * slack() and two.record(MANUAL) is None, f"refused after {took:.2f} s")
     second.clear("sleeps")
     pid = second.read("pid")
     says(two, ("grant", "-w", BY_HAND), 0, f"ticket {BY_HAND} granted\n")

@@ -45,7 +45,8 @@ TIMES = Times(expire=10, timeout=1, retries=3, renewal=5)
 SLACK = 10
 # how long the flood may take before the rest of it is left out
 SECONDS_OF_FLOOD = 90
-# the median time of a list in the flood, where the machine has a processor for it and where it has not
+# the median time of a list in the flood: where the machine has a processor for it, and where it has not, up to a load
+# of two for each processor; beyond, it may grow as the load does
 SECONDS_OF_LIST, SECONDS_OF_LIST_LOADED = 0.010, 0.100
 # how much the daemon's memory may grow after the first datagrams
 BYTES_MORE = 1 << 20
@@ -201,11 +202,10 @@ class Scene:
 
     def begin(self):
         """Starts the cluster. The second site holds the ticket first, and then the first does."""
+        self.cluster.remember()
         self.cluster.start()
-        started = now()
         others = tuple((member.role, member.address) for member in self.others)
         self.foes = Foes(Station(self.one.address, others, (TICKET,), KEY), SEED).made(min(DIFFERENT, self.count))
-        time.sleep(max(0, started + TIMES.abstention() + 0.1 - now()))
         for member in (self.two, self.one):
             require(member.about("CGnt") in ("ok", "Asyn"), f"{member.address} does not take a grant")
             require(wait_for(lambda: holds(member), SLACK), "the granted ticket is not held")
@@ -267,8 +267,9 @@ def every_datagram_is_met(scene):
 
 def lists_are_answered(scene):
     """lists are answered meanwhile, behind all that waits"""
-    took, is_loaded = scene.flooded.took, scene.load > (os.cpu_count() or 1)
-    middle, most = statistics.median(took), SECONDS_OF_LIST_LOADED if is_loaded else SECONDS_OF_LIST
+    took, load = scene.flooded.took, scene.load / (os.cpu_count() or 1)
+    is_loaded, middle = load > 1, statistics.median(took)
+    most = SECONDS_OF_LIST_LOADED * max(1, load / 2) if is_loaded else SECONDS_OF_LIST
     require(middle <= most, f"a list takes {middle * 1000:.1f} ms in the median, at a load of {scene.load:.1f}")
     told = f"{len(took)} of them, {middle * 1000:.2f} ms in the median and {max(took) * 1000:.0f} ms at most"
     return told + f", at a load of {scene.load:.1f}" + (f": up to {most * 1000:.0f} ms are taken" if is_loaded else "")

@@ -9,7 +9,6 @@ and has the status 1 where a check failed.
 import gzip
 import os
 import re
-import shlex
 import shutil
 import signal
 import socket
@@ -24,8 +23,11 @@ HERE = os.path.dirname(os.path.abspath(__file__))
 TOP = os.path.dirname(HERE)
 sys.path[:0] = [HERE, f"{TOP}/tools"]
 
+from completions import completion_joins_addresses, completion_offers
 from frames import PORT
+from installed_tools import TOOLS, pages_have_all_options_of_tools, run_alone, tools_look
 from serving import built_program, end_by_signals, own_addresses, turn
+from shells import Wrong, need, read, run
 
 # each program with its commands; one that is not built yet is left out
 PROGRAMS = {
@@ -35,28 +37,8 @@ PROGRAMS = {
 }
 # how exposed the service may be at most, as `systemd-analyze security` counts it
 MOST_EXPOSED = 2.0
-# what bash-completion's users source
-BASH_COMPLETION = "/usr/share/bash-completion/bash_completion"
 # how long the walk through the first cluster may take
 SECONDS_OF_A_WALK = 120
-
-
-class Wrong(Exception):
-    """What a check found."""
-
-
-def need(holds, what):
-    if not holds:
-        raise Wrong(what)
-
-
-def read(path):
-    with open(path, encoding="utf-8") as file:
-        return file.read()
-
-
-def run(*words, **more):
-    return subprocess.run(words, capture_output=True, text=True, timeout=60, check=False, **more)
 
 
 def make(*words, **more):
@@ -154,15 +136,17 @@ def installs_and_uninstalls(room):
     """make install puts everything below DESTDIR, and make uninstall takes it away"""
     make("install", f"DESTDIR={room}/root", "PREFIX=/usr")
     there = files_below(f"{room}/root")
-    named = [f"usr/sbin/{name}" for name in (*PROGRAMS, "booth-keygen")]
-    named += [f"usr/share/man/man8/{name}.8" for name in (*PROGRAMS, "booth-keygen")] + ["usr/share/man/man5/booth.conf.5"]
-    named += [f"usr/share/bash-completion/completions/{name}" for name in PROGRAMS]
+    named = [f"usr/sbin/{name}" for name in (*PROGRAMS, *TOOLS, "booth-keygen")]
+    named += [f"usr/share/man/man8/{name}.8" for name in (*PROGRAMS, *TOOLS, "booth-keygen")] + ["usr/share/man/man5/booth.conf.5"]
+    named += [f"usr/share/bash-completion/completions/{name}" for name in (*PROGRAMS, *TOOLS)]
     named += [f"usr/share/doc/booth-proved/{name}" for name in ("OPERATING.md", "HANDLERS.md", "examples/manual.conf")]
     for name in (*named, "usr/lib/systemd/system/booth@.service", "usr/lib/sysusers.d/booth.conf"):
         need(name in there, f"{name} is missing")
     for program, commands in PROGRAMS.items():
         done = run(f"{room}/root/usr/sbin/{program}", commands[0], "--version")
         need(done.returncode == 0, f"the installed {program}: status {done.returncode}")
+    run_alone(f"{room}/root/usr/sbin")
+    need(files_below(f"{room}/root") == there, "to run them left a file")
     unit = f"{room}/root/usr/lib/systemd/system/booth@.service"
     need("@" not in read(unit).replace("booth@", "").replace("@system-service", ""), "the unit has a word that is not replaced")
     shutil.copytree(f"{room}/root", f"{room}/kept")
@@ -254,84 +238,6 @@ def keys_are_made_once(room):
     need(done.returncode == 1 and "cannot be made" in done.stderr, f"a directory that is missing: {done.stderr}")
 
 
-def completed(*words, line="", before=""):
-    """What bash offers behind these words, which it parted this line in. The program `before` is run before."""
-    script = (
-        f"{before}\nsource {TOP}/packaging/booth.bash; COMP_WORDS=(\"$@\"); COMP_CWORD=$(($# - 1)); "
-        f"COMP_LINE={shlex.quote(line)}; COMP_POINT=${{#COMP_LINE}}; "
-        '_booth_complete "$1"; printf "%s\\n" "${COMPREPLY[@]}"'
-    )
-    done = run("bash", "-c", script, "bash", *words)
-    need(not done.stderr, done.stderr)
-    return done.stdout.splitlines() if done.stdout.strip() else []
-
-
-def completion_offers(room):
-    """completion offers commands, options, members and tickets in a real bash"""
-    if not shutil.which("bash"):
-        return "bash is not here"
-    conf = f"{room}/a.conf"
-    with open(conf, "w", encoding="utf-8") as file:
-        file.write(
-            'site = "192.0.2.10" # one\narbitrator=\'192.0.2.30\'\nticket = "__default__"\n  expire = 60\n'
-            'ticket="db8"\nticket = mail # the other\n'
-        )
-    cases = [
-        (("boothd", ""), ["daemon", "status", "sim"]),
-        (("booth", "gr"), ["grant"]),
-        (("booth", "client", "re"), ["revoke"]),
-        (("booth", "grant", "-c", conf, ""), ["db8", "mail"]),
-        (("booth", "revoke", "-c", conf, "d"), ["db8"]),
-        (("boothd", "daemon", "-c", conf, "-s", ""), ["192.0.2.10", "192.0.2.30"]),
-        (("boothd", "status", "-"), ["-l", "--help", "--version"]),
-        (("boothd", "sim", "-"), ["-c", "-e", "-r", "--help", "--version"]),
-        (("geostore", ""), ["set", "get", "delete", "list"]),
-        (("geostore", "client", "d"), ["delete"]),
-        (("geostore", "get", "-c", conf, "-t", "m"), ["mail"]),
-        (("geostore", "list", "-c", conf, "-s", "192.0.2.1"), ["192.0.2.10"]),
-        (("geostore", "set", "-"), ["-c", "-s", "-t", "--help", "--version"]),
-        (("geostore", "set", "-c", conf, "-t", "db8", ""), []),
-        (("booth", "grant", "-c", f"{room}/none.conf", ""), []),
-        (("boothd", "daemon", "-d", f"{room}/fold"), [f"{room}/folder/"]),
-        (("boothd", "daemon", "-c", f"{room}/fold"), [f"{room}/folder/"]),
-    ]
-    os.makedirs(f"{room}/folder")
-    for words, offered in cases:
-        got = completed(*words)
-        need(got == offered, f"{' '.join(words)}: {got}")
-    # a name is no program, wherever it stands: nothing of it is expanded, also once it is on the command line
-    names = [f"$(touch {room}/ran)", f"`touch {room}/ran`", f"$(touch${{IFS}}{room}/ran)", "it's", 'two" words', "*"]
-    odd = f"{room}/odd.conf"
-    with open(odd, "w", encoding="utf-8") as file:
-        file.writelines(f"ticket = '{name}'\n" if "'" not in name else f'ticket = "{name}"\n' for name in names)
-    got = completed("booth", "grant", "-c", odd, "")
-    need(not os.path.exists(f"{room}/ran"), "a name of a configuration was run as a program")
-    shell = run("bash", "-c", f"printf '%s\\n' {' '.join(got)}")
-    need(shell.stdout.splitlines() == names, f"{got} is read as {shell.stdout}{shell.stderr}")
-    return None
-
-
-def completion_joins_addresses(room):
-    """completion goes on behind the colons of an address, at which bash parts it"""
-    if not shutil.which("bash") or not os.path.exists(BASH_COMPLETION):
-        return "bash or bash-completion is not here"
-    conf = f"{room}/v6.conf"
-    with open(conf, "w", encoding="utf-8") as file:
-        file.write("site = '2001:db8::10'\nsite = '2001:db8::11'\narbitrator = '2001:db8::2'\nticket = a:b\nticket = mail\n")
-    cases = [
-        (f"booth list -c {conf} -s 2001:db8::1", ["10", "11"]),
-        (f"booth list -c {conf} -s 2001:", ["db8::10", "db8::11", "db8::2"]),
-        (f"booth list -c {conf} -s 2", ["2001:db8::10", "2001:db8::11", "2001:db8::2"]),
-        (f"booth grant -s 2001:db8::10 -c {conf} a:", ["b"]),
-        (f"booth grant -s 2001:db8::10 -c {conf} m", ["mail"]),
-    ]
-    for line, offered in cases:
-        words = [word for word in re.split("(:+)| ", line) if word]
-        got = completed(*words, line=line, before=f"source {BASH_COMPLETION}")
-        need(got == offered, f"{line}: {got}")
-    return None
-
-
 def package_is_whole(room):
     """the package has what is installed, runs from a scratch root, and says what it is"""
     if not shutil.which("dpkg-deb"):
@@ -396,7 +302,7 @@ def package_comes_and_goes(room):
     told = run("dpkg", f"--root={root}", "--status", "booth-proved").stdout
     need("Status: install ok installed" in told, told)
     listed = run("dpkg", f"--root={root}", "--listfiles", "booth-proved").stdout.split()
-    for name in (*PROGRAMS, "booth-keygen"):
+    for name in (*PROGRAMS, *TOOLS, "booth-keygen"):
         need(f"/usr/sbin/{name}" in listed, f"/usr/sbin/{name} is not listed")
     need(os.path.isdir(f"{root}/etc/booth"), "/etc/booth was not made")
     need(re.search("^booth:", read(f"{root}/etc/passwd"), re.M), "the user booth was not made")
@@ -437,13 +343,14 @@ def asks_in(prefix, room):
             need(done.returncode == 0, f"geostore set: {done.stderr}")
             done = run(f"{prefix}/sbin/geostore", "list", "-c", conf, "-t", "ticket-db8")
             need(done.stdout == "ready yes\n", f"geostore list: {done.stdout}{done.stderr}")
+            tools_look(f"{prefix}/sbin", conf, room)
         finally:
             daemon.kill()
 
 
 def wait_until_bound(daemon, address):
     """Waits until the daemon has its port."""
-    for _ in range(1000):
+    for _ in range(3000):
         need(daemon.poll() is None, f"the daemon ended with {daemon.returncode}")
         with socket.socket(socket.AF_INET, socket.SOCK_DGRAM) as other:
             try:
@@ -526,6 +433,7 @@ def first_cluster_is_as_written(room):
 CHECKS = [
     pages_have_all_keys,
     pages_have_all_options,
+    pages_have_all_options_of_tools,
     pages_have_all_texts,
     pages_are_well_formed_for_mandoc,
     pages_are_well_formed_for_groff,

@@ -27,6 +27,9 @@ NO_ONE = 0xFFFF_FFFF
 SENT = 1_700_000_000_000
 NOW = 1_700_000_000_999
 
+# how long a promise binds at the default times, in milliseconds: S1 starts at 0 and abstains as long
+PROMISE = 601_203
+
 TICKET = b"ticket-db8"
 LIST = b"ticket-db8 none 0\n"
 NO_DROPS = "0 0 0 0 0 0 0 0"
@@ -65,10 +68,11 @@ def heartbeat(sender, leader=None, ticket=TICKET):
     return at(SENT, signed, "HrtB", body, sender=sender, options=3)
 
 
-def print_turn(name, about, comes, sends=(), now=NOW):
-    """A turn as text: what comes from a client, if anything does, and then what is sent to whom."""
+def print_turn(name, about, comes, sends=(), now=NOW, keeps=()):
+    """A turn as text: what comes from a client, if anything does, and then what is kept, and sent to whom."""
     head = "quiet" if comes is None else f"from client: # \\\n{in_hex(comes)}"
-    lines = [f"at {now} {head}", *(f"send {who}: # \\\n{in_hex(frame)}" for who, frame in sends)]
+    lines = [f"at {now} {head}", *(f"keep {record}" for record in keeps)]
+    lines += [f"send {who}: # \\\n{in_hex(frame)}" for who, frame in sends]
     print_text(f"pub(super) const {name}", about, "\n".join(lines))
 
 
@@ -161,8 +165,9 @@ def print_signed_requests():
 def print_faults():
     answer = frames.ticket_body(TICKET, S2, 1, 0)
     ack = at(NOW, signed, "Ack.", answer, sender=S1, options=3)
-    about = "`HrtB` of S2 with its MAC, from anywhere, is answered to where S2 listens."
-    print_turn("HRTB", about, heartbeat(S2), [("S2", ack)])
+    about = "`HrtB` of S2 with its MAC, from anywhere, is answered to where S2 listens, once that is kept."
+    promise = f"bound S2 promise S2 1 {NOW + PROMISE} abstain {PROMISE}"
+    print_turn("HRTB", about, heartbeat(S2), [("S2", ack)], keeps=[f"ticket-db8 1 {promise}"])
     unsigned = at(SENT, plain, "CLst", request=1)
     print_turn("NO_FRAME", "47 bytes.", at(SENT, plain, "CLst")[:47])
     print_turn("NO_MAC", "`CLst` without a MAC.", unsigned)

@@ -3,7 +3,7 @@
 
 Run it as `python3 tests/records.py [PROGRAM]`, PROGRAM being the built `keeps`, which rt leaves at
 crates/keeps/out/keeps. It takes a minute at most, prints a line for each check, and has the status 1 where
-one failed. Where `keeps` is not built it checks nothing, with status 0. Where it may mount a small tmpfs, it fills it.
+one failed. Where `keeps` is not built it checks nothing, and has the status 77. Where it may mount a small tmpfs, it fills it.
 
 `keeps DIRECTORY COUNT` is the real host alone: it says which record it reads, and each that it has kept.
 """
@@ -26,6 +26,8 @@ from serving import end_by_signals
 PROGRAM = f"{TOP}/crates/keeps/out/keeps"
 FILE = b"ticket-db8".hex() + ".rec"
 
+# the status where nothing was checked
+NOTHING_CHECKED = 77
 KILLS, SECONDS = 2_000, 55
 # the longest time from a start to its end, in seconds, beside twice what a run of one keep takes; a run gets to some keeps in it
 LONGEST = 0.02
@@ -45,10 +47,10 @@ def require(holds, why):
         raise Wrong(why)
 
 
-def slot(number, term):
-    """A slot that holds a record of this term without a lease."""
-    fields = (number.to_bytes(8, "big"), (1).to_bytes(4, "big"), term.to_bytes(4, "big"))
-    return (b"\1" + bytes(7) + b"".join(fields)).ljust(64, b"\0")
+def slot(number, version, term):
+    """An open slot with a record of this version and term, without a lease or a pledge, and what stands behind it."""
+    fields = (number.to_bytes(8, "big"), version.to_bytes(4, "big"), term.to_bytes(4, "big"))
+    return (b"\1" + bytes(7) + b"".join(fields)).ljust(64 * version, b"\0")
 
 
 def said(output):
@@ -111,21 +113,39 @@ def kills_leave_the_last_record_or_the_next(program, folder):
 
 
 def a_record_that_cannot_be_kept_leaves_the_old_one(program, folder):
-    """The file may not grow beyond its first slot: then the second cannot be written."""
-    directory = os.path.join(folder, "short")
-    os.mkdir(directory)
-    with open(os.path.join(directory, FILE), "wb") as file:
-        file.write(slot(1, 7))
+    """The file may not grow beyond its first slot, of either version: then no other can be written."""
+    for name, content in (("old", slot(1, 1, 7)), ("short", bytes(128) + slot(1, 2, 7))):
+        directory = os.path.join(folder, name)
+        os.mkdir(directory)
+        with open(os.path.join(directory, FILE), "wb") as file:
+            file.write(content)
 
-    def keep_it_short():
-        signal.signal(signal.SIGXFSZ, signal.SIG_IGN)
-        resource.setrlimit(resource.RLIMIT_FSIZE, (64, 64))
+        def keep_it_short(size=len(content)):
+            signal.signal(signal.SIGXFSZ, signal.SIG_IGN)
+            resource.setrlimit(resource.RLIMIT_FSIZE, (size, size))
 
-    require(run(program, directory, 1, preexec_fn=keep_it_short) == (7, [], 1), "a keep that fails")
-    require(run(program, directory, 0) == (7, [], 0), "the old record is read")
-    require(run(program, directory, 2) == (7, [8, 9], 0), "the next keep")
-    require(run(program, directory, 0) == (9, [], 0), "it is read")
+        require(run(program, directory, 1, preexec_fn=keep_it_short) == (7, [], 1), "a keep that fails")
+        require(run(program, directory, 0) == (7, [], 0), "the old record is read")
+        require(run(program, directory, 2) == (7, [8, 9], 0), "the next keep")
+        require(run(program, directory, 0) == (9, [], 0), "it is read")
     return "and the next keep goes on"
+
+
+def a_file_of_version_1_is_read_and_its_slots_stay(program, folder):
+    """The next keeps go into the slots of version 2, with the numbers that follow."""
+    directory = os.path.join(folder, "version-1")
+    os.mkdir(directory)
+    path, old = os.path.join(directory, FILE), slot(3, 1, 4) + slot(2, 1, 3)
+    with open(path, "wb") as file:
+        file.write(old)
+    require(run(program, directory, 2) == (4, [5, 6], 0), "two keeps over it")
+    with open(path, "rb") as file:
+        content = file.read()
+    require(content[:128] == old, "the slots of version 1 stay")
+    numbers = [int.from_bytes(content[at + 8 : at + 16], "big") for at in (128, 256) if content[at] == 1]
+    require(numbers == [4, 5], f"the numbers of version 2 are {numbers}")
+    require(run(program, directory, 0) == (6, [], 0), "the last one is read")
+    return "and the next keeps go behind them"
 
 
 @contextlib.contextmanager
@@ -169,7 +189,7 @@ def a_torn_file_is_refused(program, folder):
     """Nothing is written to a file that no put leaves."""
     directory = os.path.join(folder, "torn")
     os.mkdir(directory)
-    path, torn = os.path.join(directory, FILE), slot(2, 7) + b"\1" + bytes(47)
+    path, torn = os.path.join(directory, FILE), slot(2, 1, 7) + b"\1" + bytes(47)
     with open(path, "wb") as file:
         file.write(torn)
     require(run(program, directory, 1) == (None, [], 1), "a run over it")
@@ -180,6 +200,7 @@ def a_torn_file_is_refused(program, folder):
 
 CHECKS = (
     a_record_that_cannot_be_kept_leaves_the_old_one,
+    a_file_of_version_1_is_read_and_its_slots_stay,
     a_full_disk_keeps_nothing_until_there_is_room,
     a_torn_file_is_refused,
     kills_leave_the_last_record_or_the_next,
@@ -191,7 +212,7 @@ def main(words):
     program = os.path.abspath(words[0] if words else PROGRAM)
     if not os.access(program, os.X_OK):
         print(f"tests/records.py: {program} is not built, so nothing was checked")
-        return 0
+        return NOTHING_CHECKED
     wrong = 0
     with tempfile.TemporaryDirectory(prefix="booth-records-") as folder:
         for check in CHECKS:

@@ -13,7 +13,7 @@ import subprocess
 
 import frames
 from gate import Station
-from room import Asker, check, require
+from room import SECONDS_TO_END, Asker, check, require
 from serving import LOCK, TOP
 
 # a file that is served, line by line, with this machine's address as @
@@ -166,9 +166,9 @@ def untaken_words(room):
         require(is_told, f"{words} gave status {status}, {out} and {err}")
 
 
-def told_in_readme(first):
-    """The block of README.md that begins with this line."""
-    with open(f"{TOP}/README.md", "rb") as file:
+def told_in_page(first):
+    """The block of docs/OPERATING.md that begins with this line."""
+    with open(f"{TOP}/docs/OPERATING.md", "rb") as file:
         lines = file.read().splitlines()
     behind = lines[lines.index(b"    " + first) :]
     block = itertools.takewhile(lambda line: line[:4] in (b"", b"    "), behind)
@@ -177,7 +177,7 @@ def told_in_readme(first):
 
 @check
 def help_and_version(room):
-    """help and version stand on standard output alone, with status 0, and README.md has that help"""
+    """help and version stand on standard output alone, with status 0, and docs/OPERATING.md has that help"""
     lock = b"[default: /var/run/booth.lock]"
     for command, pieces in (
         ("daemon", (b"-c", b"[default: booth]", b"-s", b"-l", lock, b"-d",
@@ -189,9 +189,9 @@ def help_and_version(room):
         missing = [piece for piece in pieces if piece not in out]
         require(not missing, f"help of {command} does not name {missing}")
         status, out, err = room.ended([command, "--version"])
-        require((status, err) == (0, b"") and b"0.1.0" in out, f"the version is {out}")
-    told = told_in_readme(b"Runs the daemon of one member, in the foreground.")
-    require(room.ended(["daemon", "-h"])[1] == told, "README.md tells other options")
+        require((status, err) == (0, b"") and b"0.2.0" in out, f"the version is {out}")
+    told = told_in_page(b"Runs the daemon of one member, in the foreground.")
+    require(room.ended(["daemon", "-h"])[1] == told, "docs/OPERATING.md tells other options")
 
 
 @check
@@ -546,7 +546,7 @@ def unread_standard_error(room):
     unread, into = os.pipe()
     os.close(unread)
     streams = {"stdin": subprocess.DEVNULL, "stdout": subprocess.DEVNULL, "stderr": into}
-    ran = subprocess.run([room.program, "stop"], timeout=5, **streams)
+    ran = subprocess.run([room.program, "stop"], timeout=SECONDS_TO_END, **streams)
     os.close(into)
     require(ran.returncode == 1, f"the run had status {ran.returncode}")
 
@@ -555,7 +555,7 @@ def unread_standard_error(room):
 def closed_standard_error(room):
     """where standard error is closed, what is said goes nowhere, and not into the lock file"""
     path, places = room.file(here(room, FILE) + SITE), room.own_places("closed")
-    streams = {"stdin": subprocess.DEVNULL, "stdout": subprocess.DEVNULL, "timeout": 5}
+    streams = {"stdin": subprocess.DEVNULL, "stdout": subprocess.DEVNULL, "timeout": SECONDS_TO_END}
     with socket.socket(socket.AF_INET, socket.SOCK_DGRAM) as holder:
         holder.bind((room.address, frames.PORT))
         words = [room.program, *room.words(path), *places]

@@ -17,8 +17,8 @@ from frames import Head, request_now
 from gate import Station
 from serving import NotServing, boothd, own_addresses
 
-# (a moment that a daemon tells is that of its clock, between a request and its reply)
-SECONDS_TO_ANSWER = 2
+# (on a machine that does much else; what is due comes at once on any other)
+SECONDS_TO_ANSWER, SECONDS_TO_END = 20, 30
 MOST_UDP_BYTES = 65_507
 
 KEY = b"secret-key"
@@ -58,9 +58,9 @@ class Counts:
         self.station = station
         self.others = station.others
         self.drops = [0] * 8
-        # by address: how many frames were let in, and between which seconds the last was
+        # by address: how many frames were let in, and the second at which the last was sent, or 0
         self.accepted = {address: 0 for _, address in self.others}
-        self.seen = {address: (0, 0) for _, address in self.others}
+        self.seen = {address: 0 for _, address in self.others}
         # by address: how many messages were made for it
         self.said = {address: len(station.tickets) for _, address in self.others}
 
@@ -73,7 +73,7 @@ class Counts:
     def let_in(self, address, since):
         """One more frame of this member, which the daemon reads no earlier than this second."""
         self.accepted[address] += 1
-        self.seen[address] = (since, since + SECONDS_TO_ANSWER)
+        self.seen[address] = since
 
     def says(self, *addresses):
         """One more message to each of these members, or to all."""
@@ -95,8 +95,9 @@ class Counts:
         told = [line.split()[2:] for line in text.decode(errors="replace").split("\n")[1:]]
         told = [words if all(map(str.isdecimal, words)) else [] for words in told]
         for (role, address), words in itertools.zip_longest(self.others, told[: len(self.others)]):
-            first, last = self.seen[address]
-            is_near = words and first <= int(words[0]) <= last
+            # (the daemon read it between that second and this one)
+            first = self.seen[address]
+            is_near = words and first and first <= int(words[0]) <= time.time()
             seconds = words[0] if is_near else first
             ends = self.sent_and_failed(address, words[2:] if words else [])
             lines.append(f"{role} {address} {seconds} {self.accepted[address]} {ends}")
@@ -107,7 +108,7 @@ class Shown:
     """The owner of a ticket that a daemon is to list, which has granted it to nobody itself."""
 
     def __init__(self):
-        self.owner, self.first, self.last = "none", 0, 0
+        self.owner, self.first, self.valid_for = "none", 0, 0
 
     def hears(self, station, parts, since):
         """A message that was let in is heard, by "What members say", while the daemon agrees to nothing."""
@@ -116,7 +117,7 @@ class Shown:
         tells = parts.letters in TELL_STATE and owner not in (None, station.address)
         if tells and seconds:
             self.owner = owner
-            self.first, self.last = since + seconds, since + seconds + SECONDS_TO_ANSWER
+            self.first, self.valid_for = since + seconds, seconds
         gives_up = parts.letters == "Revk" and parts.head.reason != frames.code("Splt")
         if gives_up and self.owner == sender:
             self.__init__()
@@ -127,7 +128,8 @@ class Shown:
     def line(self, ticket, came):
         """The line of a list, with the second that stands in another line where it may."""
         words = came.split()[2:3]
-        is_near = words and words[0].isdigit() and self.first <= int(words[0]) <= self.last
+        last = time.time() + self.valid_for
+        is_near = self.first and words and words[0].isdigit() and self.first <= int(words[0]) <= last
         end = int(words[0]) if is_near else self.first
         return b"%s %s %d\n" % (ticket, self.owner.encode(), end)
 
@@ -274,7 +276,7 @@ class Room:
 
     def ended(self, words):
         """The status, standard output and standard error of a run that ends by itself."""
-        how = {"stdin": subprocess.DEVNULL, "capture_output": True, "timeout": 5}
+        how = {"stdin": subprocess.DEVNULL, "capture_output": True, "timeout": SECONDS_TO_END}
         try:
             ran = subprocess.run([self.program, *words], **how)
         except subprocess.TimeoutExpired:

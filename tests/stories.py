@@ -3,12 +3,15 @@
 It is imported by the programs in tests/, and not run by itself.
 """
 
+import os
 import time
 
 from members import MANUAL, TICKET, Ran, now, wait_for
 
-# how much later than it may a thing happens at most, in seconds
-SLACK = 0.5
+# how much later than it may a thing happens at most, in seconds: where the machine has a processor for it, or has not
+SLACK, SLACK_LOADED = 0.5, 10
+# how long one waits for what has to come
+PATIENCE = 30
 NAME = TICKET.decode()
 BY_HAND = MANUAL.decode()
 
@@ -30,6 +33,11 @@ def story(function):
     return function
 
 
+def slack():
+    """How much later than it may a thing happens at most now."""
+    return SLACK if os.getloadavg()[0] <= (os.cpu_count() or 1) else SLACK_LOADED
+
+
 def passed(sentence):
     print(f"ok      {sentence}", flush=True)
 
@@ -40,7 +48,7 @@ def is_held_by(cluster, member):
     return record is not None and record.holds(now()) and cluster.shown_by_all() == member.address
 
 
-def grants(cluster, place, seconds=2):
+def grants(cluster, place, seconds=PATIENCE):
     """A client asks this member for a grant, again where it is busy, and then the member holds."""
     member = cluster.members[place]
     result = wait_for(lambda: (answer := member.about("CGnt")) != "Busy" and answer, seconds)
@@ -98,5 +106,5 @@ def counts_as(member):
 
 
 def abstains(cluster, started):
-    """The moment from which each of the members that started until this moment answers rounds."""
+    """The moment from which each of the members that started without a record until this moment answers rounds."""
     time.sleep(max(0, started + cluster.times.abstention() + 0.05 - now()))

@@ -1,0 +1,249 @@
+#!/usr/bin/env python3
+"""Measures what kept promises cost: keeps of an election and a renewal, votes a second, and a voter's restart.
+
+Run it as `python3 bench/promises.py [BOOTHD KEEPS]`, the programs being what `make build` and rt leave where they are
+left out. It prints one table, has the status 1 where a mark is missed by more than a tenth, and takes two minutes. All
+of it is on one disk, in the folder for temporary files: what else writes to that spoils it. A voter is asked by a site
+that is none: this program has its address.
+"""
+
+import contextlib
+import itertools
+import os
+import socket
+import statistics
+import subprocess
+import sys
+import tempfile
+import time
+
+HERE = os.path.dirname(os.path.abspath(__file__))
+TOP = os.path.dirname(HERE)
+sys.path[:0] = [HERE, f"{TOP}/tools"]
+
+import frames
+import record_file
+from members import TICKET, Cluster, Times, now, wait_for
+from records import KEEPS, host_round
+from run import Row, at_least, below, cpu_seconds, print_table
+from serving import NotServing, built_program, end_by_signals, own_addresses
+
+MANY = tuple(b"ticket-%02d" % number for number in range(64))
+FEW = MANY[:10]
+TIMES = Times(expire=10, timeout=1, retries=3, renewal=5)
+SECONDS = 20
+# rounds of votes beside rounds of keeps, and how many votes wait for an answer at once
+ROUNDS, VOTES, AT_ONCE = 15, 400, 16
+RESTARTS = 40
+SECONDS_TO_ANSWER = 10
+LAST_TERM = 4_294_967_294
+
+ADDRESSES = own_addresses()
+
+
+def require(holds, what):
+    if not holds:
+        raise NotServing(what)
+
+
+def made(program, folder, tickets):
+    """A cluster of members that abstained long ago."""
+    cluster = Cluster(program, folder, list(itertools.islice(ADDRESSES, 3)), times=TIMES, tickets=tickets)
+    cluster.remember()
+    return cluster
+
+
+def number(member, ticket):
+    """How often the member kept a record of this ticket: each keep has the next number."""
+    with open(member.record_path(ticket), "rb") as file:
+        return record_file.in_force(record_file.slots_in(file.read(record_file.FILE_BYTES))).number
+
+
+def numbers(cluster, tickets):
+    return [sum(number(member, ticket) for ticket in tickets) for member in cluster.members]
+
+
+def held(member, tickets):
+    return all((record := member.record(ticket)) is not None and record.holds(now()) for ticket in tickets)
+
+
+def keeps_between(cluster, tickets, what):
+    """How many keeps of a ticket each member did meanwhile."""
+    before = numbers(cluster, tickets)
+    what()
+    return [(after - early) / len(tickets) for early, after in zip(before, numbers(cluster, tickets))]
+
+
+def in_words(keeps):
+    """Those of the site that asks, and of each of the two that answer."""
+    return f"{keeps[0]:.2f} at the site, {keeps[1]:.2f} and {keeps[2]:.2f} at the others"
+
+
+def grant_all(cluster, tickets, apart=0.0):
+    one = cluster.members[0]
+    for ticket in tickets:
+        require(one.about("CGnt", ticket) in ("ok", "Asyn"), "a grant is not begun")
+        time.sleep(apart)
+    require(wait_for(lambda: held(one, tickets), SECONDS_TO_ANSWER), "a ticket is not held")
+    # (the last voter answers after the majority)
+    time.sleep(0.5)
+
+
+def cluster_rows(program, folder, keep):
+    """64 tickets that one site holds, with the keeps of each member counted. `keep` is how long one takes alone."""
+    with made(program, folder, MANY) as cluster:
+        one, *others = cluster.members
+        cluster.start()
+        keeps = keeps_between(cluster, MANY, lambda: grant_all(cluster, MANY))
+        yield Row("keeps of an election", in_words(keeps))
+        ends = {ticket: one.record(ticket).until for ticket in MANY}
+        cpu = [cpu_seconds(member.server.process) for member in cluster.members]
+        keeps = keeps_between(cluster, MANY, lambda: time.sleep(SECONDS))
+        cpu = [cpu_seconds(member.server.process) - before for member, before in zip(cluster.members, cpu)]
+        require(held(one, MANY), "a lease was lost")
+        rounds = [round((one.record(ticket).until - end) / TIMES.renewal) for ticket, end in ends.items()]
+        renewals = sum(rounds)
+        require(renewals >= len(MANY), f"{renewals} renewals")
+        each = [count * len(MANY) / renewals for count in keeps]
+        yield Row("keeps of a renewal", in_words(each))
+        shown = f"{cpu[0] / renewals * 1e6:.0f} µs; {cpu[2] / renewals * 1e6:.0f} µs"
+        yield Row("CPU a renewal, 64 tickets held: the holder's; a voter's", shown)
+        shares = [count * len(MANY) * keep / SECONDS for count in keeps]
+        shown = f"{shares[0]:.1%}; {shares[2]:.1%}"
+        yield Row("share of the disk, 64 tickets, expire = 10: the holder's; a voter's", shown)
+
+
+@contextlib.contextmanager
+def heard_at(address):
+    """A socket at the address of a member that does not run."""
+    with socket.socket(socket.AF_INET, socket.SOCK_DGRAM) as hearer:
+        hearer.bind((address, frames.PORT))
+        hearer.settimeout(SECONDS_TO_ANSWER)
+        yield hearer
+
+
+def renewal_rows(program, folder):
+    """From the turn of a renewal to what is said of the kept lease, as the arbitrator hears it, which is silent."""
+    with made(program, folder, FEW) as cluster:
+        cluster.start(0, 1)
+        with heard_at(cluster.members[2].address) as hearer:
+            grant_all(cluster, FEW, apart=TIMES.renewal / len(FEW))
+            opened, took, end = {}, [], time.monotonic() + SECONDS
+            while time.monotonic() < end:
+                came, moment = hearer.recv(frames.FRAME_BYTES), time.time()
+                head = frames.Head.read(came)
+                ticket = came[frames.HEAD_BYTES : frames.HEAD_BYTES + 64]
+                if head.cmd == frames.code("HrtB"):
+                    opened.setdefault(ticket, head.millis() / 1000)
+                elif head.cmd == frames.code("UpdE") and ticket in opened:
+                    took.append(moment - opened.pop(ticket))
+    require(len(took) >= len(FEW), f"{len(took)} renewals")
+    shown = f"{statistics.median(took) * 1e3:.1f} ms (lowest: {min(took) * 1e3:.1f} ms, {len(took)} of them)"
+    yield Row("a renewal, from its round to what is said of the kept lease", shown)
+
+
+class Site:
+    """A site that asks an arbitrator for votes, in rising terms."""
+
+    def __init__(self, own, voter, hearer):
+        self.id = frames.member_id(own.address)
+        self.voter, self.hearer = (voter.address, frames.PORT), hearer
+        self.term = 0
+
+    def ask(self):
+        self.term += 1
+        require(self.term < LAST_TERM, "the terms are spent")
+        body = frames.ticket_body(TICKET, self.id, self.term, 0)
+        self.hearer.sendto(frames.request_now("RVot", 0, body, sender=self.id), self.voter)
+
+    def vote(self):
+        """The term of the next vote that comes."""
+        while True:
+            came = self.hearer.recv(frames.FRAME_BYTES)
+            head = frames.Head.read(came)
+            # (at its start a member asks for the ticket's state)
+            if head.cmd == frames.code("VtFr"):
+                return int.from_bytes(came[frames.HEAD_BYTES + 68 : frames.HEAD_BYTES + 72], "big")
+            require(head.cmd == frames.code("Stat"), f"{head.cmd.to_bytes(4, 'big')} is no vote")
+
+    def round(self):
+        """The seconds of a vote, of many that are asked for before the last is answered."""
+        first, started = self.term, time.perf_counter()
+        for _ in range(AT_ONCE):
+            self.ask()
+        for place in range(VOTES):
+            require(self.vote() == first + place + 1, "a vote is of another term")
+            if place + AT_ONCE < VOTES:
+                self.ask()
+        return (time.perf_counter() - started) / VOTES
+
+
+def vote_rows(program, keeps, folder):
+    """Votes of an arbitrator beside keeps of the host alone, in turns on one disk."""
+    with made(program, f"{folder}/cluster", (TICKET,)) as cluster:
+        own, _, voter = cluster.members
+        with heard_at(own.address) as hearer:
+            cluster.start(2)
+            site = Site(own, voter, hearer)
+            site.round()
+            before = number(voter, TICKET)
+            rounds = [(site.round(), host_round(keeps, f"{folder}/alone")[0]) for _ in range(ROUNDS)]
+            kept = (number(voter, TICKET) - before) / (ROUNDS * VOTES)
+            vote, keep = map(min, zip(*rounds))
+            yield Row("keeps of a vote", f"{kept:.2f}")
+            yield Row("votes a second, at an arbitrator", f"{1 / vote:,.0f} (keeps alone: {1 / keep:,.0f})")
+            yield at_least("the same as a ratio to its keeps", keep / vote, f"{keep / vote:.2f}", 0.8)
+            yield restart_row(cluster, voter, site)
+
+
+def restart_row(cluster, voter, site):
+    """From the exec of a voter that was killed to its next vote."""
+    took = []
+    for _ in range(RESTARTS):
+        voter.kill()
+        words = [cluster.program, "daemon", "-c", cluster.conf, "-s", voter.address]
+        words += ["-l", f"{voter.folder}/lock", "-d", voter.records]
+        started = time.perf_counter()
+        with subprocess.Popen(words, stdin=subprocess.DEVNULL) as process:
+            try:
+                took.append(answered(site) - started)
+            finally:
+                process.kill()
+    shown = f"{statistics.median(took) * 1e3:.1f} ms (lowest: {min(took) * 1e3:.1f} ms)"
+    return below("from the start of a voter to its next vote", statistics.median(took) * 1e3, shown, 10, "ms")
+
+
+def answered(site):
+    """The moment of the next vote, which is asked for until it comes."""
+    first, end = site.term + 1, time.monotonic() + SECONDS_TO_ANSWER
+    site.hearer.settimeout(0.0005)
+    while time.monotonic() < end:
+        site.ask()
+        # (those of terms before are of the process that was killed)
+        with contextlib.suppress(socket.timeout):
+            while site.vote() < first:
+                pass
+            return time.perf_counter()
+    raise NotServing("a voter that started gives no vote")
+
+
+def main(words):
+    end_by_signals()
+    program, keeps = words if len(words) == 2 else (built_program(), KEEPS)
+    if program is None or not os.access(keeps, os.X_OK):
+        sys.exit("promises.py: boothd or keeps is not built: make build and rt ci leave them")
+    program, keeps = os.path.abspath(program), os.path.abspath(keeps)
+    with tempfile.TemporaryDirectory(prefix="booth-bench-") as folder:
+        try:
+            rows = list(vote_rows(program, keeps, f"{folder}/votes"))
+            keep = min(host_round(keeps, f"{folder}/keeps")[0] for _ in range(ROUNDS))
+            rows += cluster_rows(program, f"{folder}/many", keep)
+            rows += renewal_rows(program, f"{folder}/few")
+        except (NotServing, OSError, subprocess.CalledProcessError) as why:
+            sys.exit(f"promises.py: {why}")
+    print_table(rows)
+    return 1 if any(row.met() == "NO" for row in rows) else 0
+
+
+if __name__ == "__main__":
+    sys.exit(main(sys.argv[1:]))

@@ -1,0 +1,207 @@
+"""What booth-status --check says of configurations: the program's verdict, and what a test wrote into them.
+
+It is imported by tests/status.py, and not run by itself.
+"""
+
+import os
+import pwd
+import socket
+
+import key_file
+from look_stories import KEY, PORT, Three, all_of, well
+from serving import built_program
+from status_runs import document, first_text, problems_of, require, require_same, run_apart, story
+
+ROOT = 0
+# of a file without faults; a key comes with each
+PLAIN = "site = 192.0.2.10\nsite = 198.51.100.10\narbitrator = 203.0.113.10\n"
+TICKET = "ticket = db8\n"
+
+
+def key_in(folder, content=KEY, mode=0o600):
+    path = os.path.join(folder, "authkey")
+    with open(path, "wb") as file:
+        file.write(content)
+    os.chmod(path, mode)
+    return path
+
+
+class Checked:
+    """Checks texts with a boothd of this folder: a program that says what a test wants, or the real one."""
+
+    def __init__(self, folder, says="boothd: $5 is not a member"):
+        self.path = os.path.join(folder, "checked.conf")
+        self.programs = os.path.join(folder, "programs")
+        os.makedirs(self.programs, exist_ok=True)
+        with open(f"{self.programs}/boothd", "w", encoding="ascii") as file:
+            file.write(f'#!/bin/sh\necho "{says}" >&2\nexit 1\n')
+        os.chmod(f"{self.programs}/boothd", 0o755)
+
+    def of(self, text, *words, programs=None):
+        """The document of a check of this text."""
+        with open(self.path, "w", encoding="ascii") as file:
+            file.write(text)
+        os.environ["PATH"], before = f"{programs or self.programs}:/usr/bin:/bin", os.environ["PATH"]
+        try:
+            return document("--check", self.path, *words)
+        finally:
+            os.environ["PATH"] = before
+
+    def kinds(self, text, *words, **more):
+        """Severity, kind and ticket or address of each problem, but those of a user that this machine has not."""
+        told = self.of(text, *words, **more)
+        found = {(severity, kind, ticket or member) for severity, kind, member, _, ticket in problems_of(told)}
+        return {each for each in found if each[1] != "key-owner"}
+
+
+@story
+def a_file_without_faults(folder):
+    """a file without faults has status 0 in each form, and a file that cannot be read has status 3"""
+    checked = Checked(folder)
+    text = f"{PLAIN}authfile = {key_in(folder)}\n{TICKET}"
+    require(checked.kinds(text) == set(), f"{checked.of(text)}")
+    env = {**os.environ, "PATH": f"{checked.programs}:/usr/bin:/bin"}
+    line = f"OK: {checked.path}: 3 members, 1 ticket\n"
+    for words, printed in ((["-b"], f"BOOTH {line}"), ([], line)):
+        ran = run_apart("booth-status", "--check", checked.path, *words, env=env)
+        require(ran.status == 0 and ran.printed.endswith(printed) and not ran.said, str(ran))
+    ran = run_apart("booth-status", "--check", f"{folder}/none.conf", env=env)
+    said = f"booth-status: cannot read {folder}/none.conf: No such file or directory\n"
+    require_same((ran.status, ran.printed, ran.said), (3, "", said))
+    require_same(sorted(os.listdir(folder)), ["authkey", "checked.conf", "programs"])
+
+
+@story
+def the_verdict_of_the_program(folder):
+    """what boothd refuses is told in its words, and where there is no boothd that is said"""
+    text = f"{PLAIN}authfile = {key_in(folder)}\n{TICKET}"
+    told = Checked(folder, says="boothd: ./x.conf: line 7: repeated").of(text)
+    require_same((told["status"], first_text(told)), (2, "./x.conf: line 7: repeated"))
+    os.makedirs(f"{folder}/empty")
+    unasked, refused = ("warning", "no-verdict", None), ("critical", "refused", None)
+    require_same(Checked(folder).kinds(text, programs=f"{folder}/empty"), {unasked})
+    require_same(Checked(folder).kinds(text + "expire = 0\n", programs=f"{folder}/empty"), {unasked, refused})
+    boothd = built_program()
+    if boothd is None:
+        return
+    real, checked = os.path.dirname(boothd), Checked(folder)
+    require(checked.kinds(text, programs=real) == set(), "the real one refuses a good file")
+    for more, said in (
+        ("expire = 0\n", f"{checked.path}: line 6: bad value for expire"),
+        ("expire = 7\nexpire = 8\n", f"{checked.path}: line 7: repeated"),
+        ("expire = 60\nrenewal-freq = 60\n", f"{checked.path}: ticket db8: renewal-freq is not below expire"),
+    ):
+        told = checked.of(text + more, programs=real)
+        require_same((told["problems"][0]["kind"], first_text(told)), ("refused", said))
+    require_same(sorted(os.listdir(folder)), ["authkey", "checked.conf", "empty", "programs"])
+
+
+@story
+def what_is_in_the_file(folder):
+    """defaults that are none, addresses that do not meet, a port that is too low, and times that leave no room"""
+    checked, key = Checked(folder), f"authfile = {key_in(folder)}\n"
+    many = "".join(f"ticket = t{number}\nexpire = 12\ntimeout = 1\nretries = 3\n" for number in range(64))
+    handler = "before-acquire-handler = /bin/true\n"
+    cases = [
+        (PLAIN + key + "ticket = __defaults__\nexpire = 60\n" + TICKET, {("critical", "defaults", "__defaults__")}),
+        (PLAIN + key + "ticket = __default__\nexpire = 120\n" + TICKET, set()),
+        (PLAIN + key + TICKET + "ticket = defaultroute\n", set()),
+        ("site = 192.0.2.10\nsite = 2001:db8::1\n" + key + TICKET, {("critical", "families", None)}),
+        ("site = 2001:db8::2\nsite = 2001:db8::1\n" + key + TICKET, set()),
+        ("site = 127.0.0.1\nsite = 192.0.2.10\n" + key + TICKET, {("critical", "families", None)}),
+        ("site = fe80::1\nsite = 2001:db8::1\n" + key + TICKET, {("critical", "address", "fe80::1")}),
+        ("site = 224.0.0.9\nsite = 192.0.2.10\n" + key + TICKET, {("critical", "address", "224.0.0.9")}),
+        ("site = 0.0.0.0\nsite = 192.0.2.10\n" + key + TICKET, {("critical", "address", "0.0.0.0")}),
+        (PLAIN + key + "port = 929\n" + TICKET, {("warning", "port", None)}),
+        (PLAIN + key + TICKET + "expire = 62\nrenewal-freq = 57\n", {("warning", "tries", "db8")}),
+        (PLAIN + key + TICKET + "expire = 63\nrenewal-freq = 57\n", set()),
+        (PLAIN + key + TICKET + "mode = manual\nexpire = 62\nrenewal-freq = 57\n", set()),
+        (PLAIN + key + TICKET + handler + "expire = 110\nrenewal-freq = 56\n", {("warning", "handler", "db8")}),
+        (PLAIN + key + TICKET + handler + "expire = 112\nrenewal-freq = 56\n", set()),
+        # 64 renewals of six syncs of 10 ms take 3.84 s: more than a timeout, less than the 6 s that a lease runs on
+        (PLAIN + key + many, {("warning", "syncs", "t0")}),
+        (PLAIN + TICKET, {("warning", "no-key", None)}),
+    ]
+    for text, wanted in cases:
+        require_same(checked.kinds(text), wanted, f"{text!r}: ")
+    # (those of 16 ms take 6.144 s, of 2.5 ms 0.96 s, and of 5.5 ms 2.112 s, where a lease runs on for 2 s)
+    late = many.replace("expire = 12", "expire = 14\nrenewal-freq = 12")
+    too_long = {("critical", "syncs", "t0")}
+    for text, millis, wanted in ((many, 16, too_long), (many, 2.5, set()), (late, 5.5, too_long)):
+        require_same(checked.kinds(PLAIN + key + text, "--sync", millis), wanted, f"syncs of {millis} ms: ")
+
+
+def owned_by_another(folder, checked):
+    """Whether the daemon's user may read the key, and who else may; here that user is one that each machine has."""
+    user, other = pwd.getpwnam("nobody"), pwd.getpwnam("daemon")
+    path = key_in(folder)
+    before, key_file.DAEMON = key_file.DAEMON, user.pw_name
+    try:
+        for owner, group, mode, wanted in (
+            (user.pw_uid, user.pw_gid, 0o600, set()),
+            (user.pw_uid, other.pw_gid, 0o200, {("critical", "key-owner")}),
+            (ROOT, ROOT, 0o600, {("critical", "key-owner")}),
+            (ROOT, user.pw_gid, 0o640, set()),
+            (other.pw_uid, user.pw_gid, 0o640, {("warning", "key-owner")}),
+            (user.pw_uid, other.pw_gid, 0o640, {("warning", "key-mode")}),
+        ):
+            os.chown(path, owner, group)
+            os.chmod(path, mode)
+            told = problems_of(checked.of(f"{PLAIN}authfile = {path}\n{TICKET}"))
+            require_same({(severity, kind) for severity, kind, *_ in told}, wanted, f"{owner}:{group} {mode:o}: ")
+    finally:
+        key_file.DAEMON = before
+        os.chown(path, ROOT, ROOT)
+
+
+@story
+def the_file_of_the_key(folder):
+    """the key's file is there, has a key, and is for the daemon's user alone"""
+    checked = Checked(folder)
+    daemon = next((each for each in pwd.getpwall() if each.pw_name == "booth"), None)
+    if os.geteuid() == ROOT:
+        owned_by_another(folder, checked)
+    cases = [
+        (KEY, 0o600, set()),
+        (KEY, 0o400, set()),
+        (KEY, 0o640, {("warning", "key-mode")}),
+        (KEY, 0o644, {("critical", "key-mode")}),
+        (KEY, 0o660, {("critical", "key-mode")}),
+        (b"seven77", 0o600, {("critical", "key")}),
+        (b"k" * 65, 0o600, {("critical", "key")}),
+    ]
+    for content, mode, wanted in cases:
+        path = key_in(folder, content, mode)
+        if daemon and os.geteuid() == ROOT:
+            # (of a group that is not that user's)
+            os.chown(path, daemon.pw_uid, ROOT)
+        found = {(severity, kind) for severity, kind, _ in checked.kinds(f"{PLAIN}authfile = {path}\n{TICKET}")}
+        require(found == wanted, f"{content} with mode {mode:o}: {found}")
+    for path in (f"{folder}/no-key", folder):
+        found = checked.kinds(f"{PLAIN}authfile = {path}\n{TICKET}")
+        require(found == {("critical", "key", None)}, f"{path}: {found}")
+    told = problems_of(checked.of(f"{PLAIN}authfile = {key_in(folder)}\n{TICKET}"))
+    owner = {(severity, kind) for severity, kind, *_ in told}
+    # (root's key is not for the user booth; where there is no such user, it cannot be told)
+    due = ("critical", "key-owner") if daemon and os.geteuid() == ROOT else ("notice", "key-owner")
+    require(owner == {due} or daemon and os.geteuid() != ROOT, f"{owner}")
+
+
+@story
+def the_members_of_the_file(folder):
+    """with --members it tells who does not answer, and whose clock is further than maxtimeskew from this machine's"""
+    checked = Checked(folder)
+    path = key_in(folder)
+    for authfile, key, severity in ((f"authfile = {path}\n", KEY, "critical"), ("", None, "warning")):
+        three = Three(folder, authfile=authfile, skew=20)
+        one, two, third = three.addresses
+        with open(three.path, encoding="ascii") as file:
+            text = file.read()
+        with all_of([three.fake(one, key=key), three.fake(two, key=key, ahead=-40)]):
+            with socket.socket(socket.AF_INET, socket.SOCK_DGRAM) as silent:
+                silent.bind((third, PORT))
+                found = checked.kinds(text, "--members", "-t", "0.5")
+        keyless = set() if key else {("warning", "no-key", None)}
+        require_same(found, keyless | {(severity, "clock", two), ("warning", "silent", third)})
+        with well(three, key=key, ahead=15):
+            require_same(checked.kinds(text, "--members"), keyless)

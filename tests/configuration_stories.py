@@ -1,0 +1,86 @@
+"""How booth-status reads a configuration: the lines, defaults and faults of booth.conf(5).
+
+It is imported by tests/status.py, and not run by itself.
+"""
+
+import os
+
+import configuration
+import refusals
+from status_runs import require, require_same, story
+
+MEMBERS = "site = 192.0.2.10\narbitrator = 192.0.2.11\n"
+# of a ticket without keys: expire, acquire-after, timeout, retries, renewal-freq, no handler
+TABLE = (600, 0, 5, 10, 300, None)
+
+
+def read(folder, text):
+    """The configuration that this text says, or the refusal behind the file's name."""
+    path = os.path.join(folder, "read.conf")
+    with open(path, "wb") as file:
+        file.write(text if isinstance(text, bytes) else text.encode("latin-1"))
+    try:
+        return configuration.read(path)
+    except configuration.Unreadable as why:
+        return str(why).replace(f"{path}: ", "")
+
+
+def tickets_of(folder, text):
+    found = read(folder, MEMBERS + text)
+    require(not isinstance(found, str), f"{text!r}: {found}")
+    return [(ticket.name, ticket.is_manual, *ticket[2:]) for ticket in found.tickets]
+
+
+@story
+def lines_and_quotes_are_read(folder):
+    """a line is read with its blanks, quotes and comment, as the page has them"""
+    lines = ["ticket=db8", " ticket\t= db8 # a comment", 'ticket = "db8"# one', "ticket = 'db8'\r", "ticket = db8 #"]
+    for line in [*lines, "# x\n\nticket=db8  "]:
+        require_same(tickets_of(folder, line), [("db8", False, *TABLE)], f"{line!r}: ")
+    require_same(tickets_of(folder, "ticket = a#b\nticket = '#c'\nticket = \"it's\"")[0][0], "a#b")
+    text = 'site="192.0.2.10"\nsite=2001:DB8:0::1\nport=1024\nauthfile = "/a b"\nmaxtimeskew = 20\nticket=a\n'
+    found = read(folder, text)
+    members = [("site", "192.0.2.10"), ("site", "2001:db8::1")]
+    require_same((found.members, found.port, found.authfile, found.skew), (members, 1024, "/a b", 20))
+    found = read(folder, MEMBERS + "ticket = a\nport = 9000\ntransport = UDP\ndebug = 1\nsite-user = x\n")
+    require_same((found.port, found.authfile, found.skew), (9000, None, 600))
+
+
+@story
+def defaults_are_inherited(folder):
+    """a ticket has its own values, else those of __default__, else those of the page"""
+    defaults = "ticket = __default__\nexpire = 120\nretries = 5\nmode = manual\n"
+    text = f"{defaults}ticket = one\nticket = two\nexpire = 60\nmode = auto\nrenewal-freq = 45\n"
+    text += "acquire-after = 9\ntimeout = 2\nbefore-acquire-handler = /bin/true x\nweights = 1,2\nattr-prereq = 'auto a eq b'\n"
+    of_two = ("two", False, 60, 9, 2, 5, 45, "/bin/true x")
+    require_same(tickets_of(folder, text), [("one", True, 120, 0, 5, 5, 60, None), of_two])
+    require_same(tickets_of(folder, "ticket = one\nexpire = 7"), [("one", False, 7, 0, 5, 10, 3.5, None)])
+    # expire and acquire-after, and a guard of 2 ms and 2/999 of expire, rounded down: 1203 ms of 600 s
+    promise = read(folder, MEMBERS + "ticket = one\nacquire-after = 15").tickets[0].promise()
+    require(abs(promise - 616.203) < 1e-9, f"a promise of {promise} s")
+
+
+# which keys' values are looked at here: the others boothd alone judges
+JUDGED = [b"port", b"maxtimeskew", b"site", b"arbitrator", b"mode"]
+JUDGED += [b"expire", b"acquire-after", b"timeout", b"retries", b"renewal-freq"]
+
+
+@story
+def faults_are_told_with_their_lines(folder):
+    """what boothd refuses of the lines, keys and values that are looked at is refused with the same words"""
+    file = refusals.FILE.replace(b"@", b"127.0.0.9")
+    cases = [(file + line, "line 5: syntax") for line in refusals.SYNTAX]
+    cases += [(file + line, "line 5: unknown key") for line in refusals.UNKNOWN]
+    cases += [(key + b" = 1\n" + file, "line 1: misplaced key") for key in refusals.TICKETS_ALONE]
+    for key in JUDGED:
+        text = [file + b"%s = %s\n" % (key, value) for value in refusals.BAD[key]]
+        cases += [(each, f"line 5: bad value for {key.decode()}") for each in text]
+    cases += [(text, what.decode()) for text, what in refusals.WHOLE if what in (b"no site", b"no ticket")]
+    for text, fault in cases:
+        require_same(read(folder, text), fault, f"{text!r}: ")
+    require_same(read(folder, b"#" * 1_048_577), "too large")
+    found = read(folder, refusals.RICH.replace(b"@", b"127.0.0.9"))
+    members = [("site", "127.0.0.9"), ("site", "192.168.202.100"), ("arbitrator", "2001:db8::c0a8:cb64")]
+    require_same((found.members, found.port, found.skew, found.authfile), (members, 9929, 700, None))
+    times = [(ticket.name, ticket.expire, ticket.timeout, ticket.retries, ticket.renewal) for ticket in found.tickets]
+    require_same(times, [("ticket-db8", 600, 9, 5, 60), ("t#2", 61, 9, 5, 55), ('the"last', 600, 9, 5, 60)])

@@ -1,0 +1,62 @@
+"""Members that are none: each answers for lists and peers what a test arranged, at an address of its own.
+
+It is imported by the stories of tests/status.py, and not run by itself. docs/PROTOCOL.md has what a member answers.
+"""
+
+import socket
+import threading
+import time
+
+import frames
+
+
+class FakeMember:
+    """Answers in a `with` block. `held` and `peers` are the lines of its two answers, or None where it gives none.
+
+    `ahead` is how far its clock is ahead of this machine's, in seconds. `meddle` makes of a right answer what is sent.
+    """
+
+    def __init__(self, address, port, held, peers, key=None, ahead=0.0, meddle=lambda answer: [answer]):
+        self.address = address
+        self.texts = {"CLst": held, "Peer": peers}
+        self.key = key
+        self.ahead = ahead
+        self.meddle = meddle
+        self.asked = 0
+        family = socket.AF_INET6 if ":" in address else socket.AF_INET
+        self.socket = socket.socket(family, socket.SOCK_DGRAM)
+        self.socket.bind((address, port))
+        self.thread = threading.Thread(target=self.serve, daemon=True)
+
+    def __enter__(self):
+        self.thread.start()
+        return self
+
+    def __exit__(self, *_):
+        # (an empty datagram to itself ends the thread)
+        self.socket.sendto(b"", self.socket.getsockname())
+        self.thread.join()
+        self.socket.close()
+
+    def serve(self):
+        while True:
+            request, asker = self.socket.recvfrom(frames.FRAME_BYTES + 1)
+            if not request:
+                return
+            self.asked += 1
+            for answer in self.answers(request):
+                self.socket.sendto(answer, asker)
+
+    def answers(self, request):
+        """What is sent to who asks this."""
+        head = frames.Head.read(request)
+        letters = next(each for each in self.texts if frames.code(each) == head.cmd)
+        # (a member takes what a client says only as the page has it)
+        assert request == frames.sealed(self.key, letters, request=head.request, secs=head.secs, usecs=head.usecs)
+        lines = self.texts[letters]
+        if lines is None:
+            return []
+        millis = int((time.time() + self.ahead) * 1000)
+        body = "".join(line + "\n" for line in lines).encode()
+        fields = {"sender": frames.member_id(self.address), "request": head.request, **frames.clock_fields(millis)}
+        return self.meddle(frames.sealed(self.key, frames.ANSWER_TO[letters], body, **fields))

@@ -1,0 +1,56 @@
+"""What tests/installed.py holds booth-status and booth-record to: their pages, and that they run where they are put.
+
+It is imported by tests/installed.py, and not run by itself. tests/status.py has what they show.
+"""
+
+import json
+import os
+import re
+
+from records import slot
+from shells import need, read, run
+
+TOP = os.path.dirname(os.path.dirname(os.path.abspath(__file__)))
+# what is written in Python: all of it is there whatever is built
+TOOLS = ("booth-status", "booth-record")
+
+
+def pages_have_all_options_of_tools(room):
+    """the page of booth-status and of booth-record has each option of its help, and no other, and both fit a screen"""
+    version = re.search(r"^VERSION := (\S+)$", read(f"{TOP}/Makefile"), re.M)[1]
+    for name in TOOLS:
+        path = f"{TOP}/packaging/{name}"
+        done = run(path, "--help")
+        need(done.returncode == 0 and not done.stderr, f"{name} --help: status {done.returncode}, {done.stderr}")
+        lines = done.stdout.splitlines()
+        longest = max(map(len, lines))
+        need(len(lines) <= 24 and longest <= 80, f"its help has {len(lines)} lines of up to {longest}")
+        told = {word for line in lines for word in re.findall(r"(?:^ +|, )(--?[A-Za-z][a-z-]*)", line[:28])}
+        items = re.findall(r"^\.It (Fl .*)$", read(f"{TOP}/man/{name}.8"), re.M)
+        in_page = {"-" + word for item in items for word in re.findall(r"Fl (-?[A-Za-z][a-z-]*)", item)}
+        need(told and told == in_page, f"{name}: {sorted(told ^ in_page)} is not in both")
+        done = run(path, "--version")
+        need(done.stdout == f"{name} {version}\n", f"{name} --version: {done.stdout}")
+
+
+def run_alone(folder):
+    """The tools in this folder run with nothing of the repository, from another directory."""
+    for name in TOOLS:
+        need("../tools" not in read(f"{folder}/{name}"), f"the installed {name} names the repository")
+        done = run(f"{folder}/{name}", "--version", cwd="/", env={"PATH": "/usr/bin"})
+        need(done.returncode == 0 and not done.stderr, f"the installed {name}: {done.stderr}")
+
+
+def tools_look(folder, conf, room):
+    """The installed tools look at a daemon that holds nothing and has no majority, and at a record file."""
+    done = run(f"{folder}/booth-status", "-b", "-t", "20", "-c", conf)
+    need(done.returncode == 2 and "1 of 3 members answer" in done.stdout, f"booth-status: {done.stdout}{done.stderr}")
+    done = run(f"{folder}/booth-status", "--check", conf, "-j")
+    kinds = {problem["kind"] for problem in json.loads(done.stdout)["problems"]}
+    # (whose the key may be hangs on the users of this machine)
+    need(kinds <= {"key-owner", "no-key"} and not done.stderr, f"--check: {done.stdout}{done.stderr}")
+    path = f"{room}/{b'ticket-db8'.hex()}.rec"
+    with open(path, "wb") as file:
+        file.write(slot(1, 1, 7))
+    done = run(f"{folder}/booth-record", "-c", conf, path)
+    need(done.returncode == 0 and "\nterm      7\n" in done.stdout, f"booth-record: {done.stdout}{done.stderr}")

@@ -1,0 +1,224 @@
+"""What booth-record prints of record files of both versions, whole and torn.
+
+They are written here byte by byte from docs/RECORDS.md. It is imported by tests/status.py, and not run by itself.
+"""
+
+import os
+import struct
+import time
+
+import frames
+from records import slot
+from status_runs import record, refuses, require, require_same, story
+
+# 2026-11-27 12:00:00 UTC, which docs/RECORDS.md has as 1a21ce06e00, and the end of the promise there
+NOON, LATER = 0x1A21CE06E00, 0x1A21CE072B3
+ONE, TWO = "192.168.201.100", "192.168.202.100"
+NAME = b"ticket-db8".hex() + ".rec"
+# what docs/RECORDS.md shows, from the slot at 80 on
+EXAMPLE = """\
+0100 0000 0000 0000 0000 0000 0000 0005 0000 0002 0000 0002 0000 0007 0000 0002
+0000 01a2 1ce0 6e00 d085 f484 d085 f484 0000 0002 0000 0000 0000 01a2 1ce0 72b3
+0000 01a2 1cb2 abf3 0000 0000 0000 0000 0000 0000 0000 0000 0000 0000 0000 0000
+0000 0000 0000 0000 0000 0000 0000 0000 0000 0000 0000 0000 0000 0000 0000 0000
+0100 0000 0000 0000 0000 0000 0000 0004 0000 0002 0000 0002 0000 0006 0000 0000
+0000 0000 0000 0000 d085 f484 d085 f484 0000 0002 0000 0000 0000 01a2 1ce0 72b3
+0000 01a2 1cb2 abf3 0000 0000 0000 0000"""
+
+HEAD = ["", "SLOT", "VERSION", "COMMIT", "NUMBER", "RECORD"]
+
+
+def first(number, term, lease=None, *, commit=1, version=1, flag=None, zeros=0):
+    """The 64 bytes of a slot of version 1; what has to be otherwise is given."""
+    flag = (1 if lease else 0) if flag is None else flag
+    body = struct.pack(">IIIIQQ", version, term, flag, *(lease or (0, 0)), zeros)
+    return (bytes([commit]) + bytes(7) + number.to_bytes(8, "big") + body).ljust(64, b"\0")
+
+
+def second(number, term, lease=None, bound=None, promise=None, abstain=0, **other):
+    """The 128 bytes of a slot of version 2; what has to be otherwise is given."""
+    has = (lease is not None) + 2 * (bound is not None) + 4 * (promise is not None)
+    to, promise_term, promise_until = promise or (0, 0, 0)
+    fields = (other.get("version", 2), term, other.get("flags", has), *(lease or (0, 0)), bound or 0)
+    last = (to, promise_term, other.get("zero", 0), promise_until, abstain, other.get("zeros", 0))
+    body = struct.pack(">IIIIQI", *fields) + struct.pack(">IIIQQQ", *last)
+    return (bytes([other.get("commit", 1)]) + bytes(7) + number.to_bytes(8, "big") + body).ljust(128, b"\0")
+
+
+def shown(folder, content, *words, name=NAME):
+    """The status, the fields by their names, and the rows of the table of slots."""
+    path = os.path.join(folder, name)
+    with open(path, "wb") as file:
+        file.write(content)
+    ran = record(path, *words)
+    require(not ran.said, ran.said)
+    with open(path, "rb") as file:
+        require(file.read() == content, "the file was written")
+    top, *lines = ran.printed.splitlines()
+    require(top == path, top)
+    start = next(place for place, line in enumerate(lines) if line.split()[:1] == ["SLOT"])
+    fields = []
+    for line in lines[:start]:
+        label, text = line[:8].strip(), line[8:].strip()
+        if label:
+            fields.append([label, text])
+        else:
+            fields[-1].append(text)
+    places = [lines[start].index(word) if word else 0 for word in HEAD] + [None]
+    rows = [[line[one:two].strip() for one, two in zip(places, places[1:])] for line in lines[start:]]
+    require(rows[0] == HEAD, f"{rows[0]}")
+    return ran.status, {label: texts for label, *texts in fields}, rows[1:]
+
+
+def ago(millis):
+    """How long a moment is past, in the greatest unit of which there are two, now or a moment later."""
+    seconds = int(time.time() - millis / 1000)
+    unit, size = next(each for each in (("d", 86_400), ("h", 3600), ("min", 60), ("s", 1)) if seconds >= 2 * each[1])
+    return [f"{(seconds + more) // size} {unit}" for more in (0, 1, 2)]
+
+
+@story
+def the_example_of_the_page(folder):
+    """the example of RECORDS.md is printed as the page explains it"""
+    status, fields, rows = shown(folder, bytes(128) + bytes.fromhex(EXAMPLE))
+    for label, end in (("lease", NOON), ("promise", LATER)):
+        over = [f"by this machine's clock it is over since {span}" for span in ago(end)]
+        require(fields[label][1] in over, f"{fields[label]}")
+    promise = "until 2026-11-27 12:00:01.203 UTC"
+    wanted = {
+        "ticket": ["ticket-db8"],
+        "in force": ["slot 80, number 5, version 2"],
+        "term": ["2"],
+        "lease": ["of term 2, until 2026-11-27 12:00:00.000 UTC", fields["lease"][1]],
+        "bound": ["to member d085f484"],
+        "promise": [f"to member d085f484, of term 2, {promise}", fields["promise"][1]],
+        "abstains": ["until 2026-11-27 11:10:01.203 UTC"],
+    }
+    require_same((status, fields), (0, wanted))
+    slots = [["", place, "1", "no", "0", "does not count"] for place in ("00", "40")]
+    lease = "lease until 2026-11-27 12:00:00.000 UTC"
+    slots.append(["*", "80", "2", "yes", "5", f"term 2, {lease}, promise {promise}"])
+    require_same(rows, [*slots, ["", "100", "2", "yes", "4", f"term 2, no lease, promise {promise}"]])
+
+
+@story
+def files_of_the_first_version(folder):
+    """files of version 1: empty, of one slot, of equal numbers, closed, of a lease that runs, and of a manual ticket"""
+    soon = (int(time.time()) + 7200) * 1000 + 1
+    nothing = "nothing: no slot counts, so the file keeps no record"
+    endless, greatest = "no end, as that of a manual ticket", 2**64 - 1
+    cases = [
+        (b"", nothing, {}),
+        (first(9, 4, commit=0), nothing, {}),
+        (first(9, 4, commit=2) + first(3, 3), "slot 40, number 3", {"term": "3", "lease": "none"}),
+        (slot(1, 1, 7), "slot 00, number 1", {"term": "7", "lease": "none"}),
+        (first(6, 1) + first(6, 2), "slot 00, number 6", {"term": "1", "lease": "none"}),
+        (first(6, 1) + first(greatest, 2)[:48], f"slot 40, number {greatest}", {"term": "2", "lease": "none"}),
+        (first(1, 5, (4, soon)), "slot 00, number 1", {"lease": f"of term 4, until {moment(soon)}"}),
+        (first(1, 5, (5, 2**62)), "slot 00, number 1", {"lease": f"of term 5, until {endless}"}),
+        (first(1, 5, (5, greatest)), "slot 00, number 1", {"lease": f"of term 5, until @{greatest // 1000}.615 UTC"}),
+    ]
+    for content, force, more in cases:
+        status, fields, rows = shown(folder, content)
+        found = {label: fields.get(label, [None])[0] for label in more}
+        force = force if force == nothing else f"{force}, version 1"
+        require_same((status, fields["in force"], found), (0, [force], more), f"{content[:64].hex()}: ")
+        require_same([row[1] for row in rows], ["00", "40"])
+    status, fields, _ = shown(folder, first(1, 5, (4, soon)))
+    spans = [f"by this machine's clock it runs {span} more" for span in ("119 min", "2 h")]
+    require(fields["lease"][1] in spans, f"{fields}")
+    unknown = "not told: the file's name is not HEX.rec, the ticket's name in hexadecimal"
+    for name in ("record", "74.txt", "zz.rec", ".rec", "20.rec"):
+        require_same(shown(folder, slot(1, 1, 7), name=name)[1]["ticket"], [unknown], f"{name}: ")
+
+
+def moment(millis):
+    return time.strftime("%Y-%m-%d %H:%M:%S", time.gmtime(millis // 1000)) + f".{millis % 1000:03} UTC"
+
+
+@story
+def files_of_the_second_version(folder):
+    """files of version 2: a record with and without its parts, beside old slots, and members by their addresses"""
+    conf = os.path.join(folder, "a.conf")
+    with open(conf, "w", encoding="ascii") as file:
+        file.write(f"site = {ONE}\nsite = {TWO}\nticket = ticket-db8\n")
+    one, two = (frames.member_id(each) for each in (ONE, TWO))
+    whole = second(6, 1, (1, 1_600_000), one, (two, 1, 1_601_203), 601_203)
+    old = (first(5, 2, (2, NOON)) + first(4, 2)).ljust(128, b"\0")
+    status, fields, rows = shown(folder, old + whole)
+    over = [f"by this machine's clock it is over since {span}" for span in ago(1_600_000)]
+    require(fields.pop("lease") == ["of term 1, until 1970-01-01 00:26:40.000 UTC", over[0]], f"{fields}")
+    until = "until 1970-01-01 00:26:41.203 UTC"
+    require_same(fields.pop("promise"), [f"to member {two:08x}, of term 1, {until}", over[0]])
+    wanted = {"ticket": ["ticket-db8"], "in force": ["slot 80, number 6, version 2"], "term": ["1"]}
+    wanted.update(bound=[f"to member {one:08x}"], abstains=["until 1970-01-01 00:10:01.203 UTC"])
+    require((status, fields) == (0, wanted), f"{status}, {fields}")
+    told = "term 1, lease until 1970-01-01 00:26:40.000 UTC, promise until 1970-01-01 00:26:41.203 UTC"
+    require_same([row[:2] for row in rows], [["", "00"], ["", "40"], ["*", "80"]])
+    require_same(rows[2][2:], ["2", "yes", "6", told])
+    _, fields, _ = shown(folder, old + whole, "-c", conf)
+    require(fields["bound"] == [f"to {ONE}"] and fields["promise"][0].startswith(f"to {TWO}, of term 1,"), f"{fields}")
+    bare = bytes(128) + second(1, 3, commit=0) + second(2, 9)
+    status, fields, rows = shown(folder, bare)
+    wanted = {"ticket": ["ticket-db8"], "in force": ["slot 100, number 2, version 2"], "term": ["9"], "lease": ["none"]}
+    wanted.update(bound=["to nobody"], promise=["none"], abstains=["no"])
+    require((status, fields) == (0, wanted), f"{status}, {fields}")
+    require_same([row[1] for row in rows], ["00", "40", "80", "100"])
+    require_same(rows[2][5], "does not count")
+    # a file that an older program wrote again: the greatest number of the four is in force, the first among equals
+    beside = bytes(64) + second(7, 2)
+    newest = bytes(128) + second(7, 1) + second(8, 1)
+    for content, force in ((first(8, 1) + beside, "00"), (first(7, 1) + beside, "00"), (newest, "100")):
+        _, fields, _ = shown(folder, content)
+        require(fields["in force"][0].startswith(f"slot {force}, "), f"{fields}")
+
+
+@story
+def torn_files(folder):
+    """a file with a slot that counts and holds no record is refused, whichever slot it is, and the cause is named"""
+    fine, pad = first(9, 1), bytes(64)
+    not_zero = "a field that has to be 0 is not"
+    cases = [
+        (slot(2, 1, 7) + b"\1" + bytes(47), "40", "its version is 0, and not 1"),
+        (first(1, 1, version=2) + fine, "00", "its version is 2, and not 1"),
+        (fine + first(1, 1, flag=2), "40", "its flag is 2, neither 0 nor 1"),
+        (fine + first(1, 1, (1, 5), flag=0), "40", not_zero),
+        (fine + first(1, 1, (1, 0), flag=0), "40", not_zero),
+        (fine + first(1, 1, zeros=1), "40", not_zero),
+        (fine + pad + second(1, 1, version=1), "80", "its version is 1, and not 2"),
+        (fine + pad + second(1, 1, flags=8), "80", "its flags are 8, more than 7"),
+        (fine + pad + second(1, 1, (1, 5), flags=6), "80", not_zero),
+        (fine + pad + second(1, 1, None, 4, flags=0), "80", not_zero),
+        (fine + pad + second(1, 1, None, None, (0, 0, 1), flags=0), "80", not_zero),
+        (fine + pad + bytes(128) + second(1, 1, zero=1), "100", not_zero),
+        (fine + pad + second(1, 1) + second(3, 1, zeros=1), "100", not_zero),
+        (bytes(128) + b"\1", "80", "its version is 0, and not 2"),
+    ]
+    for content, place, why in cases:
+        status, fields, rows = shown(folder, content)
+        nothing = f"nothing: slot {place} is torn, so the daemon refuses the file"
+        require_same((status, fields), (1, {"ticket": ["ticket-db8"], "in force": [nothing]}), f"{content.hex()}: ")
+        require_same([row[5] for row in rows if row[1] == place], [f"torn: {why}"])
+        require(not any(row[0] for row in rows), "a slot of a torn file is in force")
+    status, fields, _ = shown(folder, first(1, 1, version=3) + first(1, 1, version=3))
+    require(fields["in force"] == ["nothing: slots 00, 40 are torn, so the daemon refuses the file"], f"{fields}")
+
+
+@story
+def several_files(folder):
+    """of several files each is printed, and the status is that of the worst; what cannot be read is said"""
+    good, torn, none = (os.path.join(folder, name) for name in (NAME, "61.rec", "62.rec"))
+    for path, content in ((good, slot(1, 1, 7)), (torn, slot(2, 1, 7) + b"\1" + bytes(47))):
+        with open(path, "wb") as file:
+            file.write(content)
+    fifo = os.path.join(folder, "63.rec")
+    os.mkfifo(fifo)
+    require(record(good, good).status == 0, "two good files")
+    ran = record(good, torn)
+    require(ran.status == 1 and ran.printed.count("in force") == 2 and not ran.said, str(ran))
+    ran = record(torn, none, fifo, good)
+    said = [f"cannot read {none}: No such file or directory", f"cannot read {fifo}: it is no regular file"]
+    said = "".join(f"booth-record: {line}\n" for line in said)
+    require_same((ran.status, ran.said, ran.printed.count("in force")), (2, said, 2))
+    refuses("booth-record", [], "the following arguments are required: FILE", 2)
+    refuses("booth-record", ["-c", none, good], f"cannot read {none}: No such file or directory", 2)

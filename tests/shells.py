@@ -1,0 +1,24 @@
+"""What the programs in tests/ that run other programs stand on.
+
+It is imported by tests/installed.py and completions.py, and not run by itself.
+"""
+
+import subprocess
+
+
+class Wrong(Exception):
+    """What a check found."""
+
+
+def need(holds, what):
+    if not holds:
+        raise Wrong(what)
+
+
+def read(path):
+    with open(path, encoding="utf-8") as file:
+        return file.read()
+
+
+def run(*words, **more):
+    return subprocess.run(words, capture_output=True, text=True, timeout=60, check=False, **more)

@@ -1,0 +1,89 @@
+#!/usr/bin/env python3
+"""Holds booth-status and booth-record to what they show: of members and files that are arranged, and of real clusters.
+
+Run it as `python3 tests/status.py [BOOTHD]`, BOOTHD being what `make build` leaves where it is left out. It takes less
+than a minute, prints a line for each story, ends all that it started, and has the status 1 where a story failed. Where
+boothd is not built it leaves the real clusters out.
+"""
+
+import os
+import signal
+import subprocess
+import sys
+import tempfile
+import time
+
+HERE = os.path.dirname(os.path.abspath(__file__))
+sys.path[:0] = [HERE, f"{HERE}/../tools"]
+
+import check_stories
+import cluster_looks
+import configuration_stories
+import look_stories
+import record_stories
+import way_stories
+from serving import NotServing, built_program, end_by_signals
+from status_runs import Wrong, in_time, stories
+
+SECONDS_OF_A_STORY = 120
+
+
+class Hangs(Exception):
+    """A story that did not end."""
+
+
+def hangs(*_):
+    raise Hangs(f"it did not end in {SECONDS_OF_A_STORY} seconds")
+
+
+def passes(story, call):
+    """Whether a story passes. It says what it left out, or nothing."""
+    begun = time.monotonic()
+    signal.signal(signal.SIGALRM, hangs)
+    signal.alarm(SECONDS_OF_A_STORY)
+    try:
+        left_out = call()
+    except (Wrong, Hangs, NotServing, OSError, LookupError, ValueError, subprocess.TimeoutExpired) as why:
+        print(f"FAILED  {story.__doc__}: {type(why).__name__}: {why}", flush=True)
+        return False
+    finally:
+        signal.alarm(0)
+    more = f": {left_out}" if left_out else ""
+    print(f"ok      {story.__doc__}{more} ({time.monotonic() - begun:.1f} s)", flush=True)
+    return True
+
+
+def alone(story):
+    """A story in a folder of its own. What it looks at it arranges itself, so on a busy machine it is told again."""
+
+    def once():
+        with tempfile.TemporaryDirectory(prefix="booth-status-") as folder:
+            return story(folder)
+
+    return in_time(once)
+
+
+def run(program):
+    """Runs each story in a folder of its own, and those of real clusters in one. Says how many failed."""
+    started = time.monotonic()
+    outcomes = [passes(story, lambda story=story: alone(story)) for story in stories]
+    if program is None:
+        print("status: boothd is not built (make build), so no real cluster is looked at")
+    else:
+        with tempfile.TemporaryDirectory(prefix="booth-status-") as folder:
+            outcomes += [passes(story, call) for story, call in cluster_looks.looks(program, folder)]
+    failed = outcomes.count(False)
+    print(f"status: {len(outcomes) - failed} passed, {failed} failed, in {time.monotonic() - started:.1f} s")
+    return failed
+
+
+def main(words):
+    end_by_signals()
+    program = words[0] if words else built_program()
+    if program is not None and not os.access(program, os.X_OK):
+        sys.exit(f"status.py: cannot run {program}")
+    return 1 if run(program and os.path.abspath(program)) else 0
+
+
+if __name__ == "__main__":
+    sys.exit(main(sys.argv[1:]))

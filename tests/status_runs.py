@@ -1,0 +1,220 @@
+"""Runs booth-status and booth-record for the tests beside it, and reads what they print.
+
+It is imported by tests/status.py and its stories, and not run by itself.
+"""
+
+import contextlib
+import functools
+import importlib.machinery
+import importlib.util
+import io
+import json
+import os
+import re
+import subprocess
+import sys
+import time
+from typing import NamedTuple
+
+from serving import NotServing
+
+TOP = os.path.dirname(os.path.dirname(os.path.abspath(__file__)))
+SECONDS_OF_A_RUN = 30
+# how long Python takes to start and to end, on a machine that does much else
+SECONDS_OF_PYTHON = 3
+# how long it may take there until a look shows what it has to
+SECONDS_TO_BE_SO = 30
+SECONDS_BETWEEN_TRIES = 0.1
+
+stories = []
+
+
+class Wrong(Exception):
+    """What a story found."""
+
+
+def require(holds, why):
+    if not holds:
+        raise Wrong(why)
+
+
+def require_same(found, wanted, what=""):
+    require(found == wanted, f"{what}{found}, and not {wanted}")
+
+
+def story(function):
+    """Takes a function, whose docstring says what it shows, into the list."""
+    stories.append(function)
+    return function
+
+
+class Ran(NamedTuple):
+    """What a run left. `took` is in seconds."""
+
+    status: int
+    printed: str
+    said: str
+    took: float
+
+
+class Loaded:
+    """The main function of a program that is no module by its name."""
+
+    def __init__(self, name):
+        loader = importlib.machinery.SourceFileLoader(name.replace("-", "_"), f"{TOP}/packaging/{name}")
+        self.module = importlib.util.module_from_spec(importlib.util.spec_from_loader(loader.name, loader))
+        loader.exec_module(self.module)
+
+    def status(self, words):
+        try:
+            return self.module.main(words)
+        except SystemExit as end:
+            return end.code
+
+
+@functools.lru_cache(None)
+def loaded(name):
+    return Loaded(name)
+
+
+def run(name, *words):
+    """A run of booth-status or booth-record, in this process: to start Python a hundred times would take long."""
+    started, streams = time.monotonic(), [io.TextIOWrapper(io.BytesIO(), write_through=True) for _ in range(2)]
+    with contextlib.redirect_stdout(streams[0]), contextlib.redirect_stderr(streams[1]):
+        result = loaded(name).status([str(word) for word in words])
+    return Ran(result, *(stream.buffer.getvalue().decode() for stream in streams), time.monotonic() - started)
+
+
+def run_apart(name, *words, **more):
+    """The same in a process of its own, as an operator runs it."""
+    started = time.monotonic()
+    command = [sys.executable, "-IS", f"{TOP}/packaging/{name}", *map(str, words)]
+    more.update(stdin=subprocess.DEVNULL, stdout=subprocess.PIPE, stderr=subprocess.PIPE, universal_newlines=True)
+    done = subprocess.run(command, timeout=SECONDS_OF_A_RUN, check=False, **more)
+    require("Traceback" not in done.stderr, done.stderr)
+    return Ran(done.returncode, done.stdout, done.stderr, time.monotonic() - started)
+
+
+def status(*words):
+    return run("booth-status", *words)
+
+
+def record(*words):
+    return run("booth-record", *words)
+
+
+def refuses(name, words, text, result):
+    """A run that prints nothing, and says this on the first line of standard error."""
+    ran = run(name, *words)
+    wanted = (result, "", f"{name}: {text}")
+    found = (ran.status, ran.printed, ran.said.split("\n")[0])
+    require_same(found, wanted, f"{name} {' '.join(map(str, words))} left ")
+
+
+def document(*words):
+    """The document of a look, which has the same status as its run."""
+    ran = status("-j", *words)
+    require(ran.printed.count("\n") == 1 and not ran.said, f"--json printed {ran.printed}{ran.said}")
+    told = json.loads(ran.printed)
+    require_same((told["version"], told["status"]), (1, ran.status), "version and status are ")
+    return told
+
+
+def problems_of(told):
+    """What is wrong by a document, without the texts."""
+    names = ("severity", "kind", "member", "other", "ticket")
+    return {tuple(each[name] for name in names) for each in told["problems"]}
+
+
+def critical(kind, member=None, other=None, ticket=None):
+    return ("critical", kind, member, other, ticket)
+
+
+def warning(kind, member=None, other=None, ticket=None):
+    return ("warning", kind, member, other, ticket)
+
+
+def notice(kind, member=None, other=None, ticket=None):
+    return ("notice", kind, member, other, ticket)
+
+
+def require_problems(told, *wanted):
+    require_same(problems_of(told), set(wanted), f"{told['summary']}: problems ")
+
+
+def in_time(check, state=None):
+    """What the check gives. A busy machine is late: so one that finds something wrong is done again and again, for so
+    many seconds, and then what it found stands. A state file is put back before each further try."""
+    kept, end = content_of(state), time.monotonic() + SECONDS_TO_BE_SO
+    while True:
+        try:
+            return check()
+        except (Wrong, NotServing):
+            if time.monotonic() > end:
+                raise
+        time.sleep(SECONDS_BETWEEN_TRIES)
+        put_back(state, kept)
+
+
+def content_of(path):
+    """The bytes of a file, or None where there is none."""
+    if path is None or not os.path.exists(path):
+        return None
+    with open(path, "rb") as file:
+        return file.read()
+
+
+def put_back(path, kept):
+    """The file as it was."""
+    if kept is not None:
+        with open(path, "wb") as file:
+            file.write(kept)
+    elif path is not None and os.path.exists(path):
+        os.remove(path)
+
+
+def shows(look, *wanted, state=None):
+    """The document of a look with these words, in which these problems are told and no others, once they are."""
+    words = [*look, "-s", state] if state else look
+
+    def check():
+        told = document(*words)
+        require_problems(told, *wanted)
+        return told
+
+    return in_time(check, state)
+
+
+def first_text(told):
+    """What is said of the worst problem."""
+    return told["problems"][0]["text"]
+
+
+def metrics_of(text):
+    """Each sample of metrics by its name and its labels, as Prometheus reads them, below its name's help and type."""
+    form = re.compile(r'([a-z_]+)(?:\{((?:[a-z_]+="(?:[^"\\\n]|\\.)*",?)*)\})? (-?[0-9.]+(?:e-?[0-9]+)?)')
+    samples, known, place = {}, {}, None
+    for line in text.splitlines():
+        if line.startswith("# HELP "):
+            place = line.split(" ")[2]
+        elif line.startswith("# TYPE "):
+            require(line.split(" ")[2] == place, f"the type of {line} has no help")
+            known[place] = line.split(" ")[3]
+        else:
+            found = form.fullmatch(line)
+            require(found and found[1] == place and place in known, f"no sample of {place}: {line}")
+            labels = frozenset(re.findall(r'([a-z_]+)="((?:[^"\\]|\\.)*)"', found[2] or ""))
+            require((place, labels) not in samples, f"twice: {line}")
+            samples[place, labels] = float(found[3])
+    return samples
+
+
+def sample(samples, name, **labels):
+    """The value of a sample, or None where there is none."""
+    return samples.get((name, frozenset(labels.items())))
+
+
+def tables_of(printed):
+    """The rows of each table that was printed, as lists of fields, without the rows of names."""
+    blocks = [block.splitlines() for block in printed.rstrip("\n").split("\n\n")]
+    return [[re.split(r" {2,}", line.strip()) for line in block] for block in blocks]
