@@ -19,7 +19,6 @@ import io
 import multiprocessing
 import os
 import shutil
-import subprocess
 import sys
 import tempfile
 import time
@@ -30,11 +29,10 @@ sys.path[:0] = [HERE, f"{HERE}/../tools"]
 from handler_stories import handler_in
 from members import MANUAL, TICKET, Cluster, Times, now, wait_for
 from promise_stories import MANY
-from serving import NotServing, built_program, end_by_signals, own_addresses
+from serving import built_program, end_by_signals, own_addresses
 from stories import (
     NAME,
     PATIENCE,
-    Wrong,
     abstains,
     counts_as,
     grants,
@@ -164,6 +162,11 @@ def a_directory_that_is_gone(cluster):
     passed("a grant whose record cannot be written is refused, and the daemon runs on")
     grants(cluster, 1)
     passed("another site is granted the ticket meanwhile")
+    said = one.printed().decode()
+    require(said == f"boothd: cannot keep the record of ticket {NAME}: {os.strerror(2)} (os error 2)\n", f"it said {said}")
+    # (what runs at the end of a story is to have said nothing)
+    one.kill()
+    passed("and the first one said why, once")
 
 
 @story
@@ -286,28 +289,27 @@ def made(function, folder, program, client, geostore):
     return Cluster(program, folder, places, **more)
 
 
-def is_told(function, cluster):
-    """Whether a story passes. Prints its lines."""
-    try:
-        function(cluster)
-        wrong = cluster.watch.wrong
-        require(not wrong, f"two held at one moment: {wrong[:3]}")
-        require(cluster.watch.is_looking(), f"nobody looked on after {cluster.watch.looks} looks")
-        printed = [member.printed() for member in cluster.members]
-        require(not any(printed), f"a daemon printed {printed}")
-        passed(f"no two held at one moment of {cluster.watch.looks} ({function.__doc__})")
-    except (Wrong, NotServing, OSError, subprocess.TimeoutExpired) as why:
-        print(f"FAILED  {function.__doc__}: {why}", flush=True)
-        return False
-    return True
+def tell(function, cluster):
+    """Tells a story, and prints its lines."""
+    function(cluster)
+    wrong = cluster.watch.wrong
+    require(not wrong, f"two held at one moment: {wrong[:3]}")
+    require(cluster.watch.is_looking(), f"nobody looked on after {cluster.watch.looks} looks")
+    printed = [member.printed() for member in cluster.members]
+    require(not any(printed), f"a daemon printed {printed}")
+    passed(f"no two held at one moment of {cluster.watch.looks} ({function.__doc__})")
 
 
 def outcome(place, programs):
     """Whether the story at this place of the list passes, in a cluster of its own, and the lines that it printed."""
-    printed = io.StringIO()
+    function, printed, passes = stories[place], io.StringIO(), False
     with contextlib.redirect_stdout(printed), tempfile.TemporaryDirectory(prefix="booth-cluster-") as folder:
-        with made(stories[place], folder, *programs) as cluster:
-            passes = is_told(stories[place], cluster)
+        try:
+            with made(function, folder, *programs) as cluster:
+                tell(function, cluster)
+            passes = True
+        except Exception as why:  # (whatever it is, the other stories are told)
+            print(f"FAILED  {function.__doc__}: {type(why).__name__}: {why}")
     return passes, printed.getvalue()
 
 
@@ -320,6 +322,9 @@ def run(*programs):
         for passes, printed in pool.imap_unordered(call, range(len(stories))):
             print(printed, end="", flush=True)
             failed += not passes
+        # (each process ends by itself; one that is ended by a signal while it waits for work may never end)
+        pool.close()
+        pool.join()
     took = time.monotonic() - started
     print(f"cluster: {len(stories) - failed} passed, {failed} failed, in {took:.1f} s ({programs[0]})")
     return failed

@@ -78,6 +78,8 @@ def run(program):
 
 
 def main(words):
+    # (what a shell started in the background ignores it, and so would the program that a story ends by it)
+    signal.signal(signal.SIGINT, signal.default_int_handler)
     end_by_signals()
     program = words[0] if words else built_program()
     if program is not None and not os.access(program, os.X_OK):
