@@ -1,4 +1,4 @@
-//! Tests of the configuration, the gate, the hosts and what a client prints, in a crate of their own.
+//! Tests of the configuration, the gate, hosts in memory, what a client prints and planned moves, in a crate of their own.
 #![tactic(auto)]
 
 #[cfg(test)]

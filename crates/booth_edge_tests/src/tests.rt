@@ -1,10 +1,18 @@
-//! Texts of the configuration, datagrams, devices, and what is printed.
+//! Texts of the configuration, datagrams, devices, what is printed, and planned moves.
 mod auth;
+mod carried;
 mod client;
 mod conf;
-mod host;
+mod memory;
+mod moves;
+mod streams;
 
+use booth_base::PathText;
 use std::process::Abort;
+
+fn path(rt: &impl Abort, text: &str) -> PathText {
+    PathText::read(text).expect(rt, text)
+}
 
 // The number of a word. Each type that is read costs a proof of its own, so all numbers are read as this one.
 fn number_of(rt: &impl Abort, word: &str) -> u32 {

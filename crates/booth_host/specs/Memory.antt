@@ -14,9 +14,10 @@ use Rattle.booth_host.specs.declared.memory.Step.{Step}
 use Rattle.booth_host.specs.declared.memory.Script.{Script}
 use Rattle.booth_host.specs.declared.memory.MemoryHost.{MemoryHost}
 use Rattle.booth_host.specs.declared.quiet.QuietHost.{QuietHost}
+use Rattle.booth_host.specs.Told.{told_past}
 
 abbrev pub memory_past : MemoryHost → Option (List Entry)
-memory_past host = if host.tells then Some host.entries.items else None
+memory_past host = told_past host.told
 
 abbrev pub quiet_past : QuietHost → Option (List Entry)
 quiet_past host = memory_past host.host
@@ -96,7 +97,7 @@ pub record IsNew (host : MemoryHost) (script : Script) (files : List (List ℕ �
   pub begun : host.begun ≡ 0
   pub reads : host.files.items ≡ files
   pub keeps : host.records.items ≡ records
-  pub room : host.room ≡ most
+  pub room : host.told.room ≡ most
   pub tells : memory_past host ≡ Some []
   pub faults : host.faults ≡ 0
 
@@ -106,14 +107,14 @@ pub record Stays (old new : MemoryHost) : Type 0 where
   pub begun : new.begun ≡ old.begun
   pub files : new.files ≡ old.files
   pub records : new.records ≡ old.records
-  pub room : new.room ≡ old.room
+  pub room : new.told.room ≡ old.told.room
 
 -- the same but for the records
 pub record StaysButRecords (old new : MemoryHost) : Type 0 where
   pub script : new.script ≡ old.script
   pub begun : new.begun ≡ old.begun
   pub files : new.files ≡ old.files
-  pub room : new.room ≡ old.room
+  pub room : new.told.room ≡ old.told.room
 
 -- one more step begins, where one is left, and all else stays
 pub record Begins (old new : MemoryHost) : Type 0 where
@@ -121,7 +122,7 @@ pub record Begins (old new : MemoryHost) : Type 0 where
   pub begun : MatchOption (coming old) (new.begun ≡ old.begun) (λ step. new.begun ≡ old.begun + 1)
   pub files : new.files ≡ old.files
   pub records : new.records ≡ old.records
-  pub room : new.room ≡ old.room
+  pub room : new.told.room ≡ old.told.room
 
 -- ---- files
 

@@ -1,4 +1,4 @@
-//! The outside of Booth: one trait for all devices, hosts in memory, and the real one.
+//! The outside of Booth: one trait for all devices, and hosts in memory.
 #![tactic(auto)]
 
 mod datagram;
@@ -6,11 +6,11 @@ mod entry;
 mod host;
 mod memory;
 mod quiet;
-mod real;
+mod told;
 
 pub use datagram::{DATAGRAM_BYTES, Datagram};
 pub use entry::Entry;
 pub use host::{Arrival, Failed, Host, Job, Place, ReadFault};
 pub use memory::{Files, MemoryHost, Records, Script, Step};
 pub use quiet::QuietHost;
-pub use real::RealHost;
+pub use told::Told;

@@ -4,11 +4,8 @@ ghost use Rattle.booth_host.specs.Past.{GrewBy};
 ghost use Rattle.booth_host.specs.Causes.{Rose, HasCause, HasReadCause};
 ghost use Rattle.booth_host.specs.declared.entry.Entry.{Entry};
 
-use crate::entry::{
-    err_entry, keep_entry, kept_entry, lock_entry, next_entry, open_entry, out_entry,
-    read_file_entry, send_entry, start_entry,
-};
-use crate::{Arrival, Datagram, Entry, Failed, Host, Job, Place, ReadFault};
+use crate::told::push;
+use crate::{Arrival, Datagram, Entry, Failed, Host, Job, Place, ReadFault, Told};
 use booth_base::{ByteText, Name, PathText, Peer};
 use booth_rec::Record;
 use std::alloc::{AllocError, Global};
@@ -54,27 +51,12 @@ pub type Records = Vec<(Name, Record)>;
 /// A host in memory. It tells its calls while its room of entries holds, and nothing from then on.
 #[derive(Drop)]
 pub struct MemoryHost {
-    pub(crate) alloc: Global,
+    pub(crate) told: Told,
     script: Script,
     files: Files,
     records: Records,
-    room: u32,
     begun: usize,
-    entries: Vec<Entry>,
-    tells: bool,
     faults: u64,
-    ghost few: { length entries.items ≤ room },
-}
-
-// Adds this where there is memory for it.
-fn push<T: Drop>(list: &mut Vec<T>, last: T) -> Result<(), AllocError>
-    ensures ok { OnOk result (list.new.items ≡ list.old.items ++ last ∷ []) }
-    ensures err { OnErr result (list.new.items ≡ list.old.items) }
-{
-    match list.push(last) {
-        Ok(()) => Ok(()),
-        Err(_) => Err(AllocError),
-    }
 }
 
 impl MemoryHost {
@@ -92,14 +74,11 @@ impl MemoryHost {
         ensures { IfOk result (λ host. IsNew host script files.items records.items room) }
     {
         Ok(MemoryHost {
-            alloc,
+            told: Told::new(alloc, room),
             script,
             files,
             records,
-            room,
             begun: 0,
-            entries: Vec::new(alloc),
-            tells: true,
             faults: 0,
         })
     }
@@ -108,11 +87,7 @@ impl MemoryHost {
     pub fn past(&self) -> Option<&[Entry]>
         ensures { option_map (λ entries. entries.now) result ≡ memory_past self.now }
     {
-        if self.tells {
-            Some(&self.entries)
-        } else {
-            None
-        }
+        self.told.entries()
     }
 
     /// The records that are kept.
@@ -130,7 +105,7 @@ impl MemoryHost {
         ensures begun { self.new.begun ≡ self.old.begun }
         ensures files { self.new.files ≡ self.old.files }
         ensures records { self.new.records ≡ self.old.records }
-        ensures room { self.new.room ≡ self.old.room }
+        ensures room { self.new.told.room ≡ self.old.told.room }
         ensures past { memory_past self.new ≡ memory_past self.old }
         ensures faults { self.new.faults ≡ self.old.faults }
     {
@@ -147,29 +122,13 @@ impl MemoryHost {
         ensures script { SaysTheSame self.old.script self.new.script }
         ensures files { self.new.files ≡ self.old.files }
         ensures records { self.new.records ≡ self.old.records }
-        ensures room { self.new.room ≡ self.old.room }
+        ensures room { self.new.told.room ≡ self.old.told.room }
         ensures faults { self.new.faults ≡ self.old.faults }
     {
-        self.entries.clear();
+        self.told.clear();
         let run = self.begun.saturating_sub(1).min(self.script.steps.len());
         drop(self.script.steps.drain(..run));
         self.begun = self.begun.min(1);
-    }
-
-    // Adds this entry, or tells nothing from now on.
-    pub(crate) fn note(&mut self, entry: Result<Entry, AllocError>)
-        ensures told { IfOk entry (λ entry. GrewBy (memory_past self.old) (memory_past self.new) (entry ∷ [])) }
-        ensures untold { OnErr entry (memory_past self.new ≡ None) }
-        ensures faults { self.new.faults ≡ self.old.faults }
-        ensures stays { Stays self.old self.new }
-    {
-        let Ok(entry) = entry else {
-            self.tells = false;
-            return;
-        };
-        if self.entries.len() >= self.room as usize || push(&mut self.entries, entry).is_err() {
-            self.tells = false;
-        }
     }
 
     // Counts a failure.
@@ -268,7 +227,7 @@ impl MemoryHost {
         ensures stays { StaysButRecords self.old self.new }
     {
         if self.store(ticket, rec).is_err() {
-            self.tells = false;
+            self.told.end();
         }
     }
 
@@ -318,8 +277,7 @@ impl Host for MemoryHost {
         ensures stays { Stays self.old self.new }
     {
         let answer = self.fail_if(self.script.fail_open);
-        let entry = open_entry(self.alloc, place, answer);
-        self.note(entry);
+        self.told.open(place, answer);
         answer
     }
 
@@ -331,8 +289,7 @@ impl Host for MemoryHost {
         ensures begins { Begins self.old self.new }
     {
         let answer = self.begin(into);
-        let entry = next_entry(self.alloc, wait_ms, answer, into.bytes());
-        self.note(entry);
+        self.told.next(wait_ms, answer, into.bytes());
         answer
     }
 
@@ -346,7 +303,7 @@ impl Host for MemoryHost {
             Some(step) => step.reading,
             None => self.script.first,
         };
-        self.note(Ok(Entry::Now { reading }));
+        self.told.now(reading);
         reading
     }
 
@@ -362,8 +319,7 @@ impl Host for MemoryHost {
             None => self.script.fail_send,
         };
         let answer = self.fail_if(fails);
-        let entry = send_entry(self.alloc, to, bytes, answer);
-        self.note(entry);
+        self.told.send(to, bytes, answer);
         answer
     }
 
@@ -380,8 +336,7 @@ impl Host for MemoryHost {
             Ok(()) => Ok(self.record(ticket)),
             Err(Failed) => Err(Failed),
         };
-        let entry = kept_entry(self.alloc, ticket, answer);
-        self.note(entry);
+        self.told.kept(ticket, answer);
         answer
     }
 
@@ -401,8 +356,7 @@ impl Host for MemoryHost {
         };
         let answer = self.fail_if(fails);
         self.put_if_ok(answer, ticket, rec);
-        let entry = keep_entry(self.alloc, ticket, rec, answer);
-        self.note(entry);
+        self.told.keep(ticket, rec, answer);
         answer
     }
 
@@ -418,8 +372,7 @@ impl Host for MemoryHost {
             None => false,
         };
         let answer = self.fail_if(fails);
-        let entry = start_entry(self.alloc, job, answer);
-        self.note(entry);
+        self.told.start(job, answer);
         answer
     }
 
@@ -440,8 +393,7 @@ impl Host for MemoryHost {
                 Err(ReadFault::Failed)
             }
         };
-        let entry = read_file_entry(self.alloc, path, &answer);
-        self.note(entry);
+        self.told.read_file(path, &answer);
         answer
     }
 
@@ -459,8 +411,7 @@ impl Host for MemoryHost {
             Ok(()) => Ok(!taken),
             Err(Failed) => Err(Failed),
         };
-        let entry = lock_entry(self.alloc, path, answer);
-        self.note(entry);
+        self.told.lock(path, answer);
         answer
     }
 
@@ -476,8 +427,7 @@ impl Host for MemoryHost {
             None => self.script.fail_out,
         };
         let answer = self.fail_if(fails);
-        let entry = out_entry(self.alloc, bytes, answer);
-        self.note(entry);
+        self.told.out(bytes, answer);
         answer
     }
 
@@ -489,8 +439,7 @@ impl Host for MemoryHost {
         ensures stays { Stays self.old self.new }
     {
         let answer = self.fail_if(self.script.fail_err);
-        let entry = err_entry(self.alloc, bytes, answer);
-        self.note(entry);
+        self.told.err(bytes, answer);
         answer
     }
 }

@@ -4,10 +4,6 @@ ghost use Rattle.booth_host.specs.Past.{GrewBy};
 ghost use Rattle.booth_host.specs.Causes.{HasCause, HasReadCause};
 ghost use Rattle.booth_host.specs.declared.entry.Entry.{Entry};
 
-use crate::entry::{
-    err_entry, keep_entry, kept_entry, lock_entry, next_entry, open_entry, out_entry,
-    read_file_entry, send_entry, start_entry,
-};
 use crate::{
     Arrival, Datagram, Entry, Failed, Files, Host, Job, MemoryHost, Place, ReadFault, Records,
     Script, Step,
@@ -66,7 +62,7 @@ impl QuietHost {
         ensures begun { self.new.host.begun ≡ self.old.host.begun }
         ensures files { self.new.host.files ≡ self.old.host.files }
         ensures records { self.new.host.records ≡ self.old.host.records }
-        ensures room { self.new.host.room ≡ self.old.host.room }
+        ensures room { self.new.host.told.room ≡ self.old.host.told.room }
         ensures past { quiet_past self.new ≡ quiet_past self.old }
     {
         self.host.add(step)
@@ -82,7 +78,7 @@ impl QuietHost {
         ensures script { SaysTheSame self.old.host.script self.new.host.script }
         ensures files { self.new.host.files ≡ self.old.host.files }
         ensures records { self.new.host.records ≡ self.old.host.records }
-        ensures room { self.new.host.room ≡ self.old.host.room }
+        ensures room { self.new.host.told.room ≡ self.old.host.told.room }
     {
         self.host.forget();
     }
@@ -102,8 +98,7 @@ impl Host for QuietHost {
         ensures cause { HasCause 0 0 result }
         ensures stays { Stays self.old.host self.new.host }
     {
-        let entry = open_entry(self.host.alloc, place, Ok(()));
-        self.host.note(entry);
+        self.host.told.open(place, Ok(()));
         Ok(())
     }
 
@@ -118,8 +113,7 @@ impl Host for QuietHost {
             Ok(arrival) => Ok(arrival),
             Err(Failed) => Ok(Arrival::Quiet),
         };
-        let entry = next_entry(self.host.alloc, wait_ms, answer, into.bytes());
-        self.host.note(entry);
+        self.host.told.next(wait_ms, answer, into.bytes());
         answer
     }
 
@@ -137,8 +131,7 @@ impl Host for QuietHost {
         ensures cause { HasCause 0 0 result }
         ensures stays { Stays self.old.host self.new.host }
     {
-        let entry = send_entry(self.host.alloc, to, bytes, Ok(()));
-        self.host.note(entry);
+        self.host.told.send(to, bytes, Ok(()));
         Ok(())
     }
 
@@ -150,8 +143,7 @@ impl Host for QuietHost {
         ensures stays { Stays self.old.host self.new.host }
     {
         let answer = Ok(self.host.record(ticket));
-        let entry = kept_entry(self.host.alloc, ticket, answer);
-        self.host.note(entry);
+        self.host.told.kept(ticket, answer);
         answer
     }
 
@@ -165,8 +157,7 @@ impl Host for QuietHost {
         ensures stays { StaysButRecords self.old.host self.new.host }
     {
         self.host.put(ticket, rec);
-        let entry = keep_entry(self.host.alloc, ticket, rec, Ok(()));
-        self.host.note(entry);
+        self.host.told.keep(ticket, rec, Ok(()));
         Ok(())
     }
 
@@ -176,8 +167,7 @@ impl Host for QuietHost {
         ensures cause { HasCause 0 0 result }
         ensures stays { Stays self.old.host self.new.host }
     {
-        let entry = start_entry(self.host.alloc, job, Ok(()));
-        self.host.note(entry);
+        self.host.told.start(job, Ok(()));
         Ok(())
     }
 
@@ -196,8 +186,7 @@ impl Host for QuietHost {
             Ok(text) => Ok(text),
             Err(_) => Err(ReadFault::NoMemory),
         };
-        let entry = read_file_entry(self.host.alloc, path, &answer);
-        self.host.note(entry);
+        self.host.told.read_file(path, &answer);
         answer
     }
 
@@ -209,8 +198,7 @@ impl Host for QuietHost {
         ensures stays { Stays self.old.host self.new.host }
     {
         let answer = Ok(!self.host.is_taken());
-        let entry = lock_entry(self.host.alloc, path, answer);
-        self.host.note(entry);
+        self.host.told.lock(path, answer);
         answer
     }
 
@@ -220,8 +208,7 @@ impl Host for QuietHost {
         ensures cause { HasCause 0 0 result }
         ensures stays { Stays self.old.host self.new.host }
     {
-        let entry = out_entry(self.host.alloc, bytes, Ok(()));
-        self.host.note(entry);
+        self.host.told.out(bytes, Ok(()));
         Ok(())
     }
 
@@ -231,8 +218,7 @@ impl Host for QuietHost {
         ensures cause { HasCause 0 0 result }
         ensures stays { Stays self.old.host self.new.host }
     {
-        let entry = err_entry(self.host.alloc, bytes, Ok(()));
-        self.host.note(entry);
+        self.host.told.err(bytes, Ok(()));
         Ok(())
     }
 }

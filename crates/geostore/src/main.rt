@@ -2,7 +2,7 @@
 #![tactic(auto)]
 
 use booth_clients::{Outcome, geostore};
-use booth_host::RealHost;
+use booth_real::RealHost;
 use std::alloc::{AllocError, Global};
 use std::env;
 use std::io::{ErrorKind, Write};

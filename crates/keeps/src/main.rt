@@ -5,7 +5,8 @@
 #![tactic(auto)]
 
 use booth_base::{Name, PathText};
-use booth_host::{Failed, Host, Place, RealHost};
+use booth_host::{Failed, Host, Place};
+use booth_real::RealHost;
 use booth_rec::{Lease, Record};
 use std::alloc::Global;
 use std::env;

@@ -1,0 +1,33 @@
+-- How many pairs there may be before a move ends.
+use Rattle.std.specs.Prelude.{◌≤◌, ◌+◌, ◌-◌, ◌*◌, ℕ, Bool, true, false}
+use Rattle.booth_client.specs.Waiting.{most}
+use Rattle.booth_move.specs.declared.deeds.MoveDeed.{MoveDeed}
+use Rattle.booth_move.specs.declared.deeds.MoveDeed.TheVariants as deeds
+use Rattle.booth_move.specs.declared.stage.Request.{Request}
+use Rattle.booth_move.specs.declared.stage.Stage.{Stage}
+use Rattle.booth_move.specs.declared.stage.Stage.TheVariants.{Opening, Revoking, Granting, Pausing, Ended}
+
+-- the waits for the answer to one request: that for the first answer, and that for its outcome
+abbrev pub wait_left : Bool → ℕ → ℕ
+wait_left true pairs = most - pairs
+wait_left false pairs = most + (most - pairs)
+
+abbrev pub request_left : Request → ℕ
+request_left last = wait_left last.begun last.pairs
+
+-- the waits of a revoke that is sent on
+abbrev pub on_left : Bool → ℕ
+on_left true = 0
+on_left false = 2 * most
+
+abbrev pub pairs_left : Stage → ℕ
+pairs_left (Opening start) = 1 + 36 * most
+pairs_left (Revoking last sent_on) = request_left last + on_left sent_on + 32 * most
+pairs_left (Granting last repeats) = request_left last + (10 - repeats) * (3 * most)
+pairs_left (Pausing last repeats) = (most - last.pairs) + 2 * most + (9 - repeats) * (3 * most)
+pairs_left Ended = 0
+
+-- A step of a move that goes on ends it, or leaves it going on with fewer pairs left.
+abbrev pub Lessens : Stage → MoveDeed → Stage → Type 0
+Lessens old (deeds.End end) new = Unit {0}
+Lessens old deed new = 1 ≤ pairs_left old → (1 ≤ pairs_left new) × (pairs_left new + 1 ≤ pairs_left old)

@@ -1,0 +1,133 @@
+-- What follows a pair at each stage of a move, and the deeds of a move.
+use Rattle.std.specs.Prelude.{ℕ, Bool, true, false, not, ◌+◌, ◌%◌, ◌^◌, ◌&&◌, ◌==◌, nat_lt, List, [], ◌∷◌}
+use Rattle.std.specs.Prelude.{Option, Some, None, if◌then◌else◌}
+use Rattle.booth_wire.specs.declared.codes.results.TheConstants.{SUCCESS, ASYN, BUSY, REDR}
+use Rattle.booth_client.specs.declared.reply.Reply.{Reply}
+use Rattle.booth_client.specs.Asking.{number_of}
+use Rattle.booth_move.specs.declared.deeds.MoveDeed.{MoveDeed}
+use Rattle.booth_move.specs.declared.deeds.MoveDeed.TheVariants as deeds
+use Rattle.booth_move.specs.declared.deeds.MoveEnd.{MoveEnd}
+use Rattle.booth_move.specs.declared.deeds.MoveEnd.TheVariants.{Moved, Asked, Refused, Stranded, NoReply}
+use Rattle.booth_move.specs.declared.stage.Request.{Request}
+use Rattle.booth_move.specs.declared.stage.Stage.{Stage}
+use Rattle.booth_move.specs.declared.stage.Stage.TheVariants.{Opening, Revoking, Granting, Pausing, Ended}
+use Rattle.booth_move.specs.declared.steps.Step.{Step}
+use Rattle.booth_move.specs.declared.waiting.Waits.{Waits}
+use Rattle.booth_move.specs.declared.waiting.Waits.TheVariants.{On, Over, Came}
+use Rattle.booth_move.specs.Move.{MoveSetup, Pair, place_of}
+use Rattle.booth_move.specs.Waiting.{is_rested, judged, one_more, request_at, sent}
+
+abbrev pub quiet : Stage → Step
+quiet stage = record { deed = deeds.Nothing; stage = stage }
+
+abbrev pub ends : MoveEnd → Step
+ends end = record { deed = deeds.End end; stage = Ended }
+
+-- the revoke is sent for the first time, where `booth revoke` sends it
+abbrev pub opens : ℕ → Step
+opens start = record { deed = deeds.Revoke None (number_of start); stage = Revoking (request_at start) false }
+
+-- ---- the revoke
+
+-- the revoke is sent to the member that was named, as a new request
+abbrev pub sends_on : ℕ → ℕ → Step
+sends_on place reading =
+    record { deed = deeds.Revoke (Some place) (number_of reading); stage = Revoking (request_at reading) true }
+
+-- the place of the member that is named as the owner; the revoke is sent on to it once
+abbrev pub followed : List ℕ → Bool → Reply → Option ℕ
+followed ids sent_on reply =
+    if not sent_on && reply.result == REDR then place_of reply.leader ids else None
+
+-- the grant of this number is sent, and it was repeated so often
+abbrev pub grants : ℕ → ℕ → ℕ → Step
+grants number reading repeats =
+    record { deed = deeds.Grant number; stage = Granting (sent number reading) repeats }
+
+abbrev pub sent_on_or_refused : Option ℕ → ℕ → Reply → Step
+sent_on_or_refused (Some place) reading reply = sends_on place reading
+sent_on_or_refused None reading reply = ends (Refused reply.result)
+
+-- The revoke is answered. Only where the ticket was given back is the grant sent, as a new request.
+abbrev pub revoke_answered : List ℕ → Bool → ℕ → Reply → Step
+revoke_answered ids sent_on reading reply =
+    if reply.result == SUCCESS then grants (number_of reading) reading 0
+    else sent_on_or_refused (followed ids sent_on reply) reading reply
+
+abbrev pub while_revoking : List ℕ → Bool → ℕ → Waits → Step
+while_revoking ids sent_on reading (On last) = quiet (Revoking last sent_on)
+while_revoking ids sent_on reading Over = ends NoReply
+while_revoking ids sent_on reading (Came reply) = revoke_answered ids sent_on reading reply
+
+-- ---- the grant
+
+-- the next request number, which is 0 after the last
+abbrev pub next_number : ℕ → ℕ
+next_number number = (number + 1) % 2 ^ 32
+
+-- how often the grant is repeated at most
+abbrev pub most_repeats : ℕ
+most_repeats = 10
+
+-- the grant is sent again
+abbrev pub repeats_grant : Request → ℕ → ℕ → Step
+repeats_grant last repeats reading = grants (next_number last.number) reading (repeats + 1)
+
+-- The target is busy. The pair that says so may have the reading at which the grant is repeated.
+abbrev pub rests : Request → ℕ → ℕ → Step
+rests last repeats reading =
+    if is_rested last reading then repeats_grant last repeats reading
+    else quiet (Pausing (record last { pairs = 0 }) repeats)
+
+-- the grant is answered
+abbrev pub grant_answered : Request → ℕ → ℕ → Reply → Step
+grant_answered last repeats reading reply =
+    if reply.result == SUCCESS then ends Moved
+    else (if reply.result == ASYN then ends Asked
+    else (if (reply.result == BUSY) && nat_lt repeats most_repeats then rests last repeats reading
+    else ends (Stranded reply.result)))
+
+abbrev pub while_granting : Request → ℕ → ℕ → Waits → Step
+while_granting last repeats reading (On next) = quiet (Granting next repeats)
+while_granting last repeats reading Over = ends NoReply
+while_granting last repeats reading (Came reply) = grant_answered last repeats reading reply
+
+-- ---- the pause
+
+abbrev pub pauses_on : Option Request → ℕ → Step
+pauses_on (Some last) repeats = quiet (Pausing last repeats)
+pauses_on None repeats = ends NoReply
+
+-- The target is left alone, and replies are passed over. At the first reading that is late enough the grant is
+-- repeated, with the next number and this reading as its start.
+abbrev pub while_pausing : Request → ℕ → ℕ → Step
+while_pausing last repeats reading =
+    if is_rested last reading then repeats_grant last repeats reading else pauses_on (one_more last) repeats
+
+-- ---- all stages
+
+-- what follows a pair
+abbrev pub move_step : MoveSetup → Stage → Pair → Step
+move_step setup (Opening start) p = opens start
+move_step setup (Revoking last sent_on) p =
+    while_revoking setup.ids sent_on p.reading (judged setup.wait last p.reading p.reply)
+move_step setup (Granting last repeats) p =
+    while_granting last repeats p.reading (judged setup.wait last p.reading p.reply)
+move_step setup (Pausing last repeats) p = while_pausing last repeats p.reading
+move_step setup Ended p = quiet Ended
+
+-- the deeds that these pairs lead to from a stage, one for each pair
+unfoldable pub deeds_from : MoveSetup → Stage → List Pair → List MoveDeed
+deeds_from setup stage [] = []
+deeds_from setup stage (p ∷ ps) =
+    let step : Step = move_step setup stage p in step.deed ∷ deeds_from setup step.stage ps
+
+-- The deeds of a move that starts at this reading, one for each pair. The first is that of the start, whatever its pair
+-- brings.
+abbrev pub move_deeds : MoveSetup → ℕ → List Pair → List MoveDeed
+move_deeds setup start pairs = deeds_from setup (Opening start) pairs
+
+-- the stage that these pairs lead to from a stage
+unfoldable pub stage_after : MoveSetup → Stage → List Pair → Stage
+stage_after setup stage [] = stage
+stage_after setup stage (p ∷ ps) = stage_after setup (move_step setup stage p).stage ps

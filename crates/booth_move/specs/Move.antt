@@ -1,0 +1,71 @@
+-- What a move is about, the pairs that it is told, and what contracts see of it.
+use Rattle.std.specs.Prelude.{◌<◌, ◌≤◌, ℕ, Bool, true, false, ◌==◌, ◌&&◌, List, length, position, is_some, Option}
+use Rattle.std.specs.Option.{option_map_or}
+use Rattle.booth_base.specs.declared.limits.TheConstants.{MEMBERS}
+use Rattle.booth_base.specs.declared.address.MemberId.{MemberId}
+use Rattle.booth_conf.specs.declared.members.Member.{Member}
+use Rattle.booth_wire.specs.declared.command.Cmd.{Cmd}
+use Rattle.booth_wire.specs.declared.command.Cmd.TheVariants.{CGnt, CRvk}
+use Rattle.booth_wire.specs.Command.{answer_of, code_of}
+use Rattle.booth_wire.specs.PlainMessage.{PlainMessage}
+use Rattle.booth_client.specs.Waiting.{most}
+use Rattle.booth_move.specs.declared.stage.Stage.{Stage}
+use Rattle.booth_move.specs.declared.stage.Stage.TheVariants.{Opening, Revoking, Granting, Pausing, Ended}
+
+abbrev pub id_number : Member → ℕ
+id_number m = m.id.0
+
+-- the place of this id among the members' ids
+abbrev pub place_of : MemberId → List ℕ → Option ℕ
+place_of id ids = position (λ other. other == id.0) ids
+
+-- the ids of the members in the order of the configuration, the ticket, the place of the target, and whether outcomes
+-- are waited for
+pub record MoveSetup : Type 0 where
+  pub ids : List ℕ
+  pub ticket : List ℕ
+  pub target : ℕ
+  pub wait : Bool
+
+-- a reading, and the reply that an arrival before it brought
+pub record Pair : Type 0 where
+  pub reading : ℕ
+  pub reply : Option PlainMessage
+
+-- ---- which replies are answers
+
+-- the command answers the one that was asked
+abbrev pub answers : Cmd → Cmd → Bool
+answers asked cmd = option_map_or (λ answer. code_of answer == code_of cmd) (answer_of asked) false
+
+-- the reply answers the command that was asked, has its number, and a member sent it
+abbrev pub is_reply_to : List ℕ → Cmd → ℕ → PlainMessage → Bool
+is_reply_to ids asked number m =
+    answers asked m.head.cmd && ((m.head.request == number) && is_some (place_of m.head.from ids))
+
+-- The reply is one to the last request. Before the first there is none, and after the end it does not matter.
+abbrev pub is_answer : MoveSetup → Stage → PlainMessage → Bool
+is_answer setup (Opening start) m = false
+is_answer setup (Revoking last sent_on) m = is_reply_to setup.ids CRvk last.number m
+is_answer setup (Granting last repeats) m = is_reply_to setup.ids CGnt last.number m
+is_answer setup (Pausing last repeats) m = is_reply_to setup.ids CGnt last.number m
+is_answer setup Ended m = true
+
+-- ---- a move as contracts see it
+
+pub record Move : Type 0 where
+  pub setup : MoveSetup
+  pub stage : Stage
+
+-- the target is the place of a member
+pub record IsSoundSetup (setup : MoveSetup) : Type 0 where
+  pub few : length setup.ids ≤ MEMBERS
+  pub there : setup.target < length setup.ids
+
+-- no wait has more pairs than it may have, and the grant was not repeated too often
+abbrev pub IsSoundStage : Stage → Type 0
+IsSoundStage (Opening start) = Unit {0}
+IsSoundStage (Revoking last sent_on) = last.pairs < most
+IsSoundStage (Granting last repeats) = (last.pairs < most) × (repeats ≤ 10)
+IsSoundStage (Pausing last repeats) = (last.pairs < most) × (repeats < 10)
+IsSoundStage Ended = Unit {0}

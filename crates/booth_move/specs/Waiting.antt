@@ -1,0 +1,56 @@
+-- The wait for the answer to a request, pair by pair.
+use Rattle.std.specs.Prelude.{ℕ, Bool, true, false, not, ◌+◌, ◌&&◌, ◌==◌, nat_le, nat_lt, Option, Some, None, if◌then◌else◌}
+use Rattle.booth_wire.specs.declared.codes.results.TheConstants.{ASYN}
+use Rattle.booth_wire.specs.PlainMessage.{PlainMessage}
+use Rattle.booth_client.specs.Asking.{number_of}
+use Rattle.booth_client.specs.Replies.{reply_of}
+use Rattle.booth_client.specs.Waiting.{most, patience}
+use Rattle.booth_move.specs.declared.stage.Request.{Request}
+use Rattle.booth_move.specs.declared.waiting.Waits.{Waits}
+use Rattle.booth_move.specs.declared.waiting.Waits.TheVariants.{On, Over, Came}
+
+-- ---- requests
+
+-- a request of this number that was just sent
+abbrev pub sent : ℕ → ℕ → Request
+sent number reading = record { number = number; start = reading; pairs = 0; begun = false }
+
+-- a new request: its start is the reading, and its number is that of the start
+abbrev pub request_at : ℕ → Request
+request_at reading = sent (number_of reading) reading
+
+-- ---- waits
+
+-- one more pair without an answer, or none where it was the last
+abbrev pub one_more : Request → Option Request
+one_more last = if last.pairs + 1 == most then None else Some (record last { pairs = last.pairs + 1 })
+
+abbrev pub waits_on : Option Request → Waits
+waits_on None = Over
+waits_on (Some last) = On last
+
+-- It is told that the request was begun. From the first such answer on there are further pairs, without a bound of
+-- time; another one is a pair without an answer.
+abbrev pub passed_over : Request → Waits
+passed_over last = if last.begun then waits_on (one_more last) else On (record last { pairs = 0; begun = true })
+
+-- the reading is past the wait for the first answer
+abbrev pub is_late : Request → ℕ → Bool
+is_late last reading = not last.begun && nat_lt (last.start + patience) reading
+
+-- What a pair is to the wait for an answer. A reply counts also where the pair's reading is late. Who waits for the
+-- outcome passes over that it was begun.
+abbrev pub judged : Bool → Request → ℕ → Option PlainMessage → Waits
+judged wait last reading None = if is_late last reading then Over else waits_on (one_more last)
+judged wait last reading (Some m) =
+    if wait && m.head.result == ASYN then passed_over last else Came (reply_of m)
+
+-- ---- pauses
+
+-- how long a target that is busy is left alone, in ms
+abbrev pub pause : ℕ
+pause = 1000
+
+-- the reading is one at which the grant is repeated
+abbrev pub is_rested : Request → ℕ → Bool
+is_rested last reading = nat_le (last.start + pause) reading

@@ -1,0 +1,15 @@
+//! A planned move of a ticket from one site to another: what is asked next, what is sent and heard, how it ended.
+#![tactic(auto)]
+
+mod carrying;
+mod deeds;
+pub mod laws;
+mod mover;
+mod stage;
+mod steps;
+mod waiting;
+
+pub use carrying::{MoveRoom, Moving, carry_out};
+pub use deeds::{MoveDeed, MoveEnd};
+pub use mover::Mover;
+pub use stage::{Request, Stage};

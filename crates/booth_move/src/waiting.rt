@@ -1,0 +1,151 @@
+//! The wait for the answer to a request, pair by pair.
+ghost use Rattle.std.specs.Prelude.{◌≡◌, ◌<◌, option_map};
+ghost use Rattle.booth_wire.specs.PlainMessage.{content_of, plain_of};
+ghost use Rattle.booth_client.specs.Replies.{leader_in, reply_of};
+ghost use Rattle.booth_client.specs.Waiting.{most};
+ghost use Rattle.booth_move.specs.Waiting.{is_late, is_rested, judged, one_more, passed_over, request_at, waits_on};
+
+use crate::stage::Request;
+use booth_base::{MemberId, NO_ONE};
+use booth_client::Reply;
+use booth_wire::{Body, Message, results};
+
+/// The most pairs of a wait.
+const MOST: u64 = 1 << 40;
+
+/// How long the first answer is waited for, in ms.
+const PATIENCE: u64 = 5_000;
+
+/// How long a target that is busy is left alone, in ms.
+const PAUSE: u64 = 1_000;
+
+/// What a pair is to a wait.
+pub(crate) enum Waits {
+    /// The wait goes on, and the request stands so.
+    On(Request),
+    /// The wait is over without an answer.
+    Over,
+    /// This is the answer.
+    Came(Reply),
+}
+
+/// The number of the request that is sent at this reading.
+pub(crate) fn number_of(reading: u64) -> u32
+    ensures { result ≡ (request_at reading).number }
+{
+    (reading % (1 << 32)) as u32
+}
+
+/// The request of this number, just sent at this reading.
+pub(crate) fn request_of(number: u32, reading: u64) -> Request
+    ensures { result ≡ record (request_at reading) { number = number } }
+{
+    Request {
+        number,
+        start: reading,
+        pairs: 0,
+        begun: false,
+    }
+}
+
+/// One more pair of a wait, or none where it was the last.
+pub(crate) fn one_more(last: Request) -> Option<Request>
+    requires { last.pairs < most }
+    ensures { result ≡ one_more last }
+{
+    let pairs = last.pairs + 1;
+    if pairs == MOST {
+        None
+    } else {
+        Some(Request { pairs, ..last })
+    }
+}
+
+fn waits_on(next: Option<Request>) -> Waits
+    ensures { result ≡ waits_on next }
+{
+    match next {
+        Some(last) => Waits::On(last),
+        None => Waits::Over,
+    }
+}
+
+// It was told that the request was begun, and its outcome is waited for.
+fn passed_over(last: Request) -> Waits
+    requires { last.pairs < most }
+    ensures { result ≡ passed_over last }
+{
+    if last.begun {
+        waits_on(one_more(last))
+    } else {
+        Waits::On(Request {
+            pairs: 0,
+            begun: true,
+            ..last
+        })
+    }
+}
+
+// Whether a reading is past the wait for the first answer.
+fn is_late(last: Request, reading: u64) -> bool
+    ensures { result ≡ is_late last reading }
+{
+    if last.begun {
+        return false;
+    }
+    match last.start.checked_add(PATIENCE) {
+        Some(bound) => bound < reading,
+        None => false,
+    }
+}
+
+/// Whether a target that was busy was left alone for long enough.
+pub(crate) fn is_rested(last: Request, reading: u64) -> bool
+    ensures { result ≡ is_rested last reading }
+{
+    match last.start.checked_add(PAUSE) {
+        Some(first) => first <= reading,
+        None => false,
+    }
+}
+
+fn leader_in(body: &Body<'_>) -> MemberId
+    ensures { result ≡ leader_in (content_of body.now) }
+{
+    match body {
+        Body::Ticket(part) => part.leader,
+        Body::Bare | Body::Attr(_) | Body::Text(_) => NO_ONE,
+    }
+}
+
+fn reply_of(message: &Message<'_>) -> Reply
+    ensures { result ≡ reply_of (plain_of message.now) }
+{
+    Reply {
+        result: message.head.result,
+        leader: leader_in(&message.body),
+    }
+}
+
+/// What a pair is to the wait for the answer to the last request.
+pub(crate) fn judged(wait: bool, last: Request, reading: u64, reply: Option<&Message<'_>>) -> Waits
+    requires { last.pairs < most }
+    ensures { result ≡ judged wait last reading (option_map (λ m. plain_of m.now) reply.entry) }
+{
+    match reply {
+        Some(message) => {
+            if wait && message.head.result == results::ASYN {
+                passed_over(last)
+            } else {
+                Waits::Came(reply_of(message))
+            }
+        }
+        None => {
+            if is_late(last, reading) {
+                Waits::Over
+            } else {
+                waits_on(one_more(last))
+            }
+        }
+    }
+}

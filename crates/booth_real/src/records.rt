@@ -1,0 +1,229 @@
+//! Kept records as files: one of a ticket, in a directory that one host has at a time.
+//!
+//! A file is opened for a call alone, and holds four slots (`booth_rec`). A file that is missing keeps no record.
+ghost use Rattle.std.specs.Prelude.{◌≤◌, length};
+
+use crate::lock::lock_file;
+use crate::record_disk::FileDisk;
+use arrayvec::ArrayString;
+use booth_base::{Name, PathText};
+use booth_rec::{OpenFault, PutFault, Record, Slots};
+use std::fs::{DirBuilder, File};
+use std::io;
+use std::io::ErrorKind;
+use std::os::unix::fs::{DirBuilderExt, OpenOptionsExt};
+use std::path::Path;
+
+/// The file whose lock the directory's one host holds.
+const LOCK: &str = "booth.lock";
+
+/// A path below a directory.
+type FilePath = ArrayString<400>;
+
+/// Who may open a record file that is made here.
+const OWNERS_FILE: u32 = 0o600;
+
+/// Who may look into a directory that is made here, and write in it.
+const OWNERS_DIRECTORY: u32 = 0o700;
+
+/// What this host knows of the directory's own name.
+#[derive(Clone, Copy)]
+enum OwnName {
+    /// It made the directory, and the name may not be on the disk yet.
+    Made,
+    /// The directory was there, and its name may not be on the disk yet.
+    Found,
+    /// The name is on the disk, as far as this host can have it there.
+    Settled,
+}
+
+/// The directory of kept records, which this host alone uses.
+#[derive(Drop)]
+pub(crate) struct Records {
+    directory: PathText,
+    own_name: OwnName,
+    /// Whether the names in the directory are on the disk.
+    has_names: bool,
+    /// Whether a call on a record file has failed: from then on the system's bytes of such files are doubted.
+    has_failed: bool,
+    /// The file of the lock, which lasts while it is open.
+    lock: File,
+}
+
+// The path of a file in a directory.
+fn path_in(directory: &PathText, name: &str) -> io::Result<FilePath> {
+    let mut path = FilePath::new();
+    path.push_str(directory.as_str());
+    path.push('/');
+    match path.try_push_str(name) {
+        Ok(()) => Ok(path),
+        Err(_) => Err(io::Error::from(ErrorKind::InvalidInput)),
+    }
+}
+
+// The name of a ticket's file: the ticket's in hexadecimal, and `.rec`.
+fn file_name(ticket: &Name) -> io::Result<ArrayString<130>> {
+    let mut digits = [0u8; 126];
+    let ticket = ticket.bytes();
+    let digits = &mut digits[..2 * ticket.len()];
+    if hex::encode_to_slice(ticket, digits).is_err() {
+        return Err(io::Error::from(ErrorKind::InvalidInput));
+    }
+    let mut name = ArrayString::<130>::new();
+    for digit in digits.iter() {
+        if name.try_push(char::from(*digit)).is_err() {
+            return Err(io::Error::from(ErrorKind::InvalidInput));
+        }
+    }
+    match name.try_push_str(".rec") {
+        Ok(()) => Ok(name),
+        Err(_) => Err(io::Error::from(ErrorKind::InvalidInput)),
+    }
+}
+
+// Makes a directory where it is missing, for its owner alone: whoever may write in it could take a record away.
+fn make(rt: &HostRuntime, directory: &str) -> io::Result<OwnName> {
+    let made = DirBuilder::new()
+        .mode(OWNERS_DIRECTORY)
+        .create(rt, directory);
+    match made {
+        Ok(()) => Ok(OwnName::Made),
+        Err(error) if error.kind() == ErrorKind::AlreadyExists => Ok(OwnName::Found),
+        Err(error) => Err(error),
+    }
+}
+
+// Has the names in a directory be on the disk.
+fn sync_directory(rt: &HostRuntime, directory: &str) -> io::Result<()> {
+    File::open(rt, directory)?.sync_all()
+}
+
+// Has a directory's own name be on the disk.
+fn sync_parent(rt: &HostRuntime, directory: &str) -> io::Result<()> {
+    match Path::new(directory).parent() {
+        Some(parent) if parent.as_os_str().is_empty() => sync_directory(rt, "."),
+        Some(parent) => sync_directory(rt, parent.as_os_str()),
+        None => Ok(()),
+    }
+}
+
+// The same of a directory that was there. Who made it answers for its name where this user may not open the one above,
+// or where that has no sync, as one that is only read and has the directory as a mount point.
+fn sync_parent_if_allowed(rt: &HostRuntime, directory: &str) -> io::Result<()> {
+    let Err(error) = sync_parent(rt, directory) else {
+        return Ok(());
+    };
+    match error.kind() {
+        ErrorKind::PermissionDenied | ErrorKind::InvalidInput => Ok(()),
+        _ => Err(error),
+    }
+}
+
+// Opens a file to read and write, and makes it where it is missing; says whether it was.
+fn open_or_make(rt: &HostRuntime, path: &str) -> io::Result<(File, bool)> {
+    match File::options().read(true).write(true).open(rt, path) {
+        Ok(file) => return Ok((file, false)),
+        Err(error) if error.kind() == ErrorKind::NotFound => {}
+        Err(error) => return Err(error),
+    }
+    let file = File::options()
+        .read(true)
+        .write(true)
+        .create_new(true)
+        .mode(OWNERS_FILE)
+        .open(rt, path)?;
+    Ok((file, true))
+}
+
+// The error of a file that takes no record, with these words.
+fn damaged(words: &str) -> io::Error {
+    io::Error::new(ErrorKind::InvalidData, words)
+}
+
+impl Records {
+    /// The directory at this path, made where it is missing in the one above, with its lock. It fails where another
+    /// holds the lock.
+    pub(crate) fn open(rt: &HostRuntime, directory: &PathText) -> io::Result<Records> {
+        let own_name = make(rt, directory.as_str())?;
+        let path = path_in(directory, LOCK)?;
+        match lock_file(rt, path.as_str())? {
+            Some(lock) => Ok(Records {
+                directory: directory.copy(),
+                own_name,
+                has_names: false,
+                has_failed: false,
+                lock,
+            }),
+            None => Err(io::Error::from(ErrorKind::WouldBlock)),
+        }
+    }
+
+    // The slots of an open file.
+    fn slots(&mut self, file: File) -> io::Result<Slots<FileDisk>> {
+        match Slots::open(FileDisk::new(file, self.has_failed)) {
+            Ok(slots) => Ok(slots),
+            Err(OpenFault::Torn(_)) => Err(damaged("an open slot holds no record")),
+            Err(OpenFault::Disk(disk)) => {
+                self.has_failed = true;
+                Err(disk.error())
+            }
+        }
+    }
+
+    // Has the directory's own name be on the disk, also where an earlier process made the directory and ended.
+    fn keep_own_name(&mut self, rt: &HostRuntime) -> io::Result<()> {
+        let synced = match self.own_name {
+            OwnName::Settled => return Ok(()),
+            OwnName::Made => sync_parent(rt, self.directory.as_str()),
+            OwnName::Found => sync_parent_if_allowed(rt, self.directory.as_str()),
+        };
+        synced?;
+        self.own_name = OwnName::Settled;
+        Ok(())
+    }
+
+    // Has the names in the directory be on the disk, and its own.
+    fn keep_names(&mut self, rt: &HostRuntime) -> io::Result<()> {
+        if self.has_names {
+            return Ok(());
+        }
+        sync_directory(rt, self.directory.as_str())?;
+        self.keep_own_name(rt)?;
+        self.has_names = true;
+        Ok(())
+    }
+
+    /// The record that a ticket's file keeps, if it keeps one.
+    pub(crate) fn read(&mut self, rt: &HostRuntime, ticket: &Name) -> io::Result<Option<Record>> {
+        let path = path_in(&self.directory, file_name(ticket)?.as_str())?;
+        match File::open(rt, path.as_str()) {
+            Ok(file) => Ok(self.slots(file)?.record()),
+            Err(error) if error.kind() == ErrorKind::NotFound => Ok(None),
+            Err(error) => Err(error),
+        }
+    }
+
+    /// Keeps this record in a ticket's file: it, the file's name, and that of the directory are on the disk then.
+    pub(crate) fn write(
+        &mut self,
+        rt: &HostRuntime,
+        ticket: &Name,
+        record: &Record,
+    ) -> io::Result<()> {
+        let path = path_in(&self.directory, file_name(ticket)?.as_str())?;
+        let (file, is_new) = open_or_make(rt, path.as_str())?;
+        if is_new {
+            self.has_names = false;
+        }
+        self.keep_names(rt)?;
+        let mut slots = self.slots(file)?;
+        match slots.put(record) {
+            Ok(()) => Ok(()),
+            Err(PutFault::Spent) => Err(damaged("the last number is used")),
+            Err(PutFault::Disk | PutFault::Again) => {
+                self.has_failed = true;
+                Err(slots.disk().error())
+            }
+        }
+    }
+}

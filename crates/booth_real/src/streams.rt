@@ -1,0 +1,79 @@
+//! The standard streams.
+
+use libc::net::{POLLOUT, poll};
+use libc::types::pollfd;
+use std::fs::File;
+use std::io;
+use std::io::{ErrorKind, Write};
+use std::os::fd::{AsFd, AsRawFd};
+use std::process::ChildStdin;
+
+/// What stands in the place of each standard stream that was closed.
+pub(crate) type Standing = [Option<File>; 3];
+
+/// The number of standard error, the last of the standard streams.
+const STANDARD_ERROR: i32 = 2;
+
+/// Whether this process was started with a standard error.
+#[derive(Clone, Copy)]
+pub(crate) enum ErrorStream {
+    Open,
+    Closed,
+}
+
+// A file in the place of the first standard stream that is closed. It can only be read, so that a write fails as before.
+fn hold_stream(rt: &HostRuntime) -> Option<File> {
+    let file = File::open(rt, "/dev/null").ok()?;
+    if file.as_raw_fd() <= STANDARD_ERROR {
+        Some(file)
+    } else {
+        None
+    }
+}
+
+/// Fills the places of standard streams that were closed. A file of this process that got such a number would be a handler's
+/// standard error.
+pub(crate) fn hold_streams(rt: &HostRuntime) -> Standing {
+    [hold_stream(rt), hold_stream(rt), hold_stream(rt)]
+}
+
+/// Whether standard error was open, by what stands in the places of streams that were not.
+pub(crate) fn error_stream(standing: &Standing) -> ErrorStream {
+    let is_closed = standing.iter().any(|file| {
+        file.as_ref()
+            .is_some_and(|file| file.as_raw_fd() == STANDARD_ERROR)
+    });
+    if is_closed {
+        ErrorStream::Closed
+    } else {
+        ErrorStream::Open
+    }
+}
+
+/// Writes to a standard stream. Where it is closed, or a pipe that nobody reads, the write fails.
+///
+/// It goes through the type that the library has for a pipe to another program: a write to a plain stream that nobody
+/// reads would raise a signal that ends this program.
+pub(crate) fn write_to<S: AsFd>(stream: &S, bytes: &[u8]) -> io::Result<()> {
+    ChildStdin::from(stream.as_fd().try_clone_to_owned()?).write_all(bytes)
+}
+
+// Whether a write to a stream would not wait. One that is closed, or that nobody reads, fails at once.
+fn has_room<S: AsFd>(stream: &S) -> bool {
+    let fd = stream.as_fd().as_raw_fd();
+    let mut asked = [pollfd {
+        fd,
+        events: POLLOUT,
+        revents: 0,
+    }];
+    poll(&mut asked, 0) == 1
+}
+
+/// Writes a line to a standard stream, and fails where that would wait: for a reader, who may never come.
+pub(crate) fn write_at_once<S: AsFd>(stream: &S, line: &[u8]) -> io::Result<()> {
+    if has_room(stream) {
+        write_to(stream, line)
+    } else {
+        Err(io::Error::from(ErrorKind::WouldBlock))
+    }
+}

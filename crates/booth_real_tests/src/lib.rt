@@ -1,0 +1,5 @@
+//! Tests of the real host, in a crate of their own.
+#![tactic(auto)]
+
+#[cfg(test)]
+mod tests;

@@ -1,0 +1,72 @@
+-- What a next and a send of a host over streams did, from the parts that did it.
+use Rattle.std.specs.Prelude.{Option, Result, Ok}
+use Rattle.std.proofs.Common.{◌≡◌, ℕ, List, [], ◌∷◌, ◌++◌, refl, ◌∙◌, ap, subst}
+use Rattle.std.specs.List.{All}
+use Rattle.booth_base.specs.declared.address.Peer.{Peer}
+use Rattle.booth_host.specs.declared.entry.Entry.{Entry}
+use Rattle.booth_host.specs.declared.entry.Entry.TheVariants.{Send}
+use Rattle.booth_host.specs.declared.host.Arrival.{Arrival}
+use Rattle.booth_host.specs.declared.host.Arrival.TheVariants.{Datagram}
+use Rattle.booth_host.specs.declared.host.Failed.{Failed}
+use Rattle.booth_host.specs.Past.{GrewBy}
+use Rattle.booth_host.proofs.PastLemmas.{no_entry}
+use Rattle.booth_stream.specs.declared.link_call.LinkCall.{LinkCall}
+use Rattle.booth_stream.specs.declared.links.LinkEvent.{LinkEvent}
+use Rattle.booth_stream.specs.declared.stream_host.Wrote.{Wrote}
+use Rattle.booth_stream.specs.Calls.{CallsGrewBy}
+use Rattle.booth_stream.specs.Places.{OpenLink, Gives, NoneWhole, Polls, closings, unbroken}
+use Rattle.booth_stream.specs.Slots.{IsOpen, IsNotOf}
+use Rattle.booth_stream.specs.Steps.{BothGrew, IsNext, Ready, Arrived, Passed, AnswersElse, IsSend, Linked, SentOn, Writes, EndsWrites}
+use Rattle.booth_stream.proofs.CallLemmas.{no_call, calls_joined}
+use Rattle.booth_stream.proofs.StepLemmas.{both_of}
+
+-- a frame was there
+pub ready_next : (old new : List (Option OpenLink)) (wait : ℕ) (peer : Peer) (bytes : List ℕ) {links : Option (List LinkCall)}
+    {host : Option (List Entry)} → Gives old peer bytes new
+    → BothGrew (λ calls entries. IsNext old wait calls entries (Ok (Datagram peer)) bytes new) links links host host
+ready_next old new wait peer bytes gives =
+    both_of (λ calls entries. IsNext old wait calls entries (Ok (Datagram peer)) bytes new) no_call no_entry
+    (Ready peer gives refl refl refl)
+
+-- one came with the poll
+pub arrived_next : (old start mid new : List (Option OpenLink)) (wait : ℕ) (peer : Peer) (bytes : List ℕ)
+    (polled : Result LinkEvent Failed) (calls : List LinkCall) {links linked : Option (List LinkCall)} {host : Option (List Entry)}
+    → start ≡ old → CallsGrewBy links linked calls → Polls start polled calls mid → Gives mid peer bytes new
+    → BothGrew (λ calls entries. IsNext old wait calls entries (Ok (Datagram peer)) bytes new) links linked host host
+arrived_next old start mid new wait peer bytes polled calls same grew polls gives =
+    let from_old : Polls old polled calls mid = subst (λ (l : List (Option OpenLink)). Polls l polled calls mid) same polls in
+    both_of (λ made entries. IsNext old wait made entries (Ok (Datagram peer)) bytes new) grew no_entry
+    (Arrived polled mid peer from_old gives refl refl)
+
+-- none came
+pub passed_next : (old start mid late new : List (Option OpenLink)) (wait : ℕ) (answer : Result Arrival Failed) (bytes : List ℕ)
+    (polled : Result LinkEvent Failed) (calls : List LinkCall) (entries : List Entry)
+    {links linked ended : Option (List LinkCall)} {host hosted : Option (List Entry)}
+    → start ≡ old → CallsGrewBy links linked calls → Polls start polled calls mid → late ≡ mid → NoneWhole late
+    → CallsGrewBy linked ended (closings late) → new ≡ unbroken late → GrewBy host hosted entries
+    → AnswersElse wait polled entries answer bytes
+    → BothGrew (λ calls entries. IsNext old wait calls entries answer bytes new) links ended host hosted
+passed_next old start mid late new wait answer bytes polled calls entries same grew polls kept none closed now inside answers =
+    let from_old : Polls old polled calls mid = subst (λ (l : List (Option OpenLink)). Polls l polled calls mid) same polls in
+    let of_mid : NoneWhole mid = subst NoneWhole kept none in
+    both_of (λ made given. IsNext old wait made given answer bytes new) (calls_joined grew closed) inside
+    (Passed polled mid calls from_old of_mid (ap (λ (l : List (Option OpenLink)). calls ++ closings l) kept)
+    (now ∙ ap unbroken kept) answers)
+
+-- a link was written to
+pub linked_send : (old new : List (Option OpenLink)) (to : Peer) (bytes : List ℕ) (number : ℕ) (wrote : Wrote)
+    (writes calls : List LinkCall) (answer : Result (Unit {0}) Failed) {links linked : Option (List LinkCall)}
+    {host : Option (List Entry)} → IsOpen old to number → CallsGrewBy links linked calls → Writes number bytes writes wrote
+    → EndsWrites old number wrote writes calls answer new
+    → BothGrew (λ calls entries. IsSend old to bytes calls entries answer new) links linked host host
+linked_send old new to bytes number wrote writes calls answer open_to grew written ends =
+    both_of (λ made entries. IsSend old to bytes made entries answer new) grew no_entry
+    (Linked number wrote writes open_to written ends refl)
+
+-- the host inside sent
+pub sent_on : (places : List (Option OpenLink)) (to : Peer) (bytes : List ℕ) (answer : Result (Unit {0}) Failed)
+    {links : Option (List LinkCall)} {host hosted : Option (List Entry)} → All (IsNotOf to) places
+    → GrewBy host hosted (Send to bytes answer ∷ [])
+    → BothGrew (λ calls entries. IsSend places to bytes calls entries answer places) links links host hosted
+sent_on places to bytes answer unreached grew =
+    both_of (λ made entries. IsSend places to bytes made entries answer places) no_call grew (SentOn unreached refl refl refl)

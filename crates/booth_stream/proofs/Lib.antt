@@ -1,0 +1,11 @@
+pub mod BufferLemmas
+pub mod CutLemmas
+pub mod FeedLemmas
+pub mod CallLemmas
+pub mod SlotLemmas
+pub mod SlotsLemmas
+pub mod StepLemmas
+pub mod RunLemmas
+pub mod AnswerLemmas
+pub mod WriteLemmas
+pub mod HostLemmas

@@ -1,0 +1,12 @@
+-- What links tell of their calls.
+use Rattle.std.specs.Prelude.{◌≡◌, List, ◌++◌, Option, None, Some, IsSome}
+use Rattle.booth_stream.specs.declared.link_call.LinkCall.{LinkCall}
+
+-- the calls with these after them, where they are told
+abbrev pub with_calls : Option (List LinkCall) → List LinkCall → Option (List LinkCall)
+with_calls None more = None
+with_calls (Some past) more = Some (past ++ more)
+
+-- told after only where told before, and grown by these calls
+pub record CallsGrewBy (before after : Option (List LinkCall)) (more : List LinkCall) : Type 0 where
+  pub grew : IsSome after → after ≡ with_calls before more

@@ -1,0 +1,12 @@
+pub mod Cut
+pub mod Feeding
+pub mod Calls
+pub mod MemoryLinks
+pub mod Places
+pub mod Slot
+pub mod Slots
+pub mod Table
+pub mod Steps
+pub mod Runs
+pub mod Laws
+pub mod Aim

@@ -1,0 +1,45 @@
+-- A place of a host over streams, with its cutter.
+use Rattle.std.specs.Prelude.{◌≡◌, ◌++◌, ℕ, false, List, [], ◌∷◌, Option, None, Some}
+use Rattle.booth_base.specs.declared.address.Peer.{Peer}
+use Rattle.booth_stream.specs.Feeding.{Held}
+use Rattle.booth_stream.specs.Places.{OpenLink, NoFrame, GivesFrame}
+use Rattle.booth_stream.specs.declared.slot.Caller.{Caller}
+use Rattle.booth_stream.specs.declared.link_call.LinkCall.{LinkCall}
+use Rattle.booth_stream.specs.declared.link_call.LinkCall.TheVariants.{Close}
+
+-- who opened the link, the bytes in the cutter, and those that it has not taken yet
+pub record PlainSlot : Type 0 where
+  pub caller : Option Caller
+  pub held : Held
+  pub later : List ℕ
+
+abbrev pub called : Option Caller → List ℕ → Option OpenLink
+called None rest = None
+called (Some caller) rest = Some (record { number = caller.number; peer = caller.peer; rest = rest })
+
+-- the link of a slot
+abbrev pub link_in : PlainSlot → Option OpenLink
+link_in slot = called slot.caller (slot.held.rest ++ slot.later)
+
+-- the cutter took all, or is broken
+abbrev pub IsFed : PlainSlot → Type 0
+IsFed slot = slot.held.broken ≡ false → slot.later ≡ []
+
+-- all was taken
+abbrev pub IsIdle : PlainSlot → Type 0
+IsIdle slot = slot.later ≡ []
+
+-- no frame can be given, and the cutter saw to it
+pub record IsDry (slot : PlainSlot) : Type 0 where
+  pub fed : IsFed slot
+  pub none : NoFrame (link_in slot)
+
+-- a frame is given, or none can be
+abbrev pub GivesFrom : PlainSlot → Option Peer → List ℕ → PlainSlot → Type 0
+GivesFrom old (Some peer) bytes new = GivesFrame (link_in old) peer bytes (link_in new)
+GivesFrom old None bytes new = (link_in new ≡ link_in old) × IsDry new
+
+-- the call that closes a link
+abbrev pub closes : Option ℕ → List LinkCall
+closes None = []
+closes (Some number) = Close number ∷ []

@@ -1,0 +1,106 @@
+-- What each call of a host over streams does: its calls of the links and of the host inside.
+use Rattle.std.specs.Prelude.{◌≡◌, ◌≤◌, ◌<◌, ◌⊎◌, ◌++◌, ◌+◌, ◌-◌, ◌^◌, min, ℕ, true, List, [], ◌∷◌, length, drop, Option, IsSome, Result, Ok, Err, is_err}
+use Rattle.std.specs.List.{All}
+use Rattle.booth_base.specs.declared.address.Peer.{Peer}
+use Rattle.booth_host.specs.declared.entry.Entry.{Entry}
+use Rattle.booth_host.specs.declared.entry.Entry.TheVariants.{Next, Send}
+use Rattle.booth_host.specs.declared.host.Arrival.{Arrival}
+use Rattle.booth_host.specs.declared.host.Arrival.TheVariants.{Datagram}
+use Rattle.booth_host.specs.declared.host.Failed.{Failed}
+use Rattle.booth_host.specs.declared.entry.Entry.TheVariants as entries
+use Rattle.booth_host.specs.declared.host.Place.{Place}
+use Rattle.booth_host.specs.Past.{grown, GrewBy}
+use Rattle.booth_host.specs.Causes.{Rose}
+use Rattle.booth_stream.specs.Calls.{with_calls, CallsGrewBy}
+use Rattle.booth_stream.specs.Places.{OpenLink, NoneWhole, Gives, Polls, closings, unbroken, without}
+use Rattle.booth_stream.specs.Slots.{IsOpen, IsNotOf}
+use Rattle.booth_stream.specs.declared.link_call.LinkCall.{LinkCall}
+use Rattle.booth_stream.specs.declared.link_call.LinkCall.TheVariants.{Close, Open, Write}
+use Rattle.booth_stream.specs.declared.links.LinkEvent.{LinkEvent}
+use Rattle.booth_stream.specs.declared.stream_host.Wrote.{Wrote}
+use Rattle.booth_stream.specs.declared.stream_host.Wrote.TheVariants as wrotes
+
+-- Where links and host tell after, they told before, and the calls between are such.
+pub record BothGrew (P : List LinkCall → List Entry → Type 0) (links linked : Option (List LinkCall))
+    (host hosted : Option (List Entry)) : Type 0 where
+  pub grew : IsSome linked → IsSome hosted → (calls : List LinkCall) × (entries : List Entry)
+      × (linked ≡ with_calls links calls) × (hosted ≡ grown host entries) × P calls entries
+
+-- ---- faults
+
+-- the sum of three counts, or the end
+abbrev pub summed : ℕ → ℕ → ℕ → ℕ
+summed host links own = min (host + links + own) (2 ^ 64 - 1)
+
+-- a write that failed was counted
+pub record RoseAt (wrote : Wrote) (before now : ℕ) : Type 0 where
+  pub later : before ≤ now
+  pub fault : wrote ≡ wrotes.Fault → Rose before now
+
+-- ---- open
+
+-- the second answer, where the first is no failure
+abbrev pub both : Result (Unit {0}) Failed → Result (Unit {0}) Failed → Result (Unit {0}) Failed
+both (Ok done) second = second
+both (Err fault) second = Err fault
+
+-- the host inside and the links are opened at one place
+pub record OpensBoth (place : Place) (answer : Result (Unit {0}) Failed) (links linked : Option (List LinkCall))
+    (host hosted : Option (List Entry)) : Type 0 where
+  pub first : Result (Unit {0}) Failed
+  pub second : Result (Unit {0}) Failed
+  pub inside : GrewBy host hosted (entries.Open place.local place.port place.records place.conf_path first ∷ [])
+  pub called : CallsGrewBy links linked (Open place.local place.port second ∷ [])
+  pub answers : answer ≡ both first second
+
+-- ---- next
+
+-- what a poll that failed answers, or else the host inside
+abbrev pub AnswersElse : ℕ → Result LinkEvent Failed → List Entry → Result Arrival Failed → List ℕ → Type 0
+AnswersElse wait (Err fault) entries answer bytes = (answer ≡ Err fault) × (entries ≡ [])
+AnswersElse wait (Ok event) entries answer bytes = entries ≡ Next wait answer bytes ∷ []
+
+-- A frame that is whole is given without a call. Else there is one poll, and a frame that is whole then is given. Else
+-- the poll or the host inside answers, and links in which no frame follows are closed.
+pub data IsNext (old : List (Option OpenLink)) (wait : ℕ) (calls : List LinkCall) (entries : List Entry)
+    (answer : Result Arrival Failed) (bytes : List ℕ) (new : List (Option OpenLink)) : Type 0 where
+  Ready : (peer : Peer) → Gives old peer bytes new → answer ≡ Ok (Datagram peer) → calls ≡ [] → entries ≡ []
+      → IsNext old wait calls entries answer bytes new
+  Arrived : (polled : Result LinkEvent Failed) (mid : List (Option OpenLink)) (peer : Peer) → Polls old polled calls mid
+      → Gives mid peer bytes new → answer ≡ Ok (Datagram peer) → entries ≡ []
+      → IsNext old wait calls entries answer bytes new
+  Passed : (polled : Result LinkEvent Failed) (mid : List (Option OpenLink)) (first : List LinkCall)
+      → Polls old polled first mid → NoneWhole mid → calls ≡ first ++ closings mid → new ≡ unbroken mid
+      → AnswersElse wait polled entries answer bytes → IsNext old wait calls entries answer bytes new
+
+-- ---- send
+
+-- what ends the writes of a frame
+abbrev pub Stops : Result ℕ Failed → Wrote → Type 0
+Stops (Ok taken) wrote = (taken ≡ 0) × (wrote ≡ wrotes.Nothing)
+Stops (Err fault) wrote = wrote ≡ wrotes.Fault
+
+-- Each write is of what is left, until all was taken, or a write failed or took nothing.
+abbrev pub Writes : ℕ → List ℕ → List LinkCall → Wrote → Type 0
+Writes number bytes [] wrote = (bytes ≡ []) × (wrote ≡ wrotes.All)
+Writes number bytes (call ∷ calls) wrote = (0 < length bytes)
+    × (((taken : ℕ) × (call ≡ Write number bytes (Ok taken)) × (0 < taken) × (taken ≤ length bytes)
+    × Writes number (drop taken bytes) calls wrote)
+    ⊎ ((answer : Result ℕ Failed) × (call ≡ Write number bytes answer) × (calls ≡ []) × Stops answer wrote))
+
+-- what a send comes to once a link of its peer is written to: one that was not written whole is closed
+abbrev pub EndsWrites : List (Option OpenLink) → ℕ → Wrote → List LinkCall → List LinkCall → Result (Unit {0}) Failed
+    → List (Option OpenLink) → Type 0
+EndsWrites old number wrotes.All writes calls answer new = (answer ≡ Ok tt) × (calls ≡ writes) × (new ≡ old)
+EndsWrites old number wrotes.Nothing writes calls answer new =
+    (is_err answer ≡ true) × (calls ≡ writes ++ Close number ∷ []) × (new ≡ without number old)
+EndsWrites old number wrotes.Fault writes calls answer new =
+    (is_err answer ≡ true) × (calls ≡ writes ++ Close number ∷ []) × (new ≡ without number old)
+
+-- A link that is open to the peer is written to, or else the host inside sends.
+pub data IsSend (old : List (Option OpenLink)) (to : Peer) (bytes : List ℕ) (calls : List LinkCall) (entries : List Entry)
+    (answer : Result (Unit {0}) Failed) (new : List (Option OpenLink)) : Type 0 where
+  Linked : (number : ℕ) (wrote : Wrote) (writes : List LinkCall) → IsOpen old to number → Writes number bytes writes wrote
+      → EndsWrites old number wrote writes calls answer new → entries ≡ [] → IsSend old to bytes calls entries answer new
+  SentOn : All (IsNotOf to) old → calls ≡ [] → entries ≡ Send to bytes answer ∷ [] → new ≡ old
+      → IsSend old to bytes calls entries answer new

@@ -1,0 +1,122 @@
+//! The places of a host over streams: which links are open.
+ghost use Rattle.std.specs.Prelude.{◌≡◌, ◌≤◌, List, IfOk, None, ◌∷◌, [], replicate};
+ghost use Rattle.std.specs.List.{All};
+ghost use Rattle.booth_host.specs.Causes.{HasCause};
+ghost use Rattle.booth_stream.specs.Calls.{CallsGrewBy};
+ghost use Rattle.booth_stream.specs.Places.{Polls, after_event, after_poll, closings, unbroken, without};
+ghost use Rattle.booth_stream.specs.Slot.{IsDry, IsIdle};
+ghost use Rattle.booth_stream.specs.Slots.{GivesOne, Reaches};
+ghost use Rattle.booth_stream.specs.Table.{places_of};
+ghost use Rattle.booth_stream.specs.declared.link_call.LinkCall.{LinkCall};
+
+use crate::slot::{Caller, Slot};
+use crate::slots::{add, close_broken, end, free_slots, give_first, leave, open, reach};
+use crate::{LinkEvent, Links, Piece};
+use booth_base::Peer;
+use booth_host::{Datagram, Failed};
+use std::alloc::{AllocError, Global};
+
+/// The places of all links.
+#[derive(Drop)]
+pub(crate) struct Table {
+    slots: Vec<Slot>,
+}
+
+impl Table {
+    /// Free places, with the memory of all links.
+    pub(crate) fn new(alloc: Global) -> Result<Table, AllocError>
+        ensures { IfOk result (λ table. places_of table ≡ replicate 16 None) }
+    {
+        Ok(Table {
+            slots: free_slots(alloc)?,
+        })
+    }
+
+    /// The next frame of a link that has a whole one, and its peer. At most the link whose bytes came last has one.
+    pub(crate) fn give(&mut self, into: &mut Datagram) -> Option<Peer>
+        ensures { GivesOne self.old.slots.items result into.new self.new.slots.items }
+    {
+        give_first(&mut self.slots, into)
+    }
+
+    /// Closes each link in which no frame follows.
+    pub(crate) fn close_broken<L: Links>(&mut self, links: &mut L)
+        requires { All IsDry self.old.slots.items }
+        ensures places { places_of self.new ≡ unbroken (places_of self.old) }
+        ensures idle { All IsIdle self.new.slots.items }
+        ensures calls { CallsGrewBy (L.past links.old) (L.past links.new) (closings (places_of self.old)) }
+        ensures later { L.faults links.old ≤ L.faults links.new }
+    {
+        close_broken(&mut self.slots, links);
+    }
+
+    // Does what an event demands. All that came before was taken.
+    fn take<L: Links>(&mut self, event: LinkEvent, piece: &Piece, links: &mut L)
+        requires { All IsIdle self.old.slots.items }
+        ensures places { places_of self.new ≡ (after_event event piece.now (places_of self.old)).places }
+        ensures calls { CallsGrewBy (L.past links.old) (L.past links.new)
+            (after_event event piece.now (places_of self.old)).calls }
+        ensures later { L.faults links.old ≤ L.faults links.new }
+    {
+        match event {
+            LinkEvent::Opened { link, peer } => {
+                open(&mut self.slots, Caller { number: link, peer }, links)
+            }
+            LinkEvent::Bytes(link) => add(&mut self.slots, link, piece),
+            LinkEvent::Ended(link) => end(&mut self.slots, link, links),
+            LinkEvent::Quiet => {}
+        }
+    }
+
+    // Polls once, and does what that demands.
+    fn poll_links<L: Links>(
+        &mut self,
+        piece: &mut Piece,
+        links: &mut L,
+    ) -> Result<LinkEvent, Failed>
+        requires { All IsIdle self.old.slots.items }
+        ensures places { places_of self.new ≡ (after_poll result piece.new (places_of self.old)).places }
+        ensures calls { CallsGrewBy (L.past links.old) (L.past links.new)
+            (LinkCall.Poll result piece.new ∷ (after_poll result piece.new (places_of self.old)).calls) }
+        ensures cause { HasCause (L.faults links.old) (L.faults links.new) result }
+    {
+        let polled = links.poll(piece);
+        match polled {
+            Ok(event) => self.take(event, piece, links),
+            Err(Failed) => {}
+        }
+        polled
+    }
+
+    /// Polls once, where no link has a frame: links in which none follows are closed first.
+    pub(crate) fn poll<L: Links>(
+        &mut self,
+        piece: &mut Piece,
+        links: &mut L,
+    ) -> Result<LinkEvent, Failed>
+        requires { All IsDry self.old.slots.items }
+        ensures polls { (calls : List LinkCall) × CallsGrewBy (L.past links.old) (L.past links.new) calls
+            × Polls (places_of self.old) result calls (places_of self.new) }
+        ensures cause { HasCause (L.faults links.old) (L.faults links.new) result }
+    {
+        self.close_broken(links);
+        self.poll_links(piece, links)
+    }
+
+    /// The number of a link that is open to this peer.
+    pub(crate) fn reach(&self, peer: &Peer) -> Option<u32>
+        ensures { Reaches (places_of self.now) peer.now result }
+    {
+        reach(&self.slots, peer)
+    }
+
+    /// Closes the link of this number.
+    pub(crate) fn close<L: Links>(&mut self, number: u32, links: &mut L)
+        ensures places { places_of self.new ≡ without number (places_of self.old) }
+        ensures calls { CallsGrewBy (L.past links.old) (L.past links.new) (LinkCall.Close number ∷ []) }
+        ensures later { L.faults links.old ≤ L.faults links.new }
+    {
+        leave(&mut self.slots, number);
+        links.close(number);
+    }
+}
