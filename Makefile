@@ -47,7 +47,7 @@ INSTALLED := $(foreach program,$(PROGRAMS),$(SBIN)/$(program):out/$(program):755
   $(DOCS)/copyright:packaging/copyright:644 \
   $(DOCS)/changelog:packaging/changelog:644 \
   $(foreach doc,$(wildcard docs/*.md),$(DOCS)/$(notdir $(doc)):$(doc):644) \
-  $(foreach file,$(wildcard examples/*.conf),$(DOCS)/examples/$(notdir $(file)):$(file):644)
+  $(foreach file,$(wildcard examples/*.conf examples/*.py),$(DOCS)/examples/$(notdir $(file)):$(file):644)
 
 install: build
 	@for each in $(INSTALLED); do \

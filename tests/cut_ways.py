@@ -37,9 +37,14 @@ def socket_of(process):
     handle = call(PIDFD_OPEN, process.pid, 0)
     for number in sockets_of(process) if handle >= 0 else ():
         taken = call(PIDFD_GETFD, handle, number, 0)
-        if taken >= 0:
+        if taken < 0:
+            continue
+        found = socket.socket(fileno=taken)
+        # (the others are those of its links)
+        if found.type == socket.SOCK_DGRAM:
             os.close(handle)
-            return socket.socket(fileno=taken)
+            return found
+        found.close()
     raise CannotCut(os.strerror(ctypes.get_errno()))
 
 

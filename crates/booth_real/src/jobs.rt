@@ -4,8 +4,8 @@
 
 use crate::programs::{FileName, is_directory, next_in_directory, start};
 use crate::streams::ErrorStream;
-use booth_host::Job;
 use booth_base::{Name, PathText};
+use booth_host::Job;
 use std::alloc::Global;
 use std::io;
 use std::io::ErrorKind;

@@ -1,9 +1,9 @@
 //! The programs of a handler: which they are, in which order, and how one is started.
 
 use crate::streams::ErrorStream;
-use booth_host::Job;
 use arrayvec::ArrayString;
 use booth_base::PathText;
+use booth_host::Job;
 use std::alloc::Global;
 use std::io::{Error, ErrorKind};
 use std::process::{Child, Command, Stdio};

@@ -5,21 +5,22 @@ ghost use Rattle.std.specs.Prelude.{◌≡◌, ◌≤◌, None, IfOk, vec_len};
 ghost use Rattle.booth_host.specs.Causes.{raised, HasCause, IsCounted};
 ghost use Rattle.booth_host.specs.declared.datagram.TheConstants.{DATAGRAM_BYTES};
 
-use booth_host::{Arrival, DATAGRAM_BYTES, Datagram, Failed, Host, Job, Place, ReadFault};
-use booth_base::{ByteText, Name, PathText, Peer};
-use booth_rec::Record;
 use crate::files::contents;
 use crate::jobs::{Ended, Jobs, SIGNALLED};
 use crate::lock::take_lock;
 use crate::records::Records;
 use crate::socket::Socket;
+use crate::streams::{Standing, error_stream, hold_streams, write_to};
+use crate::telling::Unkept;
+use booth_base::{ByteText, Name, PathText, Peer};
+use booth_host::{Arrival, DATAGRAM_BYTES, Datagram, Failed, Host, Job, Place, ReadFault};
+use booth_rec::Record;
 use std::alloc::{AllocError, Global};
 use std::fs::File;
 use std::io::ErrorKind;
+use std::os::fd::RawFd;
 use std::time::{Duration, SystemTime};
 use std::{io, thread};
-use crate::streams::{Standing, error_stream, hold_streams, write_to};
-use crate::telling::Unkept;
 
 /// The devices of the system.
 #[derive(Drop)]
@@ -30,6 +31,8 @@ pub struct RealHost {
     records: Option<Records>,
     unkept: Unkept,
     buffer: Vec<u8>,
+    /// A file that ends the wait of `next` when it can be read, or a number below 0.
+    other: RawFd,
     /// The path of the configuration, once a place was opened.
     conf_path: Option<PathText>,
     jobs: Jobs,
@@ -68,12 +71,18 @@ impl RealHost {
             records: None,
             unkept: Unkept::new(alloc),
             buffer: vec![in alloc; 0; DATAGRAM_BYTES]?,
+            other: -1,
             conf_path: None,
             jobs,
             locked: None,
             standing,
             faults: 0,
         })
+    }
+
+    /// Has the wait of each later `next` end early, with Quiet, when this file can be read. A number below 0 is no file.
+    pub fn wake_on(&mut self, fd: RawFd) {
+        self.other = fd;
     }
 
     // Counts a failure, once.
@@ -135,8 +144,8 @@ impl RealHost {
         ensures { self.new.faults ≡ self.old.faults }
     {
         into.set(&[]);
-        match &mut self.socket {
-            Some(socket) => socket.receive(wait_ms, &mut self.buffer, into),
+        match &self.socket {
+            Some(socket) => socket.receive(wait_ms, self.other, &mut self.buffer, into),
             None => Err(unopened()),
         }
     }

@@ -1,11 +1,13 @@
 //! The UDP socket, and addresses as the system has them.
 
-use booth_host::{Arrival, Datagram, Place};
 use booth_base::{Address, Peer};
+use booth_host::{Arrival, Datagram, Place};
+use libc::net::{POLLIN, poll};
+use libc::types::pollfd;
 use std::io;
 use std::io::ErrorKind;
 use std::net::{IpAddr, Ipv4Addr, Ipv6Addr, SocketAddr, UdpSocket};
-use std::time::Duration;
+use std::os::fd::{AsRawFd, RawFd};
 
 /// Whom a socket reaches.
 #[derive(Clone, Copy)]
@@ -22,8 +24,6 @@ enum Reach {
 pub(crate) struct Socket {
     udp: UdpSocket,
     reach: Reach,
-    /// The wait that it is set to, in milliseconds.
-    wait_ms: u64,
 }
 
 fn system_address(address: Address) -> IpAddr {
@@ -61,13 +61,18 @@ fn narrowed(address: IpAddr) -> IpAddr {
 
 fn bind(rt: &HostRuntime, address: IpAddr, port: u16, reach: Reach) -> io::Result<Socket> {
     let udp = UdpSocket::bind(rt, SocketAddr::new(address, port))?;
-    // A send that finds no room fails. The system rounds this up to one tick of its timer.
-    udp.set_write_timeout(Some(Duration::from_micros(1)))?;
-    Ok(Socket {
-        udp,
-        reach,
-        wait_ms: 0,
-    })
+    // A send that finds no room fails, and a receive waits by `wait` alone.
+    udp.set_nonblocking(true)?;
+    Ok(Socket { udp, reach })
+}
+
+// A file that is waited for, if it is one: a number below 0 is passed over.
+fn waited_for(fd: RawFd) -> pollfd {
+    pollfd {
+        fd,
+        events: POLLIN,
+        revents: 0,
+    }
 }
 
 impl Socket {
@@ -84,16 +89,11 @@ impl Socket {
         }
     }
 
-    // Has the next receive wait for so long.
-    fn set_wait(&mut self, wait_ms: u64) -> io::Result<()> {
-        // A socket takes no wait of 0, and without one it would wait for ever.
-        let wait_ms = wait_ms.max(1);
-        if wait_ms != self.wait_ms {
-            let wait = Some(Duration::from_millis(wait_ms));
-            self.udp.set_read_timeout(wait)?;
-            self.wait_ms = wait_ms;
-        }
-        Ok(())
+    // Waits for so long at most: until a datagram came, or the other file can be read.
+    fn wait(&self, wait_ms: u64, other: RawFd) {
+        let mut files = [waited_for(self.udp.as_raw_fd()), waited_for(other)];
+        let wait_ms = i32::try_from(wait_ms).unwrap_or(i32::MAX);
+        poll(&mut files, wait_ms);
     }
 
     fn peer_at(&self, from: SocketAddr) -> Peer {
@@ -116,14 +116,8 @@ impl Socket {
         SocketAddr::new(ip, to.port)
     }
 
-    /// What comes within this time, through the buffer. A call that a signal cut short is Quiet.
-    pub(crate) fn receive(
-        &mut self,
-        wait_ms: u64,
-        buffer: &mut [u8],
-        into: &mut Datagram,
-    ) -> io::Result<Arrival> {
-        self.set_wait(wait_ms)?;
+    // What is there already, through the buffer. A call that a signal cut short is Quiet.
+    fn take(&self, buffer: &mut [u8], into: &mut Datagram) -> io::Result<Arrival> {
         match self.udp.recv_from(buffer) {
             Ok((count, from)) => {
                 into.set(&buffer[..count]);
@@ -136,6 +130,18 @@ impl Socket {
                 _ => Err(error),
             },
         }
+    }
+
+    /// What comes within this time, through the buffer. The wait ends early where the other file can be read.
+    pub(crate) fn receive(
+        &self,
+        wait_ms: u64,
+        other: RawFd,
+        buffer: &mut [u8],
+        into: &mut Datagram,
+    ) -> io::Result<Arrival> {
+        self.wait(wait_ms, other);
+        self.take(buffer, into)
     }
 
     /// Gives these bytes to the network, again where a signal cut the call short.

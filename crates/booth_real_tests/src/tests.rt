@@ -4,6 +4,7 @@
 //! with its test, and a proof that one is dropped is long.
 mod devices;
 mod handlers;
+mod links;
 
 use booth_base::PathText;
 use booth_host::{Host, Place};

@@ -1,8 +1,10 @@
-//! The program `boothd`: its words over the real host.
+//! The program `boothd`: its words over the real host and the real links.
 #![tactic(auto)]
 
 use booth_daemon::{Outcome, boothd};
+use booth_links::RealLinks;
 use booth_real::RealHost;
+use booth_stream::StreamHost;
 use std::alloc::{AllocError, Global};
 use std::env;
 use std::io::{ErrorKind, Write};
@@ -19,7 +21,11 @@ fn words(rt: &HostRuntime, alloc: Global) -> Result<Vec<String>, AllocError> {
 
 fn run(rt: HostRuntime, alloc: Global) -> Result<Outcome, AllocError> {
     let words = words(&rt, alloc)?;
+    // (the host comes first, so that no file of the links has the number of a standard stream)
     let mut host = RealHost::new(rt, alloc)?;
+    let links = RealLinks::new(rt, alloc)?;
+    host.wake_on(links.ready_file());
+    let mut host = StreamHost::new(alloc, host, links, 0)?;
     Ok(boothd(alloc, &words, &mut host))
 }
 

@@ -1,0 +1,135 @@
+#!/usr/bin/env python3
+"""Measures lists over TCP at a proved boothd on loopback, on one open link and on sixteen, beside UDP in the same run.
+
+Run it as `python3 bench/links.py [BOOTHD [BEFORE]]`, BOOTHD being what `make build` leaves where it is left out. It prints one
+table in some seconds, and has the status 1 where a mark is missed by more than a tenth. With BEFORE, a boothd that serves no
+links, it also counts the instructions of a turn of both, as bench/turn.py does, which needs valgrind and a minute.
+"""
+
+import itertools
+import os
+import socket
+import statistics
+import sys
+import tempfile
+import time
+
+HERE = os.path.dirname(os.path.abspath(__file__))
+sys.path[:0] = [HERE, f"{HERE}/../tools", f"{HERE}/../tests"]
+
+import frames
+from run import Row, below, cpu_seconds, print_table
+from serving import NotServing, boothd, built_program, end_by_signals, own_addresses
+from tcp_links import Closed, Link, links
+from texts import one_ticket
+from turn import a_turn
+
+LINKS, ROUNDS, LISTS = 16, 20, 500
+# how many of a thousand have to come in time, which is less than the wait of a turn
+MOST, OF, MILLIS = 999, 1000, 5
+
+
+def frame_of(link):
+    """The bytes of the next reply."""
+    head = link.receive(frames.HEAD_BYTES)
+    return head + link.receive(frames.Head.read(head).length - frames.HEAD_BYTES)
+
+
+def over_tcp(link, request):
+    link.socket.sendall(request)
+    frame_of(link)
+
+
+def over_udp(asker, request):
+    asker.send(request)
+    asker.recv(frames.FRAME_BYTES)
+
+
+def times_of(ask, request, count):
+    """How long each of so many lists takes, in seconds."""
+    took = []
+    for _ in range(count):
+        begun = time.perf_counter()
+        ask(request)
+        took.append(time.perf_counter() - begun)
+    return took
+
+
+def in_turns(asks, request, process):
+    """The times of each of these ways, in rounds that take turns, and the daemon's CPU a list of each."""
+    took, cpu = [[] for _ in asks], [0.0 for _ in asks]
+    for _ in range(ROUNDS):
+        for place, ask in enumerate(asks):
+            before = cpu_seconds(process)
+            took[place] += times_of(ask, request, LISTS)
+            cpu[place] += cpu_seconds(process) - before
+    return took, [seconds / (ROUNDS * LISTS) for seconds in cpu]
+
+
+def lists_a_second(opened, request):
+    """Lists a second of links that ask at once, each as soon as it has its answer: of the best round."""
+    best = 0.0
+    for _ in range(ROUNDS):
+        begun = time.perf_counter()
+        for _ in range(LISTS // LINKS):
+            for link in opened:
+                link.socket.sendall(request)
+            for link in opened:
+                frame_of(link)
+        best = max(best, LISTS // LINKS * LINKS / (time.perf_counter() - begun))
+    return best
+
+
+def rows(program, folder):
+    address = next(own_addresses())
+    conf = os.path.join(folder, "one.conf")
+    with open(conf, "wb") as file:
+        file.write(one_ticket().replace(b"@", address.encode()))
+    places = ("-l", f"{folder}/lock", "-d", f"{folder}/records")
+    request = frames.request_now("CLst", 1)
+    with boothd(program, conf, address, options=places) as server:
+        with socket.socket(socket.AF_INET, socket.SOCK_DGRAM) as asker, Link(address) as link:
+            asker.settimeout(10)
+            asker.connect((address, frames.PORT))
+            asks = [lambda asked: over_udp(asker, asked), lambda asked: over_tcp(link, asked)]
+            (udp, tcp), cpu = in_turns(asks, request, server.process)
+        with links(LINKS, address) as opened:
+            many = lists_a_second(opened, request)
+    middle = [statistics.median(took) * 1e6 for took in (udp, tcp)]
+    late = sorted(tcp)[len(tcp) * MOST // OF] * 1e3
+    ratio = middle[1] / middle[0]
+    yield Row("a list, one asker, over UDP; over TCP, medians", f"{middle[0]:.0f}; {middle[1]:.0f} µs")
+    yield below("TCP to UDP", ratio, f"{ratio:.2f}", 3, "times")
+    yield below(f"{MOST} of {OF} lists over TCP come within", late, f"{late:.2f} ms", MILLIS, "ms")
+    yield Row("the slowest list over TCP; over UDP", f"{max(tcp) * 1e3:.1f}; {max(udp) * 1e3:.1f} ms")
+    yield Row("daemon CPU a list, over UDP; over TCP", f"{cpu[0] * 1e6:.1f}; {cpu[1] * 1e6:.1f} µs")
+    yield Row(f"lists a second, {LINKS} links at once", f"{many:,.0f}")
+
+
+def turn_rows(program, before):
+    """The instructions of a turn without links, of a daemon that serves them and of one that does not."""
+    counted = [a_turn(each, 1) for each in (before, program)]
+    ratio = counted[1] / counted[0]
+    yield Row("instructions of a turn, before; with links served", "; ".join(f"{count:,.0f}" for count in counted))
+    yield below("with to before", ratio, f"{ratio:.3f}", 1.1, "")
+
+
+def main(words):
+    end_by_signals()
+    program = words[0] if words else built_program()
+    if program is None:
+        sys.exit("links.py: boothd is not built: run make build")
+    measured = []
+    try:
+        with tempfile.TemporaryDirectory(prefix="booth-bench-") as folder:
+            measured += rows(os.path.abspath(program), folder)
+        for before in itertools.islice(words, 1, 2):
+            measured += turn_rows(os.path.abspath(program), os.path.abspath(before))
+    except (NotServing, Closed, OSError) as why:
+        sys.exit(f"links.py: {why}")
+    print_table(measured)
+    return 1 if any(row.met() == "NO" for row in measured) else 0
+
+
+if __name__ == "__main__":
+    sys.exit(main(sys.argv[1:]))

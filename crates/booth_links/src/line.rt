@@ -1,0 +1,169 @@
+//! The stream of one link, and what its peer has not yet taken.
+ghost use Rattle.std.specs.Prelude.{◌≡◌, ◌≤◌, [], IfNone, IfSome, IsFalse, IsTrue, drop, length};
+ghost use Rattle.booth_links.specs.Queue.{KeepsOrder};
+
+use crate::queue::Queue;
+use mio::net::TcpStream;
+use mio::{Interest, Registry, Token};
+use std::alloc::{AllocError, Global};
+use std::io;
+use std::io::{ErrorKind, Read, Write};
+
+/// The stream at a seat, where there is one.
+#[derive(Drop)]
+pub(crate) struct Line {
+    stream: Option<TcpStream>,
+    queue: Queue,
+}
+
+/// What a line brought.
+#[derive(Clone, Copy)]
+pub(crate) enum Heard {
+    /// So many bytes came.
+    Bytes(usize),
+    /// The peer took some of what was queued.
+    Took,
+    Nothing,
+    /// The stream is over.
+    End,
+}
+
+// Gives the system of these bytes what it takes at once, or says that the stream is over.
+fn give(stream: &mut TcpStream, bytes: &[u8]) -> Option<usize>
+    ensures { IfSome result (λ given. given ≤ length bytes.now) }
+{
+    match stream.write(bytes) {
+        Ok(given) => Some(given),
+        Err(error) => match error.kind() {
+            ErrorKind::WouldBlock | ErrorKind::Interrupted => Some(0),
+            _ => None,
+        },
+    }
+}
+
+// Takes what came into the buffer.
+fn take(stream: &mut TcpStream, buffer: &mut [u8]) -> Heard {
+    match stream.read(buffer) {
+        Ok(0) => Heard::End,
+        Ok(count) => Heard::Bytes(count),
+        Err(error) => match error.kind() {
+            ErrorKind::WouldBlock | ErrorKind::Interrupted => Heard::Nothing,
+            _ => Heard::End,
+        },
+    }
+}
+
+// Queues what there is room for of the bytes behind those that went to the system, and says how many were taken.
+#[tactic(auto, using(crate::proofs::QueueLemmas::some_given))]
+fn queue_rest(queue: &mut Queue, bytes: &[u8], given: usize) -> usize
+    requires empty { queue.old ≡ [] }
+    requires within { given ≤ length bytes.now }
+    ensures fits { result ≤ length bytes.now }
+    ensures order { KeepsOrder queue.old bytes.now result queue.new }
+{
+    let (_, rest) = bytes.split_at(given);
+    given + queue.put(rest)
+}
+
+impl Line {
+    /// A line without a stream, with the memory of its queue.
+    pub(crate) fn new(alloc: Global) -> Result<Line, AllocError> {
+        Ok(Line {
+            stream: None,
+            queue: Queue::new(alloc)?,
+        })
+    }
+
+    /// Begins with this stream.
+    pub(crate) fn begin(&mut self, stream: TcpStream) {
+        self.queue.clear();
+        self.stream = Some(stream);
+    }
+
+    /// Closes the stream. What is queued is dropped.
+    pub(crate) fn end(&mut self) {
+        self.queue.clear();
+        self.stream = None;
+    }
+
+    /// Whether something is queued.
+    pub(crate) fn has_queued(&self) -> bool
+        ensures nothing { IsFalse result → self.now.queue ≡ [] }
+        ensures some { IsTrue result → self.now.queue ≡ [] → ⊥ }
+    {
+        !self.queue.is_empty()
+    }
+
+    // Gives the peer what it takes of the queue, and says how many bytes that is, where the stream goes on.
+    fn drain(&mut self) -> Option<usize>
+        ensures passed { IfSome result (λ count. (count ≤ length self.old.queue)
+            × (self.new.queue ≡ drop count self.old.queue)) }
+        ensures over { IfNone result (self.new.queue ≡ self.old.queue) }
+    {
+        let stream = self.stream.as_mut()?;
+        let given = give(stream, self.queue.bytes())?;
+        self.queue.pass(given);
+        Some(given)
+    }
+
+    /// What this line has. Nothing is read before the peer has taken what is queued, so that one which asks and does not
+    /// read is not read either.
+    pub(crate) fn hear(&mut self, buffer: &mut [u8]) -> Heard {
+        if self.queue.is_empty() {
+            return match &mut self.stream {
+                Some(stream) => take(stream, buffer),
+                None => Heard::End,
+            };
+        }
+        match self.drain() {
+            Some(0) => Heard::Nothing,
+            Some(_) => Heard::Took,
+            None => Heard::End,
+        }
+    }
+
+    // The same of a line, but for what the peer takes of its queue now.
+    #[tactic(auto, using(crate::proofs::QueueLemmas::nothing_taken, crate::proofs::QueueLemmas::all_queued))]
+    fn add(&mut self, bytes: &[u8]) -> usize
+        ensures fits { result ≤ length bytes.now }
+        ensures order { KeepsOrder self.old.queue bytes.now result self.new.queue }
+    {
+        let Some(stream) = &mut self.stream else {
+            return 0;
+        };
+        if !self.queue.is_empty() {
+            return self.queue.put(bytes);
+        }
+        let Some(given) = give(stream, bytes) else {
+            return 0;
+        };
+        queue_rest(&mut self.queue, bytes, given)
+    }
+
+    /// Takes of these bytes what the peer takes at once, and behind it what there is room for. It says how many bytes that
+    /// is: none where the stream is over, or where the queue is full.
+    #[tactic(auto, using(crate::proofs::QueueLemmas::nothing_taken, crate::proofs::QueueLemmas::first_passed))]
+    pub(crate) fn write(&mut self, bytes: &[u8]) -> usize
+        ensures fits { result ≤ length bytes.now }
+        ensures order { KeepsOrder self.old.queue bytes.now result self.new.queue }
+    {
+        if !self.queue.is_empty() && self.drain().is_none() {
+            return 0;
+        }
+        self.add(bytes)
+    }
+
+    /// Has the system report this line: when there is room for what is queued, or else when bytes came. What is so already
+    /// is reported at once.
+    pub(crate) fn watch(&mut self, registry: &Registry, seat: usize) -> io::Result<()> {
+        let wanted = if self.queue.is_empty() {
+            Interest::READABLE
+        } else {
+            Interest::WRITABLE
+        };
+        match &mut self.stream {
+            Some(stream) => registry.reregister(stream, Token(seat), wanted),
+            None => Ok(()),
+        }
+    }
+}

@@ -1,0 +1,294 @@
+#!/usr/bin/env python3
+"""Holds the proved boothd to what docs/PROTOCOL.md says of streams, over real links on loopback.
+
+Run it as `python3 tests/links.py [BOOTHD [CONNECTIONS]]`, BOOTHD being what `make build` leaves where it is left out. The
+flood of connections ends after 15 seconds, or after so many, however long that takes. It takes less than 40 seconds,
+prints a line for each check with what it measured, ends all that it started, and has the status 1 where a check failed.
+Where boothd is not built it checks nothing, with status 0.
+"""
+
+import os
+import socket
+import subprocess
+import sys
+import tempfile
+import threading
+import time
+
+HERE = os.path.dirname(os.path.abspath(__file__))
+sys.path[:0] = [HERE, f"{HERE}/../tools"]
+
+import frames
+import lists
+from members import Cluster, Member, Times, now, wait_for
+from serving import NotServing, built_program, end_by_signals, own_addresses
+from tcp_links import Busy, Closed, Link, links, open_files
+
+LINKS = 16
+SECONDS_OF_FLOOD = 15
+# as docs/OPERATING.md says: how long a link may be idle whose place another peer waits for
+SECONDS_IDLE = 2
+# how late a thing may be on a machine that does much else
+SLACK = 10
+# what a reader takes, who is slow
+BYTES_A_SECOND = 100_000
+# with these a list has 4.6 kB, and so many of them are asked for at once: half a megabyte
+TICKETS, PARTS = 64, 112
+# how much the daemon's memory may grow for one who asks and does not read: what is queued, and a bit
+BYTES_MORE = 3 << 20
+KEY = b"a-key-of-the-cluster"
+TIMES = Times(expire=7, timeout=1, retries=3, renewal=5)
+
+
+class Wrong(Exception):
+    """The daemon did not what it has to."""
+
+
+def require(holds, why):
+    if not holds:
+        raise Wrong(why)
+
+
+class Scene:
+    """A daemon with many tickets, whose other members do not run."""
+
+    def __init__(self, program, folder, address, others, connections):
+        self.connections = connections
+        self.address = address
+        self.conf = os.path.join(folder, "many.conf")
+        text = f'site = "{address}"\nsite = "{others[0]}"\narbitrator = "{others[1]}"\n'
+        text += "".join(f'ticket = "ticket-{number:03}-{"x" * 52}"\n' for number in range(TICKETS))
+        with open(self.conf, "w", encoding="ascii") as file:
+            file.write(text)
+        self.member = Member("site", address, os.path.join(folder, "many"))
+        self.member.start(program, self.conf)
+
+    def process(self):
+        return self.member.server.process.pid
+
+    def files(self):
+        return open_files(self.process())
+
+
+# ---- the checks: each gives what it measured
+
+
+def every_cut_is_one(scene):
+    """a frame that is cut at any place is answered as a whole one is"""
+    asked = [("CLst", b""), ("Peer", b""), ("CGnt", frames.ticket_body(b"no-such", frames.NO_ONE, 0, 0))]
+    asked.append(("ALst", frames.attribute_body(b"no-such", b"", b"")))
+    cuts = [(letters, body, cut) for letters, body in asked for cut in range(1, frames.HEAD_BYTES + len(body))]
+    with links(LINKS, scene.address) as opened:
+        whole = {letters: bodies(opened[0].ask(letters, body)) for letters, body in asked}
+        wrong = []
+
+        def cut_at(link, mine):
+            for letters, body, cut in mine:
+                if bodies(link.ask(letters, body, cut)) != whole[letters] and letters != "Peer":
+                    wrong.append((letters, cut))
+
+        threads = [threading.Thread(target=cut_at, args=(link, cuts[place::LINKS])) for place, link in enumerate(opened)]
+        for thread in threads:
+            thread.start()
+        for thread in threads:
+            thread.join()
+    require(not wrong, f"these are answered in another way: {wrong[:3]}")
+    return f"{len(cuts)} cuts of {len(asked)} frames, over {LINKS} links"
+
+
+def bodies(frame):
+    """What two replies to one request have in common: the result and the body."""
+    return frames.Head.read(frame).result, frame[frames.HEAD_BYTES :]
+
+
+def sixteen_at_once(scene):
+    """sixteen links at once are each answered, with lists in pieces of their own"""
+    with links(LINKS, scene.address) as opened:
+        asked = [[link.request() for _ in range(PARTS)] for link in opened]
+        for half in (slice(0, 700), slice(700, None)):
+            for link, requests in zip(opened, asked):
+                link.socket.sendall(b"".join(request for _, request in requests)[half])
+        got = [link.reply("CLst", number) for link, requests in zip(opened, asked) for number, _ in requests]
+    require(len({bodies(frame) for frame in got}) == 1, "two lists differ")
+    return f"{len(got)} lists of {len(got[0])} bytes"
+
+
+def a_slow_reader_gets_all(scene):
+    """a reader of 100 kB a second gets half a megabyte of lists whole that were asked for at once"""
+    with Link(scene.address, room=8192, rate=BYTES_A_SECOND) as link:
+        begun, requests = time.monotonic(), [link.request() for _ in range(PARTS)]
+        link.socket.sendall(b"".join(request for _, request in requests))
+        got = [link.reply("CLst", number) for number, _ in requests]
+        took = time.monotonic() - begun
+    require(len({bodies(frame) for frame in got}) == 1, "two lists differ")
+    return f"{sum(map(len, got))} bytes in {took:.1f} s"
+
+
+def who_reads_nothing_waits(scene):
+    """who asks on and reads nothing is not read any longer, and others are served meanwhile"""
+    with Link(scene.address, room=4096) as deaf, Link(scene.address) as other:
+        many = b"".join(deaf.request()[1] for _ in range(85))
+        deaf.socket.settimeout(0.5)
+        before, sent, is_read = resident(scene.process()), 0, True
+        while is_read and sent < 64 << 20:
+            try:
+                sent += deaf.socket.send(many)
+            except socket.timeout:
+                is_read = False
+            other.ask()
+        more = resident(scene.process()) - before
+        require(not is_read, f"{sent} bytes are read")
+        require(more <= BYTES_MORE, f"the daemon has {more} bytes more")
+    return f"{sent} bytes of requests, and {max(0, more) >> 10} KiB more"
+
+
+def the_port_of_daemons_is_refused(scene):
+    """a connection from the daemons' port is closed at once, unanswered"""
+    local = next(address for address in own_addresses() if address != scene.address)
+    with Link(scene.address, local=(local, frames.PORT)) as link:
+        try:
+            link.ask()
+        except (Closed, BrokenPipeError):
+            return ""
+    raise Wrong("it is answered")
+
+
+def who_is_idle_makes_room(scene):
+    """where sixteen links are idle, a peer that waits gets the place of the one that is idle longest"""
+    with links(LINKS, scene.address) as opened:
+        for link in opened:
+            link.ask()
+        # (the second is idle for longest from now on)
+        opened[0].ask()
+        begun = time.monotonic()
+        with Link(scene.address) as late:
+            late.ask()
+            took = time.monotonic() - begun
+            require(opened[1].ends(SLACK), "the link that is idle longest is open")
+            late.ask()
+        for link in opened[2:] + opened[:1]:
+            link.ask()
+    require(SECONDS_IDLE / 2 < took < SECONDS_IDLE + SLACK, f"it is answered after {took:.1f} s")
+    return f"after {took:.1f} s"
+
+
+def connections_leave_nothing(scene):
+    """connections one after another leave the daemon's open files and its memory as before"""
+    before, begun, count = scene.files(), time.monotonic(), 0
+    while count < scene.connections if scene.connections else time.monotonic() < begun + SECONDS_OF_FLOOD:
+        with Link(scene.address) as link:
+            # (one of four asks, one goes in the middle of a frame, and two go at once)
+            if count % 4 == 0:
+                link.ask()
+            elif count % 4 == 1:
+                link.socket.sendall(link.request()[1][:30])
+        count += 1
+    require(wait_for(lambda: scene.files() == before, SLACK), f"it has {scene.files()} open files, and had {before}")
+    with Link(scene.address) as link:
+        link.ask()
+    return f"{count} connections in {time.monotonic() - begun:.1f} s"
+
+
+def the_example_prints(scene):
+    """the client in examples/ prints the list"""
+    words = [sys.executable, f"{HERE}/../examples/list_over_tcp.py", scene.address]
+    ran = subprocess.run(words, capture_output=True, timeout=SLACK)
+    with Link(scene.address) as link:
+        due = link.ask()[frames.HEAD_BYTES :]
+    require(ran.stdout == due and ran.returncode == 0, f"it prints {ran.stdout[:80]}, and says {ran.stderr}")
+    held = lists.held_in(due) if due else []
+    return f"{len(list(held))} tickets"
+
+
+def the_lease_runs_beside_links(scene):
+    """a holder keeps its lease, and another takes over, beside sixteen links that ask without a pause"""
+    with tempfile.TemporaryDirectory(prefix="booth-links-") as folder:
+        addresses = list(own_addresses())[10:13]
+        with Cluster(scene.member.server.words[0], folder, addresses, TIMES, KEY) as cluster:
+            cluster.remember()
+            cluster.start()
+            one, two, _ = cluster.members
+            require(one.about("CGnt") in ("ok", "Asyn"), "a grant is not taken")
+            require(wait_for(lambda: holds(one), SLACK), "the granted ticket is not held")
+            with Busy(one.address, KEY) as busy:
+                term, ends, end = one.record().term, set(), time.monotonic() + TIMES.renewal + 2
+                while time.monotonic() < end:
+                    require(holds(one), "the lease has lapsed")
+                    ends.add(one.record().until)
+                    time.sleep(0.05)
+            require(one.record().term == term and len(ends) > 1, f"no renewal: {ends}")
+            with Busy(two.address, KEY) as more:
+                one.kill()
+                patience = TIMES.expire + TIMES.guard() + SLACK
+                require(wait_for(lambda: holds(two), patience), "nobody takes over")
+            require(not busy.wrong and not more.wrong, f"a busy link: {(busy.wrong + more.wrong)[:3]}")
+            require(not cluster.watch.wrong, f"two held: {cluster.watch.wrong[:3]}")
+    return f"{len(ends) - 1} renewals, and {busy.answered + more.answered} lists"
+
+
+def resident(process):
+    """How many bytes a process has in memory."""
+    with open(f"/proc/{process}/statm", encoding="ascii") as file:
+        return int(file.read().split()[1]) * os.sysconf("SC_PAGE_SIZE")
+
+
+def holds(member):
+    record = member.record()
+    return record is not None and record.holds(now())
+
+
+CHECKS = [
+    every_cut_is_one,
+    sixteen_at_once,
+    who_reads_nothing_waits,
+    the_port_of_daemons_is_refused,
+    who_is_idle_makes_room,
+    the_example_prints,
+]
+
+
+def passes(check, scene):
+    """Whether the check passes. Prints its line."""
+    begun = time.monotonic()
+    try:
+        told = check(scene)
+    except (Wrong, Closed, NotServing, OSError, ValueError, subprocess.TimeoutExpired) as why:
+        print(f"FAILED  {check.__doc__}: {type(why).__name__}: {why}", flush=True)
+        return False
+    told = f": {told}" if told else ""
+    print(f"ok      {check.__doc__}{told} ({time.monotonic() - begun:.1f} s)", flush=True)
+    return True
+
+
+def run(program, connections):
+    """Runs the checks. Says how many failed."""
+    begun, passed = time.monotonic(), []
+    with tempfile.TemporaryDirectory(prefix="booth-links-") as folder:
+        address, *others = list(own_addresses())[:3]
+        scene = Scene(program, folder, address, others, connections)
+        try:
+            passed += [passes(check, scene) for check in CHECKS]
+            lease = threading.Thread(target=lambda: passed.append(passes(the_lease_runs_beside_links, scene)))
+            lease.start()
+            passed += [passes(check, scene) for check in (a_slow_reader_gets_all, connections_leave_nothing)]
+            lease.join()
+        finally:
+            scene.member.kill()
+    failed = len(passed) - sum(passed)
+    print(f"links: {sum(passed)} passed, {failed} failed, in {time.monotonic() - begun:.1f} s ({program})")
+    return failed
+
+
+def main(words):
+    end_by_signals()
+    program = words[0] if words else built_program()
+    if program is None:
+        print("links: skipped, since boothd is not built: run make build")
+        return 0
+    if not os.access(program, os.X_OK):
+        sys.exit(f"links.py: cannot run {program}")
+    return 1 if run(os.path.abspath(program), int(words[1]) if len(words) > 1 else None) else 0
+
+
+if __name__ == "__main__":
+    sys.exit(main(sys.argv[1:]))
