@@ -238,6 +238,20 @@ def keys_are_made_once(room):
     need(done.returncode == 1 and "cannot be made" in done.stderr, f"a directory that is missing: {done.stderr}")
 
 
+def keys_are_given(room):
+    """booth-keygen as root gives the key to the daemon's user, where that one is there"""
+    # (programs in the place of these two stand for a machine that has the user, and note what they are asked)
+    os.makedirs(f"{room}/stand-ins")
+    for name, text in (("id", '[ "$1" = booth ] || echo 0'), ("chown", f'echo "$*" >"{room}/given"')):
+        with open(f"{room}/stand-ins/{name}", "w", encoding="ascii") as file:
+            file.write(f"#!/bin/sh\n{text}\n")
+        os.chmod(file.name, 0o755)
+    path = {**os.environ, "PATH": f"{room}/stand-ins:{os.environ['PATH']}"}
+    done = run(f"{TOP}/packaging/booth-keygen", f"{room}/key-to-give", env=path)
+    need(done.returncode == 0, done.stderr)
+    need(read(f"{room}/given") == f"-h booth: {room}/key-to-give\n", f"it was given so: {read(f'{room}/given')}")
+
+
 def package_is_whole(room):
     """the package has what is installed, runs from a scratch root, and says what it is"""
     if not shutil.which("dpkg-deb"):
@@ -361,6 +375,32 @@ def wait_until_bound(daemon, address):
     raise Wrong("the daemon has no port")
 
 
+def start_waits(room, conf, address, pid):
+    """What the unit's wait for the daemon ends with, of a daemon with this number."""
+    found = re.search(r"^ExecStartPost=/bin/sh -c '(.*)'$", read(f"{room}/kept/usr/lib/systemd/system/booth@.service"), re.M)
+    need(found, "the unit waits for nothing")
+    # (what systemd makes of the line: its own variables, the instance, and a doubled dollar)
+    words = found[1].replace("/usr/sbin/", f"{room}/kept/usr/sbin/").replace("/etc/booth/%i.conf", conf).replace("%i", "a")
+    words = words.replace("$$", "\0").replace("${ADDRESS}", address).replace("\0", "$")
+    return run("/bin/sh", "-c", words, env={**os.environ, "MAINPID": str(pid)})
+
+
+def unit_waits_for_an_answer(room):
+    """the unit's start has succeeded once the daemon answers, and has failed where the daemon is gone"""
+    os.makedirs(f"{room}/waits")
+    conf, address = on_loopback(f"{TOP}/examples/two-sites.conf", f"{room}/waits")
+    words = [f"{room}/kept/usr/sbin/boothd", "daemon", "-c", conf, "-s", address, "-l", f"{room}/waits/lock"]
+    with subprocess.Popen([*words, "-d", f"{room}/waits/records"], stderr=subprocess.DEVNULL) as daemon:
+        try:
+            done = start_waits(room, conf, address, daemon.pid)
+            need((done.returncode, done.stdout + done.stderr) == (0, ""), f"status {done.returncode}: {done.stderr}")
+        finally:
+            daemon.kill()
+    # (its number is nobody's now)
+    done = start_waits(room, conf, address, daemon.pid)
+    need((done.returncode, done.stderr) == (1, f"booth@a: the daemon at {address} does not answer\n"), f"gone: {done.stderr}")
+
+
 def examples_are_served(room):
     """a daemon serves each example, and that of booth.conf(5), with addresses and a key of this machine"""
     names = [name for name in sorted(os.listdir(f"{TOP}/examples")) if name.endswith(".conf")]
@@ -377,7 +417,7 @@ def examples_are_served(room):
         done = run(*words, "-c", path, "-s", "10.255.255.1")
         need(done.stderr == "boothd: 10.255.255.1 is not a member\n", f"{name}: {done.stderr.strip()}")
         conf, address = on_loopback(path, f"{room}/examples")
-        done = run(*words, "-c", conf, "-s", address)
+        done = run(*words, "-c", conf, "-s", address, env={**os.environ, "BOOTH_LOG": "off"})
         need((done.returncode, done.stdout + done.stderr) == (0, ""), f"{name}: status {done.returncode}, {done.stderr}")
 
 
@@ -442,6 +482,8 @@ CHECKS = [
     unit_is_sound,
     unit_is_confined,
     keys_are_made_once,
+    keys_are_given,
+    unit_waits_for_an_answer,
     completion_offers,
     completion_joins_addresses,
     package_is_whole,

@@ -7,6 +7,7 @@ prints a line for each check with what it measured, ends all that it started, an
 Where boothd is not built it checks nothing, with status 0.
 """
 
+import itertools
 import os
 import socket
 import subprocess
@@ -175,8 +176,10 @@ def who_is_idle_makes_room(scene):
 def connections_leave_nothing(scene):
     """connections one after another leave the daemon's open files and its memory as before"""
     before, begun, count = scene.files(), time.monotonic(), 0
+    # (from one address alone the system would run out of ports, each of which it keeps for a while)
+    sources = itertools.cycle(list(own_addresses())[100:])
     while count < scene.connections if scene.connections else time.monotonic() < begun + SECONDS_OF_FLOOD:
-        with Link(scene.address) as link:
+        with Link(scene.address, local=(next(sources), 0)) as link:
             # (one of four asks, one goes in the middle of a frame, and two go at once)
             if count % 4 == 0:
                 link.ask()

@@ -103,7 +103,9 @@ def remember(directory, tickets):
 
 
 class Member:
-    """One daemon of the cluster, running or not."""
+    """One daemon of the cluster, running or not. It prints its log where `logs` is set before it starts."""
+
+    logs = False
 
     def __init__(self, role, address, folder, key=None, client=None, geostore=None):
         self.role = role
@@ -121,6 +123,7 @@ class Member:
         """Starts the daemon, up to its first answer."""
         places = ("-l", os.path.join(self.folder, "lock"), "-d", self.records)
         server = boothd(program, conf, self.address, key=self.key, options=places)
+        server.logs = self.logs
         server.__enter__()
         self.server = server
         self.conf = conf

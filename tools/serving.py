@@ -77,8 +77,10 @@ class NotServing(Exception):
 class Server:
     """A program that answers at this address and port, in a `with` block, from its first answer on.
 
-    `key` is what its requests are sealed with.
+    `key` is what its requests are sealed with. It prints its log only where `logs` is set before it is entered.
     """
+
+    logs = False
 
     def __init__(self, words, address, port=frames.PORT, key=None):
         self.words = words
@@ -89,7 +91,7 @@ class Server:
     def __enter__(self):
         self.printed = tempfile.TemporaryFile()
         streams = {"stdin": subprocess.DEVNULL, "stdout": self.printed, "stderr": self.printed}
-        self.process = subprocess.Popen(self.words, **streams)
+        self.process = subprocess.Popen(self.words, env={**os.environ, "BOOTH_LOG": "on" if self.logs else "off"}, **streams)
         try:
             self.await_answer()
         except BaseException:

@@ -63,7 +63,7 @@ fn put_moment(text: &mut ArrayString<32>, at: &DateTime)
 
 /// The text of a moment so many seconds after 1970 began: `YYYY-MM-DD HH:MM:SS` by UTC, and above
 /// 250,000,000,000 an `@` and the number.
-pub(crate) fn date_text(seconds: u64) -> ArrayString<32>
+pub fn date_text(seconds: u64) -> ArrayString<32>
     ensures { result.bytes ≡ date_text seconds }
 {
     let mut text = ArrayString::new();

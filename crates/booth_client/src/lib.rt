@@ -13,6 +13,7 @@ mod request;
 mod talking;
 mod wait;
 
+pub use date::date_text;
 pub use order::{Asking, Options, Order};
 pub use reply::Reply;
 pub use reports::{report, report_of};

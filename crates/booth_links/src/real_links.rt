@@ -62,6 +62,13 @@ fn unopened() -> io::Error {
     io::Error::from(ErrorKind::NotConnected)
 }
 
+// The number of the link at a seat, which is one of sixteen.
+fn number_of(seat: usize) -> u32
+    ensures { seat ≤ 16 → result ≡ seat }
+{
+    seat.min(LINKS) as u32
+}
+
 fn new_lines(alloc: Global) -> Result<Vec<Line>, AllocError> {
     let mut lines = Vec::with_capacity(alloc, LINKS)?;
     for _ in 0..LINKS {
@@ -198,7 +205,7 @@ impl RealLinks {
         ensures { self.new.faults ≡ self.old.faults }
     {
         self.leave(seat)?;
-        Ok(LinkEvent::Ended(seat as u32))
+        Ok(LinkEvent::Ended(number_of(seat)))
     }
 
     // What is ready first, where something is.
@@ -245,7 +252,7 @@ impl RealLinks {
         }
         self.seats.set(seat, Some(self.moment));
         Ok(LinkEvent::Opened {
-            link: seat as u32,
+            link: number_of(seat),
             peer,
         })
     }
@@ -302,7 +309,7 @@ impl RealLinks {
             Heard::Bytes(count) => {
                 into.set(&self.buffer[..count]);
                 self.seats.set(seat, Some(self.moment));
-                Ok(LinkEvent::Bytes(seat as u32))
+                Ok(LinkEvent::Bytes(number_of(seat)))
             }
             Heard::Took => {
                 self.seats.set(seat, Some(self.moment));
@@ -313,22 +320,48 @@ impl RealLinks {
         }
     }
 
+    // A link that has to leave, where there are links at all.
+    fn leaving(&mut self) -> Option<usize>
+        ensures { self.new.faults ≡ self.old.faults }
+    {
+        if !self.seats.has_links() {
+            return None;
+        }
+        self.read_clock();
+        self.over()
+    }
+
+    // Asks again for a peer that could not be taken, once the rest is over.
+    fn end_rest(&mut self) -> io::Result<()>
+        ensures { self.new.faults ≡ self.old.faults }
+    {
+        let Door::Rests(until) = self.door else {
+            return Ok(());
+        };
+        self.read_clock();
+        if until <= self.moment {
+            self.open_door()
+        } else {
+            Ok(())
+        }
+    }
+
     // One thing that happened: a link that has to leave, a peer that knocks, or what a link has.
     fn look(&mut self, into: &mut Piece) -> io::Result<LinkEvent>
         ensures { self.new.faults ≡ self.old.faults }
     {
-        self.read_clock();
-        if let Some(seat) = self.over() {
+        if let Some(seat) = self.leaving() {
             return self.end(seat);
         }
-        match self.door {
-            Door::Rests(until) if until <= self.moment => self.open_door()?,
-            Door::Open | Door::Full | Door::Rests(_) => {}
-        }
-        match self.ready()? {
-            None => Ok(LinkEvent::Quiet),
-            Some(DOOR) => self.accept(),
-            Some(seat) => self.hear(seat, into),
+        self.end_rest()?;
+        let Some(ready) = self.ready()? else {
+            return Ok(LinkEvent::Quiet);
+        };
+        self.read_clock();
+        if ready == DOOR {
+            self.accept()
+        } else {
+            self.hear(ready, into)
         }
     }
 

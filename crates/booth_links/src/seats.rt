@@ -1,6 +1,6 @@
 //! The sixteen seats of links: which is free, and which link has to leave its own.
-ghost use Rattle.std.specs.Prelude.{◌≡◌, IfOk, None, is_none, replicate, set};
-ghost use Rattle.std.specs.List.{list_all, position};
+ghost use Rattle.std.specs.Prelude.{◌≡◌, IfOk, None, is_none, is_some, replicate, set};
+ghost use Rattle.std.specs.List.{list_all, list_any, position};
 ghost use Rattle.booth_links.specs.Seats.{has_to_leave, is_since};
 
 use booth_stream::LINKS;
@@ -71,6 +71,13 @@ impl Seats {
         if let Some(place) = self.moments.get_mut(seat) {
             *place = moment;
         }
+    }
+
+    /// Whether a seat has a link.
+    pub(crate) fn has_links(&self) -> bool
+        ensures { result ≡ list_any is_some self.now }
+    {
+        self.moments.iter().any(|moment| moment.is_some())
     }
 
     /// The first free seat.

@@ -1,10 +1,14 @@
-//! The program `boothd`: its words over the real host and the real links.
+//! The program `boothd`: its words over the real host and the real links, whose calls a log tells on standard error.
 #![tactic(auto)]
+
+mod error_lines;
 
 use booth_daemon::{Outcome, boothd};
 use booth_links::RealLinks;
+use booth_log::LogHost;
 use booth_real::RealHost;
 use booth_stream::StreamHost;
+use error_lines::ErrorLines;
 use std::alloc::{AllocError, Global};
 use std::env;
 use std::io::{ErrorKind, Write};
@@ -21,11 +25,12 @@ fn words(rt: &HostRuntime, alloc: Global) -> Result<Vec<String>, AllocError> {
 
 fn run(rt: HostRuntime, alloc: Global) -> Result<Outcome, AllocError> {
     let words = words(&rt, alloc)?;
-    // (the host comes first, so that no file of the links has the number of a standard stream)
+    // (the host comes first: it fills the places of standard streams that were closed, so that no file of the links has one)
     let mut host = RealHost::new(rt, alloc)?;
     let links = RealLinks::new(rt, alloc)?;
     host.wake_on(links.ready_file());
-    let mut host = StreamHost::new(alloc, host, links, 0)?;
+    let host = StreamHost::new(alloc, host, links, 0)?;
+    let mut host = LogHost::new(alloc, host, ErrorLines::new(rt))?;
     Ok(boothd(alloc, &words, &mut host))
 }
 

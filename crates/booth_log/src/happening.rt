@@ -1,0 +1,54 @@
+//! What a keep did to the lease of a ticket.
+ghost use Rattle.std.specs.Prelude.{◌≡◌};
+ghost use Rattle.booth_log.specs.Happenings.{lease_change};
+
+use booth_rec::Lease;
+
+/// What became of a lease by a call.
+#[derive(Clone, Copy)]
+pub(crate) enum Happening {
+    Gains(Lease),
+    GivesBack(Lease),
+    FailsToKeep(Lease),
+    FailsToGiveBack(Lease),
+    /// It was kept before the daemon began.
+    Begins(Lease),
+}
+
+/// How a keep ended.
+#[derive(Clone, Copy)]
+pub(crate) enum Ending {
+    Kept,
+    Failed,
+}
+
+/// What a keep did, by the lease that was kept before it, the one of its record, and how it ended.
+pub(crate) fn lease_change(
+    before: Option<Lease>,
+    lease: Option<Lease>,
+    ending: Ending,
+) -> Option<Happening>
+    ensures { result ≡ lease_change before lease ending }
+{
+    match (before, lease, ending) {
+        (None, None, _) => None,
+        (None, Some(lease), Ending::Kept) => Some(Happening::Gains(lease)),
+        (None, Some(lease), Ending::Failed) => Some(Happening::FailsToKeep(lease)),
+        (Some(before), None, Ending::Kept) => Some(Happening::GivesBack(before)),
+        (Some(before), None, Ending::Failed) => Some(Happening::FailsToGiveBack(before)),
+        (Some(before), Some(lease), Ending::Kept) => {
+            if before.term == lease.term {
+                None
+            } else {
+                Some(Happening::Gains(lease))
+            }
+        }
+        (Some(before), Some(lease), Ending::Failed) => {
+            if before.term == lease.term && before.until == lease.until {
+                None
+            } else {
+                Some(Happening::FailsToKeep(lease))
+            }
+        }
+    }
+}

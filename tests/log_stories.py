@@ -1,0 +1,87 @@
+"""A cluster whose daemons tell their log: what each says of a grant, a takeover, a refused handler and a keep that fails.
+
+It is imported by tests/cluster.py, and not run by itself. The lines are those of docs/OPERATING.md.
+"""
+
+import os
+
+from frames import PORT
+from handler_stories import Handler
+from members import now, wait_for
+from promise_stories import FULL
+from stories import NAME, PATIENCE, date, grants, is_held_by, passed, require, says, story
+
+VERSION = "0.2.0"
+
+
+def begins(cluster, member):
+    places = f"records {member.records}, configuration {cluster.conf}"
+    return f"boothd: begins: version {VERSION}, address {member.address}, port {PORT}, {places}"
+
+
+def lease(verb, record):
+    """The line on what became of the lease of this record."""
+    return f"boothd: ticket {NAME}: {verb} the lease of term {record.term} until {date(int(record.until))} UTC"
+
+
+def tells(member, lines):
+    """The member's whole log is these lines."""
+    wait_for(lambda: len(member.printed().splitlines()) >= len(lines), PATIENCE)
+    told = member.printed().decode().splitlines()
+    require(told == lines, f"{member.address} told {told}, and not {lines}")
+
+
+def last_lease(member):
+    """The last record with a lease that a member keeps before one without."""
+    last = member.record()
+    end = now() + PATIENCE
+    while (record := member.record()).until is not None:
+        require(now() < end, "the lease is not given back")
+        last = record
+    return last
+
+
+@story
+def a_log_with_a_handler(cluster):
+    """daemons that tell their log, and a ticket with a handler"""
+    one, two, _ = cluster.members
+    ready = "boothd: ready, tickets: 1"
+    for member in cluster.members:
+        member.logs = True
+    cluster.remember()
+    cluster.start()
+    says(one, ("grant", "-w", NAME), 0, f"ticket {NAME} granted\n")
+    granted = one.record()
+    tells(one, [begins(cluster, one), ready, lease("gains", granted)])
+    tells(two, [begins(cluster, two), ready])
+    passed("a grant is told by its site alone: the ticket, the term and the lease's end")
+
+    one.kill()
+    require(wait_for(lambda: is_held_by(cluster, two), PATIENCE), "nobody took over")
+    taken, left = two.record(), one.record()
+    tells(two, [begins(cluster, two), ready, lease("gains", taken)])
+    one.start(cluster.program, cluster.conf)
+    tells(one, [begins(cluster, one), lease("begins with", left), ready])
+    passed("so is a takeover; and a start tells which lease it found")
+
+    Handler(cluster, two).set("fails")
+    given = last_lease(two)
+    status = f"boothd: ticket {NAME}: its handler ended with status 3"
+    tells(two, [begins(cluster, two), ready, lease("gains", taken), status, lease("gives back", given)])
+    passed("a handler that refuses is told, and that the lease is given back; no renewal is")
+
+    again = grants(cluster, 0)
+    tells(one, [begins(cluster, one), lease("begins with", left), ready, lease("gains", again)])
+    path, aside = one.record_path(), one.record_path() + ".aside"
+    os.rename(path, aside)
+    os.symlink(FULL, path)
+    says(one, ("revoke", NAME), 1, "booth: failed\n")
+    os.remove(path)
+    os.rename(aside, path)
+    failed = f"boothd: cannot keep the record of ticket {NAME}: No space left on device (os error 28)"
+    found = one.printed().decode().splitlines()[4:6]
+    require(found == [failed, lease("fails to give back", one.record())], f"{one.address} told {found}")
+    passed("and where the record could not be kept, that the lease may not be given back")
+    # (what runs at the end of a story is to have said nothing)
+    for member in cluster.members:
+        member.kill()
