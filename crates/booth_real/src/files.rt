@@ -2,20 +2,54 @@
 
 use booth_host::ReadFault;
 use std::alloc::Global;
-use std::fs::{File, Metadata};
+use std::fs::{File, Metadata, OpenOptions};
 use std::io::{ErrorKind, Read};
+use std::os::unix::fs::{MetadataExt, OpenOptionsExt};
 use std::{fs, io};
 
 /// The most bytes of a file that is read.
 const FILE_BYTES: usize = 1 << 30;
+
+/// Who may open a file that is made here: its owner, who may read and write it.
+const OWNERS_FILE: u32 = 0o600;
 
 /// Fails where this is no regular file.
 pub(crate) fn require_regular(metadata: &Metadata) -> io::Result<()> {
     if metadata.is_file() {
         Ok(())
     } else {
-        Err(io::Error::from(ErrorKind::InvalidInput))
+        Err(io::Error::new(ErrorKind::InvalidInput, "it is no regular file"))
     }
+}
+
+/// Whether these are one file, by whatever path each was found.
+pub(crate) fn is_same(one: &Metadata, other: &Metadata) -> bool {
+    one.dev() == other.dev() && one.ino() == other.ino()
+}
+
+/// Opens the regular file that has this name itself: a link to one is refused, and so is what is put in its place while it
+/// is opened. Nothing is opened that is no regular file, since to open a named pipe may wait for ever.
+pub(crate) fn open_named(rt: &HostRuntime, path: &str, how: &OpenOptions) -> io::Result<File> {
+    let named = fs::symlink_metadata(rt, path)?;
+    require_regular(&named)?;
+    let file = how.open(rt, path)?;
+    let opened = file.metadata()?;
+    require_regular(&opened)?;
+    if is_same(&named, &opened) {
+        Ok(file)
+    } else {
+        Err(io::Error::new(ErrorKind::InvalidInput, "another file took its place"))
+    }
+}
+
+/// Makes the file of this name, for its owner alone, and opens it to read and write. It fails where there is one.
+pub(crate) fn make_named(rt: &HostRuntime, path: &str) -> io::Result<File> {
+    File::options()
+        .read(true)
+        .write(true)
+        .create_new(true)
+        .mode(OWNERS_FILE)
+        .open(rt, path)
 }
 
 // Fails where this is no regular file, or one that is too long.

@@ -31,6 +31,7 @@ struct Running {
 #[derive(Drop)]
 pub(crate) struct Ended {
     pub(crate) job: u64,
+    pub(crate) ticket: Name,
     /// The status of the last program that ran, or why there is none.
     pub(crate) status: io::Result<i32>,
 }
@@ -195,8 +196,12 @@ impl Jobs {
                 Ok(Some(status)) => Ok(status),
                 Err(error) => Err(error),
             };
-            self.running.remove(place);
-            return Some(Ended { job, status });
+            let ticket = self.running.remove(place).job.ticket;
+            return Some(Ended {
+                job,
+                ticket,
+                status,
+            });
         }
         None
     }

@@ -1,8 +1,11 @@
 //! The real host: a UDP socket, the system clock, files, child programs and the standard streams.
 #![tactic(auto)]
 
+mod clock_file;
+mod clocks;
 mod files;
 mod jobs;
+mod lines;
 mod lock;
 mod programs;
 mod real_host;
@@ -13,3 +16,4 @@ mod streams;
 mod telling;
 
 pub use real_host::RealHost;
+pub use streams::write_at_once;

@@ -5,13 +5,14 @@ ghost use Rattle.std.specs.Prelude.{◌≡◌, ◌≤◌, None, IfOk, vec_len};
 ghost use Rattle.booth_host.specs.Causes.{raised, HasCause, IsCounted};
 ghost use Rattle.booth_host.specs.declared.datagram.TheConstants.{DATAGRAM_BYTES};
 
+use crate::clocks::Clocks;
 use crate::files::contents;
 use crate::jobs::{Ended, Jobs, SIGNALLED};
 use crate::lock::take_lock;
 use crate::records::Records;
 use crate::socket::Socket;
 use crate::streams::{Standing, error_stream, hold_streams, write_to};
-use crate::telling::Unkept;
+use crate::telling::Telling;
 use booth_base::{ByteText, Name, PathText, Peer};
 use booth_host::{Arrival, DATAGRAM_BYTES, Datagram, Failed, Host, Job, Place, ReadFault};
 use booth_rec::Record;
@@ -19,7 +20,7 @@ use std::alloc::{AllocError, Global};
 use std::fs::File;
 use std::io::ErrorKind;
 use std::os::fd::RawFd;
-use std::time::{Duration, SystemTime};
+use std::time::Duration;
 use std::{io, thread};
 
 /// The devices of the system.
@@ -27,12 +28,13 @@ use std::{io, thread};
 pub struct RealHost {
     rt: HostRuntime,
     socket: Option<Socket>,
+    /// The other file that ends the wait of a `next`, or a number below 0.
+    wake: RawFd,
     /// The directory of the kept records, once a place with one was opened.
     records: Option<Records>,
-    unkept: Unkept,
+    clocks: Clocks,
+    telling: Telling,
     buffer: Vec<u8>,
-    /// A file that ends the wait of `next` when it can be read, or a number below 0.
-    other: RawFd,
     /// The path of the configuration, once a place was opened.
     conf_path: Option<PathText>,
     jobs: Jobs,
@@ -42,13 +44,6 @@ pub struct RealHost {
     standing: Standing,
     faults: u64,
     ghost size: { vec_len buffer ≡ DATAGRAM_BYTES },
-}
-
-// The clock in milliseconds since 1970, where it can be read and is not before that.
-fn clock(rt: &HostRuntime) -> Option<u64> {
-    let now = SystemTime::now(rt).ok()?;
-    let since = now.duration_since(SystemTime::UNIX_EPOCH).ok()?;
-    Some(u64::try_from(since.as_millis()).unwrap_or(u64::MAX))
 }
 
 // What is asked of a place that was not opened.
@@ -68,10 +63,11 @@ impl RealHost {
         Ok(RealHost {
             rt,
             socket: None,
+            wake: -1,
             records: None,
-            unkept: Unkept::new(alloc),
+            clocks: Clocks::new(),
+            telling: Telling::new(alloc),
             buffer: vec![in alloc; 0; DATAGRAM_BYTES]?,
-            other: -1,
             conf_path: None,
             jobs,
             locked: None,
@@ -80,9 +76,32 @@ impl RealHost {
         })
     }
 
-    /// Has the wait of each later `next` end early, with Quiet, when this file can be read. A number below 0 is no file.
-    pub fn wake_on(&mut self, fd: RawFd) {
-        self.other = fd;
+    /// From now on the wait of a `next` ends early, with `Quiet`, when this open file can be read; where it is below 0,
+    /// when a datagram is there alone. It opens nothing, and no fault comes of it.
+    pub fn wake_on(&mut self, fd: RawFd)
+        ensures wake { self.new.wake ≡ fd }
+        ensures faults { self.new.faults ≡ self.old.faults }
+    {
+        self.wake = fd;
+    }
+
+    /// Has `now` tell the clock that this directory of records keeps, also before it is opened. Where that cannot be had a
+    /// line on standard error says why, and no place with a directory is opened. It is no fault.
+    pub fn await_clock(&mut self, directory: &PathText)
+        ensures faults { self.new.faults ≡ self.old.faults }
+        ensures socket { self.new.socket ≡ self.old.socket }
+    {
+        if let Err(error) = self.clocks.await_clock(&self.rt, directory) {
+            self.tell_no_clock(&error);
+        }
+    }
+
+    fn tell_no_clock(&mut self, error: &io::Error)
+        ensures faults { self.new.faults ≡ self.old.faults }
+        ensures socket { self.new.socket ≡ self.old.socket }
+    {
+        let parts = [b"cannot tell the time of the records".as_slice()];
+        self.telling.failed(&self.rt, &parts, error);
     }
 
     // Counts a failure, once.
@@ -105,20 +124,54 @@ impl RealHost {
         }
     }
 
-    // Opens the socket, and then the directory where there is one. What was open before is let go first.
+    // Opens the socket, and then the directory and its clock where there is one. What was open before is let go first.
     fn open_place(&mut self, place: &Place) -> io::Result<()>
         ensures { self.new.faults ≡ self.old.faults }
     {
         self.socket = None;
         self.records = None;
         self.conf_path = None;
+        self.clocks.leave();
         let socket = Socket::open(&self.rt, place)?;
-        if !place.records.as_str().is_empty() {
-            self.records = Some(Records::open(&self.rt, &place.records)?);
-        }
+        self.open_records(&place.records)?;
         self.socket = Some(socket);
         self.conf_path = Some(place.conf_path.copy());
         Ok(())
+    }
+
+    // Opens this directory and its clock; none where the path is empty.
+    fn open_records(&mut self, directory: &PathText) -> io::Result<()>
+        ensures { self.new.faults ≡ self.old.faults }
+    {
+        if directory.as_str().is_empty() {
+            return Ok(());
+        }
+        self.records = Some(Records::open(&self.rt, directory)?);
+        self.begin_clock(directory)
+    }
+
+    // Tells time by the clock of this directory, which is locked.
+    fn begin_clock(&mut self, directory: &PathText) -> io::Result<()>
+        ensures { self.new.faults ≡ self.old.faults }
+    {
+        let begun = self.clocks.begin(&self.rt, directory);
+        if let Err(error) = &begun {
+            self.tell_no_clock(error);
+            self.records = None;
+        }
+        begun
+    }
+
+    // Keeps what the clock has reached, once a minute.
+    fn keep_clock(&mut self)
+        ensures { self.new.faults ≡ self.old.faults }
+    {
+        let Some(records) = &self.records else {
+            return;
+        };
+        if let Some(answer) = self.clocks.keep(&self.rt, records.directory()) {
+            self.telling.clock_keep(&self.rt, &answer);
+        }
     }
 
     fn start_job(&mut self, job: &Job) -> io::Result<()>
@@ -135,9 +188,45 @@ impl RealHost {
     fn ended_job(&mut self) -> Option<Arrival>
         ensures later { self.old.faults ≤ self.new.faults }
     {
-        let Ended { job, status } = self.jobs.poll(&self.rt)?;
+        let Ended {
+            job,
+            ticket,
+            status,
+        } = self.jobs.poll(&self.rt)?;
+        if let Err(error) = &status {
+            self.tell_unstarted(&ticket, error);
+        }
         let status = self.checked(status).unwrap_or(SIGNALLED);
         Some(Arrival::Handler { job, status })
+    }
+
+    // Says that a program of this ticket's handler could not be started or asked about.
+    fn tell_unstarted(&mut self, ticket: &Name, error: &io::Error)
+        ensures { self.new.faults ≡ self.old.faults }
+    {
+        let parts = [
+            b"cannot run the handler of ticket ".as_slice(),
+            ticket.bytes(),
+        ];
+        self.telling.failed(&self.rt, &parts, error);
+    }
+
+    // Says that a receive failed, at a place with records: clients say what they miss themselves.
+    fn tell_unreceived(&mut self, error: &io::Error)
+        ensures { self.new.faults ≡ self.old.faults }
+    {
+        if self.records.is_some() {
+            self.telling.unreceived(&self.rt, error);
+        }
+    }
+
+    // Says that a send failed, at a place with records.
+    fn tell_unsent(&mut self, to: &Peer, error: &io::Error)
+        ensures { self.new.faults ≡ self.old.faults }
+    {
+        if self.records.is_some() {
+            self.telling.unsent(&self.rt, to, error);
+        }
     }
 
     fn receive(&mut self, wait_ms: u64, into: &mut Datagram) -> io::Result<Arrival>
@@ -145,7 +234,7 @@ impl RealHost {
     {
         into.set(&[]);
         match &self.socket {
-            Some(socket) => socket.receive(wait_ms, self.other, &mut self.buffer, into),
+            Some(socket) => socket.receive(wait_ms, self.wake, &mut self.buffer, into),
             None => Err(unopened()),
         }
     }
@@ -191,24 +280,34 @@ impl Host for RealHost {
 
     /// A job that is over comes before a datagram, and is not waited for.
     fn next(&mut self, wait_ms: u64, into: &mut Datagram) -> Result<Arrival, Failed> {
+        self.keep_clock();
         if let Some(arrival) = self.ended_job() {
             into.set(&[]);
             return Ok(arrival);
         }
         let answer = self.receive(wait_ms, into);
-        if answer.is_err() {
+        if let Err(error) = &answer {
+            self.tell_unreceived(error);
             // A failure may come at once, and a caller that goes on must not take the whole processor.
             thread::sleep(&self.rt, Duration::from_millis(wait_ms));
         }
         self.checked(answer)
     }
 
+    /// At a place with records it is the clock that their directory keeps, which no step of the wall clock touches; a line
+    /// on standard error tells of such a step. Elsewhere it is the wall clock. A clock that cannot be read stands still,
+    /// and no place with records is opened behind a wall clock that could not be.
     fn now(&mut self) -> u64 {
-        match clock(&self.rt) {
-            Some(reading) => reading,
-            None => {
+        match self.clocks.now() {
+            Ok(told) => {
+                if let Some(step) = told.step {
+                    self.telling.step(&self.rt, step);
+                }
+                told.reading
+            }
+            Err(_) => {
                 self.fail();
-                0
+                self.clocks.last()
             }
         }
     }
@@ -216,18 +315,28 @@ impl Host for RealHost {
     /// It waits for no room: where the system has none, the send has failed.
     fn send(&mut self, to: &Peer, bytes: &[u8]) -> Result<(), Failed> {
         let answer = self.post(to, bytes);
+        if let Err(error) = &answer {
+            self.tell_unsent(to, error);
+        }
         self.checked(answer)
     }
 
     fn kept(&mut self, ticket: &Name) -> Result<Option<Record>, Failed> {
         let answer = self.read_record(ticket);
+        if let Err(error) = &answer {
+            let parts = [
+                b"cannot read the record of ticket ".as_slice(),
+                ticket.bytes(),
+            ];
+            self.telling.failed(&self.rt, &parts, error);
+        }
         self.checked(answer)
     }
 
     /// Where it ends in another way than the ticket's keep before, a line on standard error says so.
     fn keep(&mut self, ticket: &Name, rec: &Record) -> Result<(), Failed> {
         let answer = self.write_record(ticket, rec);
-        self.unkept.tell(&self.rt, ticket, &answer);
+        self.telling.keep(&self.rt, ticket, &answer);
         self.checked(answer)
     }
 
@@ -235,6 +344,9 @@ impl Host for RealHost {
     /// started, and where that program cannot be ended, or one that was ended before is not yet over.
     fn start(&mut self, job: &Job) -> Result<(), Failed> {
         let answer = self.start_job(job);
+        if let Err(error) = &answer {
+            self.tell_unstarted(&job.ticket, error);
+        }
         self.checked(answer)
     }
 

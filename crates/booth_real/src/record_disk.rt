@@ -20,8 +20,8 @@ pub(crate) struct FileDisk {
     faults: u64,
 }
 
-// Reads until the bytes are full or the file ends.
-fn fill(file: &File, at: u64, into: &mut [u8]) -> io::Result<usize> {
+/// Reads until the bytes are full or the file ends.
+pub(crate) fn fill(file: &File, at: u64, into: &mut [u8]) -> io::Result<usize> {
     let mut len = 0;
     for _ in 0..u64::MAX {
         if len >= into.len() {

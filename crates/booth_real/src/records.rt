@@ -3,25 +3,24 @@
 //! A file is opened for a call alone, and holds four slots (`booth_rec`). A file that is missing keeps no record.
 ghost use Rattle.std.specs.Prelude.{◌≤◌, length};
 
+use crate::files::{make_named, open_named};
 use crate::lock::lock_file;
 use crate::record_disk::FileDisk;
 use arrayvec::ArrayString;
 use booth_base::{Name, PathText};
 use booth_rec::{OpenFault, PutFault, Record, Slots};
+use std::fmt::Write;
 use std::fs::{DirBuilder, File};
 use std::io;
 use std::io::ErrorKind;
-use std::os::unix::fs::{DirBuilderExt, OpenOptionsExt};
+use std::os::unix::fs::DirBuilderExt;
 use std::path::Path;
 
 /// The file whose lock the directory's one host holds.
 const LOCK: &str = "booth.lock";
 
 /// A path below a directory.
-type FilePath = ArrayString<400>;
-
-/// Who may open a record file that is made here.
-const OWNERS_FILE: u32 = 0o600;
+pub(crate) type FilePath = ArrayString<400>;
 
 /// Who may look into a directory that is made here, and write in it.
 const OWNERS_DIRECTORY: u32 = 0o700;
@@ -50,8 +49,8 @@ pub(crate) struct Records {
     lock: File,
 }
 
-// The path of a file in a directory.
-fn path_in(directory: &PathText, name: &str) -> io::Result<FilePath> {
+/// The path of a file in a directory.
+pub(crate) fn path_in(directory: &PathText, name: &str) -> io::Result<FilePath> {
     let mut path = FilePath::new();
     path.push_str(directory.as_str());
     path.push('/');
@@ -93,8 +92,8 @@ fn make(rt: &HostRuntime, directory: &str) -> io::Result<OwnName> {
     }
 }
 
-// Has the names in a directory be on the disk.
-fn sync_directory(rt: &HostRuntime, directory: &str) -> io::Result<()> {
+/// Has the names in a directory be on the disk.
+pub(crate) fn sync_directory(rt: &HostRuntime, directory: &str) -> io::Result<()> {
     File::open(rt, directory)?.sync_all()
 }
 
@@ -119,20 +118,26 @@ fn sync_parent_if_allowed(rt: &HostRuntime, directory: &str) -> io::Result<()> {
     }
 }
 
-// Opens a file to read and write, and makes it where it is missing; says whether it was.
+// Opens a record file. To read and to write also where it is read alone: so no named pipe that takes its place has this
+// wait.
+fn open_file(rt: &HostRuntime, path: &str) -> io::Result<File> {
+    open_named(rt, path, File::options().read(true).write(true))
+}
+
+// Opens a record file, and makes it where it is missing; says whether it was.
 fn open_or_make(rt: &HostRuntime, path: &str) -> io::Result<(File, bool)> {
-    match File::options().read(true).write(true).open(rt, path) {
-        Ok(file) => return Ok((file, false)),
-        Err(error) if error.kind() == ErrorKind::NotFound => {}
-        Err(error) => return Err(error),
+    match open_file(rt, path) {
+        Ok(file) => Ok((file, false)),
+        Err(error) if error.kind() == ErrorKind::NotFound => Ok((make_named(rt, path)?, true)),
+        Err(error) => Err(error),
     }
-    let file = File::options()
-        .read(true)
-        .write(true)
-        .create_new(true)
-        .mode(OWNERS_FILE)
-        .open(rt, path)?;
-    Ok((file, true))
+}
+
+// The error with words that say what failed.
+fn within(words: &str, error: io::Error) -> io::Error {
+    let mut text = ArrayString::<160>::new();
+    let _ = write!(text, "{words}: {error}");
+    io::Error::new(error.kind(), text.as_str())
 }
 
 // The error of a file that takes no record, with these words.
@@ -158,9 +163,13 @@ impl Records {
         }
     }
 
-    // The slots of an open file.
-    fn slots(&mut self, file: File) -> io::Result<Slots<FileDisk>> {
-        match Slots::open(FileDisk::new(file, self.has_failed)) {
+    pub(crate) fn directory(&self) -> &PathText {
+        &self.directory
+    }
+
+    // The slots of an open file, which is doubted where the system may have bytes of it that the medium has not.
+    fn slots(&mut self, file: File, is_doubted: bool) -> io::Result<Slots<FileDisk>> {
+        match Slots::open(FileDisk::new(file, is_doubted)) {
             Ok(slots) => Ok(slots),
             Err(OpenFault::Torn(_)) => Err(damaged("an open slot holds no record")),
             Err(OpenFault::Disk(disk)) => {
@@ -177,7 +186,7 @@ impl Records {
             OwnName::Made => sync_parent(rt, self.directory.as_str()),
             OwnName::Found => sync_parent_if_allowed(rt, self.directory.as_str()),
         };
-        synced?;
+        synced.map_err(|error| within("the directory above is not synced", error))?;
         self.own_name = OwnName::Settled;
         Ok(())
     }
@@ -187,17 +196,21 @@ impl Records {
         if self.has_names {
             return Ok(());
         }
-        sync_directory(rt, self.directory.as_str())?;
+        sync_directory(rt, self.directory.as_str()).map_err(|error| within(
+            "the directory is not synced",
+            error,
+        ))?;
         self.keep_own_name(rt)?;
         self.has_names = true;
         Ok(())
     }
 
-    /// The record that a ticket's file keeps, if it keeps one.
+    /// The record that a ticket's file keeps, if it keeps one. Its bytes are doubted: of what failed before this process
+    /// nothing is known.
     pub(crate) fn read(&mut self, rt: &HostRuntime, ticket: &Name) -> io::Result<Option<Record>> {
         let path = path_in(&self.directory, file_name(ticket)?.as_str())?;
-        match File::open(rt, path.as_str()) {
-            Ok(file) => Ok(self.slots(file)?.record()),
+        match open_file(rt, path.as_str()) {
+            Ok(file) => Ok(self.slots(file, true)?.record()),
             Err(error) if error.kind() == ErrorKind::NotFound => Ok(None),
             Err(error) => Err(error),
         }
@@ -216,7 +229,7 @@ impl Records {
             self.has_names = false;
         }
         self.keep_names(rt)?;
-        let mut slots = self.slots(file)?;
+        let mut slots = self.slots(file, self.has_failed)?;
         match slots.put(record) {
             Ok(()) => Ok(()),
             Err(PutFault::Spent) => Err(damaged("the last number is used")),

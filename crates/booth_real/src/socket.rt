@@ -2,12 +2,16 @@
 
 use booth_base::{Address, Peer};
 use booth_host::{Arrival, Datagram, Place};
-use libc::net::{POLLIN, poll};
+use libc::net::{POLLIN, SO_RCVBUF, SO_SNDBUF, SOL_SOCKET, poll, setsockopt};
 use libc::types::pollfd;
 use std::io;
 use std::io::ErrorKind;
 use std::net::{IpAddr, Ipv4Addr, Ipv6Addr, SocketAddr, UdpSocket};
 use std::os::fd::{AsRawFd, RawFd};
+
+/// The room that is asked for what was not sent and what was not received yet. The system gives as much of it as it allows
+/// (net.core.wmem_max and net.core.rmem_max), and twice that.
+const ROOM: i32 = 1 << 30;
 
 /// Whom a socket reaches.
 #[derive(Clone, Copy)]
@@ -59,15 +63,24 @@ fn narrowed(address: IpAddr) -> IpAddr {
     }
 }
 
+// Asks for room both ways. Where there is none to give, what the socket has stays.
+fn ask_for_room(fd: RawFd) {
+    let mut value = [0u8; 16];
+    value[..4].copy_from_slice(&ROOM.to_ne_bytes());
+    let _ = unsafe { setsockopt(fd, SOL_SOCKET, SO_SNDBUF, &value, 4) };
+    let _ = unsafe { setsockopt(fd, SOL_SOCKET, SO_RCVBUF, &value, 4) };
+}
+
 fn bind(rt: &HostRuntime, address: IpAddr, port: u16, reach: Reach) -> io::Result<Socket> {
     let udp = UdpSocket::bind(rt, SocketAddr::new(address, port))?;
-    // A send that finds no room fails, and a receive waits by `wait` alone.
+    // Neither a send nor a receive waits: `wait` alone does.
     udp.set_nonblocking(true)?;
+    ask_for_room(udp.as_raw_fd());
     Ok(Socket { udp, reach })
 }
 
-// A file that is waited for, if it is one: a number below 0 is passed over.
-fn waited_for(fd: RawFd) -> pollfd {
+// A file, as `poll` is asked whether it can be read. It passes over one below 0.
+fn asked(fd: RawFd) -> pollfd {
     pollfd {
         fd,
         events: POLLIN,
@@ -89,11 +102,11 @@ impl Socket {
         }
     }
 
-    // Waits for so long at most: until a datagram came, or the other file can be read.
-    fn wait(&self, wait_ms: u64, other: RawFd) {
-        let mut files = [waited_for(self.udp.as_raw_fd()), waited_for(other)];
-        let wait_ms = i32::try_from(wait_ms).unwrap_or(i32::MAX);
-        poll(&mut files, wait_ms);
+    // Waits for so many milliseconds, and no longer than until a datagram is there or the other file can be read. One
+    // that a signal cuts short has ended.
+    fn wait(&self, wait_ms: u64, wake: RawFd) {
+        let mut asked = [asked(self.udp.as_raw_fd()), asked(wake)];
+        let _ready = poll(&mut asked, i32::try_from(wait_ms).unwrap_or(i32::MAX));
     }
 
     fn peer_at(&self, from: SocketAddr) -> Peer {
@@ -116,35 +129,29 @@ impl Socket {
         SocketAddr::new(ip, to.port)
     }
 
-    // What is there already, through the buffer. A call that a signal cut short is Quiet.
-    fn take(&self, buffer: &mut [u8], into: &mut Datagram) -> io::Result<Arrival> {
+    /// What comes within this time, through the buffer. It is Quiet where nothing came, a signal cut the call short, or
+    /// the file `wake` can be read; below 0 that is none.
+    pub(crate) fn receive(
+        &self,
+        wait_ms: u64,
+        wake: RawFd,
+        buffer: &mut [u8],
+        into: &mut Datagram,
+    ) -> io::Result<Arrival> {
+        self.wait(wait_ms, wake);
         match self.udp.recv_from(buffer) {
             Ok((count, from)) => {
                 into.set(&buffer[..count]);
                 Ok(Arrival::Datagram(self.peer_at(from)))
             }
             Err(error) => match error.kind() {
-                ErrorKind::WouldBlock | ErrorKind::TimedOut | ErrorKind::Interrupted => {
-                    Ok(Arrival::Quiet)
-                }
+                ErrorKind::WouldBlock | ErrorKind::Interrupted => Ok(Arrival::Quiet),
                 _ => Err(error),
             },
         }
     }
 
-    /// What comes within this time, through the buffer. The wait ends early where the other file can be read.
-    pub(crate) fn receive(
-        &self,
-        wait_ms: u64,
-        other: RawFd,
-        buffer: &mut [u8],
-        into: &mut Datagram,
-    ) -> io::Result<Arrival> {
-        self.wait(wait_ms, other);
-        self.take(buffer, into)
-    }
-
-    /// Gives these bytes to the network, again where a signal cut the call short.
+    /// Gives these bytes to the network, again where a signal cut the call short. It fails where there is no room.
     pub(crate) fn send(&self, to: &Peer, bytes: &[u8]) -> io::Result<()> {
         let to = self.address_to(to);
         for _ in 0..u64::MAX {

@@ -70,7 +70,7 @@ fn has_room<S: AsFd>(stream: &S) -> bool {
 }
 
 /// Writes a line to a standard stream, and fails where that would wait: for a reader, who may never come.
-pub(crate) fn write_at_once<S: AsFd>(stream: &S, line: &[u8]) -> io::Result<()> {
+pub fn write_at_once<S: AsFd>(stream: &S, line: &[u8]) -> io::Result<()> {
     if has_room(stream) {
         write_to(stream, line)
     } else {

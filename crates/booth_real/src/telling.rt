@@ -1,79 +1,210 @@
-//! What is said on standard error of keeps: that one failed, and that the record is kept again.
+//! What is said on standard error of devices that fail, a few lines a minute. None of it is a call of the log.
 
+use crate::clocks::since_boot;
+use crate::lines::{Line, ended, line_of, put_number};
 use crate::streams::write_at_once;
-use arrayvec::ArrayVec;
-use booth_base::Name;
+use booth_base::{Name, Peer};
+use booth_clock::Step;
 use std::alloc::Global;
 use std::io;
 use std::io::Write;
 
-/// The most bytes of a line, with its end. A text that is longer is cut.
-const LINE_BYTES: usize = 400;
+/// How long a minute is.
+const MINUTE_MS: u64 = 60_000;
 
-/// A line for standard error.
-type Line = ArrayVec<u8, LINE_BYTES>;
+/// The most lines of a minute.
+const LINES: u32 = 60;
 
-/// The tickets whose last keep failed, each of which a line told of.
-#[derive(Drop)]
-pub(crate) struct Unkept {
-    tickets: Vec<Name>,
+/// Steps of the wall clock up to this are none.
+const STEP_MS: u64 = 100;
+
+/// How many lines there were in a minute.
+#[derive(Clone, Copy)]
+struct Limit {
+    /// When the minute began, in milliseconds since the boot.
+    since: u64,
+    lines: u32,
 }
 
-// The end of a line, in the place of its last byte where there is no room.
-fn ended(line: Line) -> Line {
-    let mut line = line;
-    line.truncate(LINE_BYTES - 1);
-    line.push(b'\n');
+/// What goes on to fail, of which one line a minute is said.
+#[derive(Clone, Copy)]
+struct Paced {
+    /// When the next line may be said, in milliseconds since the boot.
+    next: u64,
+    /// How many failures were passed over since the last one.
+    passed: u64,
+}
+
+/// What was said, as far as it tells what is said next.
+#[derive(Drop)]
+pub(crate) struct Telling {
+    /// The tickets whose last keep failed, each of which a line told of.
+    unkept: Vec<Name>,
+    /// Whether the last keep of the clock failed, and a line told of it.
+    is_clock_unkept: bool,
+    limit: Limit,
+    sends: Paced,
+    receives: Paced,
+}
+
+impl Limit {
+    // Whether one more line may be said at this time.
+    fn admits(&mut self, now: u64) -> bool {
+        if now.saturating_sub(self.since) >= MINUTE_MS {
+            self.since = now;
+            self.lines = 0;
+        }
+        if self.lines >= LINES {
+            return false;
+        }
+        self.lines += 1;
+        true
+    }
+}
+
+impl Paced {
+    fn new() -> Paced {
+        Paced { next: 0, passed: 0 }
+    }
+
+    // How many failures were passed over before this one, where a line is due.
+    fn due(&mut self, now: u64) -> Option<u64> {
+        if now < self.next {
+            self.passed = self.passed.saturating_add(1);
+            return None;
+        }
+        self.next = now.saturating_add(MINUTE_MS);
+        let passed = self.passed;
+        self.passed = 0;
+        Some(passed)
+    }
+}
+
+// The time since the boot, by which lines are counted. Where it cannot be read, none is said beyond the first ones.
+fn now() -> u64 {
+    since_boot().unwrap_or(0)
+}
+
+// What is said of something that failed. The program's name is there, since no other has these devices fail.
+fn failed_line(parts: &[&[u8]], error: &io::Error) -> Line {
+    let mut line = line_of(parts);
+    let _ = write!(line, ": {error}");
     line
 }
 
-// What is said of a keep that failed. The program's name is there, since no other keeps records.
-fn failed_line(ticket: &Name, error: &io::Error) -> Line {
-    let mut line = Line::new();
-    let _ = line.write_all(b"boothd: cannot keep the record of ticket ");
-    let _ = line.write_all(ticket.bytes());
-    let _ = write!(line, ": {error}");
-    ended(line)
+// What is said of a step of the wall clock.
+fn step_line(step: Step) -> Line {
+    let (amount, way) = match step {
+        Step::Ahead(amount) => (amount, b"ahead of".as_slice()),
+        Step::Behind(amount) => (amount, b"behind".as_slice()),
+    };
+    if amount <= STEP_MS {
+        return line_of(&[b"the wall clock agrees with the daemon's clock again"]);
+    }
+    let mut line = line_of(&[b"the wall clock is "]);
+    put_number(&mut line, amount);
+    let _ = line.write_all(b" ms ");
+    let _ = line.write_all(way);
+    let _ = line.write_all(
+        b" the daemon's clock, which goes on as it was: OPERATING.md, \"Clocks\"",
+    );
+    line
 }
 
-// What is said of the first keep that succeeds after it.
-fn kept_line(ticket: &Name) -> Line {
-    let mut line = Line::new();
-    let _ = line.write_all(b"boothd: the record of ticket ");
-    let _ = line.write_all(ticket.bytes());
-    let _ = line.write_all(b" is kept again");
-    ended(line)
-}
+impl Telling {
+    pub(crate) fn new(alloc: Global) -> Telling {
+        Telling {
+            unkept: Vec::new(alloc),
+            is_clock_unkept: false,
+            limit: Limit { since: 0, lines: 0 },
+            sends: Paced::new(),
+            receives: Paced::new(),
+        }
+    }
 
-impl Unkept {
-    pub(crate) fn new(alloc: Global) -> Unkept {
-        Unkept {
-            tickets: Vec::new(alloc),
+    // Says this line, where one more may be said. One that cannot be written at once is lost.
+    fn say(&mut self, rt: &HostRuntime, line: Line) {
+        if self.limit.admits(now()) {
+            let _ = write_at_once(&rt.stderr(), &ended(line));
         }
     }
 
     // The line on this keep, where it ended in another way than the ticket's one before.
-    fn line(&mut self, ticket: &Name, answer: &io::Result<()>) -> Option<Line> {
-        let place = self.tickets.iter().position(|name| name == ticket);
+    fn keep_line(&mut self, ticket: &Name, answer: &io::Result<()>) -> Option<Line> {
+        let place = self.unkept.iter().position(|name| name == ticket);
         match (answer, place) {
             // Where there is no memory for the name, nothing is said before a later keep, so that no line comes twice.
-            (Err(error), None) => match self.tickets.push(ticket.copy()) {
-                Ok(()) => Some(failed_line(ticket, error)),
+            (Err(error), None) => match self.unkept.push(ticket.copy()) {
+                Ok(()) => Some(failed_line(
+                    &[b"cannot keep the record of ticket ", ticket.bytes()],
+                    error,
+                )),
                 Err(_) => None,
             },
             (Ok(()), Some(place)) => {
-                self.tickets.swap_remove(place);
-                Some(kept_line(ticket))
+                self.unkept.swap_remove(place);
+                Some(line_of(&[b"the record of ticket ", ticket.bytes(), b" is kept again"]))
             }
             (Err(_), Some(_)) | (Ok(()), None) => None,
         }
     }
 
-    /// Says on standard error how a keep of this ticket's record ended, where the one before ended in another way. A line
-    /// that cannot be written at once is lost.
-    pub(crate) fn tell(&mut self, rt: &HostRuntime, ticket: &Name, answer: &io::Result<()>) {
-        if let Some(line) = self.line(ticket, answer) {
-            let _ = write_at_once(&rt.stderr(), &line);
+    /// Says how a keep of this ticket's record ended, where the one before ended in another way.
+    pub(crate) fn keep(&mut self, rt: &HostRuntime, ticket: &Name, answer: &io::Result<()>) {
+        if let Some(line) = self.keep_line(ticket, answer) {
+            self.say(rt, line);
         }
     }
+
+    /// Says how a keep of the clock ended, where the one before ended in another way.
+    pub(crate) fn clock_keep(&mut self, rt: &HostRuntime, answer: &io::Result<()>) {
+        let line = match answer {
+            Err(error) if !self.is_clock_unkept => {
+                failed_line(&[b"cannot keep what the clock has reached"], error)
+            }
+            Ok(()) if self.is_clock_unkept => line_of(&[
+                b"what the clock has reached is kept again",
+            ]),
+            Err(_) | Ok(()) => return,
+        };
+        self.is_clock_unkept = answer.is_err();
+        self.say(rt, line);
+    }
+
+    /// Says that something failed that is not tried again and again.
+    pub(crate) fn failed(&mut self, rt: &HostRuntime, parts: &[&[u8]], error: &io::Error) {
+        self.say(rt, failed_line(parts, error));
+    }
+
+    /// Says by how much the wall clock is off.
+    pub(crate) fn step(&mut self, rt: &HostRuntime, step: Step) {
+        self.say(rt, step_line(step));
+    }
+
+    /// Says that a send failed, once a minute.
+    pub(crate) fn unsent(&mut self, rt: &HostRuntime, to: &Peer, error: &io::Error) {
+        if let Some(passed) = self.sends.due(now()) {
+            let address = to.address.print();
+            let line = failed_line(&[b"cannot send to ", address.as_bytes()], error);
+            self.say(rt, with_passed(line, passed));
+        }
+    }
+
+    /// Says that a receive failed, once a minute.
+    pub(crate) fn unreceived(&mut self, rt: &HostRuntime, error: &io::Error) {
+        if let Some(passed) = self.receives.due(now()) {
+            let line = failed_line(&[b"cannot receive"], error);
+            self.say(rt, with_passed(line, passed));
+        }
+    }
+}
+
+// The line with the number of failures that no line told of.
+fn with_passed(line: Line, passed: u64) -> Line {
+    let mut line = line;
+    if passed > 0 {
+        let _ = line.write_all(b"; untold before: ");
+        put_number(&mut line, passed);
+    }
+    line
 }

@@ -8,6 +8,7 @@ use booth_links::RealLinks;
 use booth_log::LogHost;
 use booth_real::RealHost;
 use booth_stream::StreamHost;
+use booth_words::{Asked, Program, ask};
 use error_lines::ErrorLines;
 use std::alloc::{AllocError, Global};
 use std::env;
@@ -23,10 +24,18 @@ fn words(rt: &HostRuntime, alloc: Global) -> Result<Vec<String>, AllocError> {
     }
 }
 
+// Has a daemon's first reading be one of the clock that its records keep.
+fn await_clock(alloc: Global, words: &[String], host: &mut RealHost) {
+    if let Ok(Asked::Daemon(asked)) = ask(alloc, Program::Boothd, words) {
+        host.await_clock(&asked.records);
+    }
+}
+
 fn run(rt: HostRuntime, alloc: Global) -> Result<Outcome, AllocError> {
     let words = words(&rt, alloc)?;
     // (the host comes first: it fills the places of standard streams that were closed, so that no file of the links has one)
     let mut host = RealHost::new(rt, alloc)?;
+    await_clock(alloc, &words, &mut host);
     let links = RealLinks::new(rt, alloc)?;
     host.wake_on(links.ready_file());
     let host = StreamHost::new(alloc, host, links, 0)?;

@@ -1,0 +1,8 @@
+//! Laws: what follows from the definitions, for all values.
+ghost use Rattle.std.specs.Prelude.{ℕ};
+ghost use Rattle.booth_clock.specs.Laws.{KeepsPace};
+
+/// Between two moments of a boot the clock goes on by what the boot clock does.
+pub fn keeps_pace()
+    ensures { (offset first second : ℕ) → KeepsPace offset first second }
+{}

@@ -1,0 +1,268 @@
+//! The clocks of the system, and the one that a host tells time by.
+
+use crate::clock_file::{boot_id, read_clock, write_clock};
+use booth_base::PathText;
+use booth_clock::{BootId, ClockFault, KeptClock, OwnClock, Readings, Step};
+use libc::CLOCK_REALTIME;
+use libc::types::timespec;
+use std::io;
+use std::io::{Error, ErrorKind};
+
+/// Linux's clock of the time since the boot, also while the machine slept.
+const CLOCK_BOOTTIME: i32 = 7;
+
+/// How often both clocks are read, at most, until they are read at one moment.
+const TRIES: u32 = 100;
+
+/// How often a reading that was reached is kept, in milliseconds.
+const KEEP_EVERY_MS: u64 = 60_000;
+
+/// What a host tells time by.
+#[derive(Clone, Copy)]
+enum Source {
+    /// The wall clock; with the readings at which it was told last, if it was.
+    Wall(Option<Readings>),
+    /// The clock of a directory that is still to be opened; with the readings at which it began.
+    Awaited(OwnClock, Readings),
+    /// The clock of the open directory.
+    Open(OwnClock),
+    /// Nothing: a reading was asked for and could not be had.
+    Unread,
+}
+
+/// What a host tells of time.
+#[derive(Drop)]
+pub(crate) struct Clocks {
+    source: Source,
+    /// The reading at which the clock was to be kept last.
+    kept_at: u64,
+}
+
+/// A reading that is told, and the step of the wall clock that is seen with it.
+#[derive(Clone, Copy)]
+pub(crate) struct Told {
+    pub(crate) reading: u64,
+    pub(crate) step: Option<Step>,
+}
+
+// A clock's reading in milliseconds.
+fn reading_of(clock: i32) -> io::Result<u64> {
+    let mut time = timespec {
+        tv_sec: 0,
+        tv_nsec: 0,
+    };
+    if libc::clock_gettime(clock, &mut time) != 0 {
+        return Err(Error::new(ErrorKind::Other, "the clock cannot be read"));
+    }
+    let (Ok(seconds), Ok(nanos)) = (u64::try_from(time.tv_sec), u64::try_from(time.tv_nsec)) else {
+        return Err(Error::new(ErrorKind::InvalidData, "the clock is before its zero"));
+    };
+    Ok(
+        seconds
+            .saturating_mul(1000)
+            .saturating_add(nanos / 1_000_000),
+    )
+}
+
+/// The time since the boot, in milliseconds.
+pub(crate) fn since_boot() -> io::Result<u64> {
+    reading_of(CLOCK_BOOTTIME)
+}
+
+// Both clocks, where they were read within one millisecond.
+fn read_both() -> io::Result<Option<Readings>> {
+    let boot = since_boot()?;
+    let wall = reading_of(CLOCK_REALTIME)?;
+    let is_one_moment = since_boot()? == boot;
+    Ok(is_one_moment.then(|| Readings { boot, wall }))
+}
+
+// Both clocks at one moment. They are read again where this process was held up between them.
+fn readings() -> io::Result<Readings> {
+    for _ in 0..TRIES {
+        if let Some(readings) = read_both()? {
+            return Ok(readings);
+        }
+    }
+    Err(Error::new(
+        ErrorKind::TimedOut,
+        "the clocks cannot be read at one moment",
+    ))
+}
+
+// Why a clock does not begin.
+fn unbegun(fault: ClockFault) -> Error {
+    let words = match fault {
+        ClockFault::Behind => "the clock is behind a reading that was reached before",
+        ClockFault::Early => "the wall clock reads less than the time since the boot",
+    };
+    Error::new(ErrorKind::InvalidData, words)
+}
+
+// The clock of this boot, by what is kept and these readings.
+fn begun(boot: BootId, kept: Option<KeptClock>, readings: Readings) -> io::Result<OwnClock> {
+    match OwnClock::begin(boot, kept, readings) {
+        Ok(clock) => Ok(clock),
+        Err(fault) => Err(unbegun(fault)),
+    }
+}
+
+// Fails where what was told before a directory was opened is no reading of its clock.
+fn require_told(source: Source, clock: OwnClock) -> io::Result<()> {
+    let is_same = match source {
+        Source::Wall(None) | Source::Open(_) => true,
+        Source::Wall(Some(told)) => clock.agrees_with(told),
+        Source::Awaited(awaited, _) => awaited.kept().offset == clock.kept().offset,
+        Source::Unread => false,
+    };
+    if is_same {
+        Ok(())
+    } else {
+        Err(Error::new(
+            ErrorKind::InvalidData,
+            "the wall clock was set since the boot",
+        ))
+    }
+}
+
+impl Clocks {
+    /// The wall clock, which is not read yet.
+    pub(crate) fn new() -> Clocks {
+        Clocks {
+            source: Source::Wall(None),
+            kept_at: 0,
+        }
+    }
+
+    /// Reads the clock.
+    pub(crate) fn now(&mut self) -> io::Result<Told> {
+        let source = self.source;
+        match source {
+            Source::Wall(_) | Source::Unread => self.read_wall(),
+            Source::Awaited(clock, at) => {
+                let mut clock = clock;
+                let reading = clock.read(since_boot()?);
+                self.source = Source::Awaited(clock, at);
+                Ok(Told {
+                    reading,
+                    step: None,
+                })
+            }
+            Source::Open(clock) => {
+                let mut clock = clock;
+                let reading = clock.read(since_boot()?);
+                // (where the two are not read at one moment, a later reading tells of a step)
+                let step = match read_both() {
+                    Ok(Some(readings)) => clock.step(readings),
+                    Ok(None) | Err(_) => None,
+                };
+                self.source = Source::Open(clock);
+                Ok(Told { reading, step })
+            }
+        }
+    }
+
+    // Reads the wall clock. Once that fails before a directory is opened, none is: what was told was no reading.
+    fn read_wall(&mut self) -> io::Result<Told> {
+        match readings() {
+            Ok(readings) => {
+                if let Source::Wall(_) = self.source {
+                    self.source = Source::Wall(Some(readings));
+                }
+                Ok(Told {
+                    reading: readings.wall,
+                    step: None,
+                })
+            }
+            Err(error) => {
+                self.source = Source::Unread;
+                Err(error)
+            }
+        }
+    }
+
+    /// The reading that was told last of the own clock; 0 where there is none.
+    pub(crate) fn last(&self) -> u64 {
+        match self.source {
+            Source::Wall(_) | Source::Unread => 0,
+            Source::Awaited(clock, _) | Source::Open(clock) => clock.kept().reached,
+        }
+    }
+
+    // The readings at which a clock of a directory begins: those that were told by, where there are any.
+    fn begin_at(&self) -> io::Result<Readings> {
+        match self.source {
+            Source::Wall(Some(readings)) | Source::Awaited(_, readings) => Ok(readings),
+            Source::Wall(None) | Source::Open(_) => readings(),
+            Source::Unread => Err(Error::new(
+                ErrorKind::InvalidData,
+                "the clock could not be read at the start",
+            )),
+        }
+    }
+
+    /// Has `now` tell the clock that this directory keeps, before it is opened. Where that cannot be, none is opened.
+    pub(crate) fn await_clock(&mut self, rt: &HostRuntime, directory: &PathText) -> io::Result<()> {
+        let begun = self.clock_in(rt, directory);
+        self.source = match &begun {
+            Ok((clock, readings)) => Source::Awaited(*clock, *readings),
+            Err(_) => Source::Unread,
+        };
+        begun.map(|_| ())
+    }
+
+    // The clock of this directory, and the readings at which it begins.
+    fn clock_in(&self, rt: &HostRuntime, directory: &PathText) -> io::Result<(OwnClock, Readings)> {
+        let readings = self.begin_at()?;
+        let kept = read_clock(rt, directory)?;
+        let clock = begun(boot_id(rt)?, kept, readings)?;
+        require_told(self.source, clock)?;
+        Ok((clock, readings))
+    }
+
+    /// Tells time from now on by the clock of this directory, which is open and locked. It is kept at once: nothing is
+    /// promised by a clock whose offset is not on the disk. Where it was kept in this boot, a keep that fails is passed
+    /// over.
+    pub(crate) fn begin(&mut self, rt: &HostRuntime, directory: &PathText) -> io::Result<()> {
+        let (clock, _) = self.clock_in(rt, directory)?;
+        let written = write_clock(rt, directory, &clock.kept());
+        if written.is_err() && !is_kept(rt, directory, &clock.kept()) {
+            return written;
+        }
+        self.source = Source::Open(clock);
+        self.kept_at = clock.kept().reached;
+        Ok(())
+    }
+
+    /// Tells time by the wall clock, as where no directory is open.
+    pub(crate) fn leave(&mut self) {
+        if let Source::Open(_) = self.source {
+            self.source = Source::Wall(None);
+        }
+    }
+
+    /// Keeps what was reached in this directory, where a minute went by; says whether it did and how that ended.
+    pub(crate) fn keep(
+        &mut self,
+        rt: &HostRuntime,
+        directory: &PathText,
+    ) -> Option<io::Result<()>> {
+        let Source::Open(clock) = self.source else {
+            return None;
+        };
+        let kept = clock.kept();
+        if kept.reached < self.kept_at.saturating_add(KEEP_EVERY_MS) {
+            return None;
+        }
+        self.kept_at = kept.reached;
+        Some(write_clock(rt, directory, &kept))
+    }
+}
+
+// Whether a directory keeps this offset of this boot.
+fn is_kept(rt: &HostRuntime, directory: &PathText, clock: &KeptClock) -> bool {
+    match read_clock(rt, directory) {
+        Ok(Some(kept)) => kept.boot == clock.boot && kept.offset == clock.offset,
+        Ok(None) | Err(_) => false,
+    }
+}
