@@ -1,5 +1,5 @@
 # make build   proves boothd, booth and geostore, and leaves the programs below out/
-# make run     builds it, and shows three members on loopback: a grant, a crash, a takeover
+# make run     builds it, and shows three members on loopback: a grant, a crash, a takeover, a move
 # make check   the gate
 # make install PREFIX=/usr/local DESTDIR=    programs, manual pages, completion, units, examples; and make uninstall
 # make deb     a Debian package of the same, at out/booth-proved_VERSION_amd64.deb

@@ -76,6 +76,20 @@ _booth_offer_tool() {
   fi
 }
 
+# What the next word of a move is, by the words between its command and the cursor.
+_booth_next_of_move() {
+  local i plain=0
+  for ((i = 2; i < cword; i++)); do
+    case ${words[i]} in
+      -c | -s) ((i++)) ;;
+      -*) ;;
+      move) [[ ${words[1]} == client && $i -eq 2 ]] || ((plain++)) ;;
+      *) ((plain++)) ;;
+    esac
+  done
+  ((plain == 0)) && printf ticket || printf site
+}
+
 # What is offered for the word before the cursor, by the words of the line in `words` and the number of this one.
 _booth_offer() {
   local word=${words[cword]} before=${words[cword - 1]} program=${1##*/}
@@ -83,7 +97,7 @@ _booth_offer() {
   case $program in
     boothd) commands=$'daemon\nstatus\nsim' ;;
     geostore) commands=$'set\nget\ndelete\nlist' ;;
-    *) commands=$'list\npeers\ngrant\nrevoke' ;;
+    *) commands=$'list\npeers\ngrant\nrevoke\nmove' ;;
   esac
   # `booth` passes a leading `client` over
   [[ $program == booth && $command == client ]] && command=${words[2]}
@@ -93,7 +107,7 @@ _booth_offer() {
     boothd:sim) options=$'-c\n-e\n-r\n--help\n--version' ;;
     geostore:*) options=$'-c\n-s\n-t\n--help\n--version' ;;
     booth:grant) options=$'-c\n-s\n-w\n-C\n-F\n--help\n--version' ;;
-    booth:revoke) options=$'-c\n-s\n-w\n--help\n--version' ;;
+    booth:revoke | booth:move) options=$'-c\n-s\n-w\n--help\n--version' ;;
     *) options=$'-c\n-s\n--help\n--version' ;;
   esac
   if ((cword == 1)); then
@@ -109,6 +123,9 @@ _booth_offer() {
   esac
   if [[ $word == -* ]]; then
     _booth_reply "$options" "$word"
+  elif [[ $program:$command == booth:move ]]; then
+    # (first a ticket, and then a site; one that stands before the cursor is a ticket)
+    _booth_reply "$(_booth_values "$(_booth_next_of_move)")" "$word"
   elif [[ $program:$command == booth:grant || $program:$command == booth:revoke ]]; then
     _booth_reply "$(_booth_values ticket)" "$word"
   elif ((cword == 2)) && [[ $program == booth && $before == client ]]; then

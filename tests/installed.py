@@ -32,7 +32,7 @@ from shells import Wrong, need, read, run
 # each program with its commands; one that is not built yet is left out
 PROGRAMS = {
     "boothd": ["daemon", "status", "sim"],
-    "booth": ["list", "peers", "grant", "revoke"],
+    "booth": ["list", "peers", "grant", "revoke", "move"],
     "geostore": ["set", "get", "delete", "list"],
 }
 # how exposed the service may be at most, as `systemd-analyze security` counts it
@@ -142,9 +142,11 @@ def installs_and_uninstalls(room):
     named += [f"usr/share/doc/booth-proved/{name}" for name in ("OPERATING.md", "HANDLERS.md", "examples/manual.conf")]
     for name in (*named, "usr/lib/systemd/system/booth@.service", "usr/lib/sysusers.d/booth.conf"):
         need(name in there, f"{name} is missing")
+    version = re.search(r"^VERSION := (\S+)$", read(f"{TOP}/Makefile"), re.M)[1]
     for program, commands in PROGRAMS.items():
         done = run(f"{room}/root/usr/sbin/{program}", commands[0], "--version")
-        need(done.returncode == 0, f"the installed {program}: status {done.returncode}")
+        told = (done.returncode, done.stdout, done.stderr)
+        need(told == (0, f"{program} {version}\n", ""), f"the installed {program}: {told}")
     run_alone(f"{room}/root/usr/sbin")
     need(files_below(f"{room}/root") == there, "to run them left a file")
     unit = f"{room}/root/usr/lib/systemd/system/booth@.service"

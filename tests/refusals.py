@@ -189,7 +189,7 @@ def help_and_version(room):
         missing = [piece for piece in pieces if piece not in out]
         require(not missing, f"help of {command} does not name {missing}")
         status, out, err = room.ended([command, "--version"])
-        require((status, err) == (0, b"") and b"0.2.0" in out, f"the version is {out}")
+        require((status, out, err) == (0, b"boothd 0.2.0\n", b""), f"the version is {out}")
     told = told_in_page(b"Runs the daemon of one member, in the foreground.")
     require(room.ended(["daemon", "-h"])[1] == told, "docs/OPERATING.md tells other options")
 

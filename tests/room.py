@@ -346,7 +346,8 @@ class Asker:
         result, due = self.daemon.answer(letters, body)
         clock = self.takes(letters, request, due, result, what)
         after = time.time_ns() // 1_000_000
-        is_now = before <= clock <= after
+        # (the daemon's clock is the time since the boot and an offset, each in whole milliseconds)
+        is_now = before - 1 <= clock <= after + 1
         require(is_now, f"{what} is answered at {clock}, outside {before} to {after}")
 
     def is_dropped(self, datagram, kind, what):

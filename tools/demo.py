@@ -1,5 +1,5 @@
 #!/usr/bin/env python3
-"""Shows the main job on loopback: three members, a grant, a crash of the holder, a takeover, and a restart of all.
+"""Shows the main job on loopback: three members, a grant, a crash of the holder, a takeover, a restart of all, a move.
 
 Run it as `python3 tools/demo.py`, or as `make run`, which builds the program first. It takes half a
 minute, makes its files in a folder of its own, and needs no rights but the use of port 9929.
@@ -60,6 +60,13 @@ def restart_all(cluster, story, holder):
     story.tell(f"{holder.address} holds {TICKET.decode()} on, and renewed its lease")
 
 
+def move_to(cluster, story, target):
+    """The holder gives the ticket back, and the target acquires it, in one command."""
+    story.booth(cluster, "move", "-w", TICKET.decode(), target.address)
+    require(wait_for(lambda: cluster.shown_by_all() == target.address, PATIENCE), "the move failed")
+    list_all(cluster, story)
+
+
 def show(cluster, story):
     one, two, _ = cluster.members
     for member in cluster.members:
@@ -90,9 +97,9 @@ def show(cluster, story):
     story.tell(f"{one.address} is back and holds nothing")
     list_all(cluster, story)
     restart_all(cluster, story, two)
+    move_to(cluster, story, one)
     story.booth(cluster, "revoke", name)
     require(wait_for(lambda: not any(m.shown() for m in cluster.members), PATIENCE), "an owner is listed")
-    list_all(cluster, story)
     wrong = cluster.watch.wrong
     require(not wrong, f"two members held {name} at one moment: {wrong}")
     require(cluster.watch.is_looking(), f"nobody looked on after {cluster.watch.looks} looks")

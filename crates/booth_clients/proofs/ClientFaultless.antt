@@ -4,6 +4,7 @@ use Rattle.std.proofs.Common.{◌≡◌, ◌++◌, ℕ, Bool, true, false, List,
 use Rattle.std.proofs.lemmas.List.Elements.{Contains-append_right}
 use Rattle.booth_base.specs.declared.address.Peer.{Peer}
 use Rattle.booth_conf.specs.Config.{ConfigSays}
+use Rattle.booth_conf.specs.Says.{Says}
 use Rattle.booth_conf.proofs.OneAnswers.{one_answer}
 use Rattle.booth_host.specs.declared.host.Failed.{Failed}
 use Rattle.booth_host.specs.declared.host.ReadFault.TheVariants as reads
@@ -18,59 +19,61 @@ use Rattle.booth_client.specs.Asking.{request_bytes}
 use Rattle.booth_client.specs.Report.{is_silent}
 use Rattle.booth_client.specs.Talk.{AsksOn, IsAsking, IsTalk, Rests, redirected}
 use Rattle.booth_words.specs.declared.asking.ClientWords.{ClientWords}
+use Rattle.booth_words.specs.declared.command.Verb.{Verb}
 use Rattle.booth_stages.specs.declared.outcome.Outcome.{Outcome}
 use Rattle.booth_stages.specs.declared.outcome.Outcome.TheVariants as outs
 use Rattle.booth_stages.specs.Configuration.{IsUnread}
+use Rattle.booth_stages.specs.Keys.{IsKeyless}
 use Rattle.booth_clients.specs.Client.{EndsWith, Follows, IsClientLog, IsPlainEnd, IsPrinted, IsReported, IsSocketless, IsTold, IsUnkeyedClient, cluster_calls}
 use Rattle.booth_clients.specs.Client.{Unread, Unkeyed, Asked, Socketless, Conversing}
 use Rattle.booth_clients.specs.Client.{is_good, refused_text}
-use Rattle.booth_clients.specs.ClientRun.{FaultlessTalks, IsClientMade, IsTalked, IsUnhindered, Talked, Unasked}
+use Rattle.booth_clients.specs.ClientRun.{IsTalked, IsUnhindered}
 use Rattle.booth_stages.proofs.CallLemmas.{among, first_of, same_calls}
-use Rattle.booth_stages.proofs.UsageLemmas.{for_memory}
 
 -- a part of calls that are among these
-abbrev AreAmong : List Entry → List Entry → Type 0
+abbrev pub AreAmong : List Entry → List Entry → Type 0
 AreAmong part entries = (x : Entry) → Contains part x → Contains entries x
 
-left_among : (xs ys entries whole : List Entry) → whole ≡ xs ++ ys → AreAmong whole entries → AreAmong xs entries
+pub left_among : (xs ys entries whole : List Entry) → whole ≡ xs ++ ys → AreAmong whole entries → AreAmong xs entries
 left_among xs ys entries whole same all x here = all x (among x xs ys whole here same)
 
-right_among : (xs ys entries whole : List Entry) → whole ≡ xs ++ ys → AreAmong whole entries → AreAmong ys entries
+pub right_among : (xs ys entries whole : List Entry) → whole ≡ xs ++ ys → AreAmong whole entries → AreAmong ys entries
 right_among xs ys entries whole same all x here =
     all x (same_calls x (xs ++ ys) whole (Contains-append_right xs ys x here) same)
 
 later_among : (x : Entry) (ys entries : List Entry) → AreAmong (x ∷ ys) entries → AreAmong ys entries
 later_among x ys entries all = right_among (x ∷ []) ys entries (x ∷ ys) refl all
 
-module _ (asked : ClientWords) (entries : List Entry) (free : IsUnhindered asked entries) where
+module _ (verb : Verb) (conf : List ℕ) (entries : List Entry) (free : IsUnhindered conf entries) where
   -- the one call of a part was made
-  only : (x : Entry) (part : List Entry) → part ≡ x ∷ [] → AreAmong part entries → Contains entries x
+  pub only : (x : Entry) (part : List Entry) → part ≡ x ∷ [] → AreAmong part entries → Contains entries x
   only x part same all = all x (same_calls x (x ∷ []) part (first_of x []) same)
 
-  unread : (outcome : Outcome) (said : List ℕ) (part : List Entry) → AreAmong part entries → IsUnread asked.conf outcome said part → IsTalked outcome
+  pub unread : (outcome : Outcome) (said : List ℕ) (part : List Entry) → AreAmong part entries → IsUnread conf outcome said part → IsTalked verb outcome
   unread outs.OutOfMemory said part all u = tt
-  unread outs.ConfUnread said part all u = absurd (free.read asked.conf (only (ReadFile asked.conf (Err reads.Failed)) part u.1 all))
+  unread outs.ConfUnread said part all u = absurd (free.read conf (only (ReadFile conf (Err reads.Failed)) part u.1 all))
   unread (outs.ConfBad fault) said part all u =
-      let valid = free.valid u.0 (only (ReadFile asked.conf (Ok u.0)) part u.3 all) in
+      let valid = free.valid u.0 (only (ReadFile conf (Ok u.0)) part u.3 all) in
       absurd ((one_answer u.0).not_both valid.0 fault valid.1 u.1)
   unread outcome said part all u = absurd u
 
-  unkeyed : (outcome : Outcome) (said : List ℕ) (part : List Entry) → AreAmong part entries → IsUnkeyedClient asked.conf outcome said part → IsTalked outcome
-  unkeyed outs.OutOfMemory said part all u = tt
-  unkeyed outs.KeyUnread said part all u =
-      let k = u.here in
-      let rest = right_among (ReadFile asked.conf (Ok u.text) ∷ []) u.rest entries part u.whole all in
-      absurd (free.read k.0 (only (ReadFile k.0 (Err reads.Failed)) u.rest k.3 rest))
-  unkeyed (outs.KeyBad fault) said part all u =
-      let k = u.here in
-      let conf : Entry = ReadFile asked.conf (Ok u.text) in
-      let rest = right_among (conf ∷ []) u.rest entries part u.whole all in
-      let first = left_among (conf ∷ []) u.rest entries part u.whole all in
-      let key = free.keyed u.text k.0 k.1 u.config (first conf (first_of conf [])) u.says k.2 (only (ReadFile k.0 (Ok k.1)) u.rest k.5 rest) in
+  -- a key file was read, or none, behind a configuration that names it
+  pub keyless : (text : List ℕ) (config : ConfigSays) (outcome : Outcome) (said : List ℕ) (part : List Entry) → Says text config →
+      Contains entries (ReadFile conf (Ok text)) → AreAmong part entries → IsKeyless config.authfile outcome said part → IsTalked verb outcome
+  keyless text config outs.OutOfMemory said part says read all k = tt
+  keyless text config outs.KeyUnread said part says read all k = absurd (free.read k.0 (only (ReadFile k.0 (Err reads.Failed)) part k.3 all))
+  keyless text config (outs.KeyBad fault) said part says read all k =
+      let key = free.keyed text k.0 k.1 config read says k.2 (only (ReadFile k.0 (Ok k.1)) part k.5 all) in
       let is = k.3 in
       let reads = key.reads in
       cc
-  unkeyed outcome said part all u = absurd u.here
+  keyless text config outcome said part says read all k = absurd k
+
+  unkeyed : (outcome : Outcome) (said : List ℕ) (part : List Entry) → AreAmong part entries → IsUnkeyedClient conf outcome said part → IsTalked verb outcome
+  unkeyed outcome said part all u =
+      let read : Entry = ReadFile conf (Ok u.text) in
+      let first = left_among (read ∷ []) u.rest entries part u.whole all in
+      keyless u.text u.config outcome said u.rest u.says (first read (first_of read [])) (right_among (read ∷ []) u.rest entries part u.whole all) u.here
 
   -- ---- a talk that was not sent
 
@@ -98,54 +101,46 @@ module _ (asked : ClientWords) (entries : List Entry) (free : IsUnhindered asked
   -- ---- how it ends
 
   printed : (order : Order) (bytes : List ℕ) (outcome : Outcome) (said : List ℕ) (part : List Entry) → AreAmong part entries →
-      IsPrinted order bytes outcome said part → IsTalked outcome
+      IsPrinted order bytes outcome said part → IsTalked verb outcome
   printed order bytes outs.Report said part all r = tt
   printed order bytes outs.OutOfMemory said part all r = tt
   printed order bytes outs.PrintFault said part all r = absurd (free.printed r.1 r.3 (only (Out r.1 (Err r.3)) part r.4 all))
   printed order bytes outcome said part all r = absurd r
 
   reported : (order : Order) (bytes : List ℕ) (outcome : Outcome) (said : List ℕ) (part : List Entry) (silent : Bool) → AreAmong part entries →
-      MatchBool silent (IsPlainEnd outcome outs.Report said [] part) (IsPrinted order bytes outcome said part) → IsTalked outcome
-  reported order bytes outcome said part true all r = subst IsTalked (sym r.is) tt
+      MatchBool silent (IsPlainEnd outcome outs.Report said [] part) (IsPrinted order bytes outcome said part) → IsTalked verb outcome
+  reported order bytes outcome said part true all r = subst (IsTalked verb) (sym r.is) tt
   reported order bytes outcome said part false all r = printed order bytes outcome said part all r
 
   ended : (order : Order) (reply : Reply) (bytes : List ℕ) (outcome : Outcome) (said : List ℕ) (part : List Entry) (good : Bool) → AreAmong part entries →
-      MatchBool good (IsReported order bytes outcome said part) (IsPlainEnd outcome (outs.Refused reply.result) said (refused_text reply.result) part) → IsTalked outcome
+      MatchBool good (IsReported order bytes outcome said part) (IsPlainEnd outcome (outs.Refused reply.result) said (refused_text reply.result) part) → IsTalked verb outcome
   ended order reply bytes outcome said part true all e = reported order bytes outcome said part (is_silent order) all e
-  ended order reply bytes outcome said part false all e = subst IsTalked (sym e.is) tt
+  ended order reply bytes outcome said part false all e = subst (IsTalked verb) (sym e.is) tt
 
   told : (asking : Asking) (to : Peer) (start : ℕ) (outcome : Outcome) (said : List ℕ) (part : List Entry) → AreAmong part entries →
-      IsTold asking to start outcome said part → IsTalked outcome
+      IsTold asking to start outcome said part → IsTalked verb outcome
   told asking to start outcome said part all t = go t.last t.talk t.end
     where
-      go : (last : Result Waited Failed) → IsTalk asking to start last t.bytes t.early → EndsWith asking.order last t.bytes outcome said t.late → IsTalked outcome
+      go : (last : Result Waited Failed) → IsTalk asking to start last t.bytes t.early → EndsWith asking.order last t.bytes outcome said t.late → IsTalked verb outcome
       go (Ok (Came reply reading)) talk end =
           ended asking.order reply t.bytes outcome said t.late (is_good reply) (right_among t.early t.late entries part t.whole all) end
-      go (Ok Over) talk end = subst IsTalked (sym end.is) tt
+      go (Ok Over) talk end = subst (IsTalked verb) (sym end.is) tt
       go (Err failed) talk end = absurd (untalked asking to start failed t.bytes t.early (left_among t.early t.late entries part t.whole all) talk)
 
-  socketless : (outcome : Outcome) (said : List ℕ) (part : List Entry) → AreAmong part entries → IsSocketless outcome said part → IsTalked outcome
+  pub socketless : (outcome : Outcome) (said : List ℕ) (part : List Entry) → AreAmong part entries → IsSocketless outcome said part → IsTalked verb outcome
   socketless outs.OutOfMemory said part all s = tt
   socketless outs.OpenFault said part all s = absurd (free.opened None 0 [] [] s.1 (only (Open None 0 [] [] (Err s.1)) part s.2 all))
   socketless outcome said part all s = absurd s
 
-  follows : (config : ConfigSays) (key : Option (List ℕ)) (outcome : Outcome) (said : List ℕ) (part : List Entry) → AreAmong part entries →
-      Follows asked config key outcome said part → IsTalked outcome
-  follows config key outcome said part all (Socketless s) = socketless outcome said part all s
-  follows config key outcome said part all (Conversing c) =
+  follows : (asked : ClientWords) (config : ConfigSays) (key : Option (List ℕ)) (outcome : Outcome) (said : List ℕ) (part : List Entry) → AreAmong part entries →
+      Follows asked config key outcome said part → IsTalked verb outcome
+  follows asked config key outcome said part all (Socketless s) = socketless outcome said part all s
+  follows asked config key outcome said part all (Conversing c) =
       told _ c.to c.start outcome said c.rest
       (right_among (Open None 0 [] [] (Ok tt) ∷ Now c.start ∷ []) c.rest entries part c.whole all) c.told
 
-  logged : (outcome : Outcome) (said : List ℕ) (part : List Entry) → AreAmong part entries → IsClientLog asked outcome said part → IsTalked outcome
-  logged outcome said part all (Unread u) = unread outcome said part all u
-  logged outcome said part all (Unkeyed u) = unkeyed outcome said part all u
-  logged outcome said part all (Asked a) =
-      follows a.config a.key outcome said a.rest (right_among (cluster_calls asked.conf a.cluster) a.rest entries part a.whole all) a.here
-
-pub faultless_talks : FaultlessTalks
-faultless_talks program words verb outcome entries valid run free = go run.made
-  where
-    go : IsClientMade program words outcome run.said run.body → IsTalked outcome
-    go (Unasked is) = subst IsTalked (sym (for_memory program words verb outcome run.said run.body valid is)) tt
-    go (Talked asked asks is) =
-        logged asked entries (free asked asks) outcome run.said run.body (λ x here. among x run.body run.last entries here run.whole) is
+  pub logged : (asked : ClientWords) (outcome : Outcome) (said : List ℕ) (part : List Entry) → asked.conf ≡ conf → AreAmong part entries → IsClientLog asked outcome said part → IsTalked verb outcome
+  logged asked outcome said part same all (Unread u) = unread outcome said part all (subst (λ c. IsUnread c outcome said part) same u)
+  logged asked outcome said part same all (Unkeyed u) = unkeyed outcome said part all (subst (λ c. IsUnkeyedClient c outcome said part) same u)
+  logged asked outcome said part same all (Asked a) =
+      follows asked a.config a.key outcome said a.rest (right_among (cluster_calls asked.conf a.cluster) a.rest entries part a.whole all) a.here

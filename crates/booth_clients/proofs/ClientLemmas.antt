@@ -182,9 +182,9 @@ talked_made program words asked outcome said asks log =
     some_weaker (IsClientLog asked outcome said) (IsClientMade program words outcome said) (λ es is. Talked asked asks is) log
 
 pub told_client : {a b : Option (List Entry)} (program : Program) (words : List (List ℕ)) (kind : ErrorKind) (outcome : Outcome) (said : List ℕ) →
-    IsUntakenFor program words kind → IsToldOutcome kind outcome → GrewSome (IsTold_ kind outcome said) a b → GrewSome (IsClientMade program words outcome said) a b
+    IsUntakenFor program words kind → IsToldOutcome kind outcome → GrewSome (IsTold_ program kind outcome said) a b → GrewSome (IsClientMade program words outcome said) a b
 told_client program words kind outcome said un out told =
-    some_weaker (IsTold_ kind outcome said) (IsClientMade program words outcome said) (λ es is. Unasked (unasked_of program words kind outcome said es un out is)) told
+    some_weaker (IsTold_ program kind outcome said) (IsClientMade program words outcome said) (λ es is. Unasked (unasked_of program words kind outcome said es un out is)) told
 
 pub unasked_client : {a : Option (List Entry)} (program : Program) (words : List (List ℕ)) (outcome : Outcome) (said : List ℕ) → IsUnasked program words outcome said [] →
     GrewSome (IsClientMade program words outcome said) a a
@@ -206,9 +206,11 @@ asks_client program words asked all asks same =
 pub fits_answered : (program : Program) (words : List (List ℕ)) (asked : ClientWords) (outcome : Outcome) → AsksClient program words asked → IsAnswered outcome → FitsClientWords program words outcome
 fits_answered program words asked (outs.Usage kind) asks is = absurd is
 fits_answered program words asked (outs.BadWord word) asks is = absurd is
-fits_answered program words asked outs.PrintFault asks is = inl (record { asked = asked; asks = asks })
+fits_answered program words asked outs.PrintFault asks is = inl (inl (record { asked = asked; asks = asks }))
 fits_answered program words asked outs.OutOfMemory asks is = tt
-fits_answered program words asked outcome asks is = (record { asked = asked; asks = asks }, is)
+fits_answered program words asked outs.NotSite asks is = absurd is
+fits_answered program words asked (outs.Stranded result) asks is = absurd is
+fits_answered program words asked outcome asks is = (inl (record { asked = asked; asks = asks }), is)
 
 -- the calls up to the outcome, and then what is said
 pub client_run_of : {a b c : Option (List Entry)} (program : Program) (words : List (List ℕ)) (outcome : Outcome) (said : List ℕ) →

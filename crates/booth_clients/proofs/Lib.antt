@@ -1,2 +1,4 @@
 mod ClientLemmas
+mod MoveLemmas
 mod ClientFaultless
+mod MoveFaultless

@@ -22,14 +22,19 @@ use std::alloc::Global;
 /// The configuration of a cluster, and its key, where it has one.
 #[derive(Drop)]
 pub(crate) struct Cluster {
-    config: Config,
-    key: Option<Key>,
+    pub(crate) config: Config,
+    pub(crate) key: Option<Key>,
 }
 
-// This configuration with its key.
-fn with_key<H: Host>(alloc: Global, config: Config, host: &mut H) -> Result<Cluster, Ended>
+/// This configuration with its key.
+pub(crate) fn with_key<H: Host>(
+    alloc: Global,
+    config: Config,
+    host: &mut H,
+) -> Result<Cluster, Ended>
     requires { file_fault config.members config.tickets ≡ None }
     ensures past { GrewSome (IsKeyed config result) (H.past host.old) (H.past host.new) }
+    ensures same { IfOk result (λ cluster. cluster.config ≡ config) }
     ensures whole { IfOk result (λ cluster. file_fault cluster.config.members cluster.config.tickets ≡ None) }
     ensures served { IfErr result (λ ended. IsAnswered ended.outcome) }
     ensures blame { IfErr result (λ ended. HasBlame ended.outcome (H.faults host.old) (H.faults host.new)) }
@@ -67,8 +72,8 @@ fn first_site(config: &Config) -> Member
     }
 }
 
-// Whom a client asks.
-fn destination(site: Option<Address>, config: &Config) -> Peer
+/// Whom a client asks.
+pub(crate) fn destination(site: Option<Address>, config: &Config) -> Peer
     requires { file_fault config.now.members config.now.tickets ≡ None }
     ensures { destination site config.now ≡ Some result }
 {
@@ -91,8 +96,8 @@ fn no_path() -> PathText
     path
 }
 
-// Opens a socket at any address and port, and no directory.
-fn open_socket<H: Host>(host: &mut H) -> Result<(), Failed>
+/// Opens a socket at any address and port, and no directory.
+pub(crate) fn open_socket<H: Host>(host: &mut H) -> Result<(), Failed>
     ensures past { GrewBy (H.past host.old) (H.past host.new) (Entry.Open None 0 [] [] result ∷ []) }
     ensures cause { HasCause (H.faults host.old) (H.faults host.new) result }
 {

@@ -7,6 +7,7 @@ ghost use Rattle.booth_words.specs.Asking.{IsClient};
 ghost use Rattle.booth_clients.specs.ClientRun.{FitsClientWords, IsClientMade, IsClientRun, passed};
 
 use crate::client::ask_daemon;
+use crate::move_run::move_ticket;
 use booth_host::{Host, QuietHost};
 use booth_stages::{Ended, Outcome, tell, tell_error, texts};
 use booth_words::{Asked, Program, Refusal, ask};
@@ -37,8 +38,9 @@ fn run_words<H: Host>(alloc: Global, program: Program, words: &[String], host: &
 {
     match ask(alloc, program, words) {
         Ok(Asked::Client(asked)) => ask_daemon(alloc, asked, host),
+        Ok(Asked::Move(asked)) => move_ticket(alloc, asked, host),
         Ok(Asked::Daemon(_)) | Ok(Asked::Status(_)) | Ok(Asked::Simulation(_)) => unreachable!(),
-        Err(Refusal::Untaken(error)) => tell_error(alloc, &error, host),
+        Err(Refusal::Untaken(error)) => tell_error(alloc, program, &error, host),
         Err(Refusal::NoCommand) => Ended {
             outcome: Outcome::Usage(None),
             said: texts::usage_text(program),
@@ -71,6 +73,9 @@ fn run_client<H: Host>(alloc: Global, program: Program, words: &[String], host: 
 /// one request to the daemon that is named, or to the first site. It then waits for the answer, and a revoke
 /// that is answered by the name of another owner is sent on to that member, once. It prints what a good answer
 /// says, and says why another refuses.
+///
+/// A move goes so too, where its target is a site; else it ends before the key is read. Once the revoke is answered
+/// that the ticket was given back, it asks the target for a grant, again while that is busy, and tells how it ended.
 pub fn booth<H: Host>(alloc: Global, words: &[String], host: &mut H) -> Outcome
     // Where the host tells its calls: exactly these, by how the run ended.
     ensures past { GrewSome (IsClientRun Program.Booth (passed (map string_bytes words.now)) result)

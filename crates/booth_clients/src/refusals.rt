@@ -1,9 +1,11 @@
 //! What is said of a reply that refuses.
-ghost use Rattle.std.specs.Prelude.{◌≡◌, ◌++◌, codes};
+ghost use Rattle.std.specs.Prelude.{◌≡◌, ◌≤◌, ◌++◌, codes, length};
 ghost use Rattle.std.specs.Int.{to_be_bytes, w32};
 ghost use Rattle.hex.specs.Hex.{encode_lower};
 ghost use Rattle.booth_clients.specs.Client.{refused_text};
+ghost use Rattle.booth_clients.specs.MoveRun.{stranded_text};
 
+use booth_base::Name;
 use booth_stages::ErrorLine;
 use booth_stages::texts::line_of;
 use booth_wire::results;
@@ -20,7 +22,8 @@ fn hexadecimal(number: u32) -> [u8; 8]
 
 // A result that has no text of its own.
 fn other_text(code: u32) -> ErrorLine
-    ensures { result ≡ codes "result " ++ encode_lower (to_be_bytes w32 code) }
+    ensures text { result ≡ codes "result " ++ encode_lower (to_be_bytes w32 code) }
+    ensures short { length result ≤ 40 }
 {
     let mut line = ErrorLine::none();
     line.put(b"result ");
@@ -30,7 +33,8 @@ fn other_text(code: u32) -> ErrorLine
 
 /// What is said of this result.
 pub(crate) fn refused_text(code: u32) -> ErrorLine
-    ensures { result ≡ refused_text code }
+    ensures text { result ≡ refused_text code }
+    ensures short { length result ≤ 40 }
 {
     match code {
         results::FAIL => line_of(b"failed"),
@@ -45,4 +49,16 @@ pub(crate) fn refused_text(code: u32) -> ErrorLine
         results::REDR => line_of(b"ticket is owned by another site"),
         code => other_text(code),
     }
+}
+
+/// What is said of a ticket that was given back, and whose grant was answered by this result.
+pub(crate) fn stranded_text(ticket: &Name, code: u32) -> ErrorLine
+    ensures { result ≡ stranded_text ticket.now code }
+{
+    let mut line = ErrorLine::none();
+    line.put(b"ticket ");
+    line.put(ticket.bytes());
+    line.put(b" is revoked, and its grant was refused: ");
+    line.put(refused_text(code).bytes());
+    line
 }

@@ -6,6 +6,7 @@
 mod client;
 mod failing_hosts;
 mod geostore;
+mod moves;
 mod usage;
 
 use booth_clients::{Outcome, booth, geostore};
@@ -18,10 +19,12 @@ const LIST: &str = "list -c/etc/booth.conf";
 
 // An outcome, with what was refused for by its letters.
 fn told_outcome(rt: &impl Abort, alloc: Global, outcome: Outcome) -> String {
-    let Outcome::Refused(result) = outcome else {
-        return format!(in alloc; "{outcome:?}").expect(rt, "memory");
+    let (name, result) = match outcome {
+        Outcome::Refused(result) => ("Refused", result),
+        Outcome::Stranded(result) => ("Stranded", result),
+        outcome => return format!(in alloc; "{outcome:?}").expect(rt, "memory"),
     };
-    let mut text = String::from_str(alloc, "Refused").expect(rt, "memory");
+    let mut text = String::from_str(alloc, name).expect(rt, "memory");
     put_code(alloc, &mut text, result).expect(rt, "memory");
     text
 }

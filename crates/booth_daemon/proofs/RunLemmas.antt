@@ -9,7 +9,7 @@ use Rattle.booth_host.proofs.PastLemmas.{no_entry, some_of, some_joined, some_we
 use Rattle.booth_stages.specs.declared.outcome.Outcome.{Outcome}
 use Rattle.booth_stages.specs.declared.outcome.Outcome.TheVariants.{Done, Usage, BadWord, LockFault, NotRunning}
 use Rattle.booth_stages.specs.declared.outcome.Outcome.TheVariants.{PrintFault, OutOfMemory, Report, Refused, NoReply}
-use Rattle.booth_stages.specs.declared.outcome.Outcome.TheVariants.{SendFault, ConfUnread, ConfBad}
+use Rattle.booth_stages.specs.declared.outcome.Outcome.TheVariants.{SendFault, ConfUnread, ConfBad, NotSite, Stranded}
 use Rattle.booth_words.specs.declared.program.Program.TheVariants.{Boothd}
 use Rattle.booth_words.specs.declared.asking.DaemonWords.{DaemonWords}
 use Rattle.booth_words.specs.declared.asking.SimulationWords.{SimulationWords}
@@ -29,9 +29,9 @@ use Rattle.booth_daemon.specs.Run.{IsMade, Unasked, Served, Summed, Looked, IsRu
 -- ---- words that ask for nothing
 
 pub told_made : {a b : Option (List Entry)} (words : List (List ℕ)) (kind : ErrorKind) (outcome : Outcome) (said : List ℕ) →
-    IsUntakenFor Boothd words kind → IsToldOutcome kind outcome → GrewSome (IsTold kind outcome said) a b → GrewSome (IsMade words outcome said) a b
+    IsUntakenFor Boothd words kind → IsToldOutcome kind outcome → GrewSome (IsTold Boothd kind outcome said) a b → GrewSome (IsMade words outcome said) a b
 told_made words kind outcome said un out told =
-    some_weaker (IsTold kind outcome said) (IsMade words outcome said) (λ es is. Unasked (unasked_of Boothd words kind outcome said es un out is)) told
+    some_weaker (IsTold Boothd kind outcome said) (IsMade words outcome said) (λ es is. Unasked (unasked_of Boothd words kind outcome said es un out is)) told
 
 pub unasked_made : {a : Option (List Entry)} (words : List (List ℕ)) (outcome : Outcome) (said : List ℕ) → IsUnasked Boothd words outcome said [] →
     GrewSome (IsMade words outcome said) a a
@@ -79,6 +79,8 @@ fits_served words asked Report asks served = absurd served
 fits_served words asked (Refused result) asks served = absurd served
 fits_served words asked NoReply asks served = absurd served
 fits_served words asked SendFault asks served = absurd served
+fits_served words asked NotSite asks served = absurd served
+fits_served words asked (Stranded result) asks served = absurd served
 fits_served words asked Done asks served = inl (record { asked = asked; asks = asks })
 fits_served words asked LockFault asks served = inl (record { asked = asked; asks = asks })
 fits_served words asked OutOfMemory asks served = tt

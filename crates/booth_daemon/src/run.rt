@@ -27,8 +27,8 @@ fn run_words<H: Host>(alloc: Global, words: &[String], host: &mut H) -> Ended
         Ok(Asked::Daemon(asked)) => serve(alloc, &asked, host),
         Ok(Asked::Status(lock)) => status(&lock, host),
         Ok(Asked::Simulation(asked)) => simulate(alloc, &asked, host),
-        Ok(Asked::Client(_)) => unreachable!(),
-        Err(Refusal::Untaken(error)) => tell_error(alloc, &error, host),
+        Ok(Asked::Client(_)) | Ok(Asked::Move(_)) => unreachable!(),
+        Err(Refusal::Untaken(error)) => tell_error(alloc, Program::Boothd, &error, host),
         Err(Refusal::NoCommand) => Ended {
             outcome: Outcome::Usage(None),
             said: texts::usage_text(Program::Boothd),

@@ -3,6 +3,7 @@ mod auth;
 mod carried;
 mod client;
 mod conf;
+mod log;
 mod memory;
 mod moves;
 mod streams;

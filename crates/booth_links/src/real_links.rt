@@ -307,6 +307,8 @@ impl RealLinks {
         }
         match heard {
             Heard::Bytes(count) => {
+                // (a read brings no more than the buffer has)
+                let count = count.min(self.buffer.len());
                 into.set(&self.buffer[..count]);
                 self.seats.set(seat, Some(self.moment));
                 Ok(LinkEvent::Bytes(number_of(seat)))

@@ -19,11 +19,11 @@ use Rattle.booth_stages.specs.declared.outcome.Outcome.TheVariants.{Usage, BadWo
 use Rattle.booth_stages.specs.Unasked.{IsShown, IsTold, IsToldOutcome, IsUnasked, is_request}
 
 -- what is no answer to a request is one err
-pub complained : {a b : Option (List Entry)} (kind : ErrorKind) (said text : List ℕ) (answer : Result (Unit {0}) Failed) → is_request kind ≡ false →
-    said ≡ [] → GrewBy a b (calls.Err text answer ∷ []) → GrewSome (IsTold kind (Usage (Some kind)) said) a b
-complained kind said text answer mistake nothing grew =
-    some_of (IsTold kind (Usage (Some kind)) said) grew
-    (refl, nothing, subst (λ b. IsShown b (calls.Err text answer ∷ [])) (sym mistake) (text, answer, refl))
+pub complained : {a b : Option (List Entry)} (program : Program) (kind : ErrorKind) (said text : List ℕ) (answer : Result (Unit {0}) Failed) → is_request kind ≡ false →
+    said ≡ [] → GrewBy a b (calls.Err text answer ∷ []) → GrewSome (IsTold program kind (Usage (Some kind)) said) a b
+complained program kind said text answer mistake nothing grew =
+    some_of (IsTold program kind (Usage (Some kind)) said) grew
+    (refl, nothing, subst (λ b. IsShown program kind b (calls.Err text answer ∷ [])) (sym mistake) (text, answer, refl))
 
 -- ---- words that ask for nothing
 
@@ -31,11 +31,11 @@ pub no_memory : (kind : ErrorKind) → is_request kind ≡ true → kind ≡ kin
 no_memory kind asked same = true≢false (sym asked ∙ ap is_request same)
 
 pub unasked_of : (program : Program) (words : List (List ℕ)) (kind : ErrorKind) (outcome : Outcome) (said : List ℕ) (es : List Entry) →
-    IsUntakenFor program words kind → IsToldOutcome kind outcome → IsTold kind outcome said es → IsUnasked program words outcome said es
+    IsUntakenFor program words kind → IsToldOutcome kind outcome → IsTold program kind outcome said es → IsUnasked program words outcome said es
 unasked_of program words kind (Usage (Some told)) said es un out is =
-    (subst (λ k. IsUntaken program words k) (sym is.0) (untaken_of program words kind out.1 un), is.1, subst (λ k. IsShown (is_request k) es) (sym is.0) is.2)
+    (subst (λ k. IsUntaken program words k) (sym is.0) (untaken_of program words kind out.1 un), is.1, subst (λ k. IsShown program k (is_request k) es) (sym is.0) is.2)
 unasked_of program words kind PrintFault said es un out is =
-    (kind, untaken_of program words kind (no_memory kind out) un, is.0, is.1, is.2, is.3, is.4)
+    (kind, untaken_of program words kind (no_memory kind out) un, is.0, is.1, is.2, is.3, is.4, is.5)
 unasked_of program words kind OutOfMemory said es un out is = is
 unasked_of program words kind outcome said es un out is = absurd is
 

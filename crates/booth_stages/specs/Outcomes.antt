@@ -5,7 +5,7 @@ use Rattle.booth_stages.specs.declared.outcome.Outcome.{Outcome}
 use Rattle.booth_stages.specs.declared.outcome.Outcome.TheVariants.{Usage, BadWord, ConfUnread, KeyUnread}
 use Rattle.booth_stages.specs.declared.outcome.Outcome.TheVariants.{LockFault, NotRunning, OpenFault}
 use Rattle.booth_stages.specs.declared.outcome.Outcome.TheVariants.{RecordUnread, PrintFault, Report, Refused as Denied}
-use Rattle.booth_stages.specs.declared.outcome.Outcome.TheVariants.{NoReply, SendFault}
+use Rattle.booth_stages.specs.declared.outcome.Outcome.TheVariants.{NoReply, SendFault, NotSite, Stranded}
 
 -- an outcome of a daemon that was asked for
 abbrev pub IsServed : Outcome → Type 0
@@ -17,6 +17,8 @@ IsServed Report = ⊥
 IsServed (Denied result) = ⊥
 IsServed NoReply = ⊥
 IsServed SendFault = ⊥
+IsServed NotSite = ⊥
+IsServed (Stranded result) = ⊥
 IsServed outcome = Unit {0}
 
 -- The outcomes that come only where the outside failed: its count of faults rose.

@@ -15,7 +15,7 @@ use Rattle.booth_host.specs.declared.entry.Entry.TheVariants as calls
 use Rattle.clap.specs.declared.error.kind.ErrorKind.TheVariants.{DisplayHelp, DisplayVersion}
 use Rattle.booth_words.specs.declared.program.Program.{Program}
 use Rattle.booth_words.specs.declared.program.Program.TheVariants.{Boothd, Booth, Geostore}
-use Rattle.booth_words.specs.Commands.{name_of}
+use Rattle.booth_words.specs.Commands.{name_of, version}
 use Rattle.booth_words.specs.declared.word.Word.{Word}
 use Rattle.booth_words.specs.declared.word.Word.TheVariants as words
 use Rattle.booth_stages.specs.declared.outcome.Outcome.{Outcome}
@@ -35,9 +35,13 @@ abbrev pub usage_text : Program → List ℕ
 usage_text Boothd =
     codes "usage: boothd COMMAND [OPTIONS], with the command daemon, status or sim; see --help behind it, and boothd(8)"
 usage_text Booth =
-    codes "usage: booth COMMAND [OPTIONS], with the command list, peers, grant or revoke; see --help behind it"
+    codes "usage: booth COMMAND [OPTIONS], with the command list, peers, grant, revoke or move; see --help behind it"
 usage_text Geostore =
     codes "usage: geostore COMMAND [OPTIONS], with the command set, get, delete or list; see --help behind it"
+
+-- what is printed where the version is asked for
+abbrev pub version_text : Program → List ℕ
+version_text program = name_of program ++ codes " " ++ version ++ codes "\n"
 
 abbrev pub bad_word_text : Word → List ℕ
 bad_word_text words.Ticket = codes "bad ticket"
@@ -53,6 +57,9 @@ unread_text path = codes "cannot read " ++ path
 
 abbrev pub not_member_text : Address → List ℕ
 not_member_text address = printed address ++ codes " is not a member"
+
+abbrev pub not_site_text : Address → List ℕ
+not_site_text address = printed address ++ codes " is not a site"
 
 -- the name of a key; those of the table have one
 abbrev pub key_name : KeyNo → List ℕ

@@ -12,7 +12,7 @@ use Rattle.booth_stages.specs.declared.outcome.Outcome.TheVariants.{Usage, BadWo
 use Rattle.booth_words.specs.declared.program.Program.{Program}
 use Rattle.booth_words.specs.Commands.{verb_in}
 use Rattle.booth_words.specs.Asking.{IsUntaken, HasBadWord}
-use Rattle.booth_stages.specs.Texts.{usage_text, bad_word_text, unprinted_text, out_of_memory_text}
+use Rattle.booth_stages.specs.Texts.{usage_text, version_text, bad_word_text, unprinted_text, out_of_memory_text}
 
 -- the kind answers a request, and is no mistake
 abbrev pub is_request : ErrorKind → Bool
@@ -20,20 +20,26 @@ is_request DisplayHelp = true
 is_request DisplayVersion = true
 is_request kind = false
 
--- one out of some text where it was asked for, and else one err of it
-abbrev pub IsShown : Bool → List Entry → Type 0
-IsShown true entries = (text : List ℕ) × (entries ≡ calls.Out text (Ok tt) ∷ [])
-IsShown false entries = (text : List ℕ) × (answer : Result (Unit {0}) Failed)
+-- The text is printed for a request of this kind: the version is a line of its own, and help is any text.
+abbrev pub IsShownText : Program → ErrorKind → List ℕ → Type 0
+IsShownText program kind text = kind ≡ DisplayVersion → text ≡ version_text program
+
+-- one out of the text where it was asked for, and else one err of some text
+abbrev pub IsShown : Program → ErrorKind → Bool → List Entry → Type 0
+IsShown program kind true entries = (text : List ℕ) × IsShownText program kind text
+    × (entries ≡ calls.Out text (Ok tt) ∷ [])
+IsShown program kind false entries = (text : List ℕ) × (answer : Result (Unit {0}) Failed)
     × (entries ≡ calls.Err text answer ∷ [])
 
--- what is told of an error of this kind of `clap`'s
-abbrev pub IsTold : ErrorKind → Outcome → List ℕ → List Entry → Type 0
-IsTold kind (Usage (Some told)) said entries = (told ≡ kind) × (said ≡ [])
-    × IsShown (is_request kind) entries
-IsTold kind PrintFault said entries = (is_request kind ≡ true) × (said ≡ unprinted_text)
-    × (text : List ℕ) × (failed : Failed) × (entries ≡ calls.Out text (Err failed) ∷ [])
-IsTold kind OutOfMemory said entries = (said ≡ out_of_memory_text) × (entries ≡ [])
-IsTold kind outcome said entries = ⊥
+-- what a program tells of an error of this kind of `clap`'s
+abbrev pub IsTold : Program → ErrorKind → Outcome → List ℕ → List Entry → Type 0
+IsTold program kind (Usage (Some told)) said entries = (told ≡ kind) × (said ≡ [])
+    × IsShown program kind (is_request kind) entries
+IsTold program kind PrintFault said entries = (is_request kind ≡ true) × (said ≡ unprinted_text)
+    × (text : List ℕ) × IsShownText program kind text
+    × (failed : Failed) × (entries ≡ calls.Out text (Err failed) ∷ [])
+IsTold program kind OutOfMemory said entries = (said ≡ out_of_memory_text) × (entries ≡ [])
+IsTold program kind outcome said entries = ⊥
 
 -- the outcomes of an error of this kind
 abbrev pub IsToldOutcome : ErrorKind → Outcome → Type 0
@@ -53,11 +59,12 @@ abbrev pub IsUnasked : Program → List (List ℕ) → Outcome → List ℕ → 
 IsUnasked program words (Usage None) said entries = (verb_in program words ≡ None)
     × (said ≡ usage_text program) × (entries ≡ [])
 IsUnasked program words (Usage (Some kind)) said entries = IsUntaken program words kind × (said ≡ [])
-    × IsShown (is_request kind) entries
+    × IsShown program kind (is_request kind) entries
 IsUnasked program words (BadWord word) said entries = HasBadWord program words word
     × (said ≡ bad_word_text word) × (entries ≡ [])
 IsUnasked program words PrintFault said entries = (kind : ErrorKind) × IsUntaken program words kind
     × (is_request kind ≡ true) × (said ≡ unprinted_text)
-    × (text : List ℕ) × (failed : Failed) × (entries ≡ calls.Out text (Err failed) ∷ [])
+    × (text : List ℕ) × IsShownText program kind text
+    × (failed : Failed) × (entries ≡ calls.Out text (Err failed) ∷ [])
 IsUnasked program words OutOfMemory said entries = (said ≡ out_of_memory_text) × (entries ≡ [])
 IsUnasked program words outcome said entries = ⊥

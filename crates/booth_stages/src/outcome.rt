@@ -19,6 +19,8 @@ pub enum Outcome {
     Report,
     /// A daemon refused, with this result.
     Refused(u32),
+    /// A ticket was given back, and its grant to another site was refused, with this result.
+    Stranded(u32),
     /// No daemon answered in time.
     NoReply,
     /// A request could not be sent.
@@ -34,6 +36,8 @@ pub enum Outcome {
     ConfBad(ConfFault),
     /// No member of the configuration has the address.
     NotMember,
+    /// No site of the configuration has the address.
+    NotSite,
     /// The key file could not be read.
     KeyUnread,
     /// The key file holds no key.
@@ -66,11 +70,13 @@ impl Outcome {
             Outcome::NotRunning => 7,
             Outcome::Usage(Some(ErrorKind::DisplayHelp | ErrorKind::DisplayVersion)) => 0,
             Outcome::Usage(_) | Outcome::BadWord(_) => 1,
-            Outcome::ConfUnread | Outcome::ConfBad(_) | Outcome::NotMember => 1,
+            Outcome::ConfUnread | Outcome::ConfBad(_) => 1,
+            Outcome::NotMember | Outcome::NotSite => 1,
             Outcome::KeyUnread | Outcome::KeyBad(_) => 1,
             Outcome::LockFault | Outcome::Running | Outcome::OpenFault => 1,
             Outcome::RecordUnread => 1,
-            Outcome::Refused(_) | Outcome::NoReply | Outcome::SendFault => 1,
+            Outcome::Refused(_) | Outcome::Stranded(_) => 1,
+            Outcome::NoReply | Outcome::SendFault => 1,
             Outcome::TurnsSpent | Outcome::PrintFault | Outcome::OutOfMemory => 1,
         }
     }

@@ -2,9 +2,9 @@
 ghost use Rattle.std.specs.Prelude.{◌≡◌, ◌≤◌, ◌+◌, ◌++◌, [], codes, decimal, length};
 ghost use Rattle.std.specs.Prelude.{unwrap_or};
 ghost use Rattle.booth_base.specs.Address.{printed};
-ghost use Rattle.booth_stages.specs.Texts.{usage_text, bad_word_text, unread_text, unread_record_text};
+ghost use Rattle.booth_stages.specs.Texts.{usage_text, version_text, bad_word_text, unread_text, unread_record_text};
 ghost use Rattle.booth_stages.specs.Texts.{unlocked_text, unopened_text, unprinted_text};
-ghost use Rattle.booth_stages.specs.Texts.{not_member_text, key_name, key_fault_text, out_of_memory_text};
+ghost use Rattle.booth_stages.specs.Texts.{not_member_text, not_site_text, key_name, key_fault_text, out_of_memory_text};
 ghost use Rattle.booth_stages.specs.Texts.{file_text, at_line, IsTicketText, IsFaultText};
 
 use crate::Word;
@@ -12,7 +12,7 @@ use crate::error_line::ErrorLine;
 use booth_auth::KeyFault;
 use booth_base::{Address, Name, PathText};
 use booth_conf::{ConfFault, KeyNo, ticket_name};
-use booth_words::Program;
+use booth_words::{Program, version};
 
 /// A line of this text.
 pub fn line_of(text: &[u8]) -> ErrorLine
@@ -34,7 +34,7 @@ pub fn usage_text(program: Program) -> ErrorLine
             see --help behind it, and boothd(8)",
         ),
         Program::Booth => line_of(
-            b"usage: booth COMMAND [OPTIONS], with the command list, peers, grant or revoke; \
+            b"usage: booth COMMAND [OPTIONS], with the command list, peers, grant, revoke or move; \
             see --help behind it",
         ),
         Program::Geostore => line_of(
@@ -42,6 +42,18 @@ pub fn usage_text(program: Program) -> ErrorLine
             see --help behind it",
         ),
     }
+}
+
+/// What is printed where the version of a program is asked for.
+pub(crate) fn version_text(program: Program) -> ErrorLine
+    ensures { result ≡ version_text program }
+{
+    let mut line = ErrorLine::none();
+    line.put(program.name().as_bytes());
+    line.put(b" ");
+    line.put(version().as_bytes());
+    line.put(b"\n");
+    line
 }
 
 /// What is said of a word that is refused.
@@ -118,6 +130,23 @@ pub fn not_member_text(address: &Address) -> ErrorLine
 {
     let mut line = ErrorLine::none();
     put_not_member(address, &mut line);
+    line
+}
+
+fn put_not_site(address: &Address, line: &mut ErrorLine)
+    requires { length line.old ≤ 300 }
+    ensures { line.new ≡ line.old ++ (printed address.now ++ codes " is not a site") }
+{
+    line.put(address.print().as_bytes());
+    line.put(b" is not a site");
+}
+
+/// What is said of an address that no site has.
+pub fn not_site_text(address: &Address) -> ErrorLine
+    ensures { result ≡ not_site_text address.now }
+{
+    let mut line = ErrorLine::none();
+    put_not_site(address, &mut line);
     line
 }
 

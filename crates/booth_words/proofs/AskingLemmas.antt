@@ -11,7 +11,7 @@ use Rattle.booth_words.specs.declared.command.Verb.{Verb}
 use Rattle.booth_words.specs.declared.command.Verb.TheVariants as verbs
 use Rattle.booth_words.specs.declared.reading.Read.{Read}
 use Rattle.booth_words.specs.declared.asking.Asked.{Asked}
-use Rattle.booth_words.specs.declared.asking.Asked.TheVariants.{Daemon, Status, Simulation, Client}
+use Rattle.booth_words.specs.declared.asking.Asked.TheVariants.{Daemon, Status, Simulation, Client, Move}
 use Rattle.booth_words.specs.declared.asking.ClientWords.{ClientWords}
 use Rattle.booth_words.specs.declared.program.Program.{Program}
 use Rattle.booth_words.specs.declared.program.Program.TheVariants.{Boothd, Booth, Geostore}
@@ -39,6 +39,7 @@ pub has_words : (verb : Verb) (t : Texts) (read : Read) → HasNeeded verb t →
 has_words verbs.Daemon t read needed is = has_address t.site read.site is.site needed
 has_words verbs.Grant t read needed is = has_name t.ticket read.ticket is.ticket needed
 has_words verbs.Revoke t read needed is = has_name t.ticket read.ticket is.ticket needed
+has_words verbs.Move t read needed is = (has_name t.ticket read.ticket is.ticket needed.0, has_address t.target read.target is.target needed.1)
 has_words verbs.SetAttribute t read needed is = (has_attribute t read needed.0 is, has_name t.value read.value is.value needed.1)
 has_words verbs.GetAttribute t read needed is = has_attribute t read needed is
 has_words verbs.DeleteAttribute t read needed is = has_attribute t read needed is
@@ -63,13 +64,14 @@ same_owner one verb same own = let e : verb ≡ one = cc in subst IsBoothds e ow
 boothds_own : (one verb : Verb) → Some one ≡ Some verb → IsBoothds one → IsBoothds verb
 boothds_own one verb same own = let e : one ≡ verb = cc in subst IsBoothds e own
 
-no_daemon : (a b c d : Bool) (verb : Verb) →
-    cond a (Some verbs.List) (cond b (Some verbs.Peers) (cond c (Some verbs.Grant) (cond d (Some verbs.Revoke) None))) ≡ Some verb → IsBoothds verb → ⊥
-no_daemon true b c d verb h own = same_owner verbs.List verb h own
-no_daemon false true c d verb h own = same_owner verbs.Peers verb h own
-no_daemon false false true d verb h own = same_owner verbs.Grant verb h own
-no_daemon false false false true verb h own = same_owner verbs.Revoke verb h own
-no_daemon false false false false verb h own = cc
+no_daemon : (a b c d e : Bool) (verb : Verb) →
+    cond a (Some verbs.List) (cond b (Some verbs.Peers) (cond c (Some verbs.Grant) (cond d (Some verbs.Revoke) (cond e (Some verbs.Move) None)))) ≡ Some verb → IsBoothds verb → ⊥
+no_daemon true b c d e verb h own = same_owner verbs.List verb h own
+no_daemon false true c d e verb h own = same_owner verbs.Peers verb h own
+no_daemon false false true d e verb h own = same_owner verbs.Grant verb h own
+no_daemon false false false true e verb h own = same_owner verbs.Revoke verb h own
+no_daemon false false false false true verb h own = same_owner verbs.Move verb h own
+no_daemon false false false false false verb h own = cc
 
 no_attributes_daemon : (a b c d : Bool) (verb : Verb) →
     cond a (Some verbs.SetAttribute) (cond b (Some verbs.GetAttribute) (cond c (Some verbs.DeleteAttribute) (cond d (Some verbs.ListAttributes) None)))
@@ -89,7 +91,7 @@ no_client false false false verb h = absurd cc
 daemons_own : (program : Program) (words : List (List ℕ)) (verb : Verb) → verb_in program words ≡ Some verb → IsBoothds verb → program ≡ Boothd
 daemons_own Boothd words verb named own = refl
 daemons_own Booth [] verb named own = absurd cc
-daemons_own Booth (word ∷ words) verb named own = absurd (no_daemon _ _ _ _ verb named own)
+daemons_own Booth (word ∷ words) verb named own = absurd (no_daemon _ _ _ _ _ verb named own)
 daemons_own Geostore [] verb named own = absurd cc
 daemons_own Geostore (word ∷ words) verb named own = absurd (no_attributes_daemon _ _ _ _ verb named own)
 
@@ -98,6 +100,36 @@ clients_own Booth words verb named other = tt
 clients_own Geostore words verb named other = tt
 clients_own Boothd [] verb named other = absurd cc
 clients_own Boothd (word ∷ words) verb named other = absurd (other (no_client _ _ _ verb named))
+
+-- a move is a command of booth alone
+abbrev IsMove : Verb → Type 0
+IsMove verbs.Move = Unit {0}
+IsMove verb = ⊥
+
+same_move : (one verb : Verb) → Some one ≡ Some verb → IsMove verb → IsMove one
+same_move one verb same own = let e : verb ≡ one = cc in subst IsMove e own
+
+no_move : (a b c : Bool) (verb : Verb) → cond a (Some verbs.Daemon) (cond b (Some verbs.Status) (cond c (Some verbs.Simulate) None)) ≡ Some verb → IsMove verb → ⊥
+no_move true b c verb h own = same_move verbs.Daemon verb h own
+no_move false true c verb h own = same_move verbs.Status verb h own
+no_move false false true verb h own = same_move verbs.Simulate verb h own
+no_move false false false verb h own = cc
+
+no_attributes_move : (a b c d : Bool) (verb : Verb) →
+    cond a (Some verbs.SetAttribute) (cond b (Some verbs.GetAttribute) (cond c (Some verbs.DeleteAttribute) (cond d (Some verbs.ListAttributes) None)))
+    ≡ Some verb → IsMove verb → ⊥
+no_attributes_move true b c d verb h own = same_move verbs.SetAttribute verb h own
+no_attributes_move false true c d verb h own = same_move verbs.GetAttribute verb h own
+no_attributes_move false false true d verb h own = same_move verbs.DeleteAttribute verb h own
+no_attributes_move false false false true verb h own = same_move verbs.ListAttributes verb h own
+no_attributes_move false false false false verb h own = cc
+
+moves_own : (program : Program) (words : List (List ℕ)) (verb : Verb) → verb_in program words ≡ Some verb → IsMove verb → program ≡ Booth
+moves_own Booth words verb named own = refl
+moves_own Boothd [] verb named own = absurd cc
+moves_own Boothd (word ∷ words) verb named own = absurd (no_move _ _ _ verb named own)
+moves_own Geostore [] verb named own = absurd cc
+moves_own Geostore (word ∷ words) verb named own = absurd (no_attributes_move _ _ _ _ verb named own)
 
 -- a client's command is no daemon's
 is_clients : (verb : Verb) (read : Read) (asked : ClientWords) → IsClientOf verb read asked → IsBoothds verb → ⊥
@@ -120,6 +152,7 @@ asked_by program words verbs.List read (Client asked) taken is = client_asked pr
 asked_by program words verbs.Peers read (Client asked) taken is = client_asked program words verbs.Peers read asked taken is
 asked_by program words verbs.Grant read (Client asked) taken is = client_asked program words verbs.Grant read asked taken is
 asked_by program words verbs.Revoke read (Client asked) taken is = client_asked program words verbs.Revoke read asked taken is
+asked_by program words verbs.Move read (Client asked) taken is = client_asked program words verbs.Move read asked taken is
 asked_by program words verbs.SetAttribute read (Client asked) taken is = client_asked program words verbs.SetAttribute read asked taken is
 asked_by program words verbs.GetAttribute read (Client asked) taken is = client_asked program words verbs.GetAttribute read asked taken is
 asked_by program words verbs.DeleteAttribute read (Client asked) taken is = client_asked program words verbs.DeleteAttribute read asked taken is
@@ -133,6 +166,9 @@ asked_by program words verbs.Status read (Status lock) taken is =
 asked_by program words verbs.Simulate read (Simulation asked) taken is =
     let own : program ≡ Boothd = daemons_own program words verbs.Simulate taken.named tt in
     (own, record { all = read; asks = subst (λ p. AreTaken p words verbs.Simulate read) own taken; same = is })
+asked_by program words verbs.Move read (Move asked) taken is =
+    let own : program ≡ Booth = moves_own program words verbs.Move taken.named tt in
+    (own, record { all = read; asks = subst (λ p. AreTaken p words verbs.Move read) own taken; same = is })
 asked_by program words verb read asked taken is = absurd is
 
 -- words that were taken and read
@@ -171,6 +207,7 @@ is_client verbs.List read asked is = is
 is_client verbs.Peers read asked is = is
 is_client verbs.Grant read asked is = is
 is_client verbs.Revoke read asked is = is
+is_client verbs.Move read asked is = is
 is_client verbs.SetAttribute read asked is = is
 is_client verbs.GetAttribute read asked is = is
 is_client verbs.DeleteAttribute read asked is = is

@@ -28,6 +28,7 @@ simple verbs.List = refl
 simple verbs.Peers = refl
 simple verbs.Grant = refl
 simple verbs.Revoke = refl
+simple verbs.Move = refl
 simple verbs.SetAttribute = refl
 simple verbs.GetAttribute = refl
 simple verbs.DeleteAttribute = refl
@@ -41,6 +42,7 @@ simple_and_free verbs.List = refl
 simple_and_free verbs.Peers = refl
 simple_and_free verbs.Grant = refl
 simple_and_free verbs.Revoke = refl
+simple_and_free verbs.Move = refl
 simple_and_free verbs.SetAttribute = refl
 simple_and_free verbs.GetAttribute = refl
 simple_and_free verbs.DeleteAttribute = refl
@@ -62,9 +64,10 @@ pub texts_are : (m : ArgMatches) (rows : List Row) (g : Given) → rows_of (foun
     option_map (λ (t : Bor (List ℕ)). t.now) g.lock ≡ first_value (found_of m) (codes "lock") →
     option_map (λ (t : Bor (List ℕ)). t.now) g.records ≡ first_value (found_of m) (codes "records") →
     option_map (λ (t : Bor (List ℕ)). t.now) g.conf ≡ first_value (found_of m) (codes "conf") →
+    option_map (λ (t : Bor (List ℕ)). t.now) g.target ≡ first_value (found_of m) (codes "target") →
     g.wait ≡ is_set (first_value (found_of m) (codes "wait")) → g.commit ≡ is_set (first_value (found_of m) (codes "commit")) →
     g.immediate ≡ is_set (first_value (found_of m) (codes "immediate")) → texts_of g ≡ texts_in rows
-texts_are m rows g same ticket name value site turns events number lock records conf wait commit immediate =
+texts_are m rows g same ticket name value site turns events number lock records conf target wait commit immediate =
     rw (
       ticket,
       name,
@@ -76,6 +79,7 @@ texts_are m rows g same ticket name value site turns events number lock records 
       lock,
       records,
       conf,
+      target,
       wait,
       commit,
       immediate,
@@ -89,6 +93,7 @@ texts_are m rows g same ticket name value site turns events number lock records 
       value_is m rows (codes "lock") same,
       value_is m rows (codes "records") same,
       value_is m rows (codes "conf") same,
+      value_is m rows (codes "target") same,
       value_is m rows (codes "wait") same,
       value_is m rows (codes "commit") same,
       value_is m rows (codes "immediate") same,
@@ -132,6 +137,30 @@ module _ (cmd : Command) (m : ArgMatches) (parsed : IsParsedFrom cmd m) where
   revoke_ticket : app_of cmd ≡ app_for verbs.Revoke → is_some (first_value (found_of m) (codes "ticket")) ≡ true
   unfolding is_only_at
   revoke_ticket is = value_of (app_for verbs.Revoke) 2 (codes "ticket") is refl refl refl (record {
+    there = omega arith;
+    named = λ e. refl;
+    required = λ e. refl;
+    set = λ e. refl;
+    least = λ e. omega arith;
+    only = refl;
+    own = refl;
+  })
+
+  move_ticket : app_of cmd ≡ app_for verbs.Move → is_some (first_value (found_of m) (codes "ticket")) ≡ true
+  unfolding is_only_at
+  move_ticket is = value_of (app_for verbs.Move) 2 (codes "ticket") is refl refl refl (record {
+    there = omega arith;
+    named = λ e. refl;
+    required = λ e. refl;
+    set = λ e. refl;
+    least = λ e. omega arith;
+    only = refl;
+    own = refl;
+  })
+
+  move_target : app_of cmd ≡ app_for verbs.Move → is_some (first_value (found_of m) (codes "target")) ≡ true
+  unfolding is_only_at
+  move_target is = value_of (app_for verbs.Move) 3 (codes "target") is refl refl refl (record {
     there = omega arith;
     named = λ e. refl;
     required = λ e. refl;
@@ -242,18 +271,20 @@ module _ (cmd : Command) (m : ArgMatches) (parsed : IsParsedFrom cmd m) where
       option_map (λ (t : Bor (List ℕ)). t.now) g.ticket ≡ first_value (found_of m) (codes "ticket") →
       option_map (λ (t : Bor (List ℕ)). t.now) g.name ≡ first_value (found_of m) (codes "name") →
       option_map (λ (t : Bor (List ℕ)). t.now) g.value ≡ first_value (found_of m) (codes "value") →
-      option_map (λ (t : Bor (List ℕ)). t.now) g.site ≡ first_value (found_of m) (codes "site") → HasNeeded verb (texts_of g)
-  has_needed verbs.Daemon g is ticket name value site = ap is_some site ∙ daemon_site is
-  has_needed verbs.Grant g is ticket name value site = ap is_some ticket ∙ grant_ticket is
-  has_needed verbs.Revoke g is ticket name value site = ap is_some ticket ∙ revoke_ticket is
-  has_needed verbs.SetAttribute g is ticket name value site =
+      option_map (λ (t : Bor (List ℕ)). t.now) g.site ≡ first_value (found_of m) (codes "site") →
+      option_map (λ (t : Bor (List ℕ)). t.now) g.target ≡ first_value (found_of m) (codes "target") → HasNeeded verb (texts_of g)
+  has_needed verbs.Daemon g is ticket name value site target = ap is_some site ∙ daemon_site is
+  has_needed verbs.Grant g is ticket name value site target = ap is_some ticket ∙ grant_ticket is
+  has_needed verbs.Revoke g is ticket name value site target = ap is_some ticket ∙ revoke_ticket is
+  has_needed verbs.Move g is ticket name value site target = (ap is_some ticket ∙ move_ticket is, ap is_some target ∙ move_target is)
+  has_needed verbs.SetAttribute g is ticket name value site target =
       (record { ticket = ap is_some ticket ∙ set_ticket is; name = ap is_some name ∙ set_name is }, ap is_some value ∙ set_value is)
-  has_needed verbs.GetAttribute g is ticket name value site =
+  has_needed verbs.GetAttribute g is ticket name value site target =
       record { ticket = ap is_some ticket ∙ get_ticket is; name = ap is_some name ∙ get_name is }
-  has_needed verbs.DeleteAttribute g is ticket name value site =
+  has_needed verbs.DeleteAttribute g is ticket name value site target =
       record { ticket = ap is_some ticket ∙ delete_ticket is; name = ap is_some name ∙ delete_name is }
-  has_needed verbs.ListAttributes g is ticket name value site = ap is_some ticket ∙ list_ticket is
-  has_needed verbs.Status g is ticket name value site = tt
-  has_needed verbs.Simulate g is ticket name value site = tt
-  has_needed verbs.List g is ticket name value site = tt
-  has_needed verbs.Peers g is ticket name value site = tt
+  has_needed verbs.ListAttributes g is ticket name value site target = ap is_some ticket ∙ list_ticket is
+  has_needed verbs.Status g is ticket name value site target = tt
+  has_needed verbs.Simulate g is ticket name value site target = tt
+  has_needed verbs.List g is ticket name value site target = tt
+  has_needed verbs.Peers g is ticket name value site target = tt

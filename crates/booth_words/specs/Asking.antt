@@ -10,10 +10,11 @@ use Rattle.booth_words.specs.declared.reading.Read.{Read}
 use Rattle.booth_words.specs.declared.asking.DaemonWords.{DaemonWords}
 use Rattle.booth_words.specs.declared.asking.SimulationWords.{SimulationWords}
 use Rattle.booth_words.specs.declared.asking.Asked.{Asked}
-use Rattle.booth_words.specs.declared.asking.Asked.TheVariants.{Daemon, Status, Simulation, Client}
+use Rattle.booth_words.specs.declared.asking.Asked.TheVariants.{Daemon, Status, Simulation, Client, Move}
 use Rattle.booth_words.specs.declared.asking.ClientWords.{ClientWords}
+use Rattle.booth_words.specs.declared.asking.MoveWords.{MoveWords}
 use Rattle.booth_words.specs.declared.program.Program.{Program}
-use Rattle.booth_words.specs.declared.program.Program.TheVariants.{Boothd}
+use Rattle.booth_words.specs.declared.program.Program.TheVariants.{Boothd, Booth}
 use Rattle.booth_client.specs.declared.order.Order.{Order}
 use Rattle.booth_client.specs.declared.order.Order.TheVariants as orders
 use Rattle.booth_words.specs.declared.asking.Refusal.{Refusal}
@@ -100,6 +101,20 @@ pub record AsksClient (program : Program) (words : List (List ℕ)) (asked : Cli
   pub asks : AreTaken program words verb all
   pub same : IsClientOf verb all asked
 
+-- what was read says this of a move
+pub record IsMoveOf (read : Read) (asked : MoveWords) : Type 0 where
+  pub of_ticket : read.ticket ≡ Some asked.ticket
+  pub target : read.target ≡ Some asked.target
+  pub wait : asked.wait ≡ read.options.wait
+  pub site : asked.site ≡ read.site
+  pub conf : asked.conf ≡ read.conf
+
+-- the words ask for this move
+pub record AsksMove (words : List (List ℕ)) (asked : MoveWords) : Type 0 where
+  pub all : Read
+  pub asks : AreTaken Booth words verbs.Move all
+  pub same : IsMoveOf all asked
+
 -- the command does not take the words, and this kind of fault is one of theirs
 pub record IsUntaken (program : Program) (words : List (List ℕ)) (kind : ErrorKind) : Type 0 where
   pub verb : Verb
@@ -131,6 +146,7 @@ abbrev pub HasWords : Verb → Read → Type 0
 HasWords verbs.Daemon read = is_some read.site ≡ true
 HasWords verbs.Grant read = is_some read.ticket ≡ true
 HasWords verbs.Revoke read = is_some read.ticket ≡ true
+HasWords verbs.Move read = (is_some read.ticket ≡ true) × (is_some read.target ≡ true)
 HasWords verbs.SetAttribute read = AttributeRead read × (is_some read.value ≡ true)
 HasWords verbs.GetAttribute read = AttributeRead read
 HasWords verbs.DeleteAttribute read = AttributeRead read
@@ -147,6 +163,7 @@ IsAskedBy verbs.Daemon read (Daemon asked) = IsDaemonOf read asked
 IsAskedBy verbs.Status read (Status lock) = lock ≡ read.lock
 IsAskedBy verbs.Simulate read (Simulation asked) = IsSimulationOf read asked
 IsAskedBy verb read (Client asked) = IsClientOf verb read asked
+IsAskedBy verbs.Move read (Move asked) = IsMoveOf read asked
 IsAskedBy verb read asked = ⊥
 
 -- what the reader of words answers
@@ -155,6 +172,7 @@ Asks program words (Ok (Daemon asked)) = (program ≡ Boothd) × AsksDaemon word
 Asks program words (Ok (Status lock)) = (program ≡ Boothd) × AsksStatus words lock
 Asks program words (Ok (Simulation asked)) = (program ≡ Boothd) × AsksSimulation words asked
 Asks program words (Ok (Client asked)) = IsClient program × AsksClient program words asked
+Asks program words (Ok (Move asked)) = (program ≡ Booth) × AsksMove words asked
 Asks program words (Err NoCommand) = verb_in program words ≡ None
 Asks program words (Err (Untaken error)) = IsUntakenFor program words (kind_of error)
 Asks program words (Err (Bad word)) = HasBadWord program words word

@@ -53,11 +53,18 @@ app_for verbs.Grant =
     with_rule (with_rule (with_rule (with_rule (client_app (codes "grant")) (word (codes "ticket")))
     (flag (codes "wait") 119)) (flag (codes "commit") 67)) (flag (codes "immediate") 70)
 app_for verbs.Revoke = with_rule (with_rule (client_app (codes "revoke")) (word (codes "ticket"))) (flag (codes "wait") 119)
+app_for verbs.Move =
+    with_rule (with_rule (with_rule (client_app (codes "move")) (word (codes "ticket"))) (word (codes "target")))
+    (flag (codes "wait") 119)
 app_for verbs.SetAttribute =
     with_rule (with_rule (with_rule (client_app (codes "set")) ticket_option) (word (codes "name"))) (word (codes "value"))
 app_for verbs.GetAttribute = with_rule (with_rule (client_app (codes "get")) ticket_option) (word (codes "name"))
 app_for verbs.DeleteAttribute = with_rule (with_rule (client_app (codes "delete")) ticket_option) (word (codes "name"))
 app_for verbs.ListAttributes = with_rule (client_app (codes "list")) ticket_option
+
+-- the version of the programs
+abbrev pub version : List ℕ
+version = codes "0.2.0"
 
 -- the name of a program, with which each of its lines begins
 abbrev pub name_of : Program → List ℕ
@@ -76,7 +83,8 @@ client_verb word =
     if bytes_eq word (codes "list") then Some verbs.List else
     if bytes_eq word (codes "peers") then Some verbs.Peers else
     if bytes_eq word (codes "grant") then Some verbs.Grant else
-    if bytes_eq word (codes "revoke") then Some verbs.Revoke else None
+    if bytes_eq word (codes "revoke") then Some verbs.Revoke else
+    if bytes_eq word (codes "move") then Some verbs.Move else None
 
 abbrev pub attribute_verb : List ℕ → Option Verb
 attribute_verb word =

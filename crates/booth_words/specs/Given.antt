@@ -20,6 +20,7 @@ pub record Texts : Type 0 where
   pub lock : Option (List ℕ)
   pub records : Option (List ℕ)
   pub conf : Option (List ℕ)
+  pub target : Option (List ℕ)
   pub wait : Bool
   pub commit : Bool
   pub immediate : Bool
@@ -41,6 +42,7 @@ texts_in rows = record {
   lock = first_of (codes "lock") rows;
   records = first_of (codes "records") rows;
   conf = first_of (codes "conf") rows;
+  target = first_of (codes "target") rows;
   wait = is_set (first_of (codes "wait") rows);
   commit = is_set (first_of (codes "commit") rows);
   immediate = is_set (first_of (codes "immediate") rows);
@@ -62,6 +64,7 @@ texts_of g = record {
   lock = option_map (λ t. t.now) g.lock;
   records = option_map (λ t. t.now) g.records;
   conf = option_map (λ t. t.now) g.conf;
+  target = option_map (λ t. t.now) g.target;
   wait = g.wait;
   commit = g.commit;
   immediate = g.immediate;
@@ -77,6 +80,7 @@ abbrev pub HasNeeded : Verb → Texts → Type 0
 HasNeeded verbs.Daemon t = is_some t.site ≡ true
 HasNeeded verbs.Grant t = is_some t.ticket ≡ true
 HasNeeded verbs.Revoke t = is_some t.ticket ≡ true
+HasNeeded verbs.Move t = (is_some t.ticket ≡ true) × (is_some t.target ≡ true)
 HasNeeded verbs.SetAttribute t = HasAttribute t × (is_some t.value ≡ true)
 HasNeeded verbs.GetAttribute t = HasAttribute t
 HasNeeded verbs.DeleteAttribute t = HasAttribute t

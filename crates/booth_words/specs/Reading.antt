@@ -10,6 +10,7 @@ use Rattle.booth_base.specs.Name.{is_name, is_value}
 use Rattle.booth_client.specs.declared.order.Options.{Options}
 use Rattle.booth_words.specs.declared.word.Word.{Word}
 use Rattle.booth_words.specs.declared.word.Word.TheVariants as words
+use Rattle.booth_words.specs.declared.reading.Addresses.{Addresses}
 use Rattle.booth_words.specs.declared.reading.Named.{Named}
 use Rattle.booth_words.specs.declared.reading.Numbers.{Numbers}
 use Rattle.booth_words.specs.declared.reading.Read.{Read}
@@ -73,7 +74,7 @@ abbrev pub Refuses : Texts → Word → Type 0
 Refuses t words.Ticket = IsNoName t.ticket
 Refuses t words.Name = IsNoName t.name
 Refuses t words.Value = IsNoValue t.value
-Refuses t words.Site = IsNoAddress t.site
+Refuses t words.Site = IsNoAddress t.target ⊎ IsNoAddress t.site
 Refuses t words.Number =
     IsNoNumber 1 (2 ^ 62) t.turns ⊎ (IsNoNumber 0 10000000 t.events ⊎ IsNoNumber 0 (2 ^ 64 - 1) t.number)
 Refuses t words.Path = IsNoPath t.lock ⊎ IsNoPath t.records
@@ -128,6 +129,12 @@ pub record AreNumbers (t : Texts) (n : Numbers) : Type 0 where
   pub events : HasNumberOr 0 10000000 100000 t.events n.events
   pub number : HasNumberOr 0 (2 ^ 64 - 1) 1 t.number n.number
 
+-- the addresses that words spell, neither of which is refused
+pub record AreAddresses (t : Texts) (a : Addresses) : Type 0 where
+  pub accepted : Refuses t words.Site → ⊥
+  pub target : HasAddress t.target a.target
+  pub site : HasAddress t.site a.site
+
 -- no word is refused, and this is what they say
 pub record IsRead (t : Texts) (r : Read) : Type 0 where
   pub accepted : (word : Word) → Refuses t word → ⊥
@@ -135,6 +142,7 @@ pub record IsRead (t : Texts) (r : Read) : Type 0 where
   pub name : HasName t.name r.name
   pub value : HasName t.value r.value
   pub options : r.options ≡ options_in t
+  pub target : HasAddress t.target r.target
   pub site : HasAddress t.site r.site
   pub turns : HasNumber 1 (2 ^ 62) t.turns r.turns
   pub events : HasNumberOr 0 10000000 100000 t.events r.events

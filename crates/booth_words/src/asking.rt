@@ -1,6 +1,6 @@
 //! What the words ask for, or why they ask for nothing.
 ghost use Rattle.std.specs.Prelude.{◌≡◌, true, Some, is_some, map, string_bytes};
-ghost use Rattle.booth_words.specs.Asking.{Asks, HasOrder, HasWords, IsAskedBy, IsDaemonOf, IsSimulationOf, client_of};
+ghost use Rattle.booth_words.specs.Asking.{Asks, HasOrder, HasWords, IsAskedBy, IsDaemonOf, IsMoveOf, IsSimulationOf, client_of};
 
 use crate::Word;
 use crate::command::{Verb, verb_in};
@@ -49,6 +49,20 @@ pub struct ClientWords {
     pub conf: PathText,
 }
 
+/// What the words of a move say.
+#[derive(Drop)]
+pub struct MoveWords {
+    pub ticket: Name,
+    /// The site that is to have the ticket.
+    pub target: Address,
+    /// Whether outcomes are waited for.
+    pub wait: bool,
+    /// The daemon that is asked for the ticket, where it is named.
+    pub site: Option<Address>,
+    /// The file of the configuration.
+    pub conf: PathText,
+}
+
 /// What the words ask for.
 #[derive(Drop)]
 pub enum Asked {
@@ -59,6 +73,8 @@ pub enum Asked {
     Simulation(SimulationWords),
     /// Something that a daemon is asked.
     Client(ClientWords),
+    /// That a ticket is moved to another site.
+    Move(MoveWords),
 }
 
 /// Why the words ask for nothing.
@@ -119,6 +135,24 @@ fn named_ticket(read: &Read) -> Name
     match &read.ticket {
         Some(name) => name.copy(),
         None => unreachable!(),
+    }
+}
+
+// What a move asks for.
+fn move_of(read: Read) -> MoveWords
+    requires { HasWords Verb.Move read }
+    ensures { IsMoveOf read result }
+{
+    let ticket = named_ticket(&read);
+    let Some(target) = read.target else {
+        unreachable!()
+    };
+    MoveWords {
+        ticket,
+        target,
+        wait: read.options.wait,
+        site: read.site,
+        conf: read.conf,
     }
 }
 
@@ -195,6 +229,7 @@ fn asked_of(verb: Verb, read: Read) -> Asked
             let ticket = named_ticket(&read);
             Asked::Client(client_of(Order::Revoke(ticket, read.options), read))
         }
+        Verb::Move => Asked::Move(move_of(read)),
         Verb::SetAttribute => Asked::Client(client_of(set_attribute(&read), read)),
         Verb::GetAttribute => Asked::Client(client_of(get_attribute(&read), read)),
         Verb::DeleteAttribute => Asked::Client(client_of(delete_attribute(&read), read)),

@@ -46,6 +46,18 @@ fn ticket<'a>(alloc: Global) -> Arg<'a>
     word(alloc, "ticket", "TICKET", "Name of the ticket")
 }
 
+fn target<'a>(alloc: Global) -> Arg<'a>
+    ensures rule { rule_of result ≡ word (codes "target") }
+    ensures local { result.global ≡ false }
+{
+    word(
+        alloc,
+        "target",
+        "ADDRESS",
+        "Address of the site that is to have it",
+    )
+}
+
 fn wait<'a>(alloc: Global, help: &'a str) -> Arg<'a>
     ensures rule { rule_of result ≡ flag (codes "wait") 119 }
     ensures local { result.global ≡ false }
@@ -132,5 +144,21 @@ pub(crate) fn revoke<'a>(alloc: Global) -> Result<Command<'a>, AllocError>
     let wait_help = "Waits for the outcome; a daemon decides at once, so it changes nothing";
     client(alloc, "revoke", "booth revoke", about, more)?
         .arg(ticket(alloc))?
+        .arg(wait(alloc, wait_help))
+}
+
+pub(crate) fn move_ticket<'a>(alloc: Global) -> Result<Command<'a>, AllocError>
+    ensures { IfOk result (λ c. app_of c ≡ app_for Verb.Move) }
+{
+    let about = "Has a ticket given back where it is, and then granted to another site.";
+    let more =
+        "The grant is asked only once the ticket was given back, so no two sites have it at one moment. A site\n\
+        that is busy is asked again, up to 10 times. Prints that the ticket is moved, or that its grant was\n\
+        asked for. Status 0 for both; 1 where one of the daemons refuses, and says why, or gives no answer\n\
+        within 5 seconds. Where the grant was refused no site has the ticket.";
+    let wait_help = "Waits until the site has the ticket, or cannot get it";
+    client(alloc, "move", "booth move", about, more)?
+        .arg(ticket(alloc))?
+        .arg(target(alloc))?
         .arg(wait(alloc, wait_help))
 }

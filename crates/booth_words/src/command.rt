@@ -1,19 +1,27 @@
 //! The commands as `clap` knows them: which options each takes, and what help says of them. Those of the
 //! clients stand in files of their own.
-ghost use Rattle.std.specs.Prelude.{◌≡◌, false, IfOk, codes, map, string_bytes};
+ghost use Rattle.std.specs.Prelude.{◌≡◌, ◌≤◌, false, length, IfOk, codes, map, string_bytes};
 ghost use Rattle.clap.specs.Words.{app_of, rule_of};
 ghost use Rattle.booth_words.specs.declared.command.Verb.{Verb};
 ghost use Rattle.booth_words.specs.Commands.{option, needed, command_app, member_app, app_for, client_verb};
-ghost use Rattle.booth_words.specs.Commands.{attribute_verb, daemon_verb, verb_in};
+ghost use Rattle.booth_words.specs.Commands.{attribute_verb, daemon_verb, verb_in, version};
 
 use crate::attribute_command::{delete, get, list_attributes, set};
-use crate::client_command::{grant, list, peers, revoke};
+use crate::client_command::{grant, list, move_ticket, peers, revoke};
 use crate::program::Program;
 use clap::{Arg, ArgAction, Command};
 use std::alloc::{AllocError, Global};
 
 /// The version of the product.
 const VERSION: &str = "0.2.0";
+
+/// The version of the product.
+pub fn version() -> &'static str
+    ensures version { result.now ≡ version }
+    ensures short { length result.now ≤ 20 }
+{
+    VERSION
+}
 
 /// Where more is said of the daemon.
 const MORE: &str = "See boothd(8) for more.";
@@ -35,6 +43,8 @@ pub enum Verb {
     Grant,
     /// Has a ticket given back.
     Revoke,
+    /// Has a ticket given back where it is, and granted to another site.
+    Move,
     /// Gives an attribute a value.
     SetAttribute,
     /// Shows the value of an attribute.
@@ -74,6 +84,9 @@ fn client_verb(word: &str) -> Option<Verb>
     }
     if word == "revoke" {
         return Some(Verb::Revoke);
+    }
+    if word == "move" {
+        return Some(Verb::Move);
     }
     None
 }
@@ -266,6 +279,7 @@ pub(crate) fn command<'a>(alloc: Global, verb: Verb) -> Result<Command<'a>, Allo
         Verb::Peers => peers(alloc),
         Verb::Grant => grant(alloc),
         Verb::Revoke => revoke(alloc),
+        Verb::Move => move_ticket(alloc),
         Verb::SetAttribute => set(alloc),
         Verb::GetAttribute => get(alloc),
         Verb::DeleteAttribute => delete(alloc),

@@ -10,8 +10,8 @@ mod program;
 mod reading;
 mod word;
 
-pub use asking::{Asked, ClientWords, DaemonWords, Refusal, SimulationWords, ask};
-pub use command::Verb;
+pub use asking::{Asked, ClientWords, DaemonWords, MoveWords, Refusal, SimulationWords, ask};
+pub use command::{Verb, version};
 pub use program::Program;
 pub use reading::MOST_EVENTS;
 pub use word::Word;

@@ -5,7 +5,7 @@ ghost use Rattle.std.specs.Prelude.{eqb};
 ghost use Rattle.std.specs.List.{list_any, ends_with};
 ghost use Rattle.booth_words.specs.Given.{texts_of};
 ghost use Rattle.booth_words.specs.Reading.{completed, conf_path, default_lock, default_records, HasAddress, HasName, options_in};
-ghost use Rattle.booth_words.specs.Reading.{AreNumbers, HasNumber, HasNumberOr, IsNoAddress, IsNoName, IsNoNumber, IsNoPath, IsNoValue, Names, Reads, Refuses};
+ghost use Rattle.booth_words.specs.Reading.{AreAddresses, AreNumbers, HasNumber, HasNumberOr, IsNoAddress, IsNoName, IsNoNumber, IsNoPath, IsNoValue, Names, Reads, Refuses};
 
 use crate::Word;
 use crate::given::Given;
@@ -39,6 +39,7 @@ pub(crate) struct Read {
     pub name: Option<Name>,
     pub value: Option<AttrValue>,
     pub options: Options,
+    pub target: Option<Address>,
     pub site: Option<Address>,
     pub turns: Option<u64>,
     pub events: u64,
@@ -121,6 +122,27 @@ fn address_in(word: Option<&str>) -> Result<Option<Address>, Refused>
     };
     match Address::read(word.as_bytes()) {
         Ok(address) => Ok(Some(address)),
+        Err(_) => Err(Refused),
+    }
+}
+
+/// The addresses that words spell.
+#[derive(Drop)]
+struct Addresses {
+    target: Option<Address>,
+    site: Option<Address>,
+}
+
+// The address of the site that a ticket is moved to is read first.
+fn addresses_in(given: &Given) -> Result<Addresses, Refused>
+    ensures { MatchResult result (λ a. AreAddresses (texts_of given.now) a)
+        (λ _. Refuses (texts_of given.now) Word.Site) }
+{
+    let Ok(target) = address_in(given.target) else {
+        return Err(Refused);
+    };
+    match address_in(given.site) {
+        Ok(site) => Ok(Addresses { target, site }),
         Err(_) => Err(Refused),
     }
 }
@@ -314,7 +336,7 @@ pub(crate) fn read_words(given: &Given) -> Result<Read, Word>
         Ok(named) => named,
         Err(word) => return Err(word),
     };
-    let Ok(site) = address_in(given.site) else {
+    let Ok(addresses) = addresses_in(given) else {
         return Err(Word::Site);
     };
     let Ok(numbers) = numbers_in(given) else {
@@ -331,7 +353,8 @@ pub(crate) fn read_words(given: &Given) -> Result<Read, Word>
         name: named.name,
         value: named.value,
         options: options_in(given),
-        site,
+        target: addresses.target,
+        site: addresses.site,
         turns: numbers.turns,
         events: numbers.events,
         number: numbers.number,

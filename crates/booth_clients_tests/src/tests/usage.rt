@@ -39,8 +39,8 @@ list -c  -s 1.2.3.04 => e 1 BadWord(Site) booth: bad site$";
 
 // How a run ends whose words have no command.
 const NO_COMMAND: &str =
-    "e 1 Usage(None) booth: usage: booth COMMAND [OPTIONS], with the command list, peers, grant or \
-    revoke; see --help behind it$";
+    "e 1 Usage(None) booth: usage: booth COMMAND [OPTIONS], with the command list, peers, grant, \
+    revoke or move; see --help behind it$";
 
 #[test]
 fn what_is_no_command_of_the_client_is_usage(rt: HostRuntime) {
@@ -100,4 +100,22 @@ Usage: booth revoke [OPTIONS] <TICKET>$|\
 -s <ADDRESS>|\
 -w";
     check_help(&rt, rt.alloc(), "revoke --help", pieces);
+    let pieces = "\
+p 0 Usage(Some(DisplayHelp)) |\
+Usage: booth move [OPTIONS] <TICKET> <ADDRESS>$|\
+<TICKET>|\
+<ADDRESS>|\
+-c <CONF>|\
+-s <ADDRESS>|\
+-w";
+    check_help(&rt, rt.alloc(), "move --help", pieces);
+}
+
+#[test]
+fn the_version_is_that_of_the_program(rt: HostRuntime) {
+    let table = "\
+list --version => p 0 Usage(Some(DisplayVersion)) booth 0.2.0$
+client move -V => p 0 Usage(Some(DisplayVersion)) booth 0.2.0$
+geostore get --version => p 0 Usage(Some(DisplayVersion)) geostore 0.2.0$";
+    check_words(&rt, rt.alloc(), table);
 }

@@ -127,7 +127,7 @@ How many events, 0 to 10000000 [default: 100000]$|\
 The number that the events are drawn by [default: 1]$|\
 boothd(8)";
     check_help(&rt, rt.alloc(), "sim --help", pieces);
-    let pieces = "p 0 Usage(Some(DisplayVersion)) |0.2.0$";
+    let pieces = "p 0 Usage(Some(DisplayVersion)) boothd 0.2.0$";
     check_help(&rt, rt.alloc(), "daemon -s x --version", pieces);
     check_help(&rt, rt.alloc(), "status -V", pieces);
 }

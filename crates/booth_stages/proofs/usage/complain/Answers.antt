@@ -3,4 +3,4 @@ use Rattle.booth_stages.proofs.usage.complain.Goals as goal
 
 pub returns-clause-past : goal.returns-clause-past
 returns-clause-past g c =
-    complained c.args.kind c.none.result c.as_bytes.result.now c.err.result c.requires.mistake c.none.ensures c.err.ensures.past
+    complained c.args.program c.args.kind c.none.result c.as_bytes.result.now c.err.result c.requires.mistake c.none.ensures c.err.ensures.past

@@ -1,0 +1,115 @@
+#!/usr/bin/env python3
+"""Measures `booth move -w` at three proved boothd on loopback: from exec to exit, and how long nobody held.
+
+Run it as `python3 bench/moves.py [BOOTHD BOOTH]`, the programs being what `make build` leaves where they are left out.
+It prints one table and takes half a minute. The members share this machine with each other and with what else it does.
+
+How long nobody held is told from outside, by the record files alone: a look is a read of the old holder's record and of
+the new one's. It is the time between the last look at which the old record was in force and the first at which the new
+one is, so it is too long by the time of two looks at most.
+"""
+
+import itertools
+import os
+import statistics
+import sys
+import tempfile
+import threading
+import time
+
+HERE = os.path.dirname(os.path.abspath(__file__))
+sys.path[:0] = [HERE, f"{HERE}/../tools"]
+
+from members import TICKET, Cluster, now
+from run import Row, one_run
+from serving import NotServing, built_program, end_by_signals, own_addresses
+
+TRIES = 40
+# nobody holds for so long at most, in milliseconds
+MARK = 50
+# how long the old holder and the new one are looked at, in seconds, where a move does not end
+SECONDS_OF_A_LOOK = 20
+
+ADDRESSES = own_addresses()
+
+
+def require(holds, what):
+    if not holds:
+        raise NotServing(what)
+
+
+class Looks(threading.Thread):
+    """Looks from a move's begin to the new holder's lease, as often as it can."""
+
+    def __init__(self, old, new):
+        super().__init__(daemon=True)
+        self.old, self.new = old, new
+        self.looks, self.free = 0, None
+
+    def holds(self, member):
+        record = member.record()
+        return record is not None and record.holds(now())
+
+    def run(self):
+        last = started = time.perf_counter()
+        while last - started < SECONDS_OF_A_LOOK:
+            moment = time.perf_counter()
+            self.looks += 1
+            if self.holds(self.old):
+                last = moment
+            elif self.holds(self.new):
+                self.free = time.perf_counter() - last
+                return
+
+
+def move_words(made, target):
+    return [made.client, "move", "-w", TICKET.decode(), target.address, "-c", made.conf]
+
+
+def moved(made, old, new):
+    """How long a move from one to the other took, and how long nobody held, in milliseconds."""
+    looks = Looks(old, new)
+    looks.start()
+    took = one_run(move_words(made, new))
+    looks.join()
+    require(looks.free is not None, "the new holder's record was not seen")
+    return took * 1e3, looks.free * 1e3, looks.looks
+
+
+def rows(programs, folder):
+    """Moves between the two sites, of which each is looked at, and as many of which none is."""
+    with Cluster(programs[0], folder, list(itertools.islice(ADDRESSES, 3)), client=programs[1]) as made:
+        made.remember()
+        made.start()
+        one, two, _ = made.members
+        one_run([made.client, "grant", "-w", TICKET.decode(), "-c", made.conf, "-s", one.address])
+        pairs = list(itertools.islice(itertools.cycle([(one, two), (two, one)]), TRIES))
+        seen = [moved(made, old, new) for old, new in pairs]
+        made.watch.end()
+        alone = [one_run(move_words(made, new)) * 1e3 for _, new in pairs]
+        require(not made.watch.wrong, f"two held at one moment: {made.watch.wrong[:3]}")
+    free = [each[1] for each in seen]
+    shown = f"{statistics.median(alone):.1f} ms (lowest: {min(alone):.1f} ms, highest: {max(alone):.1f} ms)"
+    yield Row("booth move -w, exec to exit, three members", shown)
+    late = "" if statistics.median(free) < MARK else ", MISSED"
+    shown = f"{statistics.median(free):.1f} ms (highest: {max(free):.1f} ms; mark: below {MARK} ms{late})"
+    yield Row("nobody held, by the record files", shown)
+
+
+def main(words):
+    end_by_signals()
+    programs = words if len(words) == 2 else [built_program("boothd"), built_program("booth")]
+    if None in programs:
+        sys.exit("moves.py: boothd or booth is not built: run make build")
+    programs = [os.path.abspath(program) for program in programs]
+    try:
+        with tempfile.TemporaryDirectory(prefix="booth-bench-") as folder:
+            for row in rows(programs, f"{folder}/members"):
+                print(f"{row.name:64} {row.value}", flush=True)
+    except NotServing as why:
+        sys.exit(f"moves.py: {why}")
+    return 0
+
+
+if __name__ == "__main__":
+    sys.exit(main(sys.argv[1:]))

@@ -1,0 +1,131 @@
+"""Clusters of which a ticket is moved from one site to another, by one command.
+
+It is imported by tests/cluster.py, and not run by itself.
+"""
+
+import time
+
+from members import MANUAL, now, wait_for
+from stories import BY_HAND, NAME, PATIENCE, grants, is_held_by, keeps, lists, passed, require, says, slack, story
+
+# how often the ticket goes to the other site and back
+ROUND_TRIPS = 5
+
+
+def moves(asked, target, *options, name=NAME):
+    """A move that is asked of this member is done."""
+    says(asked, ("move", *options, name, target.address), 0, f"ticket {name} moved to {target.address}\n")
+
+
+def is_free(cluster, holder):
+    """Nobody holds the ticket that this member gave back, and nobody lists it."""
+    require(holder.record().until is None, "the lease that was given back is kept")
+    shown = lambda: [m.address for m in cluster.members if m.is_running() and m.shown()]
+    require(wait_for(lambda: not shown(), PATIENCE), "an owner is listed")
+
+
+def stays_free(cluster):
+    """Nobody takes it over by itself, for longer than a takeover would take."""
+    end = now() + cluster.times.abstention() + 2 * cluster.times.timeout
+    while now() < end:
+        holders = [m.address for m in cluster.members if (record := m.record()) and record.holds(now())]
+        require(not holders, f"{holders} took it over")
+        time.sleep(0.05)
+
+
+@story
+def many_tickets_of_which_one_is_moved(cluster):
+    """a cluster whose ticket is moved to and fro while others are renewed"""
+    one, two, arbitrator = cluster.members
+    cluster.remember()
+    cluster.start()
+    for ticket in cluster.tickets:
+        says(one, ("grant", "-w", ticket.decode()), 0, f"ticket {ticket.decode()} granted\n")
+    others = {ticket: one.record(ticket).until for ticket in cluster.tickets[1:]}
+    end, trips, longest = now() + 2 * cluster.times.renewal, 0, 0
+    while now() < end or trips < ROUND_TRIPS:
+        # (in turn by the site that holds it, and by the one that does not)
+        for asked, holder, target in ((one, one, two), (one, two, one)):
+            started = now()
+            moves(asked, target, "-w")
+            longest = max(longest, now() - started)
+            require(target.record().holds(now()), "it is told as moved, and is not held")
+            require(holder.record().until is None, "the site that gave it back has its lease")
+        trips += 1
+    require(longest < PATIENCE, f"a move took {longest:.3f} s")
+    renewed = [ticket for ticket, until in others.items() if one.record(ticket).until != until]
+    require(len(renewed) == len(others), f"{len(renewed)} of {len(others)} others were renewed meanwhile")
+    passed(f"a ticket is moved to the other site and back {trips} times while {len(others)} others are renewed")
+    moves(two, one, "-w")
+    require(wait_for(lambda: is_held_by(cluster, one), PATIENCE), "it is not held where it was")
+    passed("a move to the site that holds it gives it back and has it granted there anew")
+    says(one, ("move", NAME, arbitrator.address), 1, f"booth: {arbitrator.address} is not a site\n")
+    require(one.record().holds(now()), "what was refused changed something")
+    says(one, ("revoke", NAME), 0, f"ticket {NAME} revoked\n")
+    says(one, ("move", "-w", NAME, two.address), 1, "booth: ticket is not granted\n")
+    is_free(cluster, one)
+    passed("a move to an arbitrator, or of a ticket that nobody holds, is refused, and nobody gets it")
+
+
+@story
+def a_move_to_a_site_that_is_down(cluster):
+    """a cluster whose ticket is moved to a site that does not run"""
+    one, two, _ = cluster.members
+    cluster.remember()
+    cluster.start()
+    grants(cluster, 0)
+    two.kill()
+    asked = now()
+    says(one, ("move", "-w", NAME, two.address), 1, "booth: no reply\n")
+    require(5 < now() - asked < 5 + 2 * slack(), f"it was told after {now() - asked:.2f} s")
+    is_free(cluster, one)
+    passed("a move to a site that is down is told as one without a reply, and the ticket is given back")
+    stays_free(cluster)
+    two.start(cluster.program, cluster.conf)
+    is_free(cluster, one)
+    says(one, ("grant", "-w", NAME), 0, f"ticket {NAME} granted\n")
+    require(wait_for(lambda: is_held_by(cluster, one), PATIENCE), "it is not held where it was")
+    passed("nobody takes it over by itself, and a grant has it back where it was")
+    moves(two, two, "-w")
+    lists(cluster, two)
+    passed("once the site runs again the ticket is moved there, also by the site that is to have it")
+
+
+@story
+def a_move_that_attributes_forbid(cluster):
+    """a cluster whose ticket is moved to a site where an attribute forbids its grant"""
+    one, two, _ = cluster.members
+    cluster.remember()
+    cluster.start()
+    # (so that a takeover would be let at both)
+    for member in (one, two):
+        keeps(member, ("set", "ready", "yes"), 0, "")
+    keeps(two, ("set", "maintenance", "yes"), 0, "")
+    grants(cluster, 0)
+    told = f"booth: ticket {NAME} is revoked, and its grant was refused: prerequisite not met\n"
+    says(one, ("move", "-w", NAME, two.address), 1, told)
+    is_free(cluster, one)
+    passed("a move whose grant is refused says that the ticket is revoked, and why")
+    stays_free(cluster)
+    passed("nobody takes it over by itself")
+    keeps(two, ("delete", "maintenance"), 0, "")
+    says(two, ("grant", "-w", NAME), 0, f"ticket {NAME} granted\n")
+    require(wait_for(lambda: is_held_by(cluster, two), PATIENCE), "it is not held")
+    passed("it is granted there once what refused it is mended")
+
+
+@story
+def a_move_of_a_manual_ticket(cluster):
+    """a cluster whose manual ticket is moved"""
+    one, two, _ = cluster.members
+    cluster.start()
+    says(one, ("grant", BY_HAND), 0, f"ticket {BY_HAND} granted\n")
+    moves(one, two, name=BY_HAND)
+    kept = [member.record(MANUAL).until for member in (one, two)]
+    require(kept[0] is None and kept[1] is not None, f"the records have {kept}")
+    moves(one, one, "-w", name=BY_HAND)
+    kept = [member.record(MANUAL).until for member in (one, two)]
+    require(kept[1] is None and kept[0] is not None, f"the records have {kept}")
+    shown_everywhere = lambda: {m.shown(MANUAL) for m in cluster.members} == {one.address}
+    require(wait_for(shown_everywhere, PATIENCE), "it is not listed at its owner")
+    passed("a manual ticket is moved to the other site and back, and has one owner each time")
