@@ -199,15 +199,13 @@ def steps_of_the_wall_clock_do_not_touch_a_lease(folder, boothd, **_):
             require(len(said_of(one, words)) == 1, f"it is told again: {one.printed()}")
         step(-60)
         one.kill()
-        try:
-            one.start(boothd, cluster.conf)
-            require(wait_for(lambda: said_of(one, "ms behind"), 3), f"a start tells nothing: {one.printed()}")
-            start = "a start goes on with it"
-        except NotServing as why:
-            require("the wall clock was set since the boot" in str(why), f"a start: {why}")
-            start = "a start is refused"
+        one.start(boothd, cluster.conf)
+        require(wait_for(lambda: said_of(one, "ms behind"), 3), f"a start tells nothing: {one.printed()}")
+        until = one.record().until
+        renewed = wait_for(lambda: one.record().until > until, TIMES.expire)
+        require(renewed and one.record().holds(now()), f"a start with a wall clock that was set: {one.printed()}")
         require(not cluster.watch.wrong and cluster.watch.is_looking(), f"two held: {cluster.watch.wrong[:3]}")
-    return f"it renews through steps of -60 s, +90 s and -30 s, each told once; {start}"
+    return "it renews through steps of -60 s, +90 s and -30 s, each told once, and through a start behind one"
 
 
 def ip(*words):

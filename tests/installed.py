@@ -103,13 +103,13 @@ def pages_have_all_texts(room):
     daemon, clients = page("boothd.8"), page("booth.8") + page("geostore.8")
     refusals = said_in("booth_clients", "refusals.rt")
     need("prerequisite not met" in refusals, f"no refusal was found in the program, but {sorted(refusals)}")
-    missing = [text for text in refusals if not re.search(rf"^\.It {re.escape(text)}", clients, re.M)]
+    missing = [text for text in refusals if not re.search(rf"^\.It (?:ticket NAME )?{re.escape(text)}", clients, re.M)]
     need(not missing, f"not in booth.8 or geostore.8: {missing}")
     faults = {text for text in said_in("booth_stages", "texts.rt") if re.fullmatch("[a-z_ -]+", text) and text not in ("line", "ticket")}
     need("misplaced key" in faults, f"no fault was found in the program, but {sorted(faults)}")
     # (what is wrong with the times of a ticket stands there in other words)
     faults -= {"renewal-freq is not below expire", "timeout and retries do not fit renewal-freq"}
-    words = {"bad ticket", "bad name", "bad value"}
+    words = {"bad ticket", "bad name", "bad value", "is not a site"}
     missing = [text for text in faults - words if text not in daemon] + [text for text in words if text not in clients]
     need(not missing, f"not in the pages: {missing}")
 

@@ -1,4 +1,4 @@
-"""A cluster whose daemons tell their log: what each says of a grant, a takeover, a refused handler and a keep that fails.
+"""Daemons that tell their log: what each says of a grant, a takeover, a refused handler and a keep that fails.
 
 It is imported by tests/cluster.py, and not run by itself. The lines are those of docs/OPERATING.md.
 """
@@ -78,7 +78,7 @@ def a_log_with_a_handler(cluster):
     says(one, ("revoke", NAME), 1, "booth: failed\n")
     os.remove(path)
     os.rename(aside, path)
-    failed = f"boothd: cannot keep the record of ticket {NAME}: No space left on device (os error 28)"
+    failed = f"boothd: cannot keep the record of ticket {NAME}: it is no regular file"
     found = one.printed().decode().splitlines()[4:6]
     require(found == [failed, lease("fails to give back", one.record())], f"{one.address} told {found}")
     passed("and where the record could not be kept, that the lease may not be given back")

@@ -276,7 +276,8 @@ class Room:
 
     def ended(self, words):
         """The status, standard output and standard error of a run that ends by itself."""
-        how = {"stdin": subprocess.DEVNULL, "capture_output": True, "timeout": SECONDS_TO_END}
+        quiet = {**os.environ, "BOOTH_LOG": "off"}
+        how = {"stdin": subprocess.DEVNULL, "capture_output": True, "timeout": SECONDS_TO_END, "env": quiet}
         try:
             ran = subprocess.run([self.program, *words], **how)
         except subprocess.TimeoutExpired:

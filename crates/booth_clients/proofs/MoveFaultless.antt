@@ -8,7 +8,6 @@ use Rattle.booth_host.specs.declared.entry.Entry.{Entry}
 use Rattle.booth_host.specs.declared.entry.Entry.TheVariants.{Open, Now, ReadFile, Out}
 use Rattle.booth_client.specs.Waiting.{calls_of}
 use Rattle.booth_move.specs.declared.carrying.Moving.{Moving as Move_}
-use Rattle.booth_move.specs.declared.carrying.Sending.{Sending}
 use Rattle.booth_move.specs.declared.deeds.MoveEnd.{MoveEnd}
 use Rattle.booth_move.specs.declared.deeds.MoveEnd.TheVariants as ends
 use Rattle.booth_move.specs.Carrying.{IsCarried, calls_so_far, request_bytes, send_call}
@@ -33,17 +32,15 @@ use Rattle.booth_clients.proofs.ClientFaultless.{AreAmong, keyless, left_among, 
 module _ (conf : List ℕ) (entries : List Entry) (free : IsUnhindered conf entries) where
   -- ---- a move of which a request was not sent
 
-  unsent : (moving : Move_) (s : Sending) (start : ℕ) (failed : Failed) → Contains entries (send_call moving start s (Err failed)) → ⊥
-  unsent moving s start failed here = free.sent s.to (request_bytes moving s.what s.number start) failed here
-
   uncarried : (moving : Move_) (start : ℕ) (failed : Failed) (part : List Entry) → AreAmong part entries → IsCarried moving start (Err failed) part → ⊥
   uncarried moving start failed part all (inl u) =
-      unsent moving u.s start failed (only verbs.Move conf entries free (send_call moving start u.s (Err failed)) part u.whole all)
+      free.sent u.s.to (request_bytes moving u.s.what u.s.number start) failed
+      (only verbs.Move conf entries free (send_call moving start u.s (Err failed)) part u.whole all)
   uncarried moving start failed part all (inr u) =
       let call : Entry = send_call moving u.last.reading u.s (Err failed) in
       let late = right_among (calls_so_far moving start u.pairs) (calls_of u.last ++ call ∷ []) entries part u.whole all in
       let last = right_among (calls_of u.last) (call ∷ []) entries (calls_of u.last ++ call ∷ []) refl late in
-      unsent moving u.s u.last.reading failed (last call (first_of call []))
+      free.sent u.s.to (request_bytes moving u.s.what u.s.number u.last.reading) failed (last call (first_of call []))
 
   -- ---- how it ends
 

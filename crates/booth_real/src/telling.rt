@@ -26,11 +26,11 @@ struct Limit {
     lines: u32,
 }
 
-/// What goes on to fail, of which one line a minute is said.
+/// What goes on to fail: of it one line is said a minute after its first failure, and then one a minute.
 #[derive(Clone, Copy)]
 struct Paced {
-    /// When the next line may be said, in milliseconds since the boot.
-    next: u64,
+    /// When the next line may be said, in milliseconds since the boot, once something failed.
+    next: Option<u64>,
     /// How many failures were passed over since the last one.
     passed: u64,
 }
@@ -64,19 +64,21 @@ impl Limit {
 
 impl Paced {
     fn new() -> Paced {
-        Paced { next: 0, passed: 0 }
+        Paced {
+            next: None,
+            passed: 0,
+        }
     }
 
     // How many failures were passed over before this one, where a line is due.
     fn due(&mut self, now: u64) -> Option<u64> {
-        if now < self.next {
-            self.passed = self.passed.saturating_add(1);
-            return None;
+        let is_due = self.next.is_some_and(|next| next <= now);
+        if is_due || self.next.is_none() {
+            self.next = Some(now.saturating_add(MINUTE_MS));
         }
-        self.next = now.saturating_add(MINUTE_MS);
         let passed = self.passed;
-        self.passed = 0;
-        Some(passed)
+        self.passed = if is_due { 0 } else { passed.saturating_add(1) };
+        if is_due { Some(passed) } else { None }
     }
 }
 
@@ -181,7 +183,7 @@ impl Telling {
         self.say(rt, step_line(step));
     }
 
-    /// Says that a send failed, once a minute.
+    /// Says that sends fail, where that goes on.
     pub(crate) fn unsent(&mut self, rt: &HostRuntime, to: &Peer, error: &io::Error) {
         if let Some(passed) = self.sends.due(now()) {
             let address = to.address.print();
@@ -190,7 +192,7 @@ impl Telling {
         }
     }
 
-    /// Says that a receive failed, once a minute.
+    /// Says that receives fail, where that goes on.
     pub(crate) fn unreceived(&mut self, rt: &HostRuntime, error: &io::Error) {
         if let Some(passed) = self.receives.due(now()) {
             let line = failed_line(&[b"cannot receive"], error);

@@ -2,6 +2,7 @@
 //!
 //! What fails of the system ends the test. No host is dropped but where that lets go of something: the process ends
 //! with its test, and a proof that one is dropped is long.
+mod clocks;
 mod devices;
 mod handlers;
 mod links;

@@ -74,7 +74,7 @@ fn steps(rt: &impl Abort, alloc: Global) -> Vec<Step> {
             "working" | "failing" => Arrival::Quiet,
             "ends" => Arrival::Handler {
                 job: u64::from(number_of(rt, words.next().unwrap_or(""))),
-                status: number_of(rt, words.next().unwrap_or("")) as i32,
+                status: i32::try_from(number_of(rt, words.next().unwrap_or(""))).expect(rt, row),
             },
             _ => continue,
         };
@@ -113,7 +113,12 @@ fn memory_host(rt: &impl Abort, alloc: Global) -> MemoryHost {
 }
 
 // Makes the call of a row, if it is one.
-fn call(rt: &impl Abort, host: &mut LogHost<MemoryHost, MemoryLines>, datagram: &mut Datagram, row: &str) {
+fn call(
+    rt: &impl Abort,
+    host: &mut LogHost<MemoryHost, MemoryLines>,
+    datagram: &mut Datagram,
+    row: &str,
+) {
     let mut words = row.split(' ');
     let verb = words.next().unwrap_or("");
     let ticket = words.next().unwrap_or("");
@@ -160,12 +165,11 @@ fn each_call_is_told_as_the_rows_say(rt: HostRuntime) {
     }
     let said = host.lines().said().expect(&rt, "told");
     let rows = STORY.lines().filter(|row| row.starts_with("boothd: "));
-    let mut place = 0usize;
-    for row in rows {
-        let line = said.get(place).expect(&rt, row);
-        assert!(&rt; line.bytes() == format!(in alloc; "{row}\n").expect(&rt, row).as_bytes(), "{row}");
-        place += 1;
+    for (line, row) in said.iter().zip(rows) {
+        let told = format!(in alloc; "{row}\n").expect(&rt, row);
+        assert!(&rt; line.bytes() == told.as_bytes(), "{row}");
     }
-    assert_eq!(&rt; said.len(), place);
+    let rows = STORY.lines().filter(|row| row.starts_with("boothd: "));
+    assert_eq!(&rt; said.len(), rows.count());
     mem::forget(host);
 }

@@ -8,17 +8,19 @@ use booth_real::RealHost;
 use booth_rec::{Lease, Record};
 use std::alloc::Global;
 use std::fs::File;
+use std::io::Write;
+use std::os::fd::AsRawFd;
 use std::os::unix::fs::MetadataExt;
 use std::process::{Abort, Command};
 use std::rt::{Clock, Files, Processes};
 use std::time::{Duration, Instant, SystemTime};
-use std::{fs, mem, thread};
+use std::{fs, io, mem, thread};
 
 const LOOPBACK: Address = Address::V4([127, 0, 0, 1]);
 
 const LOOPBACK_6: Address = Address::V6([0, 0, 0, 0, 0, 0, 0, 0, 0, 0, 0, 0, 0, 0, 0, 1]);
 
-fn place(rt: &impl Abort, local: Option<Address>, port: u16, records: &str) -> Place {
+pub(super) fn place(rt: &impl Abort, local: Option<Address>, port: u16, records: &str) -> Place {
     Place {
         local,
         port,
@@ -28,7 +30,7 @@ fn place(rt: &impl Abort, local: Option<Address>, port: u16, records: &str) -> P
 }
 
 // A host without an address that keeps its records in this directory.
-fn keeper(rt: &impl Abort, own: &HostRuntime, directory: &str) -> RealHost {
+pub(super) fn keeper(rt: &impl Abort, own: &HostRuntime, directory: &str) -> RealHost {
     let mut host = new_host(rt, own);
     open(rt, &mut host, &place(rt, None, 0, directory));
     host
@@ -425,5 +427,54 @@ fn a_lock_is_of_a_regular_file(rt: HostRuntime) {
     let opened = host.open(&place(&rt, None, 0, "booth-host-locked"));
     assert!(rt; opened.is_err(), "the lock of a directory of records");
     remove_all(&rt, "booth-host-locked");
+    mem::forget(host);
+}
+
+// (a link to a file of zeros, which keeps no record where it is in its place itself)
+#[test]
+fn a_record_is_kept_in_a_regular_file(rt: HostRuntime) {
+    let directory = "booth-host-kinds";
+    let mut host = keeper(&rt, &rt, directory);
+    write(&rt, "booth-host-kinds/zeros", &[0; 64]);
+    for kind in ["mkfifo", "mkdir", "ln -s zeros"] {
+        let file = "booth-host-kinds/7469636b65742d646238.rec";
+        let mut words = kind.split(' ');
+        let program = words.next().expect(&rt, "a program");
+        let mut command = Command::new(rt.alloc(), program).expect(&rt, "memory");
+        for word in words {
+            command.arg(word).expect(&rt, "memory");
+        }
+        command.arg(file).expect(&rt, "memory");
+        assert!(rt; command.status(&rt).expect(&rt, kind).success());
+        let name = ticket(&rt);
+        assert!(rt; host.kept(&name) == Err(Failed), "{kind}");
+        assert!(rt;
+            host.keep(&name, &Record::plain(1, None)) == Err(Failed),
+            "{kind}"
+        );
+        fs::rename(&rt, file, kind).expect(&rt, kind);
+    }
+    remove(&rt, "mkfifo");
+    fs::remove_dir(&rt, "mkdir").expect(&rt, "mkdir");
+    remove(&rt, "ln -s zeros");
+    remove_all(&rt, directory);
+    mem::forget(host);
+}
+
+// (the pipe's other end is kept open, so that it is one that can be read for its byte alone)
+#[test]
+fn another_file_that_can_be_read_ends_a_wait(rt: HostRuntime) {
+    let mut host = keeper(&rt, &rt, "");
+    let mut datagram = Datagram::new(rt.alloc()).expect(&rt, "memory");
+    let (reader, mut writer) = io::pipe(&rt).expect(&rt, "a pipe");
+    let start = Instant::now(&rt).expect(&rt, "a clock");
+    host.wake_on(reader.as_raw_fd());
+    assert!(rt; host.next(100, &mut datagram) == Ok(Arrival::Quiet));
+    let empty = start.elapsed(&rt).expect(&rt, "a clock").as_millis();
+    assert!(rt; empty >= 80, "it waited {empty} ms");
+    writer.write_all(b"x").expect(&rt, "a byte");
+    assert!(rt; host.next(60_000, &mut datagram) == Ok(Arrival::Quiet));
+    let filled = start.elapsed(&rt).expect(&rt, "a clock").as_millis();
+    assert!(rt; filled < 30_000, "it waited {filled} ms");
     mem::forget(host);
 }

@@ -49,7 +49,8 @@ fn opened(rt: &(impl Abort + Clock), links: &mut RealLinks, piece: &mut Piece) -
 fn fill(rt: &impl Abort, links: &mut RealLinks, link: u32, bytes: &[u8]) -> usize {
     let mut all = 0usize;
     for _ in 0..100_000 {
-        let Ok(taken) = links.write(link, &bytes[all % PERIOD..]) else {
+        let rest = bytes.get(all % PERIOD..).expect(rt, "bytes");
+        let Ok(taken) = links.write(link, rest) else {
             panic!(rt; "a write failed");
         };
         if taken == 0 {
@@ -79,10 +80,10 @@ fn drain(
         match peer.read(&mut buffer) {
             Ok(count) => {
                 let first = came % PERIOD;
-                assert!(rt;
-                    buffer[..count] == bytes[first..][..count],
-                    "other bytes came"
-                );
+                let rest = bytes.get(first..).expect(rt, "bytes");
+                let due = rest.get(..count).expect(rt, "bytes");
+                let read = buffer.get(..count).expect(rt, "bytes");
+                assert!(rt; read == due, "other bytes came");
                 came = came.saturating_add(count);
             }
             Err(error) => assert!(rt; error.kind() == ErrorKind::WouldBlock, "no read"),
@@ -107,10 +108,9 @@ fn a_link_takes_no_more_than_its_queue_and_gives_all_it_took(rt: HostRuntime) {
     let all = fill(&rt, &mut links, link, &bytes);
     assert!(&rt; all >= QUEUE_BYTES, "the queue is smaller");
     drain(&rt, &mut links, &mut piece, &mut peer, &bytes, all);
-    assert!(&rt;
-        links.write(link, &bytes[..100]) == Ok(100),
-        "it takes nothing again"
-    );
+    let more = bytes.get(..100).expect(&rt, "bytes");
+    let taken = links.write(link, more);
+    assert!(&rt; taken == Ok(100), "it takes nothing again");
 }
 
 #[test]

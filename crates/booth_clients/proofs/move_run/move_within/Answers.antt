@@ -2,8 +2,8 @@ use Rattle.std.proofs.Common.{sym}
 use Rattle.booth_clients.proofs.MoveLemmas.{at_no_site, at_site, is_there}
 use Rattle.booth_clients.proofs.move_run.move_within.Goals as goal
 
-pub move_to-requires-site : goal.move_to-requires-site
-move_to-requires-site g c = is_there c.args.asked.target c.args.config c.in-Some.target (sym c.in-Some.ensures)
+pub move_to-requires-clause-site : goal.move_to-requires-clause-site
+move_to-requires-clause-site g c = is_there c.args.asked.target c.args.config c.in-Some.target (sym c.in-Some.ensures)
 
 pub returns-in-Some-clause-past : goal.returns-in-Some-clause-past
 returns-in-Some-clause-past g c =
