@@ -5,7 +5,8 @@ use Rattle.std.specs.List.{All}
 use Rattle.std.proofs.lemmas.List.{length-replicate}
 use Rattle.std.proofs.lemmas.Option.{slice_get_cases}
 use Rattle.booth_base.specs.declared.address.Peer.{Peer}
-use Rattle.booth_base.specs.Tree.{Ends, Does, Leads, next}
+use Rattle.booth_base.specs.Tree.{Ends, Does, Leads, ◌>>=◌}
+use Rattle.booth_base.proofs.TreeLemmas.{Split, at_end, split}
 use Rattle.booth_conf.specs.Lookups.{is_called}
 use Rattle.booth_wire.specs.declared.command.Direction.{Direction}
 use Rattle.booth_wire.specs.declared.command.Direction.TheVariants.{ToDaemon, ToClient, BetweenMembers}
@@ -34,7 +35,7 @@ use Rattle.booth_node.specs.declared.event.Event.TheVariants.{Due, Heard, Asked,
 use Rattle.booth_node.specs.declared.node.Turn.{Turn}
 use Rattle.booth_node.specs.declared.node.Turn.TheVariants.{Went, Stopped}
 use Rattle.booth_node.specs.declared.node_config.NodeConfig.{NodeConfig}
-use Rattle.booth_node.specs.AttributeRequests.{attr_letter, is_ready}
+use Rattle.booth_node.specs.AttributeRequests.{attr_message, is_ready}
 use Rattle.booth_node.specs.Calls.{IsAmong, ReachesWaiters}
 use Rattle.booth_node.specs.Counting.{accepted, dropped}
 use Rattle.booth_node.specs.Laws.{IsSettled, NobodyIsForgotten, NothingRests, OpensWithItsTickets, KeepsItsTickets, DropsAlone, CountsEachFault, drops_by, drops_after, IsReplyTo, ClientsAreAnswered, asked_by, request_let_in, request_of, OthersAreNotAnswered}
@@ -42,16 +43,16 @@ use Rattle.booth_node.specs.Opening.{AreSetUp, start_reading}
 use Rattle.booth_node.specs.Jobs.{job_at}
 use Rattle.booth_node.specs.Reaction.{Action, Drops, Hears, Asks, Attends, Answers, Rests, Send, IsDone, action, after_attending, acts, acts_as, all_places, arrived, demanded, due_places, dues, each_due, each_over, met, react, sent_as, turn_end}
 use Rattle.booth_node.specs.State.{State}
-use Rattle.booth_node.proofs.ActionLemmas.{ticket_below}
+use Rattle.booth_node.proofs.RoutingLemmas.{ticket_below}
 use Rattle.booth_node.proofs.ComesLemmas.{Comes, IsAnsweredAtOnce, IsAsked, IsAttended, IsHeard, comes}
 use Rattle.booth_node.proofs.DueLemmas.{Each, all_of_each}
-use Rattle.booth_node.proofs.PathLemmas.{Seen, Split, at_end, is_send, seen_parts, split}
+use Rattle.booth_node.proofs.PathLemmas.{Seen, is_send, seen_parts}
 use Rattle.booth_node.proofs.StayLemmas.{AllFewer, AllRemember, Stays, acted_at, acted_remember, acted_set_up, acted_undropped, acts_stay, all_among, as_many, dues_stay, each_fewer, each_over_stays, remember_on, set_up_at, started_set_up, stays_here}
 use Rattle.booth_node.proofs.ReachLemmas.{Replies, each_joined, reply_act}
 use Rattle.booth_node.proofs.TalkLemmas.{asked_replied, heard_among}
 
 abbrev pub at_moment : State → ℕ → State
-at_moment state moment = record state { last_reading = moment }
+at_moment state now = record state { last_reading = now }
 
 -- ---- the tickets
 
@@ -61,48 +62,48 @@ opens node records reading same = (
   length-replicate {A = List Waiter} (length node.config.tickets) [],
 )
 
-module _ (node : NodeConfig) (moment : ℕ) where
+module _ (node : NodeConfig) (now : ℕ) where
   acts_set_up : (state : State) (place : ℕ) (event : Event) (es : List Entry) (after : State)
       → AreSetUp node state
-      → Leads (IsDone node.key) (acts node moment state place event) es (Ends after) → AreSetUp node after
+      → Leads (IsDone node.key) (acts node now state place event) es (Ends after) → AreSetUp node after
   acts_set_up state place event es after set_up leads = by_ticket (slice_get state.tickets place) refl
     where
       by_ticket : (o : Option TicketState) → slice_get state.tickets place ≡ o → AreSetUp node after
       by_ticket None is =
           (stays_here node state after es set_up
           (subst (λ (o : Option TicketState). Leads (IsDone node.key)
-          (acts_as node moment state place event o) es (Ends after))
+          (acts_as node now state place event o) es (Ends after))
           is leads)).set_up
       by_ticket (Some ticket) is =
-          acted_set_up node moment state place event ticket es after set_up is
-          (acted_at node moment state place event ticket es after is leads)
+          acted_set_up node now state place event ticket es after set_up is
+          (acted_at node now state place event ticket es after is leads)
 
   met_set_up : (state : State) (from : Peer) (a : Action) (es : List Entry) (after : State)
       → AreSetUp node state
-      → Leads (IsDone node.key) (met node moment state from a) es (Ends after) → AreSetUp node after
+      → Leads (IsDone node.key) (met node now state from a) es (Ends after) → AreSetUp node after
   met_set_up state from (Drops fault) es after set_up leads =
       (stays_here node (dropped state fault) after es set_up leads).set_up
   met_set_up state from (Hears member ticket head part) es after set_up leads =
-      acts_set_up (accepted state member moment) ticket (Heard member head part) es after set_up leads
+      acts_set_up (accepted state member now) ticket (Heard member head part) es after set_up leads
   met_set_up state from (Asks ticket request) es after set_up leads =
       acts_set_up state ticket (Asked request) es after set_up leads
   met_set_up state from (Attends ticket request) [] after set_up leads = absurd cc
   met_set_up state from (Attends ticket request) (e ∷ es) after set_up leads =
       (stays_here node (after_attending state ticket request) after es set_up leads.2).set_up
-  met_set_up state from (Answers letter) [] after set_up leads = absurd cc
-  met_set_up state from (Answers letter) (e ∷ es) after set_up leads =
+  met_set_up state from (Answers message) [] after set_up leads = absurd cc
+  met_set_up state from (Answers message) (e ∷ es) after set_up leads =
       (stays_here node state after es set_up leads.2).set_up
   met_set_up state from Rests es after set_up leads = (stays_here node state after es set_up leads).set_up
 
   arrived_set_up : (state : State) (arrival : Result Arrival Failed) (bytes : List ℕ) (es : List Entry)
       (after : State)
       → AreSetUp node state
-      → Leads (IsDone node.key) (arrived node moment state arrival bytes) es (Ends after)
+      → Leads (IsDone node.key) (arrived node now state arrival bytes) es (Ends after)
       → AreSetUp node after
   arrived_set_up state (Ok (arrivals.Datagram from)) bytes es after set_up leads =
-      met_set_up state from (action node moment state.tickets state.common from bytes) es after set_up leads
+      met_set_up state from (action node now state.tickets state.common from bytes) es after set_up leads
   arrived_set_up state (Ok (arrivals.Handler job status)) bytes es after set_up leads =
-      (each_over_stays node moment job (service_of status) (all_places state) state after es set_up leads).set_up
+      (each_over_stays node now job (service_of status) (all_places state) state after es set_up leads).set_up
   arrived_set_up state (Ok arrivals.Quiet) bytes es after set_up leads =
       (stays_here node state after es set_up leads).set_up
   arrived_set_up state (Ok arrivals.Stop) bytes es after set_up leads =
@@ -112,66 +113,66 @@ module _ (node : NodeConfig) (moment : ℕ) where
 
 -- the arrival's row of a turn, and then the deadlines'
 abbrev pub Parts : NodeConfig → State → ℕ → Result Arrival Failed → List ℕ → List Entry → State → Type 0
-Parts node old moment arrival bytes entries new =
-    Split (IsDone node.key) (arrived node moment (at_moment old moment) arrival bytes)
-    (dues node moment (turn_end arrival)) entries new
+Parts node old now arrival bytes entries new =
+    Split (IsDone node.key) (arrived node now (at_moment old now) arrival bytes)
+    (dues node now (turn_end arrival)) entries new
 
-pub parts_of : (node : NodeConfig) (old new : State) (moment : ℕ) (arrival : Result Arrival Failed)
+pub parts_of : (node : NodeConfig) (old new : State) (now : ℕ) (arrival : Result Arrival Failed)
     (bytes : List ℕ)
-    (entries : List Entry) → Leads (IsDone node.key) (react node old moment arrival bytes) entries (Ends new)
-    → Parts node old moment arrival bytes entries new
-parts_of node old new moment arrival bytes entries leads =
-    split (IsDone node.key) (arrived node moment (at_moment old moment) arrival bytes)
-    (dues node moment (turn_end arrival))
+    (entries : List Entry) → Leads (IsDone node.key) (react node old now arrival bytes) entries (Ends new)
+    → Parts node old now arrival bytes entries new
+parts_of node old new now arrival bytes entries leads =
+    split (IsDone node.key) (arrived node now (at_moment old now) arrival bytes)
+    (dues node now (turn_end arrival))
     entries new leads
 
 pub keeps : KeepsItsTickets
-keeps node old new moment arrival bytes entries set_up leads =
-    let parts = parts_of node old new moment arrival bytes entries leads in
-    (dues_stay node moment (turn_end arrival) parts.mid new parts.later
-    (arrived_set_up node moment (at_moment old moment) arrival bytes parts.first parts.mid set_up
+keeps node old new now arrival bytes entries set_up leads =
+    let parts = parts_of node old new now arrival bytes entries leads in
+    (dues_stay node now (turn_end arrival) parts.mid new parts.later
+    (arrived_set_up node now (at_moment old now) arrival bytes parts.first parts.mid set_up
     parts.to_mid) parts.to_end).set_up
 
 -- ---- what a datagram comes to
 
-settled : (node : NodeConfig) (from : Peer) (letter : PlainMessage) (a : Action) → Comes node from letter a
+settled : (node : NodeConfig) (from : Peer) (message : PlainMessage) (a : Action) → Comes node from message a
     → IsSettled node a
-settled node from letter a (IsAnsweredAtOnce to reply is replies) = subst (λ (x : Action). IsSettled node x)
+settled node from message a (IsAnsweredAtOnce to reply is replies) = subst (λ (x : Action). IsSettled node x)
     (sym is) tt
-settled node from letter a (IsAsked to place request is part named same_from same_number answer) =
+settled node from message a (IsAsked to place request is part named same_from same_number answer) =
     subst (λ (x : Action). IsSettled node x) (sym is)
     (ticket_below node.config.tickets part.ticket place named)
-settled node from letter a (IsAttended to place request is below number answer) =
+settled node from message a (IsAttended to place request is below number answer) =
     subst (λ (x : Action). IsSettled node x) (sym is) below
-settled node from letter a (IsHeard to member place part is content known named) =
+settled node from message a (IsHeard to member place part is content known named) =
     subst (λ (x : Action). IsSettled node x) (sym is) (known, named)
 
 pub rests_not : NothingRests
-rests_not node moment state from bytes = by_verdict (verdict node.config node.key node.me moment bytes) refl
+rests_not node now state from bytes = by_verdict (verdict node.config node.key node.me now bytes) refl
   where
-    by_verdict : (v : Result PlainMessage DropFault) → verdict node.config node.key node.me moment bytes ≡ v
-        → IsSettled node (action node moment state.tickets state.common from bytes)
+    by_verdict : (v : Result PlainMessage DropFault) → verdict node.config node.key node.me now bytes ≡ v
+        → IsSettled node (action node now state.tickets state.common from bytes)
     by_verdict (Err fault) is =
         subst (λ (v : Result PlainMessage DropFault). IsSettled node
-        (demanded node moment state.tickets state.common from v))
+        (demanded node now state.tickets state.common from v))
         (sym is) tt
-    by_verdict (Ok letter) is =
-        settled node from letter (action node moment state.tickets state.common from bytes)
-        (comes node moment state.tickets state.common from bytes letter is)
+    by_verdict (Ok message) is =
+        settled node from message (action node now state.tickets state.common from bytes)
+        (comes node now state.tickets state.common from bytes message is)
 
 -- ---- drops
 
 pub alone : DropsAlone
-alone node old new moment from bytes fault entries is leads =
+alone node old new now from bytes fault entries is leads =
     subst (λ (v : Result PlainMessage DropFault).
     Leads (IsDone node.key)
-    (next (met node moment (at_moment old moment) from (demanded node moment old.tickets old.common from v))
-    (dues node moment Went))
+    (met node now (at_moment old now) from (demanded node now old.tickets old.common from v)
+    >>= dues node now Went)
     entries (Ends new)) is leads
 
-module _ (node : NodeConfig) (moment : ℕ) where
+module _ (node : NodeConfig) (now : ℕ) where
   acts_undropped : (state : State) (place : ℕ) (event : Event) (es : List Entry) (after : State)
-      → Leads (IsDone node.key) (acts node moment state place event) es (Ends after)
+      → Leads (IsDone node.key) (acts node now state place event) es (Ends after)
       → after.common.drops ≡ state.common.drops
   acts_undropped state place event es after leads = by_ticket (slice_get state.tickets place) refl
     where
@@ -181,102 +182,102 @@ module _ (node : NodeConfig) (moment : ℕ) where
           ap (λ (s : State). s.common.drops)
           (at_end (IsDone node.key) state after es
           (subst (λ (o : Option TicketState). Leads (IsDone node.key)
-          (acts_as node moment state place event o) es (Ends after))
+          (acts_as node now state place event o) es (Ends after))
           is leads)).1
       by_ticket (Some ticket) is =
-          acted_undropped node moment state place event ticket es after
-          (acted_at node moment state place event ticket es after is leads)
+          acted_undropped node now state place event ticket es after
+          (acted_at node now state place event ticket es after is leads)
 
   each_undropped : (places : List ℕ) (state after : State) (es : List Entry)
-      → Leads (IsDone node.key) (each_due node moment places state) es (Ends after)
+      → Leads (IsDone node.key) (each_due node now places state) es (Ends after)
       → after.common.drops ≡ state.common.drops
   each_undropped [] state after es leads = ap (λ (s : State). s.common.drops)
       (at_end (IsDone node.key) state after es leads).1
   each_undropped (place ∷ places) state after es leads =
-      let parts : Split (IsDone node.key) (acts node moment state place Due) (each_due node moment places)
+      let parts : Split (IsDone node.key) (acts node now state place Due) (each_due node now places)
       es after =
-      split (IsDone node.key) (acts node moment state place Due) (each_due node moment places) es after
+      split (IsDone node.key) (acts node now state place Due) (each_due node now places) es after
       leads in
       each_undropped places parts.mid after parts.later parts.to_end
       ∙ acts_undropped state place Due parts.first parts.mid parts.to_mid
 
   each_over_undropped : (job : ℕ) (service : Service) (places : List ℕ) (state after : State) (es : List Entry)
-      → Leads (IsDone node.key) (each_over node moment job service places state) es (Ends after)
+      → Leads (IsDone node.key) (each_over node now job service places state) es (Ends after)
       → after.common.drops ≡ state.common.drops
   each_over_undropped job service [] state after es leads = ap (λ (s : State). s.common.drops)
       (at_end (IsDone node.key) state after es leads).1
   each_over_undropped job service (place ∷ places) state after es leads =
-      let parts : Split (IsDone node.key) (acts node moment state place (Over job service))
-      (each_over node moment job service places) es after =
-      split (IsDone node.key) (acts node moment state place (Over job service))
-      (each_over node moment job service places) es after leads in
+      let parts : Split (IsDone node.key) (acts node now state place (Over job service))
+      (each_over node now job service places) es after =
+      split (IsDone node.key) (acts node now state place (Over job service))
+      (each_over node now job service places) es after leads in
       each_over_undropped job service places parts.mid after parts.later parts.to_end
       ∙ acts_undropped state place (Over job service) parts.first parts.mid parts.to_mid
 
   dues_undropped : (turn : Turn) (state after : State) (es : List Entry)
-      → Leads (IsDone node.key) (dues node moment turn state) es (Ends after)
+      → Leads (IsDone node.key) (dues node now turn state) es (Ends after)
       → after.common.drops ≡ state.common.drops
-  dues_undropped Went state after es leads = each_undropped (due_places moment state.tickets) state after es
+  dues_undropped Went state after es leads = each_undropped (due_places now state.tickets) state after es
       leads
   dues_undropped Stopped state after es leads = ap (λ (s : State). s.common.drops)
       (at_end (IsDone node.key) state after es leads).1
 
-  let_in_undropped : (state : State) (from : Peer) (letter : PlainMessage) (a : Action) (es : List Entry)
+  let_in_undropped : (state : State) (from : Peer) (message : PlainMessage) (a : Action) (es : List Entry)
       (after : State)
-      → Comes node from letter a → Leads (IsDone node.key) (met node moment state from a) es (Ends after)
+      → Comes node from message a → Leads (IsDone node.key) (met node now state from a) es (Ends after)
       → after.common.drops ≡ state.common.drops
-  let_in_undropped state from letter a es after (IsAnsweredAtOnce to reply is replies) leads =
-      sent es (subst (λ (x : Action). Leads (IsDone node.key) (met node moment state from x) es
+  let_in_undropped state from message a es after (IsAnsweredAtOnce to reply is replies) leads =
+      sent es (subst (λ (x : Action). Leads (IsDone node.key) (met node now state from x) es
       (Ends after)) is leads)
     where
       sent : (es : List Entry)
-          → Leads (IsDone node.key) (met node moment state from (Answers reply)) es (Ends after)
+          → Leads (IsDone node.key) (met node now state from (Answers reply)) es (Ends after)
           → after.common.drops ≡ state.common.drops
       sent [] leads = absurd cc
       sent (e ∷ es) leads = ap (λ (s : State). s.common.drops)
           (at_end (IsDone node.key) state after es leads.2).1
-  let_in_undropped state from letter a es after
+  let_in_undropped state from message a es after
       (IsAsked to place request is part named same_from same_number answer) leads =
       acts_undropped state place (Asked request) es after
-      (subst (λ (x : Action). Leads (IsDone node.key) (met node moment state from x) es (Ends after)) is
+      (subst (λ (x : Action). Leads (IsDone node.key) (met node now state from x) es (Ends after)) is
       leads)
-  let_in_undropped state from letter a es after (IsAttended to place request is below number answer) leads =
-      sent es (subst (λ (x : Action). Leads (IsDone node.key) (met node moment state from x) es
+  let_in_undropped state from message a es after (IsAttended to place request is below number answer) leads =
+      sent es (subst (λ (x : Action). Leads (IsDone node.key) (met node now state from x) es
       (Ends after)) is leads)
     where
       sent : (es : List Entry)
-          → Leads (IsDone node.key) (met node moment state from (Attends place request)) es (Ends after)
+          → Leads (IsDone node.key) (met node now state from (Attends place request)) es (Ends after)
           → after.common.drops ≡ state.common.drops
       sent [] leads = absurd cc
       sent (e ∷ es) leads = ap (λ (s : State). s.common.drops)
           (at_end (IsDone node.key) (after_attending state place request) after es leads.2).1
-  let_in_undropped state from letter a es after (IsHeard to member place part is content known named) leads =
-      acts_undropped (accepted state member moment) place (Heard member letter.head part) es after
-      (subst (λ (x : Action). Leads (IsDone node.key) (met node moment state from x) es (Ends after)) is
+  let_in_undropped state from message a es after (IsHeard to member place part is content known named) leads =
+      acts_undropped (accepted state member now) place (Heard member message.head part) es after
+      (subst (λ (x : Action). Leads (IsDone node.key) (met node now state from x) es (Ends after)) is
       leads)
 
   arrived_drops : (state : State) (arrival : Result Arrival Failed) (bytes : List ℕ) (es : List Entry)
       (after : State)
-      → Leads (IsDone node.key) (arrived node moment state arrival bytes) es (Ends after)
-      → after.common.drops ≡ drops_after node moment state.common arrival bytes
+      → Leads (IsDone node.key) (arrived node now state arrival bytes) es (Ends after)
+      → after.common.drops ≡ drops_after node now state.common arrival bytes
   arrived_drops state (Ok (arrivals.Datagram from)) bytes es after leads =
-      by_verdict (verdict node.config node.key node.me moment bytes) refl
+      by_verdict (verdict node.config node.key node.me now bytes) refl
     where
-      by_verdict : (v : Result PlainMessage DropFault) → verdict node.config node.key node.me moment bytes ≡ v
-          → after.common.drops ≡ drops_by state.common (verdict node.config node.key node.me moment bytes)
+      by_verdict : (v : Result PlainMessage DropFault) → verdict node.config node.key node.me now bytes ≡ v
+          → after.common.drops ≡ drops_by state.common (verdict node.config node.key node.me now bytes)
       by_verdict (Err fault) is =
           ap (λ (s : State). s.common.drops)
           (at_end (IsDone node.key) (dropped state fault) after es
           (subst (λ (v : Result PlainMessage DropFault).
           Leads (IsDone node.key)
-          (met node moment state from (demanded node moment state.tickets state.common from v)) es
+          (met node now state from (demanded node now state.tickets state.common from v)) es
           (Ends after))
           is leads)).1
           ∙ ap (λ (v : Result PlainMessage DropFault). drops_by state.common v) (sym is)
-      by_verdict (Ok letter) is =
-          let_in_undropped state from letter (action node moment state.tickets state.common from bytes) es
+      by_verdict (Ok message) is =
+          let_in_undropped state from message (action node now state.tickets state.common from bytes) es
           after
-          (comes node moment state.tickets state.common from bytes letter is) leads
+          (comes node now state.tickets state.common from bytes message is) leads
           ∙ ap (λ (v : Result PlainMessage DropFault). drops_by state.common v) (sym is)
   arrived_drops state (Ok (arrivals.Handler job status)) bytes es after leads =
       each_over_undropped job (service_of status) (all_places state) state after es leads
@@ -288,30 +289,30 @@ module _ (node : NodeConfig) (moment : ℕ) where
       ap (λ (s : State). s.common.drops) (at_end (IsDone node.key) state after es leads).1
 
 pub counts : CountsEachFault
-counts node old new moment arrival bytes entries leads =
-    let parts = parts_of node old new moment arrival bytes entries leads in
-    dues_undropped node moment (turn_end arrival) parts.mid new parts.later parts.to_end
-    ∙ arrived_drops node moment (at_moment old moment) arrival bytes parts.first parts.mid parts.to_mid
+counts node old new now arrival bytes entries leads =
+    let parts = parts_of node old new now arrival bytes entries leads in
+    dues_undropped node now (turn_end arrival) parts.mid new parts.later parts.to_end
+    ∙ arrived_drops node now (at_moment old now) arrival bytes parts.first parts.mid parts.to_mid
 
 -- ---- clients
 
 -- the calls of an arrival that is a client's request
-record Answered (node : NodeConfig) (state : State) (from : Peer) (letter : PlainMessage)
+record Answered (node : NodeConfig) (state : State) (from : Peer) (message : PlainMessage)
     (es : List Entry) (after : State) : Type 0 where
   before : List Entry
   reply : PlainMessage
   answer : Result (Unit {0}) Failed
   whole : es ≡ before ++ calls.Send from (sealed node.key reply) answer ∷ []
-  replies : IsReplyTo node letter reply
+  replies : IsReplyTo node message reply
   among : Each (ReachesWaiters node state.waiters) before
   set_up : AreSetUp node after
 
-module _ (node : NodeConfig) (moment : ℕ) (state : State) (from : Peer) (letter : PlainMessage)
+module _ (node : NodeConfig) (now : ℕ) (state : State) (from : Peer) (message : PlainMessage)
     (set_up : AreSetUp node state) where
   answered_once : (reply : PlainMessage) (mid : State) (es : List Entry) (after : State)
-      → IsReplyTo node letter reply → AreSetUp node mid
+      → IsReplyTo node message reply → AreSetUp node mid
       → Leads (IsDone node.key) (Does (Send from reply) (λ ok. Ends mid)) es (Ends after)
-      → Answered node state from letter es after
+      → Answered node state from message es after
   answered_once reply mid [] after replies mid_set_up leads = absurd cc
   answered_once reply mid (e ∷ es) after replies mid_set_up leads =
       let sent = is_send node.key from reply leads.0 e leads.1 in
@@ -327,25 +328,25 @@ module _ (node : NodeConfig) (moment : ℕ) (state : State) (from : Peer) (lette
       }
 
   answered_so : (place : ℕ) (request : Request) (ticket : TicketState) (es : List Entry) (after : State)
-      → request.from ≡ from → request.number ≡ letter.head.request
-      → answer_of letter.head.cmd ≡ Some (reply_cmd request.wish)
+      → request.from ≡ from → request.number ≡ message.head.request
+      → answer_of message.head.cmd ≡ Some (reply_cmd request.wish)
       → slice_get state.tickets place ≡ Some ticket
-      → Leads (IsDone node.key) (acts node moment state place (Asked request)) es (Ends after)
-      → Answered node state from letter es after
+      → Leads (IsDone node.key) (acts node now state place (Asked request)) es (Ends after)
+      → Answered node state from message es after
   answered_so place request ticket es after same_from same_number answer there leads =
-      let acted = acted_at node moment state place (Asked request) ticket es after there leads in
+      let acted = acted_at node now state place (Asked request) ticket es after there leads in
       let waiters : List Waiter = waiting_at state.waiters place in
       let says : Replies ticket.setup waiters acted.left.waiters request (reply_cmd request.wish) acted.did =
       asked_replied ticket acted.left waiters (spare_in state.waiters)
-      (is_ready node state.attributes place) (job_at node place state.common) moment acted.did
+      (is_ready node state.attributes place) (job_at node place state.common) now acted.did
       request acted.leads in
       let last : Act = reply_act ticket.setup request (reply_cmd request.wish) says.result says.part says.ok in
       let own = set_up_at node state place ticket set_up there in
       let parts =
-      seen_parts node moment ticket.setup.ticket says.before (last ∷ []) es
-      (subst (λ (l : List Act). Seen node moment ticket.setup.ticket l es) says.whole acted.seen) in
+      seen_parts node now ticket.setup.ticket says.before (last ∷ []) es
+      (subst (λ (l : List Act). Seen node now ticket.setup.ticket l es) says.whole acted.seen) in
       let reply : PlainMessage =
-      sent_as node moment (head_of ticket.setup (reply_cmd request.wish) request.number 0 0 says.result)
+      sent_as node now (head_of ticket.setup (reply_cmd request.wish) request.number 0 0 says.result)
       says.part in
       let sent = parts.4.1 in
       record {
@@ -364,9 +365,9 @@ module _ (node : NodeConfig) (moment : ℕ) (state : State) (from : Peer) (lette
           reason = refl;
           from = ap (λ (s : Setup). s.me) own.2;
         };
-        among = all_among node moment ticket.setup.ticket ticket.setup place own state.waiters says.before parts.0
+        among = all_among node now ticket.setup.ticket ticket.setup place own state.waiters says.before parts.0
             says.among parts.3;
-        set_up = acted_set_up node moment state place (Asked request) ticket es after set_up there acted;
+        set_up = acted_set_up node now state place (Asked request) ticket es after set_up there acted;
       }
 
   -- the ticket at a place of the configuration
@@ -388,36 +389,36 @@ module _ (node : NodeConfig) (moment : ℕ) (state : State) (from : Peer) (lette
   differ : (d e : Direction) → d ≡ ToDaemon → d ≡ BetweenMembers → ⊥
   differ d e first second = cc
 
-  answered : (a : Action) (es : List Entry) (after : State) → direction_of letter.head.cmd ≡ ToDaemon
-      → Comes node from letter a
-      → Leads (IsDone node.key) (met node moment state from a) es (Ends after)
-      → Answered node state from letter es after
+  answered : (a : Action) (es : List Entry) (after : State) → direction_of message.head.cmd ≡ ToDaemon
+      → Comes node from message a
+      → Leads (IsDone node.key) (met node now state from a) es (Ends after)
+      → Answered node state from message es after
   answered a es after asks (IsAnsweredAtOnce to reply is replies) leads =
       answered_once reply state es after replies set_up
-      (subst (λ (x : Action). Leads (IsDone node.key) (met node moment state from x) es (Ends after)) is
+      (subst (λ (x : Action). Leads (IsDone node.key) (met node now state from x) es (Ends after)) is
       leads)
   answered a es after asks (IsAsked to place request is part named same_from same_number answer) leads =
       let it = ticket_there place part.ticket named in
       answered_so place request it.0 es after same_from same_number answer it.1
-      (subst (λ (x : Action). Leads (IsDone node.key) (met node moment state from x) es (Ends after)) is
+      (subst (λ (x : Action). Leads (IsDone node.key) (met node now state from x) es (Ends after)) is
       leads)
   answered a es after asks (IsAttended to place request is below number answer) leads =
-      answered_once (attr_letter node moment state.attributes place request)
+      answered_once (attr_message node now state.attributes place request)
       (after_attending state place request) es after
       (record { cmd = answer; request = number; options = refl; reason = refl; from = refl }) set_up
-      (subst (λ (x : Action). Leads (IsDone node.key) (met node moment state from x) es (Ends after)) is
+      (subst (λ (x : Action). Leads (IsDone node.key) (met node now state from x) es (Ends after)) is
       leads)
   answered a es after asks (IsHeard to member place part is content known named) leads = absurd
       (differ _ ToDaemon asks to)
 
 pub clients : ClientsAreAnswered
-clients node old new moment from letter entries set_up turn asks =
-    let parts = parts_of node old new moment (Ok (arrivals.Datagram from)) turn.bytes entries turn.deeds in
-    let a : Action = action node moment old.tickets old.common from turn.bytes in
-    let it : Answered node (at_moment old moment) from letter parts.first parts.mid =
-    answered node moment (at_moment old moment) from letter set_up a parts.first parts.mid asks
-    (comes node moment old.tickets old.common from turn.bytes letter turn.let_in) parts.to_mid in
-    let due = dues_stay node moment Went parts.mid new parts.later it.set_up parts.to_end in
+clients node old new now from message entries set_up turn asks =
+    let parts = parts_of node old new now (Ok (arrivals.Datagram from)) turn.bytes entries turn.deeds in
+    let a : Action = action node now old.tickets old.common from turn.bytes in
+    let it : Answered node (at_moment old now) from message parts.first parts.mid =
+    answered node now (at_moment old now) from message set_up a parts.first parts.mid asks
+    (comes node now old.tickets old.common from turn.bytes message turn.let_in) parts.to_mid in
+    let due = dues_stay node now Went parts.mid new parts.later it.set_up parts.to_end in
     record {
       before = it.before;
       reply = it.reply;
@@ -434,12 +435,12 @@ clients node old new moment from letter entries set_up turn asks =
 
 -- ---- nobody else is answered
 
-asks_nothing : (d : Direction) (letter : PlainMessage) → asked_by d letter ≡ None → d ≡ ToDaemon → ⊥
-asks_nothing ToDaemon letter none to = cc
-asks_nothing BetweenMembers letter none to = cc
-asks_nothing ToClient letter none to = cc
+asks_nothing : (d : Direction) (message : PlainMessage) → asked_by d message ≡ None → d ≡ ToDaemon → ⊥
+asks_nothing ToDaemon message none to = cc
+asks_nothing BetweenMembers message none to = cc
+asks_nothing ToClient message none to = cc
 
-module _ (node : NodeConfig) (moment : ℕ) (state : State) (set_up : AreSetUp node state) where
+module _ (node : NodeConfig) (now : ℕ) (state : State) (set_up : AreSetUp node state) where
   -- these calls reach members and those that wait alone, and nobody waits that did not
   record Quiet (es : List Entry) (after : State) : Type 0 where
     among : Each (ReachesWaiters node state.waiters) es
@@ -452,50 +453,50 @@ module _ (node : NodeConfig) (moment : ℕ) (state : State) (set_up : AreSetUp n
     fewer = subst (λ (ws : List (List Waiter)). AllFewer ws after.waiters) same stays.fewer;
   }
 
-  unasked_stays : (from : Peer) (letter : PlainMessage) (a : Action) (es : List Entry) (after : State)
-      → asked_by (direction_of letter.head.cmd) letter ≡ None → Comes node from letter a
-      → Leads (IsDone node.key) (met node moment state from a) es (Ends after)
+  unasked_stays : (from : Peer) (message : PlainMessage) (a : Action) (es : List Entry) (after : State)
+      → asked_by (direction_of message.head.cmd) message ≡ None → Comes node from message a
+      → Leads (IsDone node.key) (met node now state from a) es (Ends after)
       → Quiet es after
-  unasked_stays from letter a es after none (IsAnsweredAtOnce to reply is replies) leads =
-      absurd (asks_nothing (direction_of letter.head.cmd) letter none to)
-  unasked_stays from letter a es after none
+  unasked_stays from message a es after none (IsAnsweredAtOnce to reply is replies) leads =
+      absurd (asks_nothing (direction_of message.head.cmd) message none to)
+  unasked_stays from message a es after none
       (IsAsked to place request is part named same_from same_number answer) leads =
-      absurd (asks_nothing (direction_of letter.head.cmd) letter none to)
-  unasked_stays from letter a es after none (IsAttended to place request is below number answer) leads =
-      absurd (asks_nothing (direction_of letter.head.cmd) letter none to)
-  unasked_stays from letter a es after none (IsHeard to member place part is content known named) leads =
-      quiet_by (accepted state member moment) es after refl
-      (acts_stay node moment (accepted state member moment) place (Heard member letter.head part) es after
+      absurd (asks_nothing (direction_of message.head.cmd) message none to)
+  unasked_stays from message a es after none (IsAttended to place request is below number answer) leads =
+      absurd (asks_nothing (direction_of message.head.cmd) message none to)
+  unasked_stays from message a es after none (IsHeard to member place part is content known named) leads =
+      quiet_by (accepted state member now) es after refl
+      (acts_stay node now (accepted state member now) place (Heard member message.head part) es after
       (λ ticket left waiters spare ready job did leads.
-      heard_among ticket left waiters spare ready job moment did member letter.head part leads)
+      heard_among ticket left waiters spare ready job now did member message.head part leads)
       set_up
-      (subst (λ (x : Action). Leads (IsDone node.key) (met node moment state from x) es (Ends after)) is
+      (subst (λ (x : Action). Leads (IsDone node.key) (met node now state from x) es (Ends after)) is
       leads))
 
   arrived_unasked : (arrival : Result Arrival Failed) (bytes : List ℕ) (es : List Entry) (after : State)
-      → request_of node moment arrival bytes ≡ None
-      → Leads (IsDone node.key) (arrived node moment state arrival bytes) es (Ends after)
+      → request_of node now arrival bytes ≡ None
+      → Leads (IsDone node.key) (arrived node now state arrival bytes) es (Ends after)
       → Quiet es after
   arrived_unasked (Ok (arrivals.Datagram from)) bytes es after none leads =
-      by_verdict (verdict node.config node.key node.me moment bytes) refl
+      by_verdict (verdict node.config node.key node.me now bytes) refl
     where
-      by_verdict : (v : Result PlainMessage DropFault) → verdict node.config node.key node.me moment bytes ≡ v
+      by_verdict : (v : Result PlainMessage DropFault) → verdict node.config node.key node.me now bytes ≡ v
           → Quiet es after
       by_verdict (Err fault) is =
           quiet_by (dropped state fault) es after refl
           (stays_here node (dropped state fault) after es set_up
           (subst (λ (v : Result PlainMessage DropFault).
           Leads (IsDone node.key)
-          (met node moment state from (demanded node moment state.tickets state.common from v)) es
+          (met node now state from (demanded node now state.tickets state.common from v)) es
           (Ends after))
           is leads))
-      by_verdict (Ok letter) is =
-          unasked_stays from letter (action node moment state.tickets state.common from bytes) es after
+      by_verdict (Ok message) is =
+          unasked_stays from message (action node now state.tickets state.common from bytes) es after
           (ap (λ (v : Result PlainMessage DropFault). request_let_in v) (sym is) ∙ none)
-          (comes node moment state.tickets state.common from bytes letter is) leads
+          (comes node now state.tickets state.common from bytes message is) leads
   arrived_unasked (Ok (arrivals.Handler job status)) bytes es after none leads =
       quiet_by state es after refl
-      (each_over_stays node moment job (service_of status) (all_places state) state after es set_up leads)
+      (each_over_stays node now job (service_of status) (all_places state) state after es set_up leads)
   arrived_unasked (Ok arrivals.Quiet) bytes es after none leads =
       quiet_by state es after refl (stays_here node state after es set_up leads)
   arrived_unasked (Ok arrivals.Stop) bytes es after none leads =
@@ -504,13 +505,13 @@ module _ (node : NodeConfig) (moment : ℕ) (state : State) (set_up : AreSetUp n
       quiet_by state es after refl (stays_here node state after es set_up leads)
 
 pub others : OthersAreNotAnswered
-others node old new moment arrival bytes entries set_up leads none =
-    let parts = parts_of node old new moment arrival bytes entries leads in
-    let first = arrived_unasked node moment (at_moment old moment) set_up arrival bytes parts.first
+others node old new now arrival bytes entries set_up leads none =
+    let parts = parts_of node old new now arrival bytes entries leads in
+    let first = arrived_unasked node now (at_moment old now) set_up arrival bytes parts.first
     parts.mid none parts.to_mid in
     let due =
-    dues_stay node moment (turn_end arrival) parts.mid new parts.later
-    (arrived_set_up node moment (at_moment old moment) arrival bytes parts.first parts.mid set_up
+    dues_stay node now (turn_end arrival) parts.mid new parts.later
+    (arrived_set_up node now (at_moment old now) arrival bytes parts.first parts.mid set_up
     parts.to_mid) parts.to_end in
     subst (λ (l : List Entry). All (ReachesWaiters node old.waiters) l) (sym parts.whole)
     (all_of_each (ReachesWaiters node old.waiters) (parts.first ++ parts.later)
@@ -519,50 +520,50 @@ others node old new moment arrival bytes entries set_up leads none =
 
 -- ---- nobody is forgotten
 
-module _ (node : NodeConfig) (moment : ℕ) (state : State) (set_up : AreSetUp node state) where
+module _ (node : NodeConfig) (now : ℕ) (state : State) (set_up : AreSetUp node state) where
   abbrev Kept : List Entry → State → Type 0
   Kept es after = AllRemember node state.waiters after.waiters es
 
   asks_remember : (place : ℕ) (request : Request) (es : List Entry) (after : State)
-      → Leads (IsDone node.key) (acts node moment state place (Asked request)) es (Ends after) → Kept es after
+      → Leads (IsDone node.key) (acts node now state place (Asked request)) es (Ends after) → Kept es after
   asks_remember place request es after leads = by_ticket (slice_get state.tickets place) refl
     where
       by_ticket : (o : Option TicketState) → slice_get state.tickets place ≡ o → Kept es after
       by_ticket None is =
           (stays_here node state after es set_up
           (subst (λ (o : Option TicketState). Leads (IsDone node.key)
-          (acts_as node moment state place (Asked request) o) es (Ends after)) is leads)).remember
+          (acts_as node now state place (Asked request) o) es (Ends after)) is leads)).remember
       by_ticket (Some ticket) is =
-          let acted = acted_at node moment state place (Asked request) ticket es after is leads in
-          acted_remember node moment state place (Asked request) ticket es after set_up is acted
+          let acted = acted_at node now state place (Asked request) ticket es after is leads in
+          acted_remember node now state place (Asked request) ticket es after set_up is acted
           (asked_replied ticket acted.left (waiting_at state.waiters place) (spare_in state.waiters)
-          (is_ready node state.attributes place) (job_at node place state.common) moment acted.did request acted.leads).remembers
+          (is_ready node state.attributes place) (job_at node place state.common) now acted.did request acted.leads).remembers
 
   met_remember : (from : Peer) (a : Action) (es : List Entry) (after : State)
-      → Leads (IsDone node.key) (met node moment state from a) es (Ends after) → Kept es after
+      → Leads (IsDone node.key) (met node now state from a) es (Ends after) → Kept es after
   met_remember from (Drops fault) es after leads =
       (stays_here node (dropped state fault) after es set_up leads).remember
   met_remember from (Hears member ticket head part) es after leads =
-      (acts_stay node moment (accepted state member moment) ticket (Heard member head part) es after
-      (λ t left waiters spare ready job did l. heard_among t left waiters spare ready job moment did member head part l) set_up
+      (acts_stay node now (accepted state member now) ticket (Heard member head part) es after
+      (λ t left waiters spare ready job did l. heard_among t left waiters spare ready job now did member head part l) set_up
       leads).remember
   met_remember from (Asks ticket request) es after leads = asks_remember ticket request es after leads
   met_remember from (Attends ticket request) [] after leads = absurd cc
   met_remember from (Attends ticket request) (e ∷ es) after leads = λ place w h.
       inl (subst (λ (s : State). IsAmong w (waiting_at s.waiters place))
       (sym (at_end (IsDone node.key) (after_attending state ticket request) after es leads.2).1) h)
-  met_remember from (Answers letter) [] after leads = absurd cc
-  met_remember from (Answers letter) (e ∷ es) after leads = λ place w h.
+  met_remember from (Answers message) [] after leads = absurd cc
+  met_remember from (Answers message) (e ∷ es) after leads = λ place w h.
       inl (subst (λ (s : State). IsAmong w (waiting_at s.waiters place))
       (sym (at_end (IsDone node.key) state after es leads.2).1) h)
   met_remember from Rests es after leads = (stays_here node state after es set_up leads).remember
 
   arrived_remember : (arrival : Result Arrival Failed) (bytes : List ℕ) (es : List Entry) (after : State)
-      → Leads (IsDone node.key) (arrived node moment state arrival bytes) es (Ends after) → Kept es after
+      → Leads (IsDone node.key) (arrived node now state arrival bytes) es (Ends after) → Kept es after
   arrived_remember (Ok (arrivals.Datagram from)) bytes es after leads =
-      met_remember from (action node moment state.tickets state.common from bytes) es after leads
+      met_remember from (action node now state.tickets state.common from bytes) es after leads
   arrived_remember (Ok (arrivals.Handler job status)) bytes es after leads =
-      (each_over_stays node moment job (service_of status) (all_places state) state after es set_up leads).remember
+      (each_over_stays node now job (service_of status) (all_places state) state after es set_up leads).remember
   arrived_remember (Ok arrivals.Quiet) bytes es after leads =
       (stays_here node state after es set_up leads).remember
   arrived_remember (Ok arrivals.Stop) bytes es after leads =
@@ -570,13 +571,13 @@ module _ (node : NodeConfig) (moment : ℕ) (state : State) (set_up : AreSetUp n
   arrived_remember (Err failed) bytes es after leads = (stays_here node state after es set_up leads).remember
 
 pub nobody : NobodyIsForgotten
-nobody node old new moment arrival bytes entries set_up leads =
-    let parts = parts_of node old new moment arrival bytes entries leads in
-    let first = arrived_remember node moment (at_moment old moment) set_up arrival bytes parts.first parts.mid
+nobody node old new now arrival bytes entries set_up leads =
+    let parts = parts_of node old new now arrival bytes entries leads in
+    let first = arrived_remember node now (at_moment old now) set_up arrival bytes parts.first parts.mid
     parts.to_mid in
     let due =
-    dues_stay node moment (turn_end arrival) parts.mid new parts.later
-    (arrived_set_up node moment (at_moment old moment) arrival bytes parts.first parts.mid set_up
+    dues_stay node now (turn_end arrival) parts.mid new parts.later
+    (arrived_set_up node now (at_moment old now) arrival bytes parts.first parts.mid set_up
     parts.to_mid) parts.to_end in
     remember_on node old.waiters parts.mid.waiters new.waiters parts.first parts.later entries parts.whole first
     due.remember

@@ -29,8 +29,8 @@ use Rattle.booth_node.specs.declared.attributes.AttrRequest.{AttrRequest}
 use Rattle.booth_node.specs.declared.attributes.AttrWish.{AttrWish}
 use Rattle.booth_node.specs.declared.attributes.AttrWish.TheVariants as wishes
 use Rattle.booth_node.specs.AttributeRequests.{attended_place, attr_answer, attr_request_in, attr_request_of, attr_wish, is_at_site}
-use Rattle.booth_node.proofs.ActionLemmas.{place_at_site}
-use Rattle.booth_node.specs.Replies.{Reply, text_for, no_ticket, no_attribute, no_attribute_of, reply_with, reply_letter, reply_to, request_in, request_of, wish_of}
+use Rattle.booth_node.proofs.RoutingLemmas.{place_at_site}
+use Rattle.booth_node.specs.Replies.{Reply, text_for, no_ticket, no_attribute, no_attribute_of, reply_with, reply_message, reply_to, request_in, request_of, wish_of}
 use Rattle.booth_node.specs.Reaction.{Action, Hears, Asks, Attends, Answers, answers, asks, attends, attended, hears, requested, routed, said, demanded, action}
 use Rattle.booth_node.specs.Laws.{IsReplyTo}
 use Rattle.booth_ticket.specs.Requests.{reply_cmd}
@@ -137,158 +137,158 @@ asks_no_attribute head (Text text) none = refl
 
 -- A client's message is answered at once, or asked of a ticket or of its attributes, and a member's is heard by its
 -- ticket.
-pub data Comes (node : NodeConfig) (from : Sender) (letter : PlainMessage) (a : Action) : Type 0 where
-  IsAnsweredAtOnce : direction_of letter.head.cmd ≡ ToDaemon → (reply : PlainMessage) → a ≡ Answers reply
-      → IsReplyTo node letter reply → Comes node from letter a
-  IsAsked : direction_of letter.head.cmd ≡ ToDaemon → (place : ℕ) (request : Request) → a ≡ Asks place request
+pub data Comes (node : NodeConfig) (from : Sender) (message : PlainMessage) (a : Action) : Type 0 where
+  IsAnsweredAtOnce : direction_of message.head.cmd ≡ ToDaemon → (reply : PlainMessage) → a ≡ Answers reply
+      → IsReplyTo node message reply → Comes node from message a
+  IsAsked : direction_of message.head.cmd ≡ ToDaemon → (place : ℕ) (request : Request) → a ≡ Asks place request
       → (part : TicketPart) → position (is_called part.ticket) node.config.tickets ≡ Some place
-      → request.from ≡ from → request.number ≡ letter.head.request
-      → answer_of letter.head.cmd ≡ Some (reply_cmd request.wish) → Comes node from letter a
-  IsAttended : direction_of letter.head.cmd ≡ ToDaemon → (place : ℕ) (request : AttrRequest)
-      → a ≡ Attends place request → place < length node.config.tickets → request.number ≡ letter.head.request
-      → answer_of letter.head.cmd ≡ Some (attr_answer request.wish) → Comes node from letter a
-  IsHeard : direction_of letter.head.cmd ≡ BetweenMembers → (member place : ℕ) (part : TicketPart)
-      → a ≡ Hears member place letter.head part → letter.content ≡ Ticket part
-      → position (has_id letter.head.from) node.config.members ≡ Some member
-      → position (is_called part.ticket) node.config.tickets ≡ Some place → Comes node from letter a
+      → request.from ≡ from → request.number ≡ message.head.request
+      → answer_of message.head.cmd ≡ Some (reply_cmd request.wish) → Comes node from message a
+  IsAttended : direction_of message.head.cmd ≡ ToDaemon → (place : ℕ) (request : AttrRequest)
+      → a ≡ Attends place request → place < length node.config.tickets → request.number ≡ message.head.request
+      → answer_of message.head.cmd ≡ Some (attr_answer request.wish) → Comes node from message a
+  IsHeard : direction_of message.head.cmd ≡ BetweenMembers → (member place : ℕ) (part : TicketPart)
+      → a ≡ Hears member place message.head part → message.content ≡ Ticket part
+      → position (has_id message.head.from) node.config.members ≡ Some member
+      → position (is_called part.ticket) node.config.tickets ≡ Some place → Comes node from message a
 
-module _ (node : NodeConfig) (moment : ℕ) (tickets : List TicketState) (common : Common) (from : Sender)
-    (letter : PlainMessage) where
+module _ (node : NodeConfig) (now : ℕ) (tickets : List TicketState) (common : Common) (from : Sender)
+    (message : PlainMessage) where
   abbrev Routed : Action
-  Routed = routed node moment tickets common from letter (direction_of letter.head.cmd)
+  Routed = routed node now tickets common from message (direction_of message.head.cmd)
 
-  at_once : (cmd out : Cmd) → letter.head.cmd ≡ cmd → answer_of cmd ≡ Some out → direction_of cmd ≡ ToDaemon
-      → HasReply (reply_with (text_for node moment tickets common cmd) cmd letter.content)
-      → Routed ≡ answers node.key moment (reply_to node moment tickets common letter)
-      → Comes node from letter Routed
+  at_once : (cmd out : Cmd) → message.head.cmd ≡ cmd → answer_of cmd ≡ Some out → direction_of cmd ≡ ToDaemon
+      → HasReply (reply_with (text_for node now tickets common cmd) cmd message.content)
+      → Routed ≡ answers node.key now (reply_to node now tickets common message)
+      → Comes node from message Routed
   at_once cmd out is answer to found routes =
-      let reply : PlainMessage = reply_letter node.me letter.head.request out found.0 in
-      let same : reply_to node moment tickets common letter ≡ Some reply = rw (is, answer, found.1) refl in
-      IsAnsweredAtOnce (ap direction_of is ∙ to) (stamped node.key moment reply)
-      (routes ∙ ap (λ r. answers node.key moment r) same)
+      let reply : PlainMessage = reply_message node.me message.head.request out found.0 in
+      let same : reply_to node now tickets common message ≡ Some reply = rw (is, answer, found.1) refl in
+      IsAnsweredAtOnce (ap direction_of is ∙ to) (stamped node.key now reply)
+      (routes ∙ ap (λ r. answers node.key now r) same)
       (record { cmd = ap answer_of is ∙ answer; request = refl; options = refl; reason = refl; from = refl })
 
   -- a request that is about no ticket goes to none
-  unasked : (cmd out : Cmd) → letter.head.cmd ≡ cmd → answer_of cmd ≡ Some out → direction_of cmd ≡ ToDaemon
+  unasked : (cmd out : Cmd) → message.head.cmd ≡ cmd → answer_of cmd ≡ Some out → direction_of cmd ≡ ToDaemon
       → wish_of cmd ≡ None
       → ((name : Option (List ℕ)) (value : List ℕ) → attr_wish cmd name value ≡ None)
-      → HasReply (reply_with (text_for node moment tickets common cmd) cmd letter.content)
-      → Comes node from letter Routed
+      → HasReply (reply_with (text_for node now tickets common cmd) cmd message.content)
+      → Comes node from message Routed
   unasked cmd out is answer to none no_wish found =
       at_once cmd out is answer to found
-      (ap (λ d. routed node moment tickets common from letter d) (ap direction_of is ∙ to)
-      ∙ ap (λ w. requested node moment tickets common letter (request_of from letter.head w letter.content))
+      (ap (λ d. routed node now tickets common from message d) (ap direction_of is ∙ to)
+      ∙ ap (λ w. requested node now tickets common message (request_of from message.head w message.content))
       (ap wish_of is ∙ none)
-      ∙ ap (λ r. attended node r (answers node.key moment (reply_to node moment tickets common letter)))
-      (asks_no_attribute letter.head letter.content
+      ∙ ap (λ r. attended node r (answers node.key now (reply_to node now tickets common message)))
+      (asks_no_attribute message.head message.content
       (λ name value. ap (λ (k : Cmd). attr_wish k name value) is ∙ no_wish name value)))
 
   -- a request about attributes is attended to, or answered at once
-  attends_of : (cmd : Cmd) (part : AttrPart) (wish : AttrWish) → letter.head.cmd ≡ cmd
-      → direction_of cmd ≡ ToDaemon → wish_of cmd ≡ None → letter.content ≡ Attr part
+  attends_of : (cmd : Cmd) (part : AttrPart) (wish : AttrWish) → message.head.cmd ≡ cmd
+      → direction_of cmd ≡ ToDaemon → wish_of cmd ≡ None → message.content ≡ Attr part
       → attr_wish cmd part.name part.value ≡ Some wish → answer_of cmd ≡ Some (attr_answer wish)
-      → HasReply (reply_with (text_for node moment tickets common cmd) cmd letter.content)
-      → Comes node from letter Routed
+      → HasReply (reply_with (text_for node now tickets common cmd) cmd message.content)
+      → Comes node from message Routed
   attends_of cmd part wish is to none content wished answer found =
       by_place (attended_place node part.ticket) refl
     where
       once : Action
-      once = answers node.key moment (reply_to node moment tickets common letter)
+      once = answers node.key now (reply_to node now tickets common message)
 
       with_wish : AttrWish → AttrRequest
-      with_wish w = record { ticket = part.ticket; number = letter.head.request; wish = w }
+      with_wish w = record { ticket = part.ticket; number = message.head.request; wish = w }
 
-      asked : attr_request_in letter ≡ Some (with_wish wish)
+      asked : attr_request_in message ≡ Some (with_wish wish)
       asked =
-          ap (λ (c : Content). attr_request_of letter.head c) content
+          ap (λ (c : Content). attr_request_of message.head c) content
           ∙ ap (λ (k : Cmd). option_map with_wish (attr_wish k part.name part.value)) is
           ∙ ap (λ (w : Option AttrWish). option_map with_wish w) wished
 
       routes : (o : Option ℕ) → attended_place node part.ticket ≡ o
           → Routed ≡ attends o (with_wish wish) once
       routes o e =
-          ap (λ d. routed node moment tickets common from letter d) (ap direction_of is ∙ to)
-          ∙ ap (λ w. requested node moment tickets common letter (request_of from letter.head w letter.content))
+          ap (λ d. routed node now tickets common from message d) (ap direction_of is ∙ to)
+          ∙ ap (λ w. requested node now tickets common message (request_of from message.head w message.content))
           (ap wish_of is ∙ none)
           ∙ ap (λ r. attended node r once) asked
           ∙ ap (λ o. attends o (with_wish wish) once) e
 
-      by_place : (o : Option ℕ) → attended_place node part.ticket ≡ o → Comes node from letter Routed
+      by_place : (o : Option ℕ) → attended_place node part.ticket ≡ o → Comes node from message Routed
       by_place None e = at_once cmd (attr_answer wish) is answer to found (routes None e)
       by_place (Some place) e =
           IsAttended (ap direction_of is ∙ to) place (with_wish wish) (routes (Some place) e)
           (place_at_site node part.ticket (is_at_site node) place e) refl (ap answer_of is ∙ answer)
 
-  asks_of : (cmd : Cmd) (request : Request) → letter.head.cmd ≡ cmd → direction_of cmd ≡ ToDaemon
-      → (part : TicketPart) → request_in from letter ≡ Some (part, request)
+  asks_of : (cmd : Cmd) (request : Request) → message.head.cmd ≡ cmd → direction_of cmd ≡ ToDaemon
+      → (part : TicketPart) → request_in from message ≡ Some (part, request)
       → answer_of cmd ≡ Some (reply_cmd request.wish)
-      → HasReply (reply_with (text_for node moment tickets common cmd) cmd letter.content)
-      → request.from ≡ from → request.number ≡ letter.head.request → Comes node from letter Routed
+      → HasReply (reply_with (text_for node now tickets common cmd) cmd message.content)
+      → request.from ≡ from → request.number ≡ message.head.request → Comes node from message Routed
   asks_of cmd request is to part asked answer found same_from same_number =
       by_ticket (position (is_called part.ticket) node.config.tickets) refl
     where
       once : Action
-      once = answers node.key moment (reply_to node moment tickets common letter)
+      once = answers node.key now (reply_to node now tickets common message)
 
       routes : (o : Option ℕ) → position (is_called part.ticket) node.config.tickets ≡ o
           → Routed ≡ asks o request once
       routes o e =
-          ap (λ d. routed node moment tickets common from letter d) (ap direction_of is ∙ to)
-          ∙ ap (λ r. requested node moment tickets common letter r) asked
+          ap (λ d. routed node now tickets common from message d) (ap direction_of is ∙ to)
+          ∙ ap (λ r. requested node now tickets common message r) asked
           ∙ ap (λ o. asks o request once) e
 
       by_ticket : (o : Option ℕ) → position (is_called part.ticket) node.config.tickets ≡ o
-          → Comes node from letter Routed
+          → Comes node from message Routed
       by_ticket None e = at_once cmd (reply_cmd request.wish) is answer to found (routes None e)
       by_ticket (Some place) e =
           IsAsked (ap direction_of is ∙ to) place request (routes (Some place) e) part e same_from same_number
           (ap answer_of is ∙ answer)
 
-  repeats : (part : AttrPart) (name : List ℕ) → letter.content ≡ Attr part → part.name ≡ Some name
-      → HasReply (no_attribute letter.content)
+  repeats : (part : AttrPart) (name : List ℕ) → message.content ≡ Attr part → part.name ≡ Some name
+      → HasReply (no_attribute message.content)
   repeats part name content named =
       (_, ap no_attribute content ∙ ap (λ n. no_attribute_of part n) named)
 
-  client_comes : (cmd : Cmd) → letter.head.cmd ≡ cmd → direction_of cmd ≡ ToDaemon → IsRead cmd letter.content
-      → Comes node from letter Routed
+  client_comes : (cmd : Cmd) → message.head.cmd ≡ cmd → direction_of cmd ≡ ToDaemon → IsRead cmd message.content
+      → Comes node from message Routed
   client_comes CLst is to read = unasked CLst RLst is refl refl refl (λ name value. refl) (_, refl)
   client_comes Peer is to read = unasked Peer RPer is refl refl refl (λ name value. refl) (_, refl)
   client_comes CGnt is to read =
-      let it = ticket_part read.0 letter.content read.1 in
+      let it = ticket_part read.0 message.content read.1 in
       asks_of CGnt
       (record {
         wish = Grant;
         from = from;
-        number = letter.head.request;
-        options = letter.head.options;
+        number = message.head.request;
+        options = message.head.options;
       }) is refl it.0
-      (ap (λ w. request_of from letter.head w letter.content) (ap wish_of is)
-      ∙ ap (λ c. request_of from letter.head (Some Grant) c) it.1) refl (_, ap no_ticket it.1) refl refl
+      (ap (λ w. request_of from message.head w message.content) (ap wish_of is)
+      ∙ ap (λ c. request_of from message.head (Some Grant) c) it.1) refl (_, ap no_ticket it.1) refl refl
   client_comes CRvk is to read =
-      let it = ticket_part read.0 letter.content read.1 in
+      let it = ticket_part read.0 message.content read.1 in
       asks_of CRvk
       (record {
         wish = Revoke;
         from = from;
-        number = letter.head.request;
-        options = letter.head.options;
+        number = message.head.request;
+        options = message.head.options;
       }) is refl it.0
-      (ap (λ w. request_of from letter.head w letter.content) (ap wish_of is)
-      ∙ ap (λ c. request_of from letter.head (Some Revoke) c) it.1) refl (_, ap no_ticket it.1) refl refl
+      (ap (λ w. request_of from message.head w message.content) (ap wish_of is)
+      ∙ ap (λ c. request_of from message.head (Some Revoke) c) it.1) refl (_, ap no_ticket it.1) refl refl
   client_comes ASet is to read =
-      let it = named_part read.0 letter.content read.1 in
+      let it = named_part read.0 message.content read.1 in
       attends_of ASet it.0 (wishes.Set (record { name = it.1; value = it.0.value })) is refl refl it.2
       (ap (λ name. attr_wish ASet name it.0.value) it.3) refl (repeats it.0 it.1 it.2 it.3)
   client_comes AGet is to read =
-      let it = named_part read.0 letter.content read.1 in
+      let it = named_part read.0 message.content read.1 in
       attends_of AGet it.0 (wishes.Get (record { name = it.1; value = it.0.value })) is refl refl it.2
       (ap (λ name. attr_wish AGet name it.0.value) it.3) refl (repeats it.0 it.1 it.2 it.3)
   client_comes ADel is to read =
-      let it = named_part read.0 letter.content read.1 in
+      let it = named_part read.0 message.content read.1 in
       attends_of ADel it.0 (wishes.Delete (record { name = it.1; value = it.0.value })) is refl refl it.2
       (ap (λ name. attr_wish ADel name it.0.value) it.3) refl (repeats it.0 it.1 it.2 it.3)
   client_comes ALst is to read =
-      let it = attr_part _ _ _ letter.content read.1 in
+      let it = attr_part _ _ _ message.content read.1 in
       attends_of ALst it.0 wishes.List is refl refl it.1 refl refl (_, refl)
   client_comes RLst is to read = absurd cc
   client_comes RPer is to read = absurd cc
@@ -307,8 +307,8 @@ module _ (node : NodeConfig) (moment : ℕ) (tickets : List TicketState) (common
   client_comes Rjc is to read = absurd cc
 
   -- a member's command is about a ticket
-  member_part_of : (cmd : Cmd) → direction_of cmd ≡ BetweenMembers → IsRead cmd letter.content
-      → IsPart letter.content
+  member_part_of : (cmd : Cmd) → direction_of cmd ≡ BetweenMembers → IsRead cmd message.content
+      → IsPart message.content
   member_part_of CLst to read = absurd cc
   member_part_of Peer to read = absurd cc
   member_part_of CGnt to read = absurd cc
@@ -323,61 +323,61 @@ module _ (node : NodeConfig) (moment : ℕ) (tickets : List TicketState) (common
   member_part_of RGnt to read = absurd cc
   member_part_of RRvk to read = absurd cc
   member_part_of RAtr to read = absurd cc
-  member_part_of Stat to read = ticket_part read.0 letter.content read.1
-  member_part_of MIdx to read = ticket_part read.0 letter.content read.1
-  member_part_of RVot to read = ticket_part read.0 letter.content read.1
-  member_part_of VtFr to read = ticket_part read.0 letter.content read.1
-  member_part_of HrtB to read = ticket_part read.0 letter.content read.1
-  member_part_of Ack to read = ticket_part read.0 letter.content read.1
-  member_part_of UpdE to read = ticket_part read.0 letter.content read.1
-  member_part_of Revk to read = ticket_part read.0 letter.content read.1
-  member_part_of Rjc to read = ticket_part read.0 letter.content read.1
+  member_part_of Stat to read = ticket_part read.0 message.content read.1
+  member_part_of MIdx to read = ticket_part read.0 message.content read.1
+  member_part_of RVot to read = ticket_part read.0 message.content read.1
+  member_part_of VtFr to read = ticket_part read.0 message.content read.1
+  member_part_of HrtB to read = ticket_part read.0 message.content read.1
+  member_part_of Ack to read = ticket_part read.0 message.content read.1
+  member_part_of UpdE to read = ticket_part read.0 message.content read.1
+  member_part_of Revk to read = ticket_part read.0 message.content read.1
+  member_part_of Rjc to read = ticket_part read.0 message.content read.1
 
   found : (o : Option ℕ) → not (is_some o) ≡ false → (place : ℕ) × (o ≡ Some place)
   found None some = absurd cc
   found (Some place) some = (place, refl)
 
-  member_comes : direction_of letter.head.cmd ≡ BetweenMembers → IsRead letter.head.cmd letter.content
-      → is_stranger node.config letter.head ≡ false
-      → names_no_ticket node.config (part_of_member letter) ≡ false
-      → Comes node from letter Routed
+  member_comes : direction_of message.head.cmd ≡ BetweenMembers → IsRead message.head.cmd message.content
+      → is_stranger node.config message.head ≡ false
+      → names_no_ticket node.config (part_of_member message) ≡ false
+      → Comes node from message Routed
   member_comes to read known named =
-      let it = member_part_of letter.head.cmd to read in
-      let member = found (position (has_id letter.head.from) node.config.members)
-      (ap (λ d. not (may_come_from node.config d letter.head.from)) (sym to) ∙ known) in
+      let it = member_part_of message.head.cmd to read in
+      let member = found (position (has_id message.head.from) node.config.members)
+      (ap (λ d. not (may_come_from node.config d message.head.from)) (sym to) ∙ known) in
       let place = found (position (is_called it.0.ticket) node.config.tickets)
       (ap (λ d. names_no_ticket node.config (member_part d (Ticket it.0))) (sym to)
-      ∙ ap (λ c. names_no_ticket node.config (member_part (direction_of letter.head.cmd) c)) (sym it.1)
+      ∙ ap (λ c. names_no_ticket node.config (member_part (direction_of message.head.cmd) c)) (sym it.1)
       ∙ named) in
       IsHeard to member.0 place.0 it.0
-      (ap (λ d. routed node moment tickets common from letter d) to ∙ ap (λ c. said node letter.head c) it.1
-      ∙ ap (λ m. hears m (position (is_called it.0.ticket) node.config.tickets) letter.head it.0) member.1
-      ∙ ap (λ p. hears (Some member.0) p letter.head it.0) place.1)
+      (ap (λ d. routed node now tickets common from message d) to ∙ ap (λ c. said node message.head c) it.1
+      ∙ ap (λ m. hears m (position (is_called it.0.ticket) node.config.tickets) message.head it.0) member.1
+      ∙ ap (λ p. hears (Some member.0) p message.head it.0) place.1)
       it.1 member.1 place.1
 
 is_not : true ≡ false → ⊥
 is_not h = cc
 
 -- what is let in is answered at once, asked of its ticket, or heard by its ticket
-pub comes : (node : NodeConfig) (moment : ℕ) (tickets : List TicketState) (common : Common) (from : Sender)
+pub comes : (node : NodeConfig) (now : ℕ) (tickets : List TicketState) (common : Common) (from : Sender)
     (bytes : List ℕ)
-    (letter : PlainMessage) → verdict node.config node.key node.me moment bytes ≡ Ok letter
-    → Comes node from letter (action node moment tickets common from bytes)
-comes node moment tickets common from bytes letter is =
-    let free = (lets_in node.config node.key node.me moment bytes letter).0 is in
-    let read : IsRead letter.head.cmd letter.content = content_read bytes letter free.read in
-    subst (λ (a : Action). Comes node from letter a)
-    (sym (ap (λ v. demanded node moment tickets common from v) is))
-    (by_direction (direction_of letter.head.cmd) refl read free.known free.ticket)
+    (message : PlainMessage) → verdict node.config node.key node.me now bytes ≡ Ok message
+    → Comes node from message (action node now tickets common from bytes)
+comes node now tickets common from bytes message is =
+    let free = (lets_in node.config node.key node.me now bytes message).0 is in
+    let read : IsRead message.head.cmd message.content = content_read bytes message free.read in
+    subst (λ (a : Action). Comes node from message a)
+    (sym (ap (λ v. demanded node now tickets common from v) is))
+    (by_direction (direction_of message.head.cmd) refl read free.known free.ticket)
   where
-    by_direction : (d : Direction) → direction_of letter.head.cmd ≡ d → IsRead letter.head.cmd letter.content
-        → is_stranger node.config letter.head ≡ false
-        → names_no_ticket node.config (part_of_member letter) ≡ false
-        → Comes node from letter (routed node moment tickets common from letter
-        (direction_of letter.head.cmd))
-    by_direction ToDaemon to read known named = client_comes node moment tickets common from letter
-        letter.head.cmd refl to read
-    by_direction BetweenMembers to read known named = member_comes node moment tickets common from letter to
+    by_direction : (d : Direction) → direction_of message.head.cmd ≡ d → IsRead message.head.cmd message.content
+        → is_stranger node.config message.head ≡ false
+        → names_no_ticket node.config (part_of_member message) ≡ false
+        → Comes node from message (routed node now tickets common from message
+        (direction_of message.head.cmd))
+    by_direction ToDaemon to read known named = client_comes node now tickets common from message
+        message.head.cmd refl to read
+    by_direction BetweenMembers to read known named = member_comes node now tickets common from message to
         read known named
     by_direction ToClient to read known named =
-        absurd (is_not (ap (λ d. not (may_come_from node.config d letter.head.from)) (sym to) ∙ known))
+        absurd (is_not (ap (λ d. not (may_come_from node.config d message.head.from)) (sym to) ∙ known))

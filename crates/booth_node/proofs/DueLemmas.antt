@@ -1,25 +1,17 @@
 -- Which tickets are due: each stands once among them, and its deadline has come.
 use Rattle.std.proofs.Common.{◌≡◌, ◌≢◌, ◌⊎◌, inl, inr, ℕ, zero, suc, Bool, true, false, ◌+◌, ◌<◌, ◌≤◌, List, [], ◌∷◌, length, map, set, get_or, slice_get, refl, sym, ap, ◌∙◌, subst, arith}
-use Rattle.std.specs.Prelude.{Option, Some, None, IsSomeAnd, MatchOption, nat_le}
+use Rattle.std.specs.Prelude.{Option, Some, None, IfSome, IsSomeAnd, MatchOption, nat_le}
 use Rattle.std.specs.List.{All}
 use Rattle.std.proofs.Math.Dec.{eqb}
 use Rattle.std.proofs.lemmas.Bool.Decides.{eqb_tells, nat_tests}
 use Rattle.std.proofs.lemmas.Option.{slice_get_within}
 use Rattle.std.proofs.lemmas.List.{ext_get_or, get_or-set_same, get_or-set_other, length-map, length-set, map-set}
-use Rattle.booth_base.specs.Tree.{Deeds, Ends, Leads}
-use Rattle.booth_base.proofs.TreeLemmas.{leads_on, next_leads}
-use Rattle.booth_host.specs.declared.entry.Entry.{Entry}
-use Rattle.booth_host.specs.Past.{GrewSome}
-use Rattle.booth_host.proofs.PastLemmas.{some_joined}
 use Rattle.booth_chain.specs.Wheel.{Timer, with_deadline}
 use Rattle.booth_chain.specs.DueList.{comes_before, placed, due_from, due_list}
 use Rattle.booth_chain.proofs.NodesLemmas.{slice_get-set_other, slice_get-set_same}
 use Rattle.booth_ticket.specs.Ticket.{TicketState, IsDue}
 use Rattle.booth_node.specs.Acting.{IsSetAt}
-use Rattle.booth_node.specs.declared.event.Event.TheVariants.{Due}
-use Rattle.booth_node.specs.declared.node_config.NodeConfig.{NodeConfig}
-use Rattle.booth_node.specs.Reaction.{Ask, IsDone, acts, deadline_of, due_places, each_due}
-use Rattle.booth_node.specs.State.{State}
+use Rattle.booth_node.specs.Reaction.{deadline_of, due_places}
 use Rattle.booth_node.proofs.PlaceLemmas.{the_value}
 
 -- P of each
@@ -255,27 +247,6 @@ each_of_all P [] x all = tt
 each_of_all P (x ∷ xs) d all =
     (all 0 d (omega arith), each_of_all P xs d (λ i e below. all (suc i) e (omega (arith, below))))
 
--- the deeds of these places, where the first one's were done
-pub due_next : (node node' : NodeConfig) (moment place : ℕ) (more : List ℕ) (places : List ℕ)
-    (whole : Deeds Ask State)
-    (state state' : State) (a b c : Option (List Entry)) → places ≡ place ∷ more → node' ≡ node
-    → GrewSome (λ es. Leads (IsDone node.key) whole es (each_due node moment places state)) a b
-    → GrewSome (λ es. Leads (IsDone node'.key) (acts node' moment state place Due) es (Ends state')) b c
-    → GrewSome (λ es. Leads (IsDone node.key) whole es (each_due node moment more state')) a c
-due_next node node' moment place more places whole state state' a b c left same before now =
-    some_joined (λ es. Leads (IsDone node.key) whole es (each_due node moment places state))
-    (λ es. Leads (IsDone node'.key) (acts node' moment state place Due) es (Ends state'))
-    (λ es. Leads (IsDone node.key) whole es (each_due node moment more state'))
-    (λ xs ys first second.
-    leads_on (IsDone node.key) whole (each_due node moment (place ∷ more) state)
-    (each_due node moment more state') xs ys
-    (subst (λ (ps : List ℕ). Leads (IsDone node.key) whole xs (each_due node moment ps state)) left first)
-    (next_leads (IsDone node.key) (acts node moment state place Due) (Ends state')
-    (each_due node moment more) ys
-    (subst (λ (n : NodeConfig). Leads (IsDone n.key) (acts n moment state place Due) ys (Ends state')) same
-    second)))
-    before now
-
 -- the place is one of the tickets'
 pub place_in : (place : ℕ) (tickets tickets' : List TicketState) → IsSetAt tickets place tickets'
     → place < length tickets
@@ -286,6 +257,12 @@ pub place_after : (place : ℕ) (tickets tickets' : List TicketState) → IsSetA
 place_after place tickets tickets' is =
     subst (λ (n : ℕ). place < n) (sym (same_length place tickets tickets' is))
     (place_in place tickets tickets' is)
+
+pub placed_again : (place : Option ℕ) (tickets tickets' : List TicketState)
+    → MatchOption place (tickets' ≡ tickets) (λ place. IsSetAt tickets place tickets')
+    → IfSome place (λ place. place < length tickets')
+placed_again None tickets tickets' others = tt
+placed_again (Some place) tickets tickets' others = place_after place tickets tickets' others
 
 module _ (place : ℕ) (places more : List ℕ) (tickets tickets' : List TicketState) (old new : Timer)
     (v : Option ℕ)

@@ -25,19 +25,19 @@ all_said did (place ∷ places) m i d head part a b c some most first others who
 )
 
 -- what stands in the frame is still the message, at a node that is the same
-pub still_written : (node node' : NodeConfig) (moment moment' : ℕ) (head : Head) (part : TicketPart)
+pub still_written : (node node' : NodeConfig) (now now' : ℕ) (head : Head) (part : TicketPart)
     (frame frame' : List ℕ)
-    → frame' ≡ frame → node' ≡ node → moment' ≡ moment
-    → frame ≡ sealed node.key (sent_as node moment head part)
-    → frame' ≡ sealed node'.key (sent_as node' moment' head part)
-still_written node node' moment moment' head part frame frame' same_frame same_node same_moment written =
-    same_frame ∙ subst (λ (n : NodeConfig). frame ≡ sealed n.key (sent_as n moment' head part))
+    → frame' ≡ frame → node' ≡ node → now' ≡ now
+    → frame ≡ sealed node.key (sent_as node now head part)
+    → frame' ≡ sealed node'.key (sent_as node' now' head part)
+still_written node node' now now' head part frame frame' same_frame same_node same_moment written =
+    same_frame ∙ subst (λ (n : NodeConfig). frame ≡ sealed n.key (sent_as n now' head part))
     (sym same_node)
     (subst (λ (m : ℕ). frame ≡ sealed node.key (sent_as node m head part)) (sym same_moment) written)
 
-pub still_fits : (node node' : NodeConfig) (moment moment' : ℕ) (head : Head) (part : TicketPart)
-    → node' ≡ node → moment' ≡ moment → Fits (sent_as node moment head part)
-    → Fits (sent_as node' moment' head part)
-still_fits node node' moment moment' head part same_node same_moment fits =
-    subst (λ (n : NodeConfig). Fits (sent_as n moment' head part)) (sym same_node)
+pub still_fits : (node node' : NodeConfig) (now now' : ℕ) (head : Head) (part : TicketPart)
+    → node' ≡ node → now' ≡ now → Fits (sent_as node now head part)
+    → Fits (sent_as node' now' head part)
+still_fits node node' now now' head part same_node same_moment fits =
+    subst (λ (n : NodeConfig). Fits (sent_as n now' head part)) (sym same_node)
     (subst (λ (m : ℕ). Fits (sent_as node m head part)) (sym same_moment) fits)

@@ -1,11 +1,10 @@
 pub mod PlaceLemmas
-pub mod ActLemmas
 pub mod EachLemmas
-pub mod ActionLemmas
-pub mod JobLemmas
+pub mod RoutingLemmas
+pub mod LedLemmas
+pub mod ActLemmas
 pub mod LogLemmas
 pub mod PeerLemmas
-pub mod ReceiveLemmas
 pub mod DrainLemmas
 pub mod DueLemmas
 pub mod TurnLemmas

@@ -4,8 +4,8 @@ use Rattle.std.specs.Prelude.{Option, Some, None, IsSome, Result, Ok, is_ok, opt
 use Rattle.std.specs.List.{filter, range_with_len}
 use Rattle.std.proofs.lemmas.Option.{slice_get_cases, slice_get_within}
 use Rattle.booth_base.specs.declared.address.Peer.{Peer}
-use Rattle.booth_base.specs.Tree.{Deeds, Ends, Does, Leads, next}
-use Rattle.booth_base.proofs.TreeLemmas.{next_leads}
+use Rattle.booth_base.specs.Tree.{Deeds, Ends, Does, Leads, ◌>>=◌}
+use Rattle.booth_base.proofs.TreeLemmas.{at_end, next_leads}
 use Rattle.booth_chain.proofs.NodesLemmas.{slice_get-set_same}
 use Rattle.booth_conf.specs.Config.{has_id}
 use Rattle.booth_conf.specs.Lookups.{is_called}
@@ -29,12 +29,12 @@ use Rattle.booth_ticket.specs.declared.request.Request.{Request}
 use Rattle.booth_ticket.specs.declared.request.Wish.TheVariants.{Grant}
 use Rattle.booth_ticket.specs.declared.waiters.Waiter.{Waiter}
 use Rattle.booth_ticket.specs.Acts.{Ask as TicketAsk, Keep as KeepsRecord, Start as StartsJob, Say, Act, IsAct, kept, said, said_to_each}
-use Rattle.booth_ticket.specs.Automatic.{Left, hear_message}
+use Rattle.booth_ticket.specs.Automatic.{hear}
 use Rattle.booth_ticket.specs.Laws.{IsAnswer, IsBegunBy, IsDoneBy, IsRound, answer_to, answering_acts, promise_record, told_granted}
-use Rattle.booth_ticket.specs.Requests.{wish}
+use Rattle.booth_ticket.specs.Requests.{follow_request}
 use Rattle.booth_ticket.specs.Saying.{others}
-use Rattle.booth_ticket.specs.Ticket.{TicketState, TicketLeft, Automatic, by_rules, left_as}
-use Rattle.booth_ticket.specs.Waiting.{spare_in, waiting_at}
+use Rattle.booth_ticket.specs.Ticket.{TicketState, TicketLeft, Automatic, left_as}
+use Rattle.booth_ticket.specs.Waiting.{Left, spare_in, waiting_at}
 use Rattle.booth_ticket.proofs.LawLemmas.{asks_everyone, gains}
 use Rattle.booth_ticket.proofs.RoundLawLemmas.{answers}
 use Rattle.booth_node.specs.declared.event.Event.{Event}
@@ -51,12 +51,13 @@ use Rattle.booth_node.specs.Jobs.{job_at}
 use Rattle.booth_node.specs.Reaction.{Action, Hears, Asks, IsDone, action, acts, answers as answers_with, asks, befalls, demanded, dues, met, peer_at, peer_of, requested, routed}
 use Rattle.booth_node.specs.Replies.{reply_to, request_of, wish_of}
 use Rattle.booth_node.specs.State.{State}
-use Rattle.booth_node.proofs.ActionLemmas.{place_below}
+use Rattle.booth_node.proofs.RoutingLemmas.{place_below}
 use Rattle.booth_node.proofs.ClientLemmas.{Parts, at_moment, parts_of}
 use Rattle.booth_node.proofs.ComesLemmas.{Comes, IsAnsweredAtOnce, IsAsked, IsAttended, IsHeard, comes}
 use Rattle.booth_node.proofs.DueLemmas.{Each}
-use Rattle.booth_node.proofs.PathLemmas.{ActFirst, HasPeer, HavePeers, SaidFirst, Seen, are_calls, at_end, seen_parts}
+use Rattle.booth_node.proofs.PathLemmas.{ActFirst, HasPeer, HavePeers, SaidFirst, Seen, are_calls, seen_parts}
 use Rattle.booth_node.proofs.StayLemmas.{Acted, acted_at, as_many, set_up_at}
+use Rattle.booth_node.proofs.TalkLemmas.{setup_stays}
 
 -- ---- everyone has a place to listen at
 
@@ -145,11 +146,11 @@ said_next : (o : Option Peer) (bytes : List ℕ) (es : List Entry) (More : List 
 said_next None bytes es More said = (es, said)
 said_next (Some peer) bytes es More said = (said.1, said.3)
 
-module _ (node : NodeConfig) (moment : ℕ) (name : List ℕ) (left : TicketLeft) where
+module _ (node : NodeConfig) (now : ℕ) (name : List ℕ) (left : TicketLeft) where
   -- what was said is answered as what is said
   same_answer : (ask : TicketAsk) (mine theirs : Bool) (es : List Entry) (More : List Entry → Type 0)
       → IsSaying node ask mine
-      → ActFirst node moment name ask theirs es More → (theirs ≡ mine) × (rest : List Entry) × More rest
+      → ActFirst node now name ask theirs es More → (theirs ≡ mine) × (rest : List Entry) × More rest
   same_answer (KeepsRecord tried) mine theirs es More is first = absurd is
   same_answer (StartsJob number expires) mine theirs es More is first = absurd is
   same_answer (Say to head part) mine theirs es More is first =
@@ -158,7 +159,7 @@ module _ (node : NodeConfig) (moment : ℕ) (name : List ℕ) (left : TicketLeft
 
   says_same : (deeds rest : Deeds TicketAsk TicketLeft) (says acts : List Act) (es : List Entry)
       → Says node says
-      → Leads IsAct deeds says rest → Leads IsAct deeds acts (Ends left) → Seen node moment name acts es
+      → Leads IsAct deeds says rest → Leads IsAct deeds acts (Ends left) → Seen node now name acts es
       → Goes rest acts says left
   says_same deeds rest [] acts es heard mine theirs seen = (
     acts,
@@ -171,9 +172,9 @@ module _ (node : NodeConfig) (moment : ℕ) (name : List ℕ) (left : TicketLeft
   says_same (Does ask f) rest (say ∷ says) (act ∷ acts) es heard mine theirs seen =
       let saying = subst (λ (x : Act). IsSaying node x.ask x.ok) mine.1 heard.0 in
       let first =
-      subst (λ (x : Act). ActFirst node moment name x.ask x.ok es (Seen node moment name acts)) theirs.1
+      subst (λ (x : Act). ActFirst node now name x.ask x.ok es (Seen node now name acts)) theirs.1
       seen in
-      let same = same_answer ask mine.0 theirs.0 es (Seen node moment name acts) saying first in
+      let same = same_answer ask mine.0 theirs.0 es (Seen node now name acts) saying first in
       let more =
       says_same (f mine.0) rest says acts same.1 heard.1 mine.2
       (subst (λ (ok : Bool). Leads IsAct (f ok) acts (Ends left)) same.0 theirs.2) same.2 in
@@ -185,17 +186,17 @@ module _ (node : NodeConfig) (moment : ℕ) (name : List ℕ) (left : TicketLeft
   kept_same : (tried : Record) (deeds rest : Deeds TicketAsk TicketLeft) (says acts : List Act)
       (es : List Entry)
       → Says node says → Leads IsAct deeds (kept tried true ∷ says) rest → Leads IsAct deeds acts (Ends left)
-      → Seen node moment name acts es → KeepsFirst es → Goes rest acts (kept tried true ∷ says) left
+      → Seen node now name acts es → KeepsFirst es → Goes rest acts (kept tried true ∷ says) left
   kept_same tried (Ends x) rest says acts es heard mine theirs seen well = absurd mine
   kept_same tried (Does ask f) rest says [] es heard mine theirs seen well = absurd cc
   kept_same tried (Does ask f) rest says (act ∷ acts) es heard mine theirs seen well =
       let mine_ok : mine.0 ≡ true = sym (ap (λ (x : Act). x.ok) mine.1) in
       let mine_ask : ask ≡ KeepsRecord tried = sym (ap (λ (x : Act). x.ask) mine.1) in
       let first =
-      subst (λ (x : Act). ActFirst node moment name x.ask x.ok es (Seen node moment name acts)) theirs.1
+      subst (λ (x : Act). ActFirst node now name x.ask x.ok es (Seen node now name acts)) theirs.1
       seen in
-      let keeps : ActFirst node moment name (KeepsRecord tried) theirs.0 es (Seen node moment name acts) =
-      subst (λ (a : TicketAsk). ActFirst node moment name a theirs.0 es (Seen node moment name acts))
+      let keeps : ActFirst node now name (KeepsRecord tried) theirs.0 es (Seen node now name acts) =
+      subst (λ (a : TicketAsk). ActFirst node now name a theirs.0 es (Seen node now name acts))
       mine_ask first in
       let good : is_ok keeps.0 ≡ true = subst (λ (l : List Entry). KeepsFirst l) keeps.2 well in
       let theirs_ok : theirs.0 ≡ true = sym keeps.3 ∙ good in
@@ -214,39 +215,47 @@ first_well : (xs ys : List Entry) → KeepsFirst (xs ++ ys) → KeepsFirst xs
 first_well [] ys well = tt
 first_well (x ∷ xs) ys well = well
 
+abbrev ticket_of : Setup → View → TicketState
+ticket_of setup view = record { setup = setup; known = Automatic view }
+
 -- what a ticket does along a path whose keep answers Ok is what the node does
-pub lifted_done : (node : NodeConfig) (old new state : State) (moment place : ℕ) (event : Event)
+pub lifted_done : (node : NodeConfig) (old new state : State) (now place : ℕ) (event : Event)
     (setup : Setup) (view : View)
     (deeds : Deeds TicketAsk Left) (tried : Record) (says : List Act) (Holds : Left
     → Type 0) (entries first later : List Entry)
     (mid : State)
     → befalls (record { setup = setup; known = Automatic view }) (waiting_at state.waiters place)
     (spare_in state.waiters) (is_ready node state.attributes place)
-    (job_at node place state.common) event moment ≡ by_rules setup deeds
+    (job_at node place state.common) event now ≡ (deeds >>= (λ end. Ends (left_as end)))
     → slice_get state.tickets place ≡ Some (record { setup = setup; known = Automatic view })
     → place < length state.waiters
     → Says node says → IsDoneBy deeds (kept tried true ∷ says) Holds → KeepsFirst entries
     → entries ≡ first ++ later
-    → Leads (IsDone node.key) (acts node moment state place event) first (Ends mid)
-    → Leads (IsDone node.key) (dues node moment Went mid) later (Ends new)
-    → ArrivalDoes node moment place setup (kept tried true ∷ says) Holds entries new
-lifted_done node old new state moment place event setup view deeds tried says Holds entries first later mid
+    → Leads (IsDone node.key) (acts node now state place event) first (Ends mid)
+    → Leads (IsDone node.key) (dues node now Went mid) later (Ends new)
+    → ArrivalDoes node now place setup (kept tried true ∷ says) Holds entries new
+lifted_done node old new state now place event setup view deeds tried says Holds entries first later mid
     is there listed heard done well
     whole to_mid to_end =
     let ticket : TicketState = record { setup = setup; known = Automatic view } in
-    let acted : Acted node moment state place event ticket first mid =
-    acted_at node moment state place event ticket first mid there to_mid in
-    let after : TicketLeft = left_as setup done.left in
+    let acted : Acted node now state place event ticket first mid =
+    acted_at node now state place event ticket first mid there to_mid in
+    let after : TicketLeft = left_as done.left in
+    let by_rules : Deeds TicketAsk TicketLeft = deeds >>= (λ end. Ends (left_as end)) in
     let path =
-    next_leads IsAct deeds (Ends done.left) (λ end. Ends (left_as setup end))
+    next_leads IsAct deeds (Ends done.left) (λ end. Ends (left_as end))
     (kept tried true ∷ says) done.all in
     let goes : Goes (Ends after) acted.did (kept tried true ∷ says) acted.left =
-    kept_same node moment setup.ticket acted.left tried (by_rules setup deeds) (Ends after) says acted.did
+    kept_same node now setup.ticket acted.left tried by_rules (Ends after) says acted.did
     first heard path
     (subst (λ (t : Deeds TicketAsk TicketLeft). Leads IsAct t acted.did (Ends acted.left)) is acted.leads)
     acted.seen
     (first_well first later (subst (λ (l : List Entry). KeepsFirst l) whole well)) in
     let over = at_end IsAct after acted.left goes.0 goes.2 in
+    let kept_setup : done.left.core.setup ≡ setup =
+    sym (ap (λ (l : TicketLeft). l.ticket.setup) over.1)
+    ∙ setup_stays ticket acted.left (waiting_at state.waiters place) (spare_in state.waiters)
+    (is_ready node state.attributes place) (job_at node place state.common) now acted.did event acted.leads in
     let same : acted.did ≡ kept tried true ∷ says =
     goes.1 ∙ ap (λ (l : List Act). kept tried true ∷ says ++ l) over.0
     ∙ append-nil (kept tried true ∷ says) in
@@ -254,15 +263,16 @@ lifted_done node old new state moment place event setup view deeds tried says Ho
       arrival = first;
       deadlines = later;
       whole = whole;
-      done = are_calls node moment setup.ticket (kept tried true ∷ says) first
+      done = are_calls node now setup.ticket (kept tried true ∷ says) first
           (tt, peers_of_says node says heard)
-          (subst (λ (l : List Act). Seen node moment setup.ticket l first) same acted.seen);
+          (subst (λ (l : List Act). Seen node now setup.ticket l first) same acted.seen);
       after = mid;
       left = done.left;
       ticket = ap (λ (s : State). slice_get s.tickets place) acted.is
           ∙ slice_get-set_same state.tickets place acted.left.ticket
           (slice_get_within state.tickets place ticket there)
-          ∙ ap (λ (l : TicketLeft). Some l.ticket) over.1;
+          ∙ ap (λ (l : TicketLeft). Some l.ticket) over.1
+          ∙ ap (λ (s : Setup). Some (ticket_of s done.left.core.view)) kept_setup;
       waiters = ap (λ (s : State). slice_get s.waiters place) acted.is
           ∙ slice_get-set_same state.waiters place acted.left.waiters listed
           ∙ ap (λ (l : TicketLeft). Some l.waiters) over.1;
@@ -283,32 +293,32 @@ same_number m n e = cc
 
 -- a member's message about a ticket is heard by it
 abbrev HeardBy : NodeConfig → PlainMessage → Action → ℕ → TicketPart → Type 0
-HeardBy node letter a place part =
-    (member : ℕ) × (position (has_id letter.head.from) node.config.members ≡ Some member)
-    × (a ≡ Hears member place letter.head part)
+HeardBy node message a place part =
+    (member : ℕ) × (position (has_id message.head.from) node.config.members ≡ Some member)
+    × (a ≡ Hears member place message.head part)
 
-heard_by : (node : NodeConfig) (from : Peer) (letter : PlainMessage) (a : Action) (place : ℕ)
+heard_by : (node : NodeConfig) (from : Peer) (message : PlainMessage) (a : Action) (place : ℕ)
     (part : TicketPart)
-    → direction_of letter.head.cmd ≡ BetweenMembers → letter.content ≡ Ticket part
-    → position (is_called part.ticket) node.config.tickets ≡ Some place → Comes node from letter a
-    → HeardBy node letter a place part
-heard_by node from letter a place part between content named (IsAnsweredAtOnce to reply is replies) =
-    absurd (differ (direction_of letter.head.cmd) to between)
-heard_by node from letter a place part between content named
+    → direction_of message.head.cmd ≡ BetweenMembers → message.content ≡ Ticket part
+    → position (is_called part.ticket) node.config.tickets ≡ Some place → Comes node from message a
+    → HeardBy node message a place part
+heard_by node from message a place part between content named (IsAnsweredAtOnce to reply is replies) =
+    absurd (differ (direction_of message.head.cmd) to between)
+heard_by node from message a place part between content named
     (IsAsked to p request is q at same_from same answer) =
-    absurd (differ (direction_of letter.head.cmd) to between)
-heard_by node from letter a place part between content named
+    absurd (differ (direction_of message.head.cmd) to between)
+heard_by node from message a place part between content named
     (IsAttended to p request is below number answer) =
-    absurd (differ (direction_of letter.head.cmd) to between)
-heard_by node from letter a place part between content named (IsHeard to member p q is has known at) =
+    absurd (differ (direction_of message.head.cmd) to between)
+heard_by node from message a place part between content named (IsHeard to member p q is has known at) =
     let one : q ≡ part = same_part q part (sym has ∙ content) in
     let here : p ≡ place =
     same_number p place
     (sym at ∙ ap (λ (x : TicketPart). position (is_called x.ticket) node.config.tickets) one ∙ named) in (
       member,
       known,
-      is ∙ ap (λ (n : ℕ). Hears member n letter.head q) here
-          ∙ ap (λ (x : TicketPart). Hears member place letter.head x) one,
+      is ∙ ap (λ (n : ℕ). Hears member n message.head q) here
+          ∙ ap (λ (x : TicketPart). Hears member place message.head x) one,
     )
 
 -- ---- a round is answered
@@ -317,7 +327,7 @@ round_between : (kind : RoundKind) (head : Head) → IsRound kind head → direc
 round_between Election head is = ap direction_of is.0
 round_between Renewal head is = ap direction_of is.0
 
-module _ (node : NodeConfig) (moment : ℕ) (name : List ℕ) (tried : Record) (says : List Act) (heard : Says node says) where
+module _ (node : NodeConfig) (now : ℕ) (name : List ℕ) (tried : Record) (says : List Act) (heard : Says node says) where
   -- what is said, in version 2 after a keep
   abbrev Begins : Bool → List Act
   Begins second = if second then kept tried true ∷ says else says
@@ -325,50 +335,50 @@ module _ (node : NodeConfig) (moment : ℕ) (name : List ℕ) (tried : Record) (
   -- a path whose first keep answers Ok begins so
   begins_same : (second : Bool) (left : TicketLeft) (deeds rest : Deeds TicketAsk TicketLeft) (acts : List Act)
       (es : List Entry) → Leads IsAct deeds (Begins second) rest → Leads IsAct deeds acts (Ends left)
-      → Seen node moment name acts es → KeepsFirst es → Goes rest acts (Begins second) left
+      → Seen node now name acts es → KeepsFirst es → Goes rest acts (Begins second) left
   begins_same true left deeds rest acts es mine theirs seen well =
-      kept_same node moment name left tried deeds rest says acts es heard mine theirs seen well
+      kept_same node now name left tried deeds rest says acts es heard mine theirs seen well
   begins_same false left deeds rest acts es mine theirs seen well =
-      says_same node moment name left deeds rest says acts es heard mine theirs seen
+      says_same node now name left deeds rest says acts es heard mine theirs seen
 
   peers_of_begin : (second : Bool) → HavePeers node (Begins second)
   peers_of_begin true = (tt, peers_of_says node says heard)
   peers_of_begin false = peers_of_says node says heard
 
 pub rounds : RoundsAreAnswered
-rounds node old new moment from letter entries place part setup view kind turn about is may well =
-    let state : State = at_moment old moment in
+rounds node old new now from message entries place part setup view kind turn about is may well =
+    let state : State = at_moment old now in
     let name : List ℕ = setup.ticket in
-    let parts : Parts node old moment (Ok (arrivals.Datagram from)) turn.bytes entries new =
-    parts_of node old new moment (Ok (arrivals.Datagram from)) turn.bytes entries turn.deeds in
-    let to : HeardBy node letter (action node moment old.tickets old.common from turn.bytes) place part =
-    heard_by node from letter (action node moment old.tickets old.common from turn.bytes) place part
-    (round_between kind letter.head is) about.content about.named
-    (comes node moment old.tickets old.common from turn.bytes letter turn.let_in) in
-    let event : Event = Heard to.0 letter.head part in
+    let parts : Parts node old now (Ok (arrivals.Datagram from)) turn.bytes entries new =
+    parts_of node old new now (Ok (arrivals.Datagram from)) turn.bytes entries turn.deeds in
+    let to : HeardBy node message (action node now old.tickets old.common from turn.bytes) place part =
+    heard_by node from message (action node now old.tickets old.common from turn.bytes) place part
+    (round_between kind message.head is) about.content about.named
+    (comes node now old.tickets old.common from turn.bytes message turn.let_in) in
+    let event : Event = Heard to.0 message.head part in
     let ticket : TicketState = record { setup = setup; known = Automatic view } in
-    let acted : Acted node moment (accepted state to.0 moment) place event ticket parts.first parts.mid =
-    acted_at node moment (accepted state to.0 moment) place event ticket parts.first parts.mid about.there
-    (subst (λ (a : Action). Leads (IsDone node.key) (met node moment state from a) parts.first
+    let acted : Acted node now (accepted state to.0 now) place event ticket parts.first parts.mid =
+    acted_at node now (accepted state to.0 now) place event ticket parts.first parts.mid about.there
+    (subst (λ (a : Action). Leads (IsDone node.key) (met node now state from a) parts.first
     (Ends parts.mid)) to.2 parts.to_mid) in
     let deeds : Deeds TicketAsk Left =
-    hear_message setup view (waiting_at old.waiters place) to.0 letter.head part moment in
-    let tried : Record = promise_record setup view letter.head part moment in
-    let says : List Act = answer_to setup to.0 kind letter.head part ∷ [] in
-    let begin : List Act = answering_acts setup view to.0 kind letter.head part moment in
+    hear (record { setup = setup; view = view }) (waiting_at old.waiters place) to.0 message.head part now in
+    let tried : Record = promise_record setup view message.head part now in
+    let says : List Act = answer_to setup to.0 kind message.head part ∷ [] in
+    let begin : List Act = answering_acts setup view to.0 kind message.head part now in
     let heard : Says node says =
-    ((refl, member_listens node to.0 (place_below node.config.members letter.head.from to.0 to.1)), tt) in
+    ((refl, member_listens node to.0 (place_below node.config.members message.head.from to.0 to.1)), tt) in
     let begun : IsBegunBy deeds begin =
-    answers setup view (waiting_at old.waiters place) to.0 kind letter.head part moment is may in
-    let goes_on : Left → Deeds TicketAsk TicketLeft = λ end. Ends (left_as setup end) in
-    let goes : Goes (next begun.rest goes_on) acted.did begin acted.left =
-    begins_same node moment name tried says heard setup.second acted.left (next deeds goes_on) (next begun.rest goes_on)
+    answers setup view (waiting_at old.waiters place) to.0 kind message.head part now is may in
+    let goes_on : Left → Deeds TicketAsk TicketLeft = λ end. Ends (left_as end) in
+    let goes : Goes (begun.rest >>= goes_on) acted.did begin acted.left =
+    begins_same node now name tried says heard setup.second acted.left (deeds >>= goes_on) (begun.rest >>= goes_on)
     acted.did parts.first
     (next_leads IsAct deeds begun.rest goes_on begin begun.first) acted.leads acted.seen
     (first_well parts.first parts.later (subst (λ (l : List Entry). KeepsFirst l) parts.whole well)) in
     let calls =
-    seen_parts node moment name begin goes.0 parts.first
-    (subst (λ (l : List Act). Seen node moment name l parts.first) goes.1 acted.seen) in
+    seen_parts node now name begin goes.0 parts.first
+    (subst (λ (l : List Act). Seen node now name l parts.first) goes.1 acted.seen) in
     record {
       member = to.0;
       is_member = to.1;
@@ -376,8 +386,8 @@ rounds node old new moment from letter entries place part setup view kind turn a
       others = calls.1 ++ parts.later;
       whole = parts.whole ∙ ap (λ (l : List Entry). l ++ parts.later) calls.2
           ∙ append_assoc calls.0 calls.1 parts.later;
-      answers = are_calls node moment name begin calls.0
-          (peers_of_begin node moment name tried says heard setup.second) calls.3;
+      answers = are_calls node now name begin calls.0
+          (peers_of_begin node now name tried says heard setup.second) calls.3;
     }
 
 -- ---- a grant asks all
@@ -396,37 +406,39 @@ module _ (node : NodeConfig) (old : State) (place : ℕ) (setup : Setup) (view :
       (slice_get_within old.tickets place (record { setup = setup; known = Automatic view }) there)
 
 pub grants : GrantsAskAll
-grants node old new moment from letter entries place part setup view set_up turn about cmd unhandled none few well =
-    let state : State = at_moment old moment in
-    let request : Request = grant_of from letter in
+grants node old new now from message entries place part setup view set_up turn about cmd unhandled none few well =
+    let state : State = at_moment old now in
+    let request : Request = grant_of from message in
     let ready : Bool = is_ready node old.attributes place Manual in
-    let parts : Parts node old moment (Ok (arrivals.Datagram from)) turn.bytes entries new =
-    parts_of node old new moment (Ok (arrivals.Datagram from)) turn.bytes entries turn.deeds in
-    let once : Action = answers_with node.key moment (reply_to node moment old.tickets old.common letter) in
-    let to : action node moment old.tickets old.common from turn.bytes ≡ Asks place request =
-    ap (λ (v : Result PlainMessage DropFault). demanded node moment old.tickets old.common from v) turn.let_in
-    ∙ ap (λ (d : Direction). routed node moment old.tickets old.common from letter d) (ap direction_of cmd)
-    ∙ ap (λ w. requested node moment old.tickets old.common letter
-    (request_of from letter.head w letter.content)) (ap wish_of cmd)
-    ∙ ap (λ (c : Content). requested node moment old.tickets old.common letter
-    (request_of from letter.head (Some Grant) c))
+    let grant_by : Option ℕ → Deeds TicketAsk Left = λ job.
+    follow_request (record { setup = setup; view = view }) (waiting_at old.waiters place) (spare_in old.waiters)
+    (record { now = now; ready = ready; job = job }) request Grant in
+    let parts : Parts node old now (Ok (arrivals.Datagram from)) turn.bytes entries new =
+    parts_of node old new now (Ok (arrivals.Datagram from)) turn.bytes entries turn.deeds in
+    let once : Action = answers_with node.key now (reply_to node now old.tickets old.common message) in
+    let to : action node now old.tickets old.common from turn.bytes ≡ Asks place request =
+    ap (λ (v : Result PlainMessage DropFault). demanded node now old.tickets old.common from v) turn.let_in
+    ∙ ap (λ (d : Direction). routed node now old.tickets old.common from message d) (ap direction_of cmd)
+    ∙ ap (λ w. requested node now old.tickets old.common message
+    (request_of from message.head w message.content)) (ap wish_of cmd)
+    ∙ ap (λ (c : Content). requested node now old.tickets old.common message
+    (request_of from message.head (Some Grant) c))
     about.content
     ∙ ap (λ (o : Option ℕ). asks o request once) about.named in
     let many : setup.members ≡ length node.config.members = all_members node old place setup view set_up
     about.there in
-    lifted_done node old new state moment place (Asked request) setup view
-    (wish setup view (waiting_at old.waiters place) (spare_in old.waiters) ready None request Grant moment) _ _ _ entries
+    lifted_done node old new state now place (Asked request) setup view
+    (grant_by None) _ _ _ entries
     parts.first parts.later parts.mid
-    (ap (λ (job : Option ℕ). by_rules setup
-    (wish setup view (waiting_at old.waiters place) (spare_in old.waiters) ready job request Grant moment))
+    (ap (λ (job : Option ℕ). grant_by job >>= (λ end. Ends (left_as end)))
     (ap (λ (handler : Option (List ℕ)). option_map (λ words. old.common.next_job) handler) unhandled))
     about.there (listed node old place setup view set_up about.there)
     (says_joined node (said_to_each (others setup) _ _) (said (Client from) _ _ ∷ [])
     (says_others node setup _ _ many) ((refl, refl), tt))
-    (asks_everyone setup view (waiting_at old.waiters place) (spare_in old.waiters) ready request moment none
+    (asks_everyone setup view (waiting_at old.waiters place) (spare_in old.waiters) ready request now none
     few)
     well parts.whole
-    (subst (λ (a : Action). Leads (IsDone node.key) (met node moment state from a) parts.first
+    (subst (λ (a : Action). Leads (IsDone node.key) (met node now state from a) parts.first
     (Ends parts.mid)) to parts.to_mid)
     parts.to_end
 
@@ -438,30 +450,30 @@ answer_between Election head is = ap direction_of is.0
 answer_between Renewal head is = ap direction_of is.0
 
 pub majorities : MajoritiesGain
-majorities node old new moment from letter entries place part setup view round kind member set_up turn about
+majorities node old new now from message entries place part setup view round kind member set_up turn about
     known is_round is done
     well =
-    let state : State = at_moment old moment in
-    let parts : Parts node old moment (Ok (arrivals.Datagram from)) turn.bytes entries new =
-    parts_of node old new moment (Ok (arrivals.Datagram from)) turn.bytes entries turn.deeds in
-    let by : HeardBy node letter (action node moment old.tickets old.common from turn.bytes) place part =
-    heard_by node from letter (action node moment old.tickets old.common from turn.bytes) place part
-    (answer_between kind letter.head is) about.content about.named
-    (comes node moment old.tickets old.common from turn.bytes letter turn.let_in) in
+    let state : State = at_moment old now in
+    let parts : Parts node old now (Ok (arrivals.Datagram from)) turn.bytes entries new =
+    parts_of node old new now (Ok (arrivals.Datagram from)) turn.bytes entries turn.deeds in
+    let by : HeardBy node message (action node now old.tickets old.common from turn.bytes) place part =
+    heard_by node from message (action node now old.tickets old.common from turn.bytes) place part
+    (answer_between kind message.head is) about.content about.named
+    (comes node now old.tickets old.common from turn.bytes message turn.let_in) in
     let one : by.0 ≡ member = same_number by.0 member (sym by.1 ∙ known) in
-    let to : action node moment old.tickets old.common from turn.bytes ≡ Hears member place letter.head part =
-    by.2 ∙ ap (λ (m : ℕ). Hears m place letter.head part) one in
+    let to : action node now old.tickets old.common from turn.bytes ≡ Hears member place message.head part =
+    by.2 ∙ ap (λ (m : ℕ). Hears m place message.head part) one in
     let many : setup.members ≡ length node.config.members = all_members node old place setup view set_up
     about.there in
-    lifted_done node old new (accepted state member moment) moment place (Heard member letter.head part)
+    lifted_done node old new (accepted state member now) now place (Heard member message.head part)
     setup view
-    (hear_message setup view (waiting_at old.waiters place) member letter.head part moment) _ _ _ entries
+    (hear (record { setup = setup; view = view }) (waiting_at old.waiters place) member message.head part now) _ _ _ entries
     parts.first parts.later parts.mid
     refl about.there (listed node old place setup view set_up about.there)
     (says_joined node (said_to_each (others setup) _ _) (told_granted setup (waiting_at old.waiters place) _)
     (says_others node setup _ _ many) (says_granted node setup (waiting_at old.waiters place) _))
-    (gains setup view (waiting_at old.waiters place) round member kind letter.head part moment is_round
+    (gains setup view (waiting_at old.waiters place) round member kind message.head part now is_round
     is done) well parts.whole
-    (subst (λ (a : Action). Leads (IsDone node.key) (met node moment state from a) parts.first
+    (subst (λ (a : Action). Leads (IsDone node.key) (met node now state from a) parts.first
     (Ends parts.mid)) to parts.to_mid)
     parts.to_end

@@ -42,13 +42,13 @@ all_at {A} P Q xs i below all gives = by_cases (slice_get_cases xs i).1
     by_cases (inr h) = absurd (omega (arith, below, h.0))
 
 -- what another member says may befall each of them
-pub may_hear : (me : MemberId) (members : List Member) (tickets : List TicketState) (from place moment : ℕ)
+pub may_hear : (me : MemberId) (members : List Member) (tickets : List TicketState) (from place now : ℕ)
     (head : Head)
     (part : TicketPart) → All (IsOurs me members) tickets → place < length tickets → from < length members
     → position (has_id me) members ≢ Some from
-    → IsSomeAnd (slice_get tickets place) (λ t. MayBefall t (Heard from head part) moment)
-may_hear me members tickets from place moment head part ours below member other =
-    all_at (IsOurs me members) (λ t. MayBefall t (Heard from head part) moment) tickets place below ours
+    → IsSomeAnd (slice_get tickets place) (λ t. MayBefall t (Heard from head part) now)
+may_hear me members tickets from place now head part ours below member other =
+    all_at (IsOurs me members) (λ t. MayBefall t (Heard from head part) now) tickets place below ours
     (λ t our. (
       subst (λ (n : ℕ). from < n) (sym our.all_members) member,
       λ (e : from ≡ t.setup.place). other (our.own ∙ ap (λ (n : ℕ). Some n) (sym e)),

@@ -6,6 +6,7 @@ use Rattle.std.proofs.lemmas.Option.{get_or_from_slice_get}
 use Rattle.std.proofs.lemmas.List.{length-map, length-set}
 use Rattle.booth_base.specs.declared.address.Peer.{Peer}
 use Rattle.booth_base.specs.Tree.{Ends, Leads}
+use Rattle.booth_base.proofs.TreeLemmas.{Split, at_end, split}
 use Rattle.booth_conf.specs.declared.tickets.GrantKind.{GrantKind}
 use Rattle.booth_conf.specs.declared.tickets.TicketConf.{TicketConf}
 use Rattle.booth_rec.specs.declared.record.Record.{Record}
@@ -35,7 +36,7 @@ use Rattle.booth_node.specs.AttributeRequests.{is_ready}
 use Rattle.booth_node.specs.Reaction.{IsDone, acts, acts_as, befalls, dues, due_places, each_due, each_over, peer_of, sent_as}
 use Rattle.booth_node.specs.State.{State, with_ticket}
 use Rattle.booth_node.proofs.DueLemmas.{Each}
-use Rattle.booth_node.proofs.PathLemmas.{ActFirst, SaidFirst, Seen, Split, at_end, path_of, seen_parts, split}
+use Rattle.booth_node.proofs.PathLemmas.{ActFirst, SaidFirst, Seen, path_of, seen_parts}
 use Rattle.booth_node.proofs.ReachLemmas.{AllAmong, Among, Fewer, IsTold, Remembers, Tells, each_joined}
 use Rattle.booth_node.proofs.TalkLemmas.{due_among, over_among, setup_stays}
 
@@ -112,14 +113,14 @@ set_up_kept node state place before after common same there kept = (
 
 -- ---- calls to members and to those that wait
 
-module _ (node : NodeConfig) (moment : ℕ) (name : List ℕ) (setup : Setup) (list : ℕ)
+module _ (node : NodeConfig) (now : ℕ) (name : List ℕ) (setup : Setup) (list : ℕ)
     (set_up : IsSetUpAt node list setup) (waiters : List (List Waiter)) where
   ours : setup.me ≡ node.me
   ours = ap (λ (s : Setup). s.me) set_up.2
 
   -- what is said under the setup's ticket names the one at its place
   names : (head : Head) (part : TicketPart) → part.ticket ≡ setup.ticket
-      → NamesTicket node list (sent_as node moment head part).content
+      → NamesTicket node list (sent_as node now head part).content
   names head part same = record {
     part = part;
     ticket = set_up.0;
@@ -134,21 +135,21 @@ module _ (node : NodeConfig) (moment : ℕ) (name : List ℕ) (setup : Setup) (l
   to_member : (place : ℕ) (head : Head) (part : TicketPart) (ok : Bool) (es : List Entry) (More : List Entry
       → Type 0)
       → IsOwn setup head part
-      → SaidFirst (peer_of node.config (Member place)) (sealed node.key (sent_as node moment head part))
+      → SaidFirst (peer_of node.config (Member place)) (sealed node.key (sent_as node now head part))
       es More
       → ((rest : List Entry) → More rest → Reaches rest) → Reaches es
   to_member place head part ok es More own first later = by_peer (peer_of node.config (Member place)) refl
       first
     where
       by_peer : (o : Option Peer) → peer_of node.config (Member place) ≡ o
-          → SaidFirst o (sealed node.key (sent_as node moment head part)) es More
+          → SaidFirst o (sealed node.key (sent_as node now head part)) es More
           → Reaches es
       by_peer None is first = later es first
       by_peer (Some peer) is first =
           subst (λ (l : List Entry). Reaches l) (sym first.2) (
             inl (record {
               place = place;
-              letter = sent_as node moment head part;
+              message = sent_as node now head part;
               there = is;
               spelled = refl;
               between = own.between;
@@ -159,7 +160,7 @@ module _ (node : NodeConfig) (moment : ℕ) (name : List ℕ) (setup : Setup) (l
 
   one_among : (ask : TicketAsk) (ok : Bool) (es : List Entry) (More : List Entry → Type 0)
       → Among setup (waiting_at waiters list) ask
-      → ActFirst node moment name ask ok es More
+      → ActFirst node now name ask ok es More
       → ((rest : List Entry) → More rest → Reaches rest)
       → Reaches es
   one_among (KeepsRecord tried) ok es More among first later =
@@ -173,7 +174,7 @@ module _ (node : NodeConfig) (moment : ℕ) (name : List ℕ) (setup : Setup) (l
         inr (record {
           place = list;
           waiter = among.waiter;
-          letter = sent_as node moment head part;
+          message = sent_as node now head part;
           waits = among.waits;
           to = among.to;
           spelled = refl;
@@ -191,24 +192,24 @@ module _ (node : NodeConfig) (moment : ℕ) (name : List ℕ) (setup : Setup) (l
       )
 
   pub all_among : (xs : List Act) (es : List Entry) → AllAmong setup (waiting_at waiters list) xs
-      → Seen node moment name xs es → Reaches es
+      → Seen node now name xs es → Reaches es
   all_among [] es among seen = subst (λ (l : List Entry). Reaches l) (sym seen) tt
   all_among (act ∷ xs) es among seen =
-      one_among act.ask act.ok es (Seen node moment name xs) among.0 seen
+      one_among act.ask act.ok es (Seen node now name xs) among.0 seen
       (λ rest more. all_among xs rest among.1 more)
 
   -- a client that one of the acts tells is told by one of these calls
   pub told_in : (waiter : Waiter) (xs : List Act) (es : List Entry) → IsTold setup waiter xs
-      → Seen node moment name xs es → IsToldIn node list waiter es
+      → Seen node now name xs es → IsToldIn node list waiter es
   told_in waiter xs es told seen =
       let act : Act = record { ask = Say (Client waiter.from) told.head told.part; ok = told.ok } in
       let parts =
-      seen_parts node moment name told.before (act ∷ told.after) es
-      (subst (λ (l : List Act). Seen node moment name l es) told.whole seen) in
+      seen_parts node now name told.before (act ∷ told.after) es
+      (subst (λ (l : List Act). Seen node now name l es) told.whole seen) in
       let sent = parts.4.1 in
       record {
         before = parts.0;
-        letter = sent_as node moment told.head told.part;
+        message = sent_as node now told.head told.part;
         answer = sent.0;
         after = sent.1;
         whole = parts.2 ∙ ap (λ (l : List Entry). parts.0 ++ l) sent.2;
@@ -235,11 +236,11 @@ told_before : (node : NodeConfig) (place : ℕ) (waiter : Waiter) (xs ys es : Li
     → IsToldIn node place waiter xs → IsToldIn node place waiter es
 told_before node place waiter xs ys es whole told = record {
   before = told.before;
-  letter = told.letter;
+  message = told.message;
   answer = told.answer;
   after = told.after ++ ys;
   whole = whole ∙ ap (λ (l : List Entry). l ++ ys) told.whole
-      ∙ append_assoc told.before (calls.Send waiter.from (sealed node.key told.letter) told.answer ∷ told.after)
+      ∙ append_assoc told.before (calls.Send waiter.from (sealed node.key told.message) told.answer ∷ told.after)
       ys;
   outcome = told.outcome;
   about = told.about;
@@ -249,12 +250,12 @@ told_after : (node : NodeConfig) (place : ℕ) (waiter : Waiter) (xs ys es : Lis
     → IsToldIn node place waiter ys → IsToldIn node place waiter es
 told_after node place waiter xs ys es whole told = record {
   before = xs ++ told.before;
-  letter = told.letter;
+  message = told.message;
   answer = told.answer;
   after = told.after;
   whole = whole ∙ ap (λ (l : List Entry). xs ++ l) told.whole
       ∙ sym (append_assoc xs told.before
-      (calls.Send waiter.from (sealed node.key told.letter) told.answer ∷ told.after));
+      (calls.Send waiter.from (sealed node.key told.message) told.answer ∷ told.after));
   outcome = told.outcome;
   about = told.about;
 }
@@ -306,7 +307,7 @@ reaches_fewer node before after fewer (calls.Send peer bytes answer) (inr tells_
     inr (record {
       place = tells_one.place;
       waiter = tells_one.waiter;
-      letter = tells_one.letter;
+      message = tells_one.message;
       waits = fewer tells_one.place tells_one.waiter tells_one.waits;
       to = tells_one.to;
       spelled = tells_one.spelled;
@@ -354,7 +355,7 @@ stays_on node a b c xs ys es whole first later =
     })
 
 -- what the ticket at a place did, as it did it
-pub record Acted (node : NodeConfig) (moment : ℕ) (state : State) (place : ℕ) (event : Event)
+pub record Acted (node : NodeConfig) (now : ℕ) (state : State) (place : ℕ) (event : Event)
     (ticket : TicketState)
     (es : List Entry) (after : State) : Type 0 where
   pub did : List Act
@@ -363,23 +364,23 @@ pub record Acted (node : NodeConfig) (moment : ℕ) (state : State) (place : ℕ
   pub leads : Leads IsAct
       (befalls ticket (waiting_at state.waiters place) (spare_in state.waiters)
       (is_ready node state.attributes place) (job_at node place state.common) event
-      moment) did (Ends left)
-  pub seen : Seen node moment ticket.setup.ticket did es
+      now) did (Ends left)
+  pub seen : Seen node now ticket.setup.ticket did es
   pub undropped : common.drops ≡ state.common.drops
   pub is : after ≡ with_ticket state place common left
 
-pub acted_at : (node : NodeConfig) (moment : ℕ) (state : State) (place : ℕ) (event : Event)
+pub acted_at : (node : NodeConfig) (now : ℕ) (state : State) (place : ℕ) (event : Event)
     (ticket : TicketState)
     (es : List Entry) (after : State) → slice_get state.tickets place ≡ Some ticket
-    → Leads (IsDone node.key) (acts node moment state place event) es (Ends after)
-    → Acted node moment state place event ticket es after
-acted_at node moment state place event ticket es after there leads =
+    → Leads (IsDone node.key) (acts node now state place event) es (Ends after)
+    → Acted node now state place event ticket es after
+acted_at node now state place event ticket es after there leads =
     let p =
-    path_of node moment ticket.setup.ticket (λ common left. with_ticket state place common left) after
+    path_of node now ticket.setup.ticket (λ common left. with_ticket state place common left) after
     (befalls ticket (waiting_at state.waiters place) (spare_in state.waiters)
     (is_ready node state.attributes place) (job_at node place state.common) event
-    moment) state.common es
-    (subst (λ (o : Option TicketState). Leads (IsDone node.key) (acts_as node moment state place event o) es
+    now) state.common es
+    (subst (λ (o : Option TicketState). Leads (IsDone node.key) (acts_as node now state place event o) es
     (Ends after)) there leads) in
     record {
       did = p.acts;
@@ -391,31 +392,31 @@ acted_at node moment state place event ticket es after there leads =
       is = p.ends;
     }
 
-pub acted_set_up : (node : NodeConfig) (moment : ℕ) (state : State) (place : ℕ) (event : Event)
+pub acted_set_up : (node : NodeConfig) (now : ℕ) (state : State) (place : ℕ) (event : Event)
     (ticket : TicketState)
     (es : List Entry) (after : State) → AreSetUp node state → slice_get state.tickets place ≡ Some ticket
-    → Acted node moment state place event ticket es after → AreSetUp node after
-acted_set_up node moment state place event ticket es after set_up there acted =
+    → Acted node now state place event ticket es after → AreSetUp node after
+acted_set_up node now state place event ticket es after set_up there acted =
     subst (λ (s : State). AreSetUp node s) (sym acted.is)
     (set_up_kept node state place ticket acted.left acted.common set_up there
     (setup_stays ticket acted.left (waiting_at state.waiters place) (spare_in state.waiters)
-    (is_ready node state.attributes place) (job_at node place state.common) moment acted.did event acted.leads))
+    (is_ready node state.attributes place) (job_at node place state.common) now acted.did event acted.leads))
 
-pub acted_undropped : (node : NodeConfig) (moment : ℕ) (state : State) (place : ℕ) (event : Event)
+pub acted_undropped : (node : NodeConfig) (now : ℕ) (state : State) (place : ℕ) (event : Event)
     (ticket : TicketState)
-    (es : List Entry) (after : State) → Acted node moment state place event ticket es after
+    (es : List Entry) (after : State) → Acted node now state place event ticket es after
     → after.common.drops ≡ state.common.drops
-acted_undropped node moment state place event ticket es after acted =
+acted_undropped node now state place event ticket es after acted =
     ap (λ (s : State). s.common.drops) acted.is ∙ acted.undropped
 
 -- who waited for the ticket does so still, or was told, and who waits for another is not touched
-pub acted_remember : (node : NodeConfig) (moment : ℕ) (state : State) (place : ℕ) (event : Event)
+pub acted_remember : (node : NodeConfig) (now : ℕ) (state : State) (place : ℕ) (event : Event)
     (ticket : TicketState)
     (es : List Entry) (after : State) → AreSetUp node state → slice_get state.tickets place ≡ Some ticket
-    → (acted : Acted node moment state place event ticket es after)
+    → (acted : Acted node now state place event ticket es after)
     → Remembers ticket.setup (waiting_at state.waiters place) acted.left.waiters acted.did
     → AllRemember node state.waiters after.waiters es
-acted_remember node moment state place event ticket es after set_up is acted remembers =
+acted_remember node now state place event ticket es after set_up is acted remembers =
     subst (λ (s : State). AllRemember node state.waiters s.waiters es) (sym acted.is)
     (remember_at (λ p w. IsToldIn node p w es) state.waiters place acted.left.waiters
     (λ w h. seen_so w (remembers w h)))
@@ -424,86 +425,86 @@ acted_remember node moment state place event ticket es after set_up is acted rem
         → IsAmong w acted.left.waiters ⊎ IsToldIn node place w es
     seen_so w (inl h) = inl h
     seen_so w (inr told) =
-        inr (told_in node moment ticket.setup.ticket ticket.setup place (set_up_at node state place ticket set_up is)
+        inr (told_in node now ticket.setup.ticket ticket.setup place (set_up_at node state place ticket set_up is)
         state.waiters w acted.did es told
         acted.seen)
 
 -- what befalls a ticket reaches members and those that wait for it alone
 abbrev pub TalksAmong : Event → ℕ → Type 0
-TalksAmong event moment =
+TalksAmong event now =
     (ticket : TicketState) (left : TicketLeft) (waiters : List Waiter) (spare : ℕ) (ready : GrantKind → Bool)
     (job : Option ℕ) (did : List Act)
-    → Leads IsAct (befalls ticket waiters spare ready job event moment) did (Ends left)
+    → Leads IsAct (befalls ticket waiters spare ready job event now) did (Ends left)
     → Tells ticket.setup waiters left.waiters did
 
-pub acts_stay : (node : NodeConfig) (moment : ℕ) (state : State) (place : ℕ) (event : Event)
+pub acts_stay : (node : NodeConfig) (now : ℕ) (state : State) (place : ℕ) (event : Event)
     (es : List Entry) (after : State)
-    → TalksAmong event moment → AreSetUp node state
-    → Leads (IsDone node.key) (acts node moment state place event) es (Ends after) → Stays node state after es
-acts_stay node moment state place event es after talks set_up leads = by_ticket
+    → TalksAmong event now → AreSetUp node state
+    → Leads (IsDone node.key) (acts node now state place event) es (Ends after) → Stays node state after es
+acts_stay node now state place event es after talks set_up leads = by_ticket
     (slice_get state.tickets place) refl
   where
     by_ticket : (o : Option TicketState) → slice_get state.tickets place ≡ o → Stays node state after es
     by_ticket None is =
         stays_here node state after es set_up
         (subst (λ (o : Option TicketState). Leads (IsDone node.key)
-        (acts_as node moment state place event o) es (Ends after)) is leads)
+        (acts_as node now state place event o) es (Ends after)) is leads)
     by_ticket (Some ticket) is =
-        let acted = acted_at node moment state place event ticket es after is leads in
+        let acted = acted_at node now state place event ticket es after is leads in
         let own = set_up_at node state place ticket set_up is in
         let told =
         talks ticket acted.left (waiting_at state.waiters place) (spare_in state.waiters)
         (is_ready node state.attributes place) (job_at node place state.common) acted.did acted.leads in
         record {
-          set_up = acted_set_up node moment state place event ticket es after set_up is acted;
-          undropped = acted_undropped node moment state place event ticket es after acted;
-          among = all_among node moment ticket.setup.ticket ticket.setup place own state.waiters acted.did es told.among
+          set_up = acted_set_up node now state place event ticket es after set_up is acted;
+          undropped = acted_undropped node now state place event ticket es after acted;
+          among = all_among node now ticket.setup.ticket ticket.setup place own state.waiters acted.did es told.among
               acted.seen;
           fewer = subst (λ (s : State). AllFewer state.waiters s.waiters) (sym acted.is)
               (fewer_at state.waiters place acted.left.waiters told.fewer);
-          remember = acted_remember node moment state place event ticket es after set_up is acted told.remembers;
+          remember = acted_remember node now state place event ticket es after set_up is acted told.remembers;
         }
 
 -- ---- the end of a job
 
-pub each_over_stays : (node : NodeConfig) (moment job : ℕ) (service : Service) (places : List ℕ) (state after : State)
+pub each_over_stays : (node : NodeConfig) (now job : ℕ) (service : Service) (places : List ℕ) (state after : State)
     (es : List Entry) → AreSetUp node state
-    → Leads (IsDone node.key) (each_over node moment job service places state) es (Ends after)
+    → Leads (IsDone node.key) (each_over node now job service places state) es (Ends after)
     → Stays node state after es
-each_over_stays node moment job service [] state after es set_up leads = stays_here node state after es set_up leads
-each_over_stays node moment job service (place ∷ places) state after es set_up leads =
-    let parts : Split (IsDone node.key) (acts node moment state place (Over job service))
-    (each_over node moment job service places) es after =
-    split (IsDone node.key) (acts node moment state place (Over job service)) (each_over node moment job service places)
+each_over_stays node now job service [] state after es set_up leads = stays_here node state after es set_up leads
+each_over_stays node now job service (place ∷ places) state after es set_up leads =
+    let parts : Split (IsDone node.key) (acts node now state place (Over job service))
+    (each_over node now job service places) es after =
+    split (IsDone node.key) (acts node now state place (Over job service)) (each_over node now job service places)
     es after leads in
     let one =
-    acts_stay node moment state place (Over job service) parts.first parts.mid
+    acts_stay node now state place (Over job service) parts.first parts.mid
     (λ ticket left waiters spare ready next_job did leads.
-    over_among ticket left waiters spare ready next_job moment did job service leads) set_up
+    over_among ticket left waiters spare ready next_job now did job service leads) set_up
     parts.to_mid in
     stays_on node state parts.mid after parts.first parts.later es parts.whole one
-    (each_over_stays node moment job service places parts.mid after parts.later one.set_up parts.to_end)
+    (each_over_stays node now job service places parts.mid after parts.later one.set_up parts.to_end)
 
 -- ---- the deadlines
 
-each_due_stays : (node : NodeConfig) (moment : ℕ) (places : List ℕ) (state after : State) (es : List Entry)
+each_due_stays : (node : NodeConfig) (now : ℕ) (places : List ℕ) (state after : State) (es : List Entry)
     → AreSetUp node state
-    → Leads (IsDone node.key) (each_due node moment places state) es (Ends after) → Stays node state after es
-each_due_stays node moment [] state after es set_up leads = stays_here node state after es set_up leads
-each_due_stays node moment (place ∷ places) state after es set_up leads =
-    let parts : Split (IsDone node.key) (acts node moment state place Due) (each_due node moment places) es
+    → Leads (IsDone node.key) (each_due node now places state) es (Ends after) → Stays node state after es
+each_due_stays node now [] state after es set_up leads = stays_here node state after es set_up leads
+each_due_stays node now (place ∷ places) state after es set_up leads =
+    let parts : Split (IsDone node.key) (acts node now state place Due) (each_due node now places) es
     after =
-    split (IsDone node.key) (acts node moment state place Due) (each_due node moment places) es after leads in
+    split (IsDone node.key) (acts node now state place Due) (each_due node now places) es after leads in
     let one =
-    acts_stay node moment state place Due parts.first parts.mid
-    (λ ticket left waiters spare ready job did leads. due_among ticket left waiters spare ready job moment did leads) set_up
+    acts_stay node now state place Due parts.first parts.mid
+    (λ ticket left waiters spare ready job did leads. due_among ticket left waiters spare ready job now did leads) set_up
     parts.to_mid in
     stays_on node state parts.mid after parts.first parts.later es parts.whole one
-    (each_due_stays node moment places parts.mid after parts.later one.set_up parts.to_end)
+    (each_due_stays node now places parts.mid after parts.later one.set_up parts.to_end)
 
-pub dues_stay : (node : NodeConfig) (moment : ℕ) (turn : Turn) (state after : State) (es : List Entry)
+pub dues_stay : (node : NodeConfig) (now : ℕ) (turn : Turn) (state after : State) (es : List Entry)
     → AreSetUp node state
-    → Leads (IsDone node.key) (dues node moment turn state) es (Ends after) → Stays node state after es
-dues_stay node moment Went state after es set_up leads =
-    each_due_stays node moment (due_places moment state.tickets) state after es set_up leads
-dues_stay node moment Stopped state after es set_up leads = stays_here node state after es set_up leads
+    → Leads (IsDone node.key) (dues node now turn state) es (Ends after) → Stays node state after es
+dues_stay node now Went state after es set_up leads =
+    each_due_stays node now (due_places now state.tickets) state after es set_up leads
+dues_stay node now Stopped state after es set_up leads = stays_here node state after es set_up leads

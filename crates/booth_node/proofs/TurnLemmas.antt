@@ -1,18 +1,18 @@
 -- The parts of a turn, one after the other.
 use Rattle.std.proofs.Common.{◌≡◌, ℕ, List, [], ◌∷◌, refl, sym, ◌∙◌, ap, subst}
 use Rattle.std.specs.Prelude.{Option, Result}
-use Rattle.booth_base.specs.Tree.{Ends, Leads}
+use Rattle.booth_base.specs.Tree.{Deeds, Ends, Leads, ◌>>=◌}
+use Rattle.booth_base.proofs.TreeLemmas.{leads_then}
 use Rattle.booth_host.specs.declared.host.Failed.{Failed}
 use Rattle.booth_host.specs.declared.host.Arrival.{Arrival}
 use Rattle.booth_host.specs.declared.entry.Entry.{Entry}
 use Rattle.booth_host.specs.declared.entry.Entry.TheVariants as calls
 use Rattle.booth_host.specs.Past.{GrewBy, GrewSome}
-use Rattle.booth_host.proofs.PastLemmas.{no_entry, some_of, then_some, one_more}
-use Rattle.booth_host.proofs.DeedLemmas.{part_then}
+use Rattle.booth_host.proofs.PastLemmas.{no_entry, some_of, some_joined, then_some, one_more}
 use Rattle.booth_node.specs.declared.node.Turn.{Turn}
 use Rattle.booth_node.specs.declared.node.Turn.TheVariants.{Went, Stopped}
 use Rattle.booth_node.specs.declared.node_config.NodeConfig.{NodeConfig}
-use Rattle.booth_node.specs.Reaction.{IsDone, arrived, due_places, dues, each_due, react, turn_end, used, IsTurn}
+use Rattle.booth_node.specs.Reaction.{Ask, IsDone, arrived, due_places, dues, each_due, react, turn_end, used, IsTurn}
 use Rattle.booth_node.specs.State.{State}
 
 module _ {a b c d : Option (List Entry)} (node node' : NodeConfig) (old begun mid : State)
@@ -38,19 +38,26 @@ module _ {a b c d : Option (List Entry)} (node node' : NodeConfig) (old begun mi
       (Ends mid)) c d)
       same_node deeds))
 
+  begins : Deeds Ask State
+  begins = arrived node (used old.last_reading reading) (record old { last_reading = used old.last_reading reading }) answer bytes
+
+  follows : State → Deeds Ask State
+  follows = dues node (used old.last_reading reading) (turn_end answer)
+
   -- an arrival, a reading, what the arrival demands, and what the deadlines do
   turn_of : {e : Option (List Entry)} (new : State)
       → GrewSome (λ es. Leads {S = State} (IsDone node.key) (dues node (used old.last_reading reading)
       (turn_end answer) mid) es (Ends new)) d e
       → GrewSome (λ es. IsTurn node old turn es new) a e
+  unfolding begins follows
   turn_of new later =
       then_some (λ es. Leads {S = State} (IsDone node.key)
       (react node old (used old.last_reading reading) answer bytes) es (Ends new))
       (λ es. IsTurn node old turn es new)
       (one_more next_call now_call) (λ ys h. (refl, ends, h))
-      (part_then (IsDone node.key) (arrived node (used old.last_reading reading)
-      (record old { last_reading = used old.last_reading reading }) answer bytes)
-      mid (dues node (used old.last_reading reading) (turn_end answer)) (Ends new) first later)
+      (some_joined (λ es. Leads (IsDone node.key) begins es (Ends mid)) (λ es. Leads (IsDone node.key) (follows mid) es (Ends new))
+      (λ es. Leads {S = State} (IsDone node.key) (begins >>= follows) es (Ends new))
+      (λ xs ys h g. leads_then (IsDone node.key) begins follows mid (Ends new) xs ys h g) first later)
 
   pub went : {e : Option (List Entry)} (node'' : NodeConfig) (new : State) → turn ≡ Went → node'' ≡ node'
       → mid.last_reading ≡ begun.last_reading

@@ -25,7 +25,7 @@ use Rattle.booth_node.specs.declared.attributes.AttrWish.{AttrWish}
 use Rattle.booth_node.specs.declared.attributes.AttrWish.TheVariants as wishes
 use Rattle.booth_node.specs.declared.node_config.NodeConfig.{NodeConfig}
 use Rattle.booth_node.specs.Opening.{is_site_at, own_place}
-use Rattle.booth_node.specs.Replies.{Reply, reply_letter}
+use Rattle.booth_node.specs.Replies.{Reply, reply_message}
 
 -- ---- prerequisites
 
@@ -61,7 +61,7 @@ attr_request_of head content = None
 
 -- what a client's message asks of attributes, where it does
 abbrev pub attr_request_in : PlainMessage → Option AttrRequest
-attr_request_in letter = attr_request_of letter.head letter.content
+attr_request_in message = attr_request_of message.head message.content
 
 -- this member is a site
 abbrev pub is_at_site : NodeConfig → Bool
@@ -127,8 +127,8 @@ attr_answer (wishes.Delete pair) = RAtr
 attr_answer wishes.List = RALs
 
 -- the reply to a request about the attributes of the ticket at a place, as it is sent at this moment
-abbrev pub attr_letter : NodeConfig → ℕ → Attributes → ℕ → AttrRequest → PlainMessage
-attr_letter node moment all place request =
-    stamped node.key moment
-    (reply_letter node.me request.number (attr_answer request.wish)
+abbrev pub attr_message : NodeConfig → ℕ → Attributes → ℕ → AttrRequest → PlainMessage
+attr_message node now all place request =
+    stamped node.key now
+    (reply_message node.me request.number (attr_answer request.wish)
     (attr_reply all place request.ticket request.wish))

@@ -21,9 +21,8 @@ use Rattle.booth_host.specs.declared.entry.Entry.TheVariants as calls
 use Rattle.booth_ticket.specs.declared.hands.To.TheVariants.{Member}
 use Rattle.booth_ticket.specs.declared.waiters.Waiter.{Waiter}
 use Rattle.booth_ticket.specs.Acts.{Act, Ask as TicketAsk, Keep as KeepsRecord, Start as StartsJob, Say}
-use Rattle.booth_ticket.specs.Automatic.{Left}
 use Rattle.booth_ticket.specs.Ticket.{Automatic}
-use Rattle.booth_ticket.specs.Waiting.{waiting_at}
+use Rattle.booth_ticket.specs.Waiting.{Left, waiting_at}
 use Rattle.booth_node.specs.declared.node.Turn.TheVariants.{Went}
 use Rattle.booth_node.specs.declared.node_config.NodeConfig.{NodeConfig}
 use Rattle.booth_node.specs.Jobs.{job_of}
@@ -35,22 +34,22 @@ use Rattle.booth_node.specs.State.{State}
 -- the call is that of what a ticket asks, with this answer: a keep under the ticket's name, a start of its handler, or
 -- a send of the message, as it is sealed at this moment, to whom it goes
 abbrev pub IsCallOf : NodeConfig → ℕ → List ℕ → TicketAsk → Bool → Entry → Type 0
-IsCallOf node moment name (KeepsRecord tried) ok (calls.Keep ticket rec answer) =
+IsCallOf node now name (KeepsRecord tried) ok (calls.Keep ticket rec answer) =
     (ticket ≡ name) × (rec ≡ tried) × (is_ok answer ≡ ok)
-IsCallOf node moment name (StartsJob number expires) ok (calls.Start job ticket handler local until answer) =
+IsCallOf node now name (StartsJob number expires) ok (calls.Start job ticket handler local until answer) =
     (record { number = job; ticket = ticket; handler = handler; local = local; expires = until }
     ≡ job_of node name number expires)
     × (is_ok answer ≡ ok)
-IsCallOf node moment name (Say to head part) ok (calls.Send peer bytes answer) =
-    (peer_of node.config to ≡ Some peer) × (bytes ≡ sealed node.key (sent_as node moment head part))
-IsCallOf node moment name ask ok call = ⊥
+IsCallOf node now name (Say to head part) ok (calls.Send peer bytes answer) =
+    (peer_of node.config to ≡ Some peer) × (bytes ≡ sealed node.key (sent_as node now head part))
+IsCallOf node now name ask ok call = ⊥
 
 -- these calls are those acts, one for one
 abbrev pub AreCallsOf : NodeConfig → ℕ → List ℕ → List Act → List Entry → Type 0
-AreCallsOf node moment name [] [] = Unit {0}
-AreCallsOf node moment name (act ∷ acts) (call ∷ calls) =
-    IsCallOf node moment name act.ask act.ok call × AreCallsOf node moment name acts calls
-AreCallsOf node moment name acts calls = ⊥
+AreCallsOf node now name [] [] = Unit {0}
+AreCallsOf node now name (act ∷ acts) (call ∷ calls) =
+    IsCallOf node now name act.ask act.ok call × AreCallsOf node now name acts calls
+AreCallsOf node now name acts calls = ⊥
 
 -- a call that is no keep, or one that answered Ok
 abbrev pub IsNoFailedKeep : Entry → Type 0
@@ -72,11 +71,11 @@ IsAmong waiter (other ∷ others) = (waiter ≡ other) ⊎ IsAmong waiter others
 -- these bytes, to this peer, are a member's command, from this member to one of the configuration
 pub record IsBetweenMembers (node : NodeConfig) (peer : Peer) (bytes : List ℕ) : Type 0 where
   pub place : ℕ
-  pub letter : PlainMessage
+  pub message : PlainMessage
   pub there : peer_of node.config (Member place) ≡ Some peer
-  pub spelled : bytes ≡ sealed node.key letter
-  pub between : direction_of letter.head.cmd ≡ BetweenMembers
-  pub from : letter.head.from ≡ node.me
+  pub spelled : bytes ≡ sealed node.key message
+  pub between : direction_of message.head.cmd ≡ BetweenMembers
+  pub from : message.head.from ≡ node.me
 
 -- What a client that waits may be told of its grant: that it was done, that it failed, that the handler did, or, where
 -- the client does not wait for the keep, that the record is not kept yet. To wait on is none of these.
@@ -84,8 +83,8 @@ abbrev pub EndsGrant : Waiter → ℕ → Type 0
 EndsGrant waiter result =
     (result ≡ SUCCESS) ⊎ (result ≡ FAIL) ⊎ (result ≡ XPRG) ⊎ ((result ≡ PEND) × (waiter.commit ≡ false))
 
--- this message tells a client that waits what became of its grant: how it ended, with its number and neither options nor
--- a reason, from this member
+-- this message tells a client that waits what became of its grant: how it ended, with its number and neither
+-- options nor a reason, from this member
 pub record IsOutcome (me : MemberId) (waiter : Waiter) (head : Head) : Type 0 where
   pub cmd : head.cmd ≡ RGnt
   pub request : head.request ≡ waiter.number
@@ -102,30 +101,31 @@ pub record NamesTicket (node : NodeConfig) (place : ℕ) (content : Content) : T
   pub there : slice_get node.config.tickets place ≡ Some ticket
   pub named : part.ticket ≡ ticket.name
 
--- these bytes, to this peer, tell one of these clients that wait what became of its grant of the ticket that it waits for
+-- these bytes, to this peer, tell one of these clients that wait what became of its grant of the ticket that it
+-- waits for
 pub record TellsWaiter (node : NodeConfig) (waiters : List (List Waiter)) (peer : Peer) (bytes : List ℕ)
     : Type 0 where
   pub place : ℕ
   pub waiter : Waiter
-  pub letter : PlainMessage
+  pub message : PlainMessage
   pub waits : IsAmong waiter (waiting_at waiters place)
   pub to : waiter.from ≡ peer
-  pub spelled : bytes ≡ sealed node.key letter
-  pub outcome : IsOutcome node.me waiter letter.head
-  pub about : NamesTicket node place letter.content
+  pub spelled : bytes ≡ sealed node.key message
+  pub outcome : IsOutcome node.me waiter message.head
+  pub about : NamesTicket node place message.content
 
 -- one of these calls tells this client that waits what became of its grant of the ticket at this place
 pub record IsToldIn (node : NodeConfig) (place : ℕ) (waiter : Waiter) (entries : List Entry) : Type 0 where
   pub before : List Entry
-  pub letter : PlainMessage
+  pub message : PlainMessage
   pub answer : Result (Unit {0}) Failed
   pub after : List Entry
-  pub whole : entries ≡ before ++ calls.Send waiter.from (sealed node.key letter) answer ∷ after
-  pub outcome : IsOutcome node.me waiter letter.head
-  pub about : NamesTicket node place letter.content
+  pub whole : entries ≡ before ++ calls.Send waiter.from (sealed node.key message) answer ∷ after
+  pub outcome : IsOutcome node.me waiter message.head
+  pub about : NamesTicket node place message.content
 
--- a record is kept, a handler is started, or something is said between members or to one of these clients that wait: no other
--- client is reached
+-- a record is kept, a handler is started, or something is said between members or to one of these clients that
+-- wait: no other client is reached
 abbrev pub ReachesWaiters : NodeConfig → List (List Waiter) → Entry → Type 0
 ReachesWaiters node waiters (calls.Keep ticket rec answer) = Unit {0}
 ReachesWaiters node waiters (calls.Start number ticket handler local expires answer) = Unit {0}
@@ -137,24 +137,24 @@ ReachesWaiters node waiters call = ⊥
 
 -- A turn at this moment, in which the datagram of this peer is let in as this message; these are the calls of its
 -- deeds.
-pub record LetsIn (node : NodeConfig) (old : State) (moment : ℕ) (from : Peer) (letter : PlainMessage)
+pub record LetsIn (node : NodeConfig) (old : State) (now : ℕ) (from : Peer) (message : PlainMessage)
     (entries : List Entry) (new : State) : Type 0 where
   pub bytes : List ℕ
-  pub let_in : verdict node.config node.key node.me moment bytes ≡ Ok letter
-  pub deeds : Leads (IsDone node.key) (react node old moment (Ok (arrivals.Datagram from)) bytes) entries
+  pub let_in : verdict node.config node.key node.me now bytes ≡ Ok message
+  pub deeds : Leads (IsDone node.key) (react node old now (Ok (arrivals.Datagram from)) bytes) entries
       (Ends new)
 
 -- The calls of the arrival are these acts of the ticket at a place, and leave it with a view and with clients that
 -- wait, of which this holds. The deadlines' calls follow.
-pub record ArrivalDoes (node : NodeConfig) (moment place : ℕ) (setup : Setup) (acts : List Act)
+pub record ArrivalDoes (node : NodeConfig) (now place : ℕ) (setup : Setup) (acts : List Act)
     (Holds : Left → Type 0) (entries : List Entry) (new : State) : Type 0 where
   pub arrival : List Entry
   pub deadlines : List Entry
   pub whole : entries ≡ arrival ++ deadlines
-  pub done : AreCallsOf node moment setup.ticket acts arrival
+  pub done : AreCallsOf node now setup.ticket acts arrival
   pub after : State
   pub left : Left
-  pub ticket : slice_get after.tickets place ≡ Some (record { setup = setup; known = Automatic left.view })
+  pub ticket : slice_get after.tickets place ≡ Some (record { setup = setup; known = Automatic left.core.view })
   pub waiters : slice_get after.waiters place ≡ Some left.waiters
   pub holds : Holds left
-  pub follow : Leads (IsDone node.key) (dues node moment Went after) deadlines (Ends new)
+  pub follow : Leads (IsDone node.key) (dues node now Went after) deadlines (Ends new)

@@ -30,67 +30,67 @@ use Rattle.booth_node.specs.Opening.{AreSetUp}
 use Rattle.booth_node.specs.State.{State}
 
 -- the message is about the automatic ticket at this place, which has this setup and this view
-pub record IsAbout (node : NodeConfig) (state : State) (letter : PlainMessage) (place : ℕ)
+pub record IsAbout (node : NodeConfig) (state : State) (message : PlainMessage) (place : ℕ)
     (part : TicketPart) (setup : Setup) (view : View) : Type 0 where
-  pub content : letter.content ≡ Ticket part
+  pub content : message.content ≡ Ticket part
   pub named : position (is_called part.ticket) node.config.tickets ≡ Some place
   pub there : slice_get state.tickets place ≡ Some (record { setup = setup; known = Automatic view })
 
 -- the first calls answer the round, to the member whose round it is: in version 2 they keep the promise and then say so
-pub record IsRoundAnswered (node : NodeConfig) (moment : ℕ) (setup : Setup) (view : View) (kind : RoundKind)
-    (letter : PlainMessage) (part : TicketPart) (entries : List Entry) : Type 0 where
+pub record IsRoundAnswered (node : NodeConfig) (now : ℕ) (setup : Setup) (view : View) (kind : RoundKind)
+    (message : PlainMessage) (part : TicketPart) (entries : List Entry) : Type 0 where
   pub member : ℕ
-  pub is_member : position (has_id letter.head.from) node.config.members ≡ Some member
+  pub is_member : position (has_id message.head.from) node.config.members ≡ Some member
   pub first : List Entry
   pub others : List Entry
   pub whole : entries ≡ first ++ others
-  pub answers : AreCallsOf node moment setup.ticket
-      (answering_acts setup view member kind letter.head part moment) first
+  pub answers : AreCallsOf node now setup.ticket
+      (answering_acts setup view member kind message.head part now) first
 
--- Where a member may promise to a round that it heard, and the keep of its promise answers Ok, the answer goes out in that
--- turn, before all else.
+-- Where a member may promise to a round that it heard, and the keep of its promise answers Ok, the answer goes out
+-- in that turn, before all else.
 abbrev pub RoundsAreAnswered : Type 0
 RoundsAreAnswered =
-    (node : NodeConfig) (old new : State) (moment : ℕ) (from : Peer) (letter : PlainMessage)
+    (node : NodeConfig) (old new : State) (now : ℕ) (from : Peer) (message : PlainMessage)
     (entries : List Entry) (place : ℕ) (part : TicketPart) (setup : Setup) (view : View) (kind : RoundKind)
-    → LetsIn node old moment from letter entries new → IsAbout node old letter place part setup view
-    → IsRound kind letter.head → MayAnswer view letter.head.from part.term moment → KeepsFirst entries
-    → IsRoundAnswered node moment setup view kind letter part entries
+    → LetsIn node old now from message entries new → IsAbout node old message place part setup view
+    → IsRound kind message.head → MayAnswer view message.head.from part.term now → KeepsFirst entries
+    → IsRoundAnswered node now setup view kind message part entries
 
 -- a client's message as the request for a grant
 abbrev pub grant_of : Peer → PlainMessage → Request
-grant_of from letter =
-    record { wish = Grant; from = from; number = letter.head.request; options = letter.head.options }
+grant_of from message =
+    record { wish = Grant; from = from; number = message.head.request; options = message.head.options }
 
--- A grant of a ticket without a handler that meets no refusal, so that its prerequisites hold, asks every other member for its
--- vote in that turn, and tells the client that it was begun, where the keep of the new term answers Ok and this member is no
--- majority by itself. The client then waits, where it asked to.
+-- A grant of a ticket without a handler that meets no refusal, so that its prerequisites hold, asks every other
+-- member for its vote in that turn, and tells the client that it was begun, where the keep of the new term answers
+-- Ok and this member is no majority by itself. The client then waits, where it asked to.
 abbrev pub GrantsAskAll : Type 0
 GrantsAskAll =
-    (node : NodeConfig) (old new : State) (moment : ℕ) (from : Peer) (letter : PlainMessage)
+    (node : NodeConfig) (old new : State) (now : ℕ) (from : Peer) (message : PlainMessage)
     (entries : List Entry) (place : ℕ) (part : TicketPart) (setup : Setup) (view : View)
-    → AreSetUp node old → LetsIn node old moment from letter entries new
-    → IsAbout node old letter place part setup view
-    → letter.head.cmd ≡ CGnt → handler_at node place ≡ None
+    → AreSetUp node old → LetsIn node old now from message entries new
+    → IsAbout node old message place part setup view
+    → message.head.cmd ≡ CGnt → handler_at node place ≡ None
     → refused_grant setup view (spare_in old.waiters) (is_ready node old.attributes place Manual)
-    letter.head.options moment ≡ None
-    → is_majority setup (own_answer setup view moment) ≡ false → KeepsFirst entries
-    → ArrivalDoes node moment place setup (asking_acts setup view (grant_of from letter) moment)
-    (AsksVotes (asked_record setup view moment)
-    (joined (grant_of from letter) ASYN (waiting_at old.waiters place))) entries new
+    message.head.options now ≡ None
+    → is_majority setup (own_answer setup view now) ≡ false → KeepsFirst entries
+    → ArrivalDoes node now place setup (asking_acts setup view (grant_of from message) now)
+    (AsksVotes (asked_record setup view now)
+    (joined (grant_of from message) ASYN (waiting_at old.waiters place))) entries new
 
 -- Where the answer that completes a majority is heard before the lease of its round would be over, and the keep
 -- answers Ok, the ticket is granted until `expire` after the round was opened, all others are told, and so is each
 -- client that waits for the ticket, in that turn; then none waits.
 abbrev pub MajoritiesGain : Type 0
 MajoritiesGain =
-    (node : NodeConfig) (old new : State) (moment : ℕ) (from : Peer) (letter : PlainMessage)
+    (node : NodeConfig) (old new : State) (now : ℕ) (from : Peer) (message : PlainMessage)
     (entries : List Entry) (place : ℕ) (part : TicketPart) (setup : Setup) (view : View) (round : Round)
     (kind : RoundKind) (member : ℕ)
-    → AreSetUp node old → LetsIn node old moment from letter entries new
-    → IsAbout node old letter place part setup view
-    → position (has_id letter.head.from) node.config.members ≡ Some member → view.round ≡ Some round
-    → IsAnswer kind letter.head → Completes setup round member letter.head part moment → KeepsFirst entries
-    → ArrivalDoes node moment place setup
-    (gaining_acts setup view (waiting_at old.waiters place) (lease_of setup view round) moment)
+    → AreSetUp node old → LetsIn node old now from message entries new
+    → IsAbout node old message place part setup view
+    → position (has_id message.head.from) node.config.members ≡ Some member → view.round ≡ Some round
+    → IsAnswer kind message.head → Completes setup round member message.head part now → KeepsFirst entries
+    → ArrivalDoes node now place setup
+    (gaining_acts setup view (waiting_at old.waiters place) (lease_of setup view round) now)
     (HasLease setup.me (lease_kept setup view (lease_of setup view round)) (lease_of setup view round)) entries new

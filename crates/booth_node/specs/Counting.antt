@@ -25,13 +25,13 @@ place_of Ticket = 6
 place_of Leader = 7
 
 -- one more datagram was dropped for this fault
-abbrev pub with_drop : Common → DropFault → Common
-with_drop common fault =
+abbrev pub count_drop : Common → DropFault → Common
+count_drop common fault =
     let count = more (slice_index common.drops (place_of fault)) in
     record common { drops = slice_set common.drops (place_of fault) count }
 
 abbrev pub dropped : State → DropFault → State
-dropped state fault = record state { common = with_drop state.common fault }
+dropped state fault = record state { common = count_drop state.common fault }
 
 -- the counters of a member of whom nothing came and to whom nothing went
 abbrev pub no_counts : Counters
@@ -46,11 +46,11 @@ with_counters common place counters = record common { members = slice_set common
 
 -- one more datagram of the member was let in, at this moment
 abbrev pub counted : Counters → ℕ → Counters
-counted counters moment = record counters { accepted = more counters.accepted; last = moment / 1000 }
+counted counters now = record counters { accepted = more counters.accepted; last = now / 1000 }
 
 abbrev pub accepted : State → ℕ → ℕ → State
-accepted state place moment = record state {
-  common = with_counters state.common place (counted (counters_at state.common place) moment);
+accepted state place now = record state {
+  common = with_counters state.common place (counted (counters_at state.common place) now);
 }
 
 -- one more message was sent to the member, or failed to be
@@ -59,9 +59,9 @@ tried counters true = record counters { sent = more counters.sent }
 tried counters false = record counters { errors = more counters.errors }
 
 -- a send by a rule counts for its member; a reply to a client counts for nobody
-abbrev pub with_send : Common → To → Bool → Common
-with_send common (Member place) ok = with_counters common place (tried (counters_at common place) ok)
-with_send common (Client peer) ok = common
+abbrev pub count_send : Common → To → Bool → Common
+count_send common (Member place) ok = with_counters common place (tried (counters_at common place) ok)
+count_send common (Client peer) ok = common
 
 -- nothing was counted, and no job was started
 abbrev pub nothing_counted : Common

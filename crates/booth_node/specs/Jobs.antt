@@ -20,8 +20,8 @@ abbrev pub number_after : ℕ → ℕ
 number_after number = if number == 2 ^ 64 - 1 then 1 else number + 1
 
 -- a number was used up
-abbrev pub with_start : Common → Common
-with_start common = record common { next_job = number_after common.next_job }
+abbrev pub count_start : Common → Common
+count_start common = record common { next_job = number_after common.next_job }
 
 -- ---- handlers
 

@@ -24,7 +24,7 @@ use Rattle.booth_node.specs.declared.node.Turn.TheVariants.{Went}
 use Rattle.booth_node.specs.declared.node_config.NodeConfig.{NodeConfig}
 use Rattle.booth_node.specs.declared.state.Common.{Common}
 use Rattle.booth_node.specs.Calls.{IsAmong, IsToldIn, LetsIn, ReachesWaiters}
-use Rattle.booth_node.specs.Counting.{dropped, with_drop}
+use Rattle.booth_node.specs.Counting.{dropped, count_drop}
 use Rattle.booth_node.specs.Opening.{AreSetUp, opened}
 use Rattle.booth_node.specs.Reaction.{Action, Drops, Hears, Asks, Attends, Answers, Rests, IsDone, action, dues, react}
 use Rattle.booth_node.specs.State.{State}
@@ -41,9 +41,9 @@ OpensWithItsTickets =
 -- They stay those through every turn.
 abbrev pub KeepsItsTickets : Type 0
 KeepsItsTickets =
-    (node : NodeConfig) (old new : State) (moment : ℕ) (arrival : Result Arrival Failed) (bytes : List ℕ)
+    (node : NodeConfig) (old new : State) (now : ℕ) (arrival : Result Arrival Failed) (bytes : List ℕ)
     (entries : List Entry) → AreSetUp node old
-    → Leads (IsDone node.key) (react node old moment arrival bytes) entries (Ends new) → AreSetUp node new
+    → Leads (IsDone node.key) (react node old now arrival bytes) entries (Ends new) → AreSetUp node new
 
 -- ---- what a datagram comes to
 
@@ -56,15 +56,15 @@ IsSettled node (Hears from ticket head part) =
     × (position (is_called part.ticket) node.config.tickets ≡ Some ticket)
 IsSettled node (Asks ticket request) = ticket < length node.config.tickets
 IsSettled node (Attends ticket request) = ticket < length node.config.tickets
-IsSettled node (Answers letter) = Unit {0}
+IsSettled node (Answers message) = Unit {0}
 IsSettled node Rests = ⊥
 
--- No datagram demands nothing: each is dropped, heard by its ticket, asked of its ticket or of that one's attributes, or
--- answered at once.
+-- No datagram demands nothing: each is dropped, heard by its ticket, asked of its ticket or of that one's
+-- attributes, or answered at once.
 abbrev pub NothingRests : Type 0
 NothingRests =
-    (node : NodeConfig) (moment : ℕ) (state : State) (from : Peer) (bytes : List ℕ)
-    → IsSettled node (action node moment state.tickets state.common from bytes)
+    (node : NodeConfig) (now : ℕ) (state : State) (from : Peer) (bytes : List ℕ)
+    → IsSettled node (action node now state.tickets state.common from bytes)
 
 -- ---- dropped for its named fault
 
@@ -72,36 +72,36 @@ NothingRests =
 -- deadlines demand.
 abbrev pub DropsAlone : Type 0
 DropsAlone =
-    (node : NodeConfig) (old new : State) (moment : ℕ) (from : Peer) (bytes : List ℕ) (fault : DropFault)
-    (entries : List Entry) → verdict node.config node.key node.me moment bytes ≡ Err fault
-    → Leads (IsDone node.key) (react node old moment (Ok (arrivals.Datagram from)) bytes) entries (Ends new)
-    → Leads (IsDone node.key) (dues node moment Went (dropped (record old { last_reading = moment }) fault))
+    (node : NodeConfig) (old new : State) (now : ℕ) (from : Peer) (bytes : List ℕ) (fault : DropFault)
+    (entries : List Entry) → verdict node.config node.key node.me now bytes ≡ Err fault
+    → Leads (IsDone node.key) (react node old now (Ok (arrivals.Datagram from)) bytes) entries (Ends new)
+    → Leads (IsDone node.key) (dues node now Went (dropped (record old { last_reading = now }) fault))
     entries (Ends new)
 
 -- the drop counters after a verdict, and after an arrival
 abbrev pub drops_by : Common → Result PlainMessage DropFault → List ℕ
-drops_by common (Err fault) = (with_drop common fault).drops
-drops_by common (Ok letter) = common.drops
+drops_by common (Err fault) = (count_drop common fault).drops
+drops_by common (Ok message) = common.drops
 
 abbrev pub drops_after : NodeConfig → ℕ → Common → Result Arrival Failed → List ℕ → List ℕ
-drops_after node moment common (Ok (arrivals.Datagram from)) bytes =
-    drops_by common (verdict node.config node.key node.me moment bytes)
-drops_after node moment common answer bytes = common.drops
+drops_after node now common (Ok (arrivals.Datagram from)) bytes =
+    drops_by common (verdict node.config node.key node.me now bytes)
+drops_after node now common answer bytes = common.drops
 
 -- A turn counts a fault exactly where its datagram has it, and no other.
 abbrev pub CountsEachFault : Type 0
 CountsEachFault =
-    (node : NodeConfig) (old new : State) (moment : ℕ) (arrival : Result Arrival Failed) (bytes : List ℕ)
-    (entries : List Entry) → Leads (IsDone node.key) (react node old moment arrival bytes) entries (Ends new)
-    → new.common.drops ≡ drops_after node moment old.common arrival bytes
+    (node : NodeConfig) (old new : State) (now : ℕ) (arrival : Result Arrival Failed) (bytes : List ℕ)
+    (entries : List Entry) → Leads (IsDone node.key) (react node old now arrival bytes) entries (Ends new)
+    → new.common.drops ≡ drops_after node now old.common arrival bytes
 
 -- ---- clients
 
 -- This reply answers the message: its command's answer, with its number and neither options nor a reason, from
 -- this member.
-pub record IsReplyTo (node : NodeConfig) (letter reply : PlainMessage) : Type 0 where
-  pub cmd : answer_of letter.head.cmd ≡ Some reply.head.cmd
-  pub request : reply.head.request ≡ letter.head.request
+pub record IsReplyTo (node : NodeConfig) (message reply : PlainMessage) : Type 0 where
+  pub cmd : answer_of message.head.cmd ≡ Some reply.head.cmd
+  pub request : reply.head.request ≡ message.head.request
   pub options : reply.head.options ≡ 0
   pub reason : reply.head.reason ≡ 0
   pub from : reply.head.from ≡ node.me
@@ -109,57 +109,57 @@ pub record IsReplyTo (node : NodeConfig) (letter reply : PlainMessage) : Type 0 
 -- The last call of the arrival is the reply, to who asked. Each other call of the turn that reaches a client tells one
 -- that waits what became of its grant: before the reply one that waited when the turn began, after it one that waits
 -- then.
-pub record IsAnswered (node : NodeConfig) (old : State) (moment : ℕ) (from : Peer) (letter : PlainMessage)
+pub record IsAnswered (node : NodeConfig) (old : State) (now : ℕ) (from : Peer) (message : PlainMessage)
     (entries : List Entry) (new : State) : Type 0 where
   pub before : List Entry
   pub reply : PlainMessage
   pub answer : Result (Unit {0}) Failed
   pub deadlines : List Entry
   pub whole : entries ≡ before ++ calls.Send from (sealed node.key reply) answer ∷ deadlines
-  pub replies : IsReplyTo node letter reply
+  pub replies : IsReplyTo node message reply
   pub waited : All (ReachesWaiters node old.waiters) before
   pub after : State
   pub waiting : All (ReachesWaiters node after.waiters) deadlines
-  pub follow : Leads (IsDone node.key) (dues node moment Went after) deadlines (Ends new)
+  pub follow : Leads (IsDone node.key) (dues node now Went after) deadlines (Ends new)
 
 -- Each client's request that is let in has its one reply in that turn.
 abbrev pub ClientsAreAnswered : Type 0
 ClientsAreAnswered =
-    (node : NodeConfig) (old new : State) (moment : ℕ) (from : Peer) (letter : PlainMessage)
+    (node : NodeConfig) (old new : State) (now : ℕ) (from : Peer) (message : PlainMessage)
     (entries : List Entry)
-    → AreSetUp node old → LetsIn node old moment from letter entries new
-    → direction_of letter.head.cmd ≡ ToDaemon
-    → IsAnswered node old moment from letter entries new
+    → AreSetUp node old → LetsIn node old now from message entries new
+    → direction_of message.head.cmd ≡ ToDaemon
+    → IsAnswered node old now from message entries new
 
 -- the request of a client that a datagram brings, where it brings one that is let in
 abbrev pub asked_by : Direction → PlainMessage → Option PlainMessage
-asked_by ToDaemon letter = Some letter
-asked_by BetweenMembers letter = None
-asked_by ToClient letter = None
+asked_by ToDaemon message = Some message
+asked_by BetweenMembers message = None
+asked_by ToClient message = None
 
 abbrev pub request_let_in : Result PlainMessage DropFault → Option PlainMessage
 request_let_in (Err fault) = None
-request_let_in (Ok letter) = asked_by (direction_of letter.head.cmd) letter
+request_let_in (Ok message) = asked_by (direction_of message.head.cmd) message
 
 abbrev pub request_of : NodeConfig → ℕ → Result Arrival Failed → List ℕ → Option PlainMessage
-request_of node moment (Ok (arrivals.Datagram from)) bytes =
-    request_let_in (verdict node.config node.key node.me moment bytes)
-request_of node moment answer bytes = None
+request_of node now (Ok (arrivals.Datagram from)) bytes =
+    request_let_in (verdict node.config node.key node.me now bytes)
+request_of node now answer bytes = None
 
 -- In each other turn nothing reaches a client but the outcome of a grant, one that waited when the turn began.
 abbrev pub OthersAreNotAnswered : Type 0
 OthersAreNotAnswered =
-    (node : NodeConfig) (old new : State) (moment : ℕ) (arrival : Result Arrival Failed) (bytes : List ℕ)
+    (node : NodeConfig) (old new : State) (now : ℕ) (arrival : Result Arrival Failed) (bytes : List ℕ)
     (entries : List Entry) → AreSetUp node old
-    → Leads (IsDone node.key) (react node old moment arrival bytes) entries (Ends new)
-    → request_of node moment arrival bytes ≡ None → All (ReachesWaiters node old.waiters) entries
+    → Leads (IsDone node.key) (react node old now arrival bytes) entries (Ends new)
+    → request_of node now arrival bytes ≡ None → All (ReachesWaiters node old.waiters) entries
 
--- No client that waits is forgotten: after each turn it waits for the same ticket still, or it was told in the turn what
--- became of its grant of that ticket.
+-- No client that waits is forgotten: after each turn it waits for the same ticket still, or it was told in the turn
+-- what became of its grant of that ticket.
 abbrev pub NobodyIsForgotten : Type 0
 NobodyIsForgotten =
-    (node : NodeConfig) (old new : State) (moment : ℕ) (arrival : Result Arrival Failed) (bytes : List ℕ)
+    (node : NodeConfig) (old new : State) (now : ℕ) (arrival : Result Arrival Failed) (bytes : List ℕ)
     (entries : List Entry) → AreSetUp node old
-    → Leads (IsDone node.key) (react node old moment arrival bytes) entries (Ends new)
+    → Leads (IsDone node.key) (react node old now arrival bytes) entries (Ends new)
     → (place : ℕ) (waiter : Waiter) → IsAmong waiter (waiting_at old.waiters place)
     → IsAmong waiter (waiting_at new.waiters place) ⊎ IsToldIn node place waiter entries

@@ -9,9 +9,11 @@ pub mod Opening
 pub mod Jobs
 pub mod Replies
 pub mod AttributeRequests
+pub mod Led
 pub mod Reaction
 pub mod Befalling
-pub mod Actions
+pub mod ReplyForms
+pub mod Routing
 pub mod Acting
 pub mod Calls
 pub mod Laws

@@ -1,8 +1,8 @@
 -- What a node does with an arrival and with its deadlines: the deeds of one turn, as a tree.
-use Rattle.std.specs.Prelude.{◌≡◌, ◌-◌, ◌^◌, ℕ, min, max, Bool, true, List, [], ◌∷◌, length, map, position, slice_get, Option, Some, None, Result, Ok, Err, is_ok}
+use Rattle.std.specs.Prelude.{◌≡◌, ◌-◌, ◌^◌, ℕ, min, max, Bool, true, List, ◌∷◌, length, map, position, slice_get, Option, Some, None, Result, Ok, Err, is_ok}
 use Rattle.std.specs.List.{range_with_len}
 use Rattle.booth_base.specs.declared.address.Peer.{Peer}
-use Rattle.booth_base.specs.Tree.{Deeds, Ends, Does, Leads, next}
+use Rattle.booth_base.specs.Tree.{Deeds, Ends, Does, Leads, ◌>>=◌, through}
 use Rattle.booth_conf.specs.Config.{ConfigSays, has_id}
 use Rattle.booth_conf.specs.Lookups.{is_called}
 use Rattle.booth_conf.specs.declared.members.Member.{Member}
@@ -42,10 +42,10 @@ use Rattle.booth_node.specs.declared.node.Turn.{Turn}
 use Rattle.booth_node.specs.declared.node.Turn.TheVariants.{Went, Stopped}
 use Rattle.booth_node.specs.declared.node_config.NodeConfig.{NodeConfig}
 use Rattle.booth_node.specs.declared.state.Common.{Common}
-use Rattle.booth_node.specs.Counting.{dropped, accepted, with_send}
-use Rattle.booth_node.specs.Jobs.{job_at, job_of, with_start}
+use Rattle.booth_node.specs.Counting.{dropped, accepted, count_send}
+use Rattle.booth_node.specs.Jobs.{job_at, job_of, count_start}
 use Rattle.booth_node.specs.Replies.{reply_to, request_in}
-use Rattle.booth_node.specs.AttributeRequests.{after_wish, attended_place, attr_letter, attr_request_in, is_ready}
+use Rattle.booth_node.specs.AttributeRequests.{after_wish, attended_place, attr_message, attr_request_in, is_ready}
 use Rattle.booth_node.specs.State.{State, with_ticket}
 
 -- ---- what is asked of the host
@@ -60,8 +60,8 @@ pub data Ask : Type 0 where
 -- This entry is what was asked, with this answer: the bytes of a send are the message, sealed with the key where there
 -- is one.
 abbrev pub IsDone : Option (List ℕ) → Ask → Bool → Entry → Type 0
-IsDone key (Send peer letter) ok (calls.Send to bytes answer) =
-    (to ≡ peer) × (bytes ≡ sealed key letter) × Fits letter × (ok ≡ is_ok answer)
+IsDone key (Send peer message) ok (calls.Send to bytes answer) =
+    (to ≡ peer) × (bytes ≡ sealed key message) × Fits message × (ok ≡ is_ok answer)
 IsDone key (Keep name tried) ok (calls.Keep ticket rec answer) =
     (ticket ≡ name) × (rec ≡ tried) × (ok ≡ is_ok answer)
 IsDone key (Start job) ok (calls.Start number ticket handler local expires answer) =
@@ -83,54 +83,65 @@ peer_of config (whom.Client peer) = Some peer
 
 -- a message of a ticket, as it is sent at this moment
 abbrev pub sent_as : NodeConfig → ℕ → Head → TicketPart → PlainMessage
-sent_as node moment head part = stamped node.key moment (record { head = head; content = Ticket part })
+sent_as node now head part = stamped node.key now (record { head = head; content = Ticket part })
 
--- a send to a peer, where there is one, and what is counted then
-abbrev pub sends : {S : Type 0} → Option Peer → PlainMessage → Common → To → (Common → Deeds Ask S)
-    → Deeds Ask S
-sends None letter common to rest = rest common
-sends (Some peer) letter common to rest = Does (Send peer letter) (λ ok. rest (with_send common to ok))
+-- What an ask of a ticket leaves at the node: the answer that the ticket goes on with, and what is counted.
+pub record Answered : Type 0 where
+  pub ok : Bool
+  pub common : Common
 
--- The deeds of a ticket as the node's. The ticket goes on by the answers of its keeps and of its starts, each of which uses
--- up a number, and hears nothing of its sends, which are counted.
-abbrev pub lifted :
-    {S : Type 0} → NodeConfig → ℕ → List ℕ → Common → Deeds TicketAsk TicketLeft
-    → (Common → TicketLeft → Deeds Ask S) → Deeds Ask S
-lifted node moment name common (Ends left) rest = rest common left
-lifted node moment name common (Does (KeepsRecord tried) goes_on) rest =
-    Does (Keep name tried) (λ ok. lifted node moment name common (goes_on ok) rest)
-lifted node moment name common (Does (StartsJob number expires) goes_on) rest =
-    Does (Start (job_of node name number expires))
-    (λ ok. lifted node moment name (with_start common) (goes_on ok) rest)
-lifted node moment name common (Does (Say to head part) goes_on) rest =
-    sends (peer_of node.config to) (sent_as node moment head part) common to
-    (λ counted. lifted node moment name counted (goes_on true) rest)
+-- a send to a peer, where there is one: whether it came through is not told, but counted
+abbrev pub sends : Option Peer → PlainMessage → Common → To → Deeds Ask Answered
+sends None message common to = Ends (record { ok = true; common = common })
+sends (Some peer) message common to =
+    Does (Send peer message) (λ ok. Ends (record { ok = true; common = count_send common to ok }))
+
+-- an ask of the ticket of this name as the node's: each start uses up a number
+abbrev pub one_of : NodeConfig → ℕ → List ℕ → Common → TicketAsk → Deeds Ask Answered
+one_of node now name common (KeepsRecord tried) =
+    Does (Keep name tried) (λ ok. Ends (record { ok = ok; common = common }))
+one_of node now name common (StartsJob number expires) =
+    Does (Start (job_of node name number expires)) (λ ok. Ends (record { ok = ok; common = count_start common }))
+one_of node now name common (Say to head part) =
+    sends (peer_of node.config to) (sent_as node now head part) common to
+
+-- What a ticket's deeds leave at the node.
+pub record Lifted (S : Type 0) : Type 0 where
+  pub common : Common
+  pub left : S
+
+-- the deeds of a ticket as the node's, each ask by what it is there
+abbrev pub lifted : {S : Type 0} → NodeConfig → ℕ → List ℕ → Common → Deeds TicketAsk S → Deeds Ask (Lifted S)
+lifted node now name common (Ends left) = Ends (record { common = common; left = left })
+lifted node now name common (Does ask goes_on) =
+    one_of node now name common ask >>= (λ done. lifted node now name done.common (goes_on done.ok))
 
 -- What befalls a ticket at this moment, for which these clients wait, and for all tickets so many more may; its
 -- prerequisites of a kind hold or do not, and it may start its handler as this job, where it has one. At a deadline the
 -- prerequisites of a grant by itself are asked for, and at a client's request those of a grant by hand.
 abbrev pub befalls : TicketState → List Waiter → ℕ → (GrantKind → Bool) → Option ℕ → Event → ℕ
     → Deeds TicketAsk TicketLeft
-befalls ticket waiters spare ready job Due moment =
-    ticket_due ticket.setup ticket.known waiters (ready kinds.Auto) job moment
-befalls ticket waiters spare ready job (Heard from head part) moment =
-    ticket_heard ticket.setup ticket.known waiters from head part moment
-befalls ticket waiters spare ready job (Asked request) moment =
-    ticket_asked ticket.setup ticket.known waiters spare (ready kinds.Manual) job request moment
-befalls ticket waiters spare ready job (Over number service) moment =
-    ticket_over ticket.setup ticket.known waiters number service moment
+befalls ticket waiters spare ready job Due now =
+    ticket_due ticket.setup ticket.known waiters (record { now = now; ready = ready kinds.Auto; job = job })
+befalls ticket waiters spare ready job (Heard from head part) now =
+    ticket_heard ticket.setup ticket.known waiters from head part now
+befalls ticket waiters spare ready job (Asked request) now =
+    ticket_asked ticket.setup ticket.known waiters spare
+    (record { now = now; ready = ready kinds.Manual; job = job }) request
+befalls ticket waiters spare ready job (Over number service) now =
+    ticket_over ticket.setup ticket.known waiters number service now
 
 abbrev pub acts_as : NodeConfig → ℕ → State → ℕ → Event → Option TicketState → Deeds Ask State
-acts_as node moment state place event None = Ends state
-acts_as node moment state place event (Some ticket) =
-    lifted node moment ticket.setup.ticket state.common
+acts_as node now state place event None = Ends state
+acts_as node now state place event (Some ticket) =
+    lifted node now ticket.setup.ticket state.common
     (befalls ticket (waiting_at state.waiters place) (spare_in state.waiters)
-    (is_ready node state.attributes place) (job_at node place state.common) event moment)
-    (λ common left. Ends (with_ticket state place common left))
+    (is_ready node state.attributes place) (job_at node place state.common) event now)
+    >>= (λ done. Ends (with_ticket state place done.common done.left))
 
 -- what the ticket at a place does
 abbrev pub acts : NodeConfig → ℕ → State → ℕ → Event → Deeds Ask State
-acts node moment state place event = acts_as node moment state place event (slice_get state.tickets place)
+acts node now state place event = acts_as node now state place event (slice_get state.tickets place)
 
 -- ---- the arrival
 
@@ -151,8 +162,8 @@ pub data Action : Type 0 where
 
 -- a message is sent with its time, and sealed
 abbrev pub answers : Option (List ℕ) → ℕ → Option PlainMessage → Action
-answers key moment (Some letter) = Answers (stamped key moment letter)
-answers key moment None = Rests
+answers key now (Some message) = Answers (stamped key now message)
+answers key now None = Rests
 
 abbrev pub asks : Option ℕ → Request → Action → Action
 asks None request other = other
@@ -167,15 +178,16 @@ abbrev pub attended : NodeConfig → Option AttrRequest → Action → Action
 attended node None other = other
 attended node (Some request) other = attends (attended_place node request.ticket) request other
 
--- a request about a ticket of the configuration goes to it, or to its attributes, and each other one is answered at once
+-- a request about a ticket of the configuration goes to it, or to its attributes, and each other one is answered at
+-- once
 abbrev pub requested : NodeConfig → ℕ → List TicketState → Common → PlainMessage
     → Option (TicketPart × Request) → Action
-requested node moment tickets common letter None =
-    attended node (attr_request_in letter)
-    (answers node.key moment (reply_to node moment tickets common letter))
-requested node moment tickets common letter (Some found) =
+requested node now tickets common message None =
+    attended node (attr_request_in message)
+    (answers node.key now (reply_to node now tickets common message))
+requested node now tickets common message (Some found) =
     asks (position (is_called found.0.ticket) node.config.tickets) found.1
-    (answers node.key moment (reply_to node moment tickets common letter))
+    (answers node.key now (reply_to node now tickets common message))
 
 abbrev pub hears : Option ℕ → Option ℕ → Head → TicketPart → Action
 hears (Some from) (Some ticket) head part = Hears from ticket head part
@@ -190,21 +202,21 @@ said node head content = Rests
 
 -- what a message that was let in demands, by whom it is for
 abbrev pub routed : NodeConfig → ℕ → List TicketState → Common → Peer → PlainMessage → Direction → Action
-routed node moment tickets common from letter ToDaemon =
-    requested node moment tickets common letter (request_in from letter)
-routed node moment tickets common from letter BetweenMembers = said node letter.head letter.content
-routed node moment tickets common from letter ToClient = Rests
+routed node now tickets common from message ToDaemon =
+    requested node now tickets common message (request_in from message)
+routed node now tickets common from message BetweenMembers = said node message.head message.content
+routed node now tickets common from message ToClient = Rests
 
 abbrev pub demanded : NodeConfig → ℕ → List TicketState → Common → Peer → Result PlainMessage DropFault
     → Action
-demanded node moment tickets common from (Err fault) = Drops fault
-demanded node moment tickets common from (Ok letter) =
-    routed node moment tickets common from letter (direction_of letter.head.cmd)
+demanded node now tickets common from (Err fault) = Drops fault
+demanded node now tickets common from (Ok message) =
+    routed node now tickets common from message (direction_of message.head.cmd)
 
 -- what these bytes demand, by the gate's verdict
 abbrev pub action : NodeConfig → ℕ → List TicketState → Common → Peer → List ℕ → Action
-action node moment tickets common from bytes =
-    demanded node moment tickets common from (verdict node.config node.key node.me moment bytes)
+action node now tickets common from bytes =
+    demanded node now tickets common from (verdict node.config node.key node.me now bytes)
 
 -- the state once it is done what a client asks of the attributes of the ticket at a place
 abbrev pub after_attending : State → ℕ → AttrRequest → State
@@ -214,21 +226,19 @@ after_attending state ticket request =
 -- The deeds of an action. A dropped datagram changes one counter; a member's command is counted for it, and then its
 -- ticket hears it; a request about attributes is done, and answered.
 abbrev pub met : NodeConfig → ℕ → State → Peer → Action → Deeds Ask State
-met node moment state from (Drops fault) = Ends (dropped state fault)
-met node moment state from (Hears member ticket head part) =
-    acts node moment (accepted state member moment) ticket (Heard member head part)
-met node moment state from (Asks ticket request) = acts node moment state ticket (Asked request)
-met node moment state from (Attends ticket request) =
-    Does (Send from (attr_letter node moment state.attributes ticket request))
+met node now state from (Drops fault) = Ends (dropped state fault)
+met node now state from (Hears member ticket head part) =
+    acts node now (accepted state member now) ticket (Heard member head part)
+met node now state from (Asks ticket request) = acts node now state ticket (Asked request)
+met node now state from (Attends ticket request) =
+    Does (Send from (attr_message node now state.attributes ticket request))
     (λ ok. Ends (after_attending state ticket request))
-met node moment state from (Answers letter) = Does (Send from letter) (λ ok. Ends state)
-met node moment state from Rests = Ends state
+met node now state from (Answers message) = Does (Send from message) (λ ok. Ends state)
+met node now state from Rests = Ends state
 
 -- the end of a job is told to the tickets at these places, one after the other
 abbrev pub each_over : NodeConfig → ℕ → ℕ → Service → List ℕ → State → Deeds Ask State
-each_over node moment job service [] state = Ends state
-each_over node moment job service (place ∷ places) state =
-    next (acts node moment state place (Over job service)) (each_over node moment job service places)
+each_over node now job service places = through (λ place state. acts node now state place (Over job service)) places
 
 -- the places of all tickets, in the order of the configuration
 abbrev pub all_places : State → List ℕ
@@ -236,11 +246,11 @@ all_places state = range_with_len 0 (length state.tickets)
 
 -- the row of an arrival; a failed next counts as Quiet
 abbrev pub arrived : NodeConfig → ℕ → State → Result Arrival Failed → List ℕ → Deeds Ask State
-arrived node moment state (Ok (arrivals.Datagram from)) bytes =
-    met node moment state from (action node moment state.tickets state.common from bytes)
-arrived node moment state (Ok (arrivals.Handler job status)) bytes =
-    each_over node moment job (service_of status) (all_places state) state
-arrived node moment state answer bytes = Ends state
+arrived node now state (Ok (arrivals.Datagram from)) bytes =
+    met node now state from (action node now state.tickets state.common from bytes)
+arrived node now state (Ok (arrivals.Handler job status)) bytes =
+    each_over node now job (service_of status) (all_places state) state
+arrived node now state answer bytes = Ends state
 
 abbrev pub turn_end : Result Arrival Failed → Turn
 turn_end (Ok arrivals.Stop) = Stopped
@@ -254,18 +264,16 @@ deadline_of ticket = deadline ticket.known
 
 -- the places of the tickets whose deadline has come, by deadline and then place
 abbrev pub due_places : ℕ → List TicketState → List ℕ
-due_places moment tickets = map (λ entry. entry.1) (due_list moment (map deadline_of tickets))
+due_places now tickets = map (λ entry. entry.1) (due_list now (map deadline_of tickets))
 
 -- the deadlines of these tickets, one after the other
 abbrev pub each_due : NodeConfig → ℕ → List ℕ → State → Deeds Ask State
-each_due node moment [] state = Ends state
-each_due node moment (place ∷ places) state =
-    next (acts node moment state place Due) (each_due node moment places)
+each_due node now places = through (λ place state. acts node now state place Due) places
 
 -- each ticket whose deadline has come, as the arrival left it, once; none after Stop
 abbrev pub dues : NodeConfig → ℕ → Turn → State → Deeds Ask State
-dues node moment Went state = each_due node moment (due_places moment state.tickets) state
-dues node moment Stopped state = Ends state
+dues node now Went state = each_due node now (due_places now state.tickets) state
+dues node now Stopped state = Ends state
 
 -- ---- the turn
 
@@ -275,9 +283,8 @@ used last reading = max last (min reading (2 ^ 62 - 1))
 
 -- the whole turn at this moment: the arrival's row, and then the deadlines'
 abbrev pub react : NodeConfig → State → ℕ → Result Arrival Failed → List ℕ → Deeds Ask State
-react node state moment arrival bytes =
-    next (arrived node moment (record state { last_reading = moment }) arrival bytes)
-    (dues node moment (turn_end arrival))
+react node state now arrival bytes =
+    arrived node now (record state { last_reading = now }) arrival bytes >>= dues node now (turn_end arrival)
 
 -- one next with a wait of 100 ms, one now, and then exactly the deeds that these demand
 abbrev pub IsTurn : NodeConfig → State → Turn → List Entry → State → Type 0

@@ -47,12 +47,12 @@ owner_text config (Some shown) =
 
 -- the line of a ticket: its name, its owner at this moment, and the end of the owner's lease in seconds
 abbrev pub list_line : ConfigSays → ℕ → TicketState → List ℕ
-list_line config moment ticket =
-    ticket.setup.ticket ++ codes " " ++ owner_text config (owner ticket.setup ticket.known moment) ++ codes "\n"
+list_line config now ticket =
+    ticket.setup.ticket ++ codes " " ++ owner_text config (owner ticket.setup ticket.known now) ++ codes "\n"
 
 -- a line for each ticket, in the order of the configuration
 abbrev pub list_text : NodeConfig → ℕ → List TicketState → List ℕ
-list_text node moment tickets = flat_map (list_line node.config moment) tickets
+list_text node now tickets = flat_map (list_line node.config now) tickets
 
 -- how many datagrams were dropped for each fault, in the gate's order
 abbrev pub drops_line : List ℕ → List ℕ
@@ -78,9 +78,9 @@ peers_text node common =
 
 -- the text of the reply to a command: where it has none, it is empty
 abbrev pub text_for : NodeConfig → ℕ → List TicketState → Common → Cmd → List ℕ
-text_for node moment tickets common CLst = list_text node moment tickets
-text_for node moment tickets common Peer = peers_text node common
-text_for node moment tickets common cmd = []
+text_for node now tickets common CLst = list_text node now tickets
+text_for node now tickets common Peer = peers_text node common
+text_for node now tickets common cmd = []
 
 -- REPLIES
 
@@ -122,8 +122,8 @@ reply_with text ADel content = no_attribute content
 reply_with text ALst content = Some (record { result = IARG; content = Text text })
 reply_with text cmd content = None
 
-abbrev pub reply_letter : MemberId → ℕ → Cmd → Reply → PlainMessage
-reply_letter me request cmd reply = record {
+abbrev pub reply_message : MemberId → ℕ → Cmd → Reply → PlainMessage
+reply_message me request cmd reply = record {
   head = record {
     auth = false;
     secs = 0;
@@ -140,16 +140,16 @@ reply_letter me request cmd reply = record {
 
 -- the message of a reply, where the command has an answer and there is a reply
 abbrev pub answered : MemberId → ℕ → Option Cmd → Option Reply → Option PlainMessage
-answered me request (Some cmd) (Some reply) = Some (reply_letter me request cmd reply)
+answered me request (Some cmd) (Some reply) = Some (reply_message me request cmd reply)
 answered me request (Some cmd) None = None
 answered me request None reply = None
 
 -- what a client's message is answered with at once, at this moment
 abbrev pub reply_to : NodeConfig → ℕ → List TicketState → Common → PlainMessage → Option PlainMessage
-reply_to node moment tickets common letter =
-    let cmd : Cmd = letter.head.cmd in
-    answered node.me letter.head.request (answer_of cmd)
-    (reply_with (text_for node moment tickets common cmd) cmd letter.content)
+reply_to node now tickets common message =
+    let cmd : Cmd = message.head.cmd in
+    answered node.me message.head.request (answer_of cmd)
+    (reply_with (text_for node now tickets common cmd) cmd message.content)
 
 -- ---- requests about a ticket
 
@@ -165,4 +165,4 @@ request_of from head wish content = None
 
 -- what a client's message asks of a ticket, where it does
 abbrev pub request_in : Sender → PlainMessage → Option (TicketPart × Request)
-request_in from letter = request_of from letter.head (wish_of letter.head.cmd) letter.content
+request_in from message = request_of from message.head (wish_of message.head.cmd) message.content

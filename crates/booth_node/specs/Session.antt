@@ -26,8 +26,8 @@ pub data CutCall : Type 0 where
   CutStart : (job : Job) → CutCall
 
 -- What a member does: it starts, in the version that its node names, with one reading and the record of each ticket in
--- file order, as they were read; it makes a call, with its answer; or it makes a call that is cut, which is its session's
--- last.
+-- file order, as they were read; it makes a call, with its answer; or it makes a call that is cut, which is its
+-- session's last.
 pub data SessionEntry : Type 0 where
   Starts : (node : NodeConfig) (reading : ℕ) (records : List (Option Record)) → SessionEntry
   Makes : (call : Entry) → SessionEntry
@@ -65,7 +65,7 @@ after_call stand call = stand
 
 -- the call that comes next may be cut
 abbrev pub IsNextDeed : NodeConfig → Ask → CutCall → Type 0
-IsNextDeed node (Send peer letter) (CutSend to bytes) = (to ≡ peer) × (bytes ≡ sealed node.key letter) × Fits letter
+IsNextDeed node (Send peer message) (CutSend to bytes) = (to ≡ peer) × (bytes ≡ sealed node.key message) × Fits message
 IsNextDeed node (Keep name tried) (CutKeep ticket rec) = (ticket ≡ name) × (rec ≡ tried)
 IsNextDeed node (Start asked) (CutStart job) = job ≡ asked
 IsNextDeed node ask call = ⊥

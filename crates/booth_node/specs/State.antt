@@ -5,8 +5,8 @@ use Rattle.booth_node.specs.declared.state.Common.{Common}
 use Rattle.booth_ticket.specs.declared.waiters.Waiter.{Waiter}
 use Rattle.booth_ticket.specs.Ticket.{TicketState, TicketLeft}
 
--- the tickets in the order of the configuration, the clients that wait for each, the attributes of each, what is counted
--- beside them, and the last reading that was used, in milliseconds
+-- the tickets in the order of the configuration, the clients that wait for each, the attributes of each, what is
+-- counted beside them, and the last reading that was used, in milliseconds
 pub record State : Type 0 where
   pub tickets : List TicketState
   pub waiters : List (List Waiter)
@@ -20,4 +20,14 @@ with_ticket state place common left = record state {
   tickets = slice_set state.tickets place left.ticket;
   waiters = slice_set state.waiters place left.waiters;
   common = common;
+}
+
+-- the state of these parts
+abbrev pub state_of_parts : List TicketState → List (List Waiter) → Attributes → Common → ℕ → State
+state_of_parts tickets waiters attributes common last_reading = record {
+  tickets = tickets;
+  waiters = waiters;
+  attributes = attributes;
+  common = common;
+  last_reading = last_reading;
 }

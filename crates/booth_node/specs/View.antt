@@ -3,17 +3,11 @@ use Rattle.booth_node.specs.declared.node_config.NodeConfig.{NodeConfig}
 use Rattle.booth_node.specs.declared.node.Node.{Node}
 use Rattle.booth_node.specs.declared.tickets.TicketTable.{TicketTable}
 use Rattle.std.specs.Prelude.{ℕ}
-use Rattle.booth_node.specs.State.{State}
+use Rattle.booth_node.specs.State.{State, state_of_parts}
 
 abbrev pub state_with : TicketTable → ℕ → State
 state_with table last_reading =
-    record {
-      tickets = table.tickets.items;
-      waiters = table.waiters;
-      attributes = table.attrs;
-      common = table.common;
-      last_reading = last_reading;
-    }
+    state_of_parts table.tickets.items table.waiters table.attrs table.common last_reading
 
 abbrev pub node_config : Node → NodeConfig
 node_config node = node.table.node

@@ -111,8 +111,8 @@ pub record HasTrueClocks (w : World) : Type 0 where
   pub clocks : (m : ℕ) → m < members_of w → IsClock (w.clock m)
   pub read : AtEach w (λ before entry. ReadsClock w entry entry.what)
 
--- A start reads of each ticket a record that its member may have kept, a site or an arbitrator. So where the member never
--- started before, it reads none, or one that counts as none.
+-- A start reads of each ticket a record that its member may have kept, a site or an arbitrator. So where the member
+-- never started before, it reads none, or one that counts as none.
 abbrev pub ReadsKept : World → List WorldEntry → WorldEntry → SessionEntry → Type 0
 ReadsKept w before entry (Starts node reading records) =
     (place : ℕ) (ticket : TicketConf) → slice_get w.config.tickets place ≡ Some ticket
@@ -140,19 +140,19 @@ IsSend (IsCut (CutSend to bytes)) sent = bytes ≡ sent
 IsSend what sent = ⊥
 
 -- The member whose id a message bears sent the same message, by one of these entries.
-pub record WasSent (w : World) (before : List WorldEntry) (letter : PlainMessage) : Type 0 where
+pub record WasSent (w : World) (before : List WorldEntry) (message : PlainMessage) : Type 0 where
   pub entry : WorldEntry
   pub earlier : Has before entry
-  pub sender : id_at w entry.member ≡ letter.head.from
+  pub sender : id_at w entry.member ≡ message.head.from
   pub bytes : List ℕ
   pub sent : IsSend entry.what bytes
-  pub same : decoded bytes ≡ Ok letter
+  pub same : decoded bytes ≡ Ok message
 
 -- where the reading of a turn lets a member's message in, it was sent
 abbrev pub HearsSent : World → List WorldEntry → Stand → SessionEntry → Type 0
 HearsSent w before (Hearing node old (Ok (arrivals.Datagram from)) bytes) (Makes (calls.Now reading)) =
-    (letter : PlainMessage) → verdict node.config node.key node.me (used old.last_reading reading) bytes ≡ Ok letter
-    → direction_of letter.head.cmd ≡ BetweenMembers → WasSent w before letter
+    (message : PlainMessage) → verdict node.config node.key node.me (used old.last_reading reading) bytes ≡ Ok message
+    → direction_of message.head.cmd ≡ BetweenMembers → WasSent w before message
 HearsSent w before stand what = Unit {0}
 
 -- where a member stands after these entries of the world
@@ -161,8 +161,9 @@ stand_after m before = after_entries Down (entries_of m before)
 
 -- A world has six premises. All members have the one configuration and the one key or none; clocks are true; records
 -- return as they may have been kept; a member's sessions of version 1 come before its sessions of version 2; a member's
--- message that is let in was sent by that member, earlier, and may come to any member, any number of times or never; and
--- one daemon of each member runs at a time. All else is free: what clients ask, what fails, what is cut, and when.
+-- message that is let in was sent by that member, earlier, and may come to any member, any number of times or
+-- never; and one daemon of each member runs at a time. All else is free: what clients ask, what fails, what is cut,
+-- and when.
 pub record IsWorld (w : World) : Type 0 where
   pub form : HasForm w
   pub one_configuration : AtEach w (λ before entry. HasConfiguration w entry entry.what)

@@ -1,7 +1,7 @@
 //! What clients ask of the attributes of a ticket, what they are answered, and whether prerequisites hold.
 ghost use Rattle.std.specs.Prelude.{◌≡◌, ◌<◌, true, length, option_map};
 ghost use Rattle.booth_wire.specs.PlainMessage.{Attr, Text, content_of, has_text, plain_of};
-ghost use Rattle.booth_node.specs.Actions.{HasForm, reply_of};
+ghost use Rattle.booth_node.specs.ReplyForms.{HasForm, reply_of};
 ghost use Rattle.booth_node.specs.AttributeRequests.{after_wish, attended_place, attr_answer, attr_reply, attr_request_in, attr_request_of, attr_wish, del_result, get_reply, is_ready, named_pair, pairs_text, repeated, set_result};
 
 use crate::NodeConfig;

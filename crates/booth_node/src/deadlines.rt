@@ -3,10 +3,8 @@ ghost use Rattle.std.specs.Prelude.{◌≡◌, ◌≤◌, ◌<◌, ◌≢◌, �
 ghost use Rattle.std.specs.List.{All};
 ghost use Rattle.booth_chain.specs.DueList.{due_list};
 ghost use Rattle.booth_chain.specs.Wheel.{with_deadline};
-ghost use Rattle.booth_base.specs.Tree.{Deeds, Leads};
-ghost use Rattle.booth_host.specs.Past.{GrewSome};
+ghost use Rattle.booth_node.specs.Led.{Led};
 ghost use Rattle.booth_node.specs.Reaction.{IsDone, each_due, due_places, deadline_of};
-ghost use Rattle.booth_node.specs.State.{State};
 ghost use Rattle.booth_node.specs.View.{state_with};
 
 use crate::tickets::TicketTable;
@@ -89,13 +87,8 @@ pub(crate) fn expire_each<H: Host>(
     requires others { (slot : ℕ) → All (λ gone. gone ≢ slot) due.now
         → slice_index_or wheel.old.deadlines slot None
         ≡ slice_index_or (map deadline_of table.old.tickets.items) slot None }
-    ensures past { GrewSome (λ es. Leads {S = State} (IsDone table.old.node.key)
-        (each_due table.old.node now due.now
-        (state_with table.old now))
-        es (Deeds.Ends
-        (state_with table.new now)))
-        (H.past host.old) (H.past host.new) }
-    ensures later { H.faults host.old ≤ H.faults host.new }
+    ensures led { Led H.past H.faults (IsDone table.old.node.key) (each_due table.old.node now due.now
+        (state_with table.old now)) (state_with table.new now) host.old host.new }
     ensures timed { wheel.new.deadlines ≡ map deadline_of table.new.tickets.items }
     ensures last { wheel.new.last ≡ wheel.old.last }
     ensures node { table.new.node ≡ table.old.node }

@@ -1,21 +1,19 @@
 //! The hands of a ticket at a node: what it says is sealed and sent, what it keeps is kept by the host.
-ghost use Rattle.std.specs.Prelude.{◌≡◌, ◌≤◌, ◌<◌, ◌^◌, ℕ, [], ◌∷◌, length, slice_get, slice_set, is_ok, IsSomeAnd, option_copied};
-ghost use Rattle.booth_base.specs.Tree.{Deeds, Leads};
+ghost use Rattle.std.specs.Prelude.{◌≡◌, ◌≤◌, ◌<◌, ◌^◌, ℕ, true, [], ◌∷◌, length, slice_get, slice_set, is_ok, IsSomeAnd, option_copied};
 ghost use Rattle.booth_wire.specs.Command.{kind_of};
 ghost use Rattle.booth_wire.specs.Spelling.{Fits};
 ghost use Rattle.booth_wire.specs.declared.command.Kind.{Kind};
 ghost use Rattle.booth_auth.specs.Sealed.{sealed};
 ghost use Rattle.booth_host.specs.declared.entry.Entry.{Entry};
-ghost use Rattle.booth_host.specs.Past.{GrewBy, GrewSome};
-ghost use Rattle.booth_ticket.specs.Acts.{said};
-ghost use Rattle.booth_ticket.specs.Ticket.{TicketLeft};
+ghost use Rattle.booth_host.specs.Past.{GrewBy};
+ghost use Rattle.booth_ticket.specs.Acts.{Say};
 ghost use Rattle.booth_ticket.specs.Waiting.{spare_in, waiting_at};
-ghost use Rattle.booth_node.specs.declared.state.Common as C;
-ghost use Rattle.booth_node.specs.Acting.{ActsAs, Scene, MayBefall, IsSetAt};
+ghost use Rattle.booth_node.specs.Acting.{MayBefall, IsSetAt};
 ghost use Rattle.booth_node.specs.AttributeRequests.{is_ready};
-ghost use Rattle.booth_node.specs.Counting.{with_send};
-ghost use Rattle.booth_node.specs.Reaction.{Ask, IsDone, peer_at, peer_of, sent_as, lifted, befalls, acts};
-ghost use Rattle.booth_node.specs.State.{State};
+ghost use Rattle.booth_node.specs.Counting.{count_send};
+ghost use Rattle.booth_node.specs.Led.{Led};
+ghost use Rattle.booth_node.specs.State.{state_of_parts};
+ghost use Rattle.booth_node.specs.Reaction.{IsDone, peer_at, peer_of, sent_as, one_of, lifted, befalls, acts};
 
 use crate::attributes::is_ready;
 use crate::event::Event;
@@ -83,11 +81,11 @@ fn send<H: Host>(
     frame: &Frame,
 ) -> Result<(), Failed>
     ensures past { GrewBy (H.past host.old) (H.past host.new) (Entry.Send peer.now frame.now result ∷ []) }
-    ensures common { common.new ≡ with_send common.old to (is_ok result) }
+    ensures common { common.new ≡ count_send common.old to (is_ok result) }
     ensures later { H.faults host.old ≤ H.faults host.new }
 {
     let answer = host.send(peer, frame.bytes());
-    *common = common.with_send(to, answer.is_ok());
+    common.count_send(to, answer.is_ok());
     answer
 }
 
@@ -101,23 +99,11 @@ impl<'a, H: Host> NodeHands<'a, H> {
         ensures counts { self.new.common.ghost_name ≡ self.old.common.ghost_name }
         ensures buffer { self.new.frame.ghost_name ≡ self.old.frame.ghost_name }
         ensures frame { self.new.frame.now ≡ self.old.frame.now }
-        ensures acts { ActsAs (said to head.now part.now)
-            (record {
-              node = self.old.node.now;
-              moment = self.old.now;
-              name = self.old.name.now;
-              past = H.past self.old.host.now;
-              faults = H.faults self.old.host.now;
-              common = self.old.common.now;
-            })
-            (record {
-              node = self.new.node.now;
-              moment = self.new.now;
-              name = self.new.name.now;
-              past = H.past self.new.host.now;
-              faults = H.faults self.new.host.now;
-              common = self.new.common.now;
-            }) }
+        ensures same { (self.new.node.now ≡ self.old.node.now) × (self.new.now ≡ self.old.now)
+            × (self.new.name.now ≡ self.old.name.now) }
+        ensures led { Led H.past H.faults (IsDone self.old.node.now.key)
+            (one_of self.old.node.now self.old.now self.old.name.now self.old.common.now (Say to head.now part.now))
+            (record { ok = true; common = self.new.common.now }) self.old.host.now self.new.host.now }
     {
         let Some(peer) = peer_of(&self.node.config, to) else {
             return;
@@ -134,23 +120,11 @@ impl<'a, H: Host> NodeHands<'a, H> {
         ensures host { self.new.host.ghost_name ≡ self.old.host.ghost_name }
         ensures counts { self.new.common.ghost_name ≡ self.old.common.ghost_name }
         ensures buffer { self.new.frame.ghost_name ≡ self.old.frame.ghost_name }
-        ensures acts { ActsAs (said to head.now part.now)
-            (record {
-              node = self.old.node.now;
-              moment = self.old.now;
-              name = self.old.name.now;
-              past = H.past self.old.host.now;
-              faults = H.faults self.old.host.now;
-              common = self.old.common.now;
-            })
-            (record {
-              node = self.new.node.now;
-              moment = self.new.now;
-              name = self.new.name.now;
-              past = H.past self.new.host.now;
-              faults = H.faults self.new.host.now;
-              common = self.new.common.now;
-            }) }
+        ensures same { (self.new.node.now ≡ self.old.node.now) × (self.new.now ≡ self.old.now)
+            × (self.new.name.now ≡ self.old.name.now) }
+        ensures led { Led H.past H.faults (IsDone self.old.node.now.key)
+            (one_of self.old.node.now self.old.now self.old.name.now self.old.common.now (Say to head.now part.now))
+            (record { ok = true; common = self.new.common.now }) self.old.host.now self.new.host.now }
     {
         write(self.node, head, part, self.now, self.frame);
         self.say_written(to, head, part);
@@ -158,28 +132,16 @@ impl<'a, H: Host> NodeHands<'a, H> {
 }
 
 impl<'a, H: Host> Hands for NodeHands<'a, H> {
-    ghost use Rattle.booth_node.specs.Acting.{ActsAs, Scene};
+    ghost use Rattle.booth_node.specs.Led.{Led};
+    ghost use Rattle.booth_node.specs.Reaction.{IsDone, one_of};
 
     ghost did = { λ old act new.
         (new.host.ghost_name ≡ old.host.ghost_name) × (new.common.ghost_name ≡ old.common.ghost_name)
         × (new.frame.ghost_name ≡ old.frame.ghost_name)
-        × ActsAs act
-        (record {
-          node = old.node.now;
-          moment = old.now;
-          name = old.name.now;
-          past = H.past old.host.now;
-          faults = H.faults old.host.now;
-          common = old.common.now;
-        })
-        (record {
-          node = new.node.now;
-          moment = new.now;
-          name = new.name.now;
-          past = H.past new.host.now;
-          faults = H.faults new.host.now;
-          common = new.common.now;
-        }) };
+        × ((new.node.now ≡ old.node.now) × (new.now ≡ old.now) × (new.name.now ≡ old.name.now))
+        × Led H.past H.faults (IsDone old.node.now.key)
+        (one_of old.node.now old.now old.name.now old.common.now act.ask)
+        (record { ok = act.ok; common = new.common.now }) old.host.now new.host.now };
 
     fn keep(&mut self, rec: &Record) -> bool {
         let answer = self.host.keep(self.name, rec);
@@ -189,7 +151,7 @@ impl<'a, H: Host> Hands for NodeHands<'a, H> {
     fn start(&mut self, job: u64, expires: u64) -> bool {
         let job = job_of(self.node, self.name, job, expires);
         let answer = self.host.start(&job);
-        *self.common = self.common.with_start();
+        self.common.count_start();
         answer.is_ok()
     }
 
@@ -208,8 +170,8 @@ impl<'a, H: Host> Hands for NodeHands<'a, H> {
     }
 }
 
-/// What befalls the ticket at the place `list`, by these hands. Its clients wait there, its attributes are there, and its
-/// handler may be started as this job, where it has one.
+/// What befalls the ticket at the place `list`, by these hands. Its clients wait there, its attributes are there, and
+/// its handler may be started as this job, where it has one.
 fn befall<H: Host>(
     ticket: &mut Ticket,
     event: &Event,
@@ -226,15 +188,14 @@ fn befall<H: Host>(
     ensures host { hands.new.host.ghost_name ≡ hands.old.host.ghost_name }
     ensures counts { hands.new.common.ghost_name ≡ hands.old.common.ghost_name }
     ensures buffer { hands.new.frame.ghost_name ≡ hands.old.frame.ghost_name }
-    ensures past { (rest : C.Common → TicketLeft → Deeds Ask State)
-        → GrewSome (λ es. Leads (IsDone hands.old.node.now.key)
+    ensures led { Led H.past H.faults (IsDone hands.old.node.now.key)
         (lifted hands.old.node.now hands.old.now hands.old.name.now hands.old.common.now
         (befalls ticket.old (waiting_at waiters.old list) (spare_in waiters.old)
-        (is_ready hands.old.node.now attrs.now list) job event.now hands.old.now) rest)
-        es (rest hands.new.common.now
-        (record { ticket = ticket.new; waiters = waiting_at waiters.new list })))
-        (H.past hands.old.host.now) (H.past hands.new.host.now) }
-    ensures later { H.faults hands.old.host.now ≤ H.faults hands.new.host.now }
+        (is_ready hands.old.node.now attrs.now list) job event.now hands.old.now))
+        (record {
+          common = hands.new.common.now;
+          left = record { ticket = ticket.new; waiters = waiting_at waiters.new list };
+        }) hands.old.host.now hands.new.host.now }
     ensures setup { ticket.new.setup ≡ ticket.old.setup }
     ensures others { waiters.new ≡ slice_set waiters.old list (waiting_at waiters.new list) }
 {
@@ -275,25 +236,11 @@ pub(crate) fn act_at<H: Host>(
     ensures host { hands.new.host.ghost_name ≡ hands.old.host.ghost_name }
     ensures counts { hands.new.common.ghost_name ≡ hands.old.common.ghost_name }
     ensures buffer { hands.new.frame.ghost_name ≡ hands.old.frame.ghost_name }
-    ensures past { GrewSome (λ es. Leads (IsDone hands.old.node.now.key)
+    ensures led { Led H.past H.faults (IsDone hands.old.node.now.key)
         (acts hands.old.node.now hands.old.now
-        (record {
-          tickets = tickets.old.items;
-          waiters = waiters.old;
-          attributes = attrs.now;
-          common = hands.old.common.now;
-          last_reading = hands.old.now;
-        }) place event.now)
-        es (Deeds.Ends
-        (record {
-          tickets = tickets.new.items;
-          waiters = waiters.new;
-          attributes = attrs.now;
-          common = hands.new.common.now;
-          last_reading = hands.old.now;
-        })))
-        (H.past hands.old.host.now) (H.past hands.new.host.now) }
-    ensures later { H.faults hands.old.host.now ≤ H.faults hands.new.host.now }
+        (state_of_parts tickets.old.items waiters.old attrs.now hands.old.common.now hands.old.now) place event.now)
+        (state_of_parts tickets.new.items waiters.new attrs.now hands.new.common.now hands.old.now)
+        hands.old.host.now hands.new.host.now }
     ensures others { IsSetAt tickets.old.items place tickets.new.items }
     ensures lists { length waiters.new ≡ length waiters.old }
 {

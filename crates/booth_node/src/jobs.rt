@@ -1,12 +1,10 @@
 //! The jobs of a node's handlers: how each is asked for, and whom its end is told to.
 ghost use Rattle.std.specs.Prelude.{◌≡◌, ◌≤◌, ◌<◌, ◌^◌, [], map, option_map, option_copied, length, position};
 ghost use Rattle.std.specs.List.{range_with_len};
-ghost use Rattle.booth_base.specs.Tree.{Deeds, Leads};
 ghost use Rattle.booth_conf.specs.Lookups.{is_called};
-ghost use Rattle.booth_host.specs.Past.{GrewSome};
 ghost use Rattle.booth_node.specs.Jobs.{address_in, handler_at, job_at, job_of, own_address, words_at};
+ghost use Rattle.booth_node.specs.Led.{Led};
 ghost use Rattle.booth_node.specs.Reaction.{IsDone, deadline_of, each_over};
-ghost use Rattle.booth_node.specs.State.{State};
 ghost use Rattle.booth_node.specs.View.{state_with};
 
 use crate::deadlines::look_again;
@@ -96,13 +94,9 @@ pub(crate) fn end_each<H: Host>(
 )
     requires early { now < 2 ^ 62 }
     requires timed { wheel.old.deadlines ≡ map deadline_of table.old.tickets.items }
-    ensures past { GrewSome (λ es. Leads {S = State} (IsDone table.old.node.key)
-        (each_over table.old.node now job service (range_with_len 0 (length table.old.tickets.items))
-        (state_with table.old now))
-        es (Deeds.Ends
-        (state_with table.new now)))
-        (H.past host.old) (H.past host.new) }
-    ensures later { H.faults host.old ≤ H.faults host.new }
+    ensures led { Led H.past H.faults (IsDone table.old.node.key) (each_over table.old.node now job service
+        (range_with_len 0 (length table.old.tickets.items)) (state_with table.old now)) (state_with table.new
+        now) host.old host.new }
     ensures timed { wheel.new.deadlines ≡ map deadline_of table.new.tickets.items }
     ensures last { wheel.new.last ≡ wheel.old.last }
     ensures node { table.new.node ≡ table.old.node }

@@ -1,7 +1,6 @@
 //! The node: one turn of the daemon, from an arrival to the last deed that it demands.
 #![tactic(auto)]
 
-mod action;
 mod attributes;
 mod deadlines;
 mod event;
@@ -15,6 +14,7 @@ mod opening;
 mod peers;
 mod replies;
 mod reply_buffer;
+mod routing;
 mod state;
 mod tickets;
 

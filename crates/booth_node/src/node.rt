@@ -3,10 +3,9 @@ ghost use Rattle.std.specs.Prelude.{◌≡◌, ◌≤◌, ◌<◌, ◌^◌, ℕ,
 ghost use Rattle.booth_conf.specs.Config.{has_id};
 ghost use Rattle.booth_node.specs.Opening.{opened};
 ghost use Rattle.booth_host.specs.Past.{GrewSome};
-ghost use Rattle.booth_base.specs.Tree.{Deeds, Leads};
 ghost use Rattle.booth_node.specs.Counting.{counters_at};
+ghost use Rattle.booth_node.specs.Led.{Led};
 ghost use Rattle.booth_node.specs.Reaction.{IsDone, action, all_places, met, arrived, turn_end, used, dues, each_due, each_over, due_places, deadline_of, IsTurn};
-ghost use Rattle.booth_node.specs.State.{State};
 
 use crate::deadlines::{drain, expire_each, look_again};
 use crate::jobs::end_each;
@@ -129,12 +128,10 @@ impl Node {
 
     // Does what the datagram of this peer demands at this turn's moment.
     fn receive<H: Host>(&mut self, from: Peer, host: &mut H)
-        ensures past { GrewSome (λ es. Leads {S = State} (IsDone (node_config self.old).key)
-            (met (node_config self.old) (state_of self.old).last_reading (state_of self.old) from
-            (action (node_config self.old) (state_of self.old).last_reading (state_of self.old).tickets
-            (state_of self.old).common from self.old.datagram))
-            es (Deeds.Ends (state_of self.new))) (H.past host.old) (H.past host.new) }
-        ensures later { H.faults host.old ≤ H.faults host.new }
+        ensures led { Led H.past H.faults (IsDone (node_config self.old).key) (met (node_config self.old)
+            (state_of self.old).last_reading (state_of self.old) from (action (node_config self.old) (state_of
+            self.old).last_reading (state_of self.old).tickets (state_of self.old).common from
+            self.old.datagram)) (state_of self.new) host.old host.new }
         ensures node { node_config self.new ≡ node_config self.old }
         ensures reading { (state_of self.new).last_reading ≡ (state_of self.old).last_reading }
     {
@@ -146,11 +143,9 @@ impl Node {
 
     // A job of a handler is over at this turn's moment.
     fn end_jobs<H: Host>(&mut self, job: u64, service: Service, host: &mut H)
-        ensures past { GrewSome (λ es. Leads {S = State} (IsDone (node_config self.old).key)
-            (each_over (node_config self.old) (state_of self.old).last_reading job service
-            (all_places (state_of self.old)) (state_of self.old))
-            es (Deeds.Ends (state_of self.new))) (H.past host.old) (H.past host.new) }
-        ensures later { H.faults host.old ≤ H.faults host.new }
+        ensures led { Led H.past H.faults (IsDone (node_config self.old).key) (each_over (node_config
+            self.old) (state_of self.old).last_reading job service (all_places (state_of self.old)) (state_of
+            self.old)) (state_of self.new) host.old host.new }
         ensures node { node_config self.new ≡ node_config self.old }
         ensures reading { (state_of self.new).last_reading ≡ (state_of self.old).last_reading }
     {
@@ -166,11 +161,9 @@ impl Node {
 
     // Does what an arrival demands at this turn's moment.
     fn arrive<H: Host>(&mut self, arrival: &Result<Arrival, Failed>, host: &mut H)
-        ensures past { GrewSome (λ es. Leads {S = State} (IsDone (node_config self.old).key)
-            (arrived (node_config self.old) (state_of self.old).last_reading (state_of self.old) arrival.now
-            self.old.datagram)
-            es (Deeds.Ends (state_of self.new))) (H.past host.old) (H.past host.new) }
-        ensures later { H.faults host.old ≤ H.faults host.new }
+        ensures led { Led H.past H.faults (IsDone (node_config self.old).key) (arrived (node_config
+            self.old) (state_of self.old).last_reading (state_of self.old) arrival.now self.old.datagram)
+            (state_of self.new) host.old host.new }
         ensures node { node_config self.new ≡ node_config self.old }
         ensures reading { (state_of self.new).last_reading ≡ (state_of self.old).last_reading }
     {
@@ -189,11 +182,9 @@ impl Node {
 
     // What the tickets do whose deadlines have come at this turn's moment.
     fn expire<H: Host>(&mut self, host: &mut H)
-        ensures past { GrewSome (λ es. Leads {S = State} (IsDone (node_config self.old).key)
-            (each_due (node_config self.old) (state_of self.old).last_reading
-            (due_places (state_of self.old).last_reading (state_of self.old).tickets) (state_of self.old))
-            es (Deeds.Ends (state_of self.new))) (H.past host.old) (H.past host.new) }
-        ensures later { H.faults host.old ≤ H.faults host.new }
+        ensures led { Led H.past H.faults (IsDone (node_config self.old).key) (each_due (node_config
+            self.old) (state_of self.old).last_reading (due_places (state_of self.old).last_reading (state_of
+            self.old).tickets) (state_of self.old)) (state_of self.new) host.old host.new }
         ensures node { node_config self.new ≡ node_config self.old }
     {
         drain(&mut self.wheel, self.last_reading, &mut self.due);

@@ -3,8 +3,8 @@ ghost use Rattle.std.specs.Prelude.{◌≡◌, ◌≤◌, true, Option, option_m
 ghost use Rattle.booth_conf.specs.declared.limits.TheConstants.{TICKETS};
 ghost use Rattle.booth_wire.specs.Command.{answer_of};
 ghost use Rattle.booth_wire.specs.PlainMessage.{plain_of, content_of, has_text, Text};
-ghost use Rattle.booth_node.specs.Replies.{text_for, no_ticket, no_attribute, no_attribute_of, reply_with, reply_letter, answered, wish_of, request_of, request_in};
-ghost use Rattle.booth_node.specs.Actions.{HasForm, reply_of};
+ghost use Rattle.booth_node.specs.Replies.{text_for, no_ticket, no_attribute, no_attribute_of, reply_with, reply_message, answered, wish_of, request_of, request_in};
+ghost use Rattle.booth_node.specs.ReplyForms.{HasForm, reply_of};
 
 use crate::lists::write_list;
 use crate::peers::write_peers;
@@ -108,8 +108,13 @@ fn body_for<'a>(cmd: Cmd, body: &Body<'_>, text: &'a [u8]) -> Option<Reply<'a>>
 }
 
 /// The message of a reply to the request with this number.
-pub(crate) fn letter<'a>(me: MemberId, request: u32, cmd: Cmd, reply: Reply<'a>) -> Message<'a>
-    ensures { plain_of result ≡ reply_letter me request cmd (reply_of reply.entry) }
+pub(crate) fn reply_message<'a>(
+    me: MemberId,
+    request: u32,
+    cmd: Cmd,
+    reply: Reply<'a>,
+) -> Message<'a>
+    ensures { plain_of result ≡ reply_message me request cmd (reply_of reply.entry) }
 {
     Message {
         head: Head {
@@ -131,13 +136,13 @@ pub(crate) fn letter<'a>(me: MemberId, request: u32, cmd: Cmd, reply: Reply<'a>)
 pub(crate) fn answer<'a>(me: MemberId, message: &Message<'_>, text: &'a [u8]) -> Option<Message<'a>>
     requires { has_text (Text text.now) ≡ true }
     ensures form { IfSome result (λ m. HasForm m.head.cmd (content_of m.body)) }
-    ensures letter { option_map plain_of result ≡ answered me message.now.head.request
+    ensures reply { option_map plain_of result ≡ answered me message.now.head.request
         (answer_of message.now.head.cmd)
         (reply_with text.now message.now.head.cmd (content_of message.now.body)) }
 {
     let cmd = message.head.cmd.answer()?;
     let reply = body_for(message.head.cmd, &message.body, text)?;
-    Some(letter(me, message.head.request, cmd, reply))
+    Some(reply_message(me, message.head.request, cmd, reply))
 }
 
 fn wish_of(cmd: Cmd) -> Option<Wish>

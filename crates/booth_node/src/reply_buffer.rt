@@ -1,27 +1,21 @@
 //! Where messages are made: a text and a frame, whose memory is taken once.
-ghost use Rattle.std.specs.Prelude.{◌≡◌, ◌≤◌, ◌<◌, [], IfOk, IfSome, length, List, ℕ, Option};
-ghost use Rattle.booth_base.specs.declared.limits.TheConstants.{MEMBERS};
+ghost use Rattle.std.specs.Prelude.{◌≡◌, ◌≤◌, ◌<◌, [], IfOk, length};
 ghost use Rattle.booth_conf.specs.declared.limits.TheConstants.{TICKETS};
-ghost use Rattle.booth_wire.specs.Command.{direction_of};
-ghost use Rattle.booth_wire.specs.PlainMessage.{plain_of, content_of};
-ghost use Rattle.booth_node.specs.Replies.{reply_to, request_in};
-ghost use Rattle.booth_auth.specs.Sealed.{sealed};
+ghost use Rattle.booth_wire.specs.PlainMessage.{plain_of};
 ghost use Rattle.booth_wire.specs.Spelling.{Fits};
-ghost use Rattle.booth_node.specs.AttributeRequests.{after_wish, attr_letter, attr_request_in};
-ghost use Rattle.booth_node.specs.Reaction.{answers, attended, requested, hears, said, routed};
-ghost use Rattle.booth_node.specs.Actions.{IsAction};
+ghost use Rattle.booth_auth.specs.Sealed.{sealed};
+ghost use Rattle.booth_node.specs.AttributeRequests.{after_wish, attr_message};
+ghost use Rattle.booth_node.specs.Replies.{reply_to};
+ghost use Rattle.booth_node.specs.ReplyForms.{IsWritten};
 
-use crate::action::Action;
-use crate::attributes::{
-    AttrRequest, answer_cmd, attend, attended_place, attr_request_in, write_pairs,
-};
-use crate::replies::{answer, letter, request_in, write_text};
+use crate::attributes::{AttrRequest, answer_cmd, attend, write_pairs};
+use crate::replies::{answer, reply_message, write_text};
 use crate::{Common, NodeConfig};
 use booth_attr::Attrs;
 use booth_auth::seal;
-use booth_base::{Peer, TextBuf};
-use booth_ticket::{Request, Ticket};
-use booth_wire::{Body, Direction, Frame, Message, TicketPart};
+use booth_base::TextBuf;
+use booth_ticket::Ticket;
+use booth_wire::{Frame, Message};
 use std::alloc::{AllocError, Global};
 
 /// The text of a reply, and the frame that is sent.
@@ -29,43 +23,6 @@ use std::alloc::{AllocError, Global};
 pub(crate) struct ReplyBuffer {
     text: TextBuf,
     pub frame: Frame,
-}
-
-// What a member says goes to the ticket that it is about.
-fn said(node: &NodeConfig, message: &Message<'_>) -> Action
-    ensures { (frame : List ℕ)
-        → IsAction node.now.key (said node.now message.now.head (content_of message.now.body)) result frame }
-{
-    let Body::Ticket(part) = &message.body else {
-        return Action::Rest;
-    };
-    hears(
-        node.config.member(message.head.from),
-        node.config.ticket(&part.ticket),
-        message,
-        part,
-    )
-}
-
-fn hears(
-    from: Option<usize>,
-    ticket: Option<usize>,
-    message: &Message<'_>,
-    part: &TicketPart,
-) -> Action
-    requires { IfSome from (λ place. place < MEMBERS) }
-    ensures { (key : Option (List ℕ)) (frame : List ℕ)
-        → IsAction key (hears from ticket message.now.head part.now) result frame }
-{
-    let (Some(from), Some(ticket)) = (from, ticket) else {
-        return Action::Rest;
-    };
-    Action::Hear {
-        from: from as u32,
-        ticket,
-        head: message.head,
-        part: part.copy(),
-    }
 }
 
 impl ReplyBuffer {
@@ -79,75 +36,26 @@ impl ReplyBuffer {
         })
     }
 
-    // Puts the answer to a client into the frame.
-    fn answer(
+    /// Puts the answer to a message that was let in at this reading in ms into the frame, where it has one.
+    pub fn answer(
         &mut self,
         node: &NodeConfig,
         tickets: &[Ticket],
         common: &Common,
         message: &Message<'_>,
         now: u64,
-    ) -> Action
+    ) -> bool
         requires { length tickets.now ≤ TICKETS }
-        ensures { IsAction node.now.key
-            (answers node.now.key now (reply_to node.now now tickets.now common.now (plain_of message.now)))
-            result self.new.frame }
+        ensures { IsWritten node.now.key now
+            (reply_to node.now now tickets.now common.now (plain_of message.now)) result self.new.frame }
     {
         write_text(node, tickets, common, now, message.head.cmd, &mut self.text);
         match answer(node.me, message, self.text.bytes()) {
             Some(reply) => {
                 seal(&reply, node.key.as_ref(), now, &mut self.frame);
-                Action::Answer
+                true
             }
-            None => Action::Rest,
-        }
-    }
-
-    // A request about attributes goes to those of its ticket, at a site, and each other one is answered.
-    fn attended(
-        &mut self,
-        node: &NodeConfig,
-        tickets: &[Ticket],
-        common: &Common,
-        message: &Message<'_>,
-        now: u64,
-    ) -> Action
-        requires { length tickets.now ≤ TICKETS }
-        ensures { IsAction node.now.key
-            (attended node.now (attr_request_in (plain_of message.now))
-            (answers node.now.key now (reply_to node.now now tickets.now common.now (plain_of message.now))))
-            result self.new.frame }
-    {
-        let Some(request) = attr_request_in(message) else {
-            return self.answer(node, tickets, common, message, now);
-        };
-        match attended_place(node, &request.ticket) {
-            Some(ticket) => Action::Attend { ticket, request },
-            None => self.answer(node, tickets, common, message, now),
-        }
-    }
-
-    // A request about a ticket of the configuration goes to it, and each other one to its attributes or to be answered.
-    fn request(
-        &mut self,
-        node: &NodeConfig,
-        tickets: &[Ticket],
-        common: &Common,
-        found: Option<(TicketPart, Request)>,
-        message: &Message<'_>,
-        now: u64,
-    ) -> Action
-        requires { length tickets.now ≤ TICKETS }
-        ensures { IsAction node.now.key
-            (requested node.now now tickets.now common.now (plain_of message.now) found) result
-            self.new.frame }
-    {
-        let Some((part, request)) = found else {
-            return self.attended(node, tickets, common, message, now);
-        };
-        match node.config.ticket(&part.ticket) {
-            Some(ticket) => Action::Ask { ticket, request },
-            None => self.answer(node, tickets, common, message, now),
+            None => false,
         }
     }
 
@@ -164,38 +72,12 @@ impl ReplyBuffer {
         ensures attributes { attrs.new ≡ after_wish attrs.old place request.now.wish }
         ensures lists { length attrs.new.lists ≡ length attrs.old.lists }
         ensures written { self.new.frame ≡ sealed node.now.key
-            (attr_letter node.now now attrs.old place request.now) }
-        ensures fits { Fits (attr_letter node.now now attrs.old place request.now) }
+            (attr_message node.now now attrs.old place request.now) }
+        ensures fits { Fits (attr_message node.now now attrs.old place request.now) }
     {
         write_pairs(attrs, place, &request.wish, &mut self.text);
         let made = attend(attrs, place, request, self.text.bytes());
-        let message = letter(node.me, request.number, answer_cmd(&request.wish), made);
+        let message = reply_message(node.me, request.number, answer_cmd(&request.wish), made);
         seal(&message, node.key.as_ref(), now, &mut self.frame);
-    }
-
-    /// What a message that was let in at this reading in ms demands.
-    pub fn route(
-        &mut self,
-        node: &NodeConfig,
-        tickets: &[Ticket],
-        common: &Common,
-        from: Peer,
-        message: &Message<'_>,
-        now: u64,
-    ) -> Action
-        requires { length tickets.now ≤ TICKETS }
-        ensures { IsAction node.now.key
-            (routed node.now now tickets.now common.now from (plain_of message.now)
-            (direction_of message.now.head.cmd))
-            result self.new.frame }
-    {
-        match message.head.cmd.direction() {
-            Direction::ToDaemon => {
-                let found = request_in(from, message);
-                self.request(node, tickets, common, found, message, now)
-            }
-            Direction::BetweenMembers => said(node, message),
-            Direction::ToClient => Action::Rest,
-        }
     }
 }

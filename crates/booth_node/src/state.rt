@@ -1,7 +1,7 @@
 //! What a node counts, and the number of its next job.
 ghost use Rattle.std.specs.Prelude.{◌≡◌, ◌<◌};
-ghost use Rattle.booth_node.specs.Jobs.{with_start};
-ghost use Rattle.booth_node.specs.Counting.{place_of, with_drop, no_counts, counters_at, with_counters, counted, tried, with_send, nothing_counted};
+ghost use Rattle.booth_node.specs.Jobs.{count_start};
+ghost use Rattle.booth_node.specs.Counting.{place_of, count_drop, no_counts, counters_at, with_counters, counted, tried, count_send, nothing_counted};
 
 use booth_auth::DropFault;
 use booth_base::MEMBERS;
@@ -61,30 +61,21 @@ impl Counters {
     };
 
     // One more datagram was let in, at this reading in ms.
-    fn counted(&self, now: u64) -> Counters
-        ensures { result ≡ counted self.now now }
+    fn counted(&mut self, now: u64)
+        ensures { self.new ≡ counted self.old now }
     {
-        Counters {
-            accepted: self.accepted.saturating_add(1),
-            last: now / 1000,
-            ..*self
-        }
+        self.accepted = self.accepted.saturating_add(1);
+        self.last = now / 1000;
     }
 
     // One more message was sent, or failed to be.
-    fn tried(&self, ok: bool) -> Counters
-        ensures { result ≡ tried self.now ok }
+    fn tried(&mut self, ok: bool)
+        ensures { self.new ≡ tried self.old ok }
     {
         if ok {
-            Counters {
-                sent: self.sent.saturating_add(1),
-                ..*self
-            }
+            self.sent = self.sent.saturating_add(1);
         } else {
-            Counters {
-                errors: self.errors.saturating_add(1),
-                ..*self
-            }
+            self.errors = self.errors.saturating_add(1);
         }
     }
 }
@@ -102,26 +93,22 @@ impl Common {
     }
 
     /// The number of the next job was used up. After the greatest number comes 1 again.
-    pub(crate) fn with_start(&self) -> Common
-        ensures { result ≡ with_start self.now }
+    pub(crate) fn count_start(&mut self)
+        ensures { self.new ≡ count_start self.old }
     {
-        let mut common = *self;
-        common.next_job = if self.next_job == u64::MAX {
+        self.next_job = if self.next_job == u64::MAX {
             1
         } else {
             self.next_job + 1
         };
-        common
     }
 
     /// One more datagram was dropped for this fault.
-    pub(crate) fn with_drop(&self, fault: DropFault) -> Common
-        ensures { result ≡ with_drop self.now fault }
+    pub(crate) fn count_drop(&mut self, fault: DropFault)
+        ensures { self.new ≡ count_drop self.old fault }
     {
-        let mut common = *self;
         let place = place_of(fault);
-        common.drops[place] = common.drops[place].saturating_add(1);
-        common
+        self.drops[place] = self.drops[place].saturating_add(1);
     }
 
     /// The counters of the member at a place.
@@ -131,34 +118,24 @@ impl Common {
         self.members.get(place).copied().unwrap_or(Counters::NONE)
     }
 
-    // Other counters of the member at a place.
-    fn with_counters(&self, place: usize, counters: Counters) -> Common
-        ensures { result ≡ with_counters self.now place counters }
-    {
-        let mut common = *self;
-        if place < MEMBERS {
-            common.members[place] = counters;
-        }
-        common
-    }
-
     /// One more datagram of the member at a place was let in, at this reading in ms.
-    pub(crate) fn with_accepted(&self, place: usize, now: u64) -> Common
-        ensures { result ≡ with_counters self.now place (counted (counters_at self.now place) now) }
+    pub(crate) fn count_accepted(&mut self, place: usize, now: u64)
+        ensures { self.new ≡ with_counters self.old place (counted (counters_at self.old place) now) }
     {
-        self.with_counters(place, self.counters_at(place).counted(now))
+        if place < MEMBERS {
+            self.members[place].counted(now);
+        }
     }
 
     /// One more send, with this success. A reply to a client counts for nobody.
-    pub(crate) fn with_send(&self, to: To, ok: bool) -> Common
-        ensures { result ≡ with_send self.now to ok }
+    pub(crate) fn count_send(&mut self, to: To, ok: bool)
+        ensures { self.new ≡ count_send self.old to ok }
     {
-        match to {
-            To::Member(place) => {
-                let place = place as usize;
-                self.with_counters(place, self.counters_at(place).tried(ok))
-            }
-            To::Client(_) => *self,
+        let To::Member(place) = to else {
+            return;
+        };
+        if (place as usize) < MEMBERS {
+            self.members[place as usize].tried(ok);
         }
     }
 }

@@ -1,33 +1,30 @@
 //! The tickets of a node, and what their deeds change beside them.
-ghost use Rattle.std.specs.Prelude.{◌≡◌, ◌≢◌, ◌≤◌, ◌<◌, ◌^◌, Some, length, position, slice_get, IfOk, IsSomeAnd, MatchOption};
+ghost use Rattle.std.specs.Prelude.{◌≡◌, ◌≢◌, ◌≤◌, ◌<◌, ◌^◌, ◌==◌, false, Some, length, position, slice_get, IfOk, IsSomeAnd, MatchOption};
 ghost use Rattle.std.specs.List.{All};
-ghost use Rattle.booth_base.specs.Tree.{Deeds, Leads};
 ghost use Rattle.booth_conf.specs.Config.{has_id};
 ghost use Rattle.booth_conf.specs.declared.limits.TheConstants.{TICKETS};
-ghost use Rattle.booth_host.specs.Past.{GrewSome};
 ghost use Rattle.booth_ticket.specs.Ticket.{IsDue};
 ghost use Rattle.booth_node.specs.Acting.{MayBefall, IsSetAt};
-ghost use Rattle.booth_wire.specs.Spelling.{Fits};
-ghost use Rattle.booth_auth.specs.Sealed.{sealed};
-ghost use Rattle.booth_node.specs.Actions.{IsAction};
-ghost use Rattle.booth_node.specs.AttributeRequests.{after_wish, attr_letter};
-ghost use Rattle.booth_node.specs.Counting.{accepted, counted, counters_at, with_counters, with_drop};
-ghost use Rattle.booth_node.specs.Reaction.{IsDone, action, acts, met, deadline_of};
+ghost use Rattle.booth_wire.specs.Command.{direction_of};
+ghost use Rattle.booth_wire.specs.PlainMessage.{plain_of};
+ghost use Rattle.booth_node.specs.Counting.{accepted, counted, counters_at, with_counters, count_drop};
+ghost use Rattle.booth_node.specs.Led.{Led};
+ghost use Rattle.booth_node.specs.Reaction.{Attends, IsDone, action, acts, met, routed, deadline_of};
+ghost use Rattle.booth_node.specs.Routing.{at_once};
 ghost use Rattle.booth_node.specs.Ours.{IsOurs};
-ghost use Rattle.booth_node.specs.State.{State};
 
-use crate::action::Action;
 use crate::attributes::AttrRequest;
 use crate::event::Event;
 use crate::hands::{NodeHands, act_at};
 use crate::reply_buffer::ReplyBuffer;
+use crate::routing::{Action, route};
 use crate::{Common, NodeConfig};
 use booth_attr::Attrs;
 use booth_auth::DropFault;
 use booth_base::Peer;
 use booth_host::Host;
 use booth_ticket::{Request, Service, Ticket, Waiters};
-use booth_wire::{Head, TicketPart};
+use booth_wire::{Head, Message, TicketPart};
 
 /// The tickets in the order of the configuration, the clients that wait for each, the attributes of each, what is
 /// counted, and where messages are made.
@@ -54,14 +51,8 @@ impl TicketTable {
         requires early { now < 2 ^ 62 }
         requires may { IsSomeAnd (slice_get self.old.tickets.items place)
             (λ ticket. MayBefall ticket event.now now) }
-        ensures past { GrewSome (λ es. Leads {S = State} (IsDone self.old.node.key)
-            (acts self.old.node now
-            (state_with self.old now)
-            place event.now)
-            es (Deeds.Ends
-            (state_with self.new now)))
-            (H.past host.old) (H.past host.new) }
-        ensures later { H.faults host.old ≤ H.faults host.new }
+        ensures led { Led H.past H.faults (IsDone self.old.node.key) (acts self.old.node now (state_with
+            self.old now) place event.now) (state_with self.new now) host.old host.new }
         ensures node { self.new.node ≡ self.old.node }
         ensures others { IsSetAt self.old.tickets.items place self.new.tickets.items }
     {
@@ -84,34 +75,15 @@ impl TicketTable {
         );
     }
 
-    // What a datagram demands at this reading. An answer stands in the frame.
-    fn action(&mut self, from: Peer, bytes: &[u8], now: u64) -> Action
-        ensures action { IsAction self.old.node.key
-            (action self.old.node now self.old.tickets.items self.old.common from bytes.now)
-            result self.new.buffer.frame }
-        ensures node { self.new.node ≡ self.old.node }
-        ensures tickets { self.new.tickets.items ≡ self.old.tickets.items }
-        ensures waiters { self.new.waiters ≡ self.old.waiters }
-        ensures attributes { self.new.attrs ≡ self.old.attrs }
-        ensures common { self.new.common ≡ self.old.common }
-    {
-        match self.node.admit(now, bytes) {
-            Ok(message) => {
-                self.buffer.route(&self.node, &self.tickets, &self.common, from, &message, now)
-            }
-            Err(fault) => Action::Drop(fault),
-        }
-    }
-
     // A datagram was dropped.
     fn refuse(&mut self, fault: DropFault)
-        ensures common { self.new.common ≡ with_drop self.old.common fault }
+        ensures common { self.new.common ≡ count_drop self.old.common fault }
         ensures node { self.new.node ≡ self.old.node }
         ensures tickets { self.new.tickets.items ≡ self.old.tickets.items }
         ensures waiters { self.new.waiters ≡ self.old.waiters }
         ensures attributes { self.new.attrs ≡ self.old.attrs }
     {
-        self.common = self.common.with_drop(fault);
+        self.common.count_drop(fault);
     }
 
     // A datagram of the member at a place was let in.
@@ -123,7 +95,7 @@ impl TicketTable {
         ensures waiters { self.new.waiters ≡ self.old.waiters }
         ensures attributes { self.new.attrs ≡ self.old.attrs }
     {
-        self.common = self.common.with_accepted(member, now);
+        self.common.count_accepted(member, now);
     }
 
     // The member at a place said something about the ticket at a place.
@@ -140,14 +112,9 @@ impl TicketTable {
         requires member { from < length self.old.node.config.members }
         requires other { position (has_id self.old.node.me) self.old.node.config.members ≢ Some from }
         requires there { ticket < length self.old.tickets.items }
-        ensures past { GrewSome (λ es. Leads {S = State} (IsDone self.old.node.key)
-            (acts self.old.node now
-            (accepted (state_with self.old now) from now)
-            ticket (Event.Heard from head part))
-            es (Deeds.Ends
-            (state_with self.new now)))
-            (H.past host.old) (H.past host.new) }
-        ensures later { H.faults host.old ≤ H.faults host.new }
+        ensures led { Led H.past H.faults (IsDone self.old.node.key) (acts self.old.node now (accepted
+            (state_with self.old now) from now) ticket (Event.Heard from head part)) (state_with self.new now)
+            host.old host.new }
         ensures node { self.new.node ≡ self.old.node }
         ensures others { IsSetAt self.old.tickets.items ticket self.new.tickets.items }
     {
@@ -160,63 +127,69 @@ impl TicketTable {
     fn ask<H: Host>(&mut self, ticket: usize, request: Request, now: u64, host: &mut H)
         requires early { now < 2 ^ 62 }
         requires there { ticket < length self.old.tickets.items }
-        ensures past { GrewSome (λ es. Leads {S = State} (IsDone self.old.node.key)
-            (acts self.old.node now
-            (state_with self.old now)
-            ticket (Event.Asked request))
-            es (Deeds.Ends
-            (state_with self.new now)))
-            (H.past host.old) (H.past host.new) }
-        ensures later { H.faults host.old ≤ H.faults host.new }
+        ensures led { Led H.past H.faults (IsDone self.old.node.key) (acts self.old.node now (state_with
+            self.old now) ticket (Event.Asked request)) (state_with self.new now) host.old host.new }
         ensures node { self.new.node ≡ self.old.node }
         ensures others { IsSetAt self.old.tickets.items ticket self.new.tickets.items }
     {
         self.act(ticket, &Event::Asked(request), now, host);
     }
 
-    // Does what a client wishes of the attributes of the ticket at a place. The answer then stands in the frame.
-    fn attend(&mut self, ticket: usize, request: &AttrRequest, now: u64)
+    // Does what a client wishes of the attributes of the ticket at a place, and answers it.
+    fn attend<H: Host>(
+        &mut self,
+        from: Peer,
+        ticket: usize,
+        request: &AttrRequest,
+        now: u64,
+        host: &mut H,
+    )
         requires { ticket < length self.old.tickets.items }
-        ensures attributes { self.new.attrs ≡ after_wish self.old.attrs ticket request.now.wish }
-        ensures written { self.new.buffer.frame ≡ sealed self.old.node.key
-            (attr_letter self.old.node now self.old.attrs ticket request.now) }
-        ensures fits { Fits (attr_letter self.old.node now self.old.attrs ticket request.now) }
+        ensures led { Led H.past H.faults (IsDone self.old.node.key) (met self.old.node now (state_with
+            self.old now) from (Attends ticket request.now)) (state_with self.new now) host.old host.new }
         ensures node { self.new.node ≡ self.old.node }
         ensures tickets { self.new.tickets.items ≡ self.old.tickets.items }
-        ensures waiters { self.new.waiters ≡ self.old.waiters }
-        ensures common { self.new.common ≡ self.old.common }
     {
         self.buffer
             .attend(&self.node, &mut self.attrs, ticket as u32, request, now);
+        let _ = host.send(&from, self.buffer.frame.bytes());
     }
 
-    /// Does what a datagram demands. Where it befalls a ticket, this is that one's place.
-    pub fn receive<H: Host>(
+    // Answers a client's message at once, where it has an answer.
+    fn answer<H: Host>(&mut self, from: Peer, message: &Message<'_>, now: u64, host: &mut H)
+        ensures led { Led H.past H.faults (IsDone self.old.node.key) (met self.old.node now (state_with
+            self.old now) from (at_once self.old.node now self.old.tickets.items self.old.common
+            (plain_of message.now))) (state_with self.new now) host.old host.new }
+        ensures node { self.new.node ≡ self.old.node }
+        ensures tickets { self.new.tickets.items ≡ self.old.tickets.items }
+    {
+        let written = self
+            .buffer
+            .answer(&self.node, &self.tickets, &self.common, message, now);
+        if written {
+            let _ = host.send(&from, self.buffer.frame.bytes());
+        }
+    }
+
+    // Does what a message demands that was let in. Where it befalls a ticket, this is that one's place.
+    fn follow<H: Host>(
         &mut self,
         from: Peer,
-        bytes: &[u8],
+        message: &Message<'_>,
         now: u64,
         host: &mut H,
     ) -> Option<usize>
         requires early { now < 2 ^ 62 }
-        ensures past { GrewSome (λ es. Leads {S = State} (IsDone self.old.node.key)
-            (met self.old.node now
-            (state_with self.old now)
-            from
-            (action self.old.node now self.old.tickets.items self.old.common from bytes.now))
-            es (Deeds.Ends
-            (state_with self.new now)))
-            (H.past host.old) (H.past host.new) }
-        ensures later { H.faults host.old ≤ H.faults host.new }
+        requires other { message.now.head.from.0 == self.old.node.me.0 ≡ false }
+        ensures led { Led H.past H.faults (IsDone self.old.node.key) (met self.old.node now (state_with
+            self.old now) from (routed self.old.node now self.old.tickets.items self.old.common from
+            (plain_of message.now) (direction_of message.now.head.cmd)))
+            (state_with self.new now) host.old host.new }
         ensures node { self.new.node ≡ self.old.node }
         ensures others { MatchOption result (self.new.tickets.items ≡ self.old.tickets.items)
             (λ place. IsSetAt self.old.tickets.items place self.new.tickets.items) }
     {
-        match self.action(from, bytes, now) {
-            Action::Drop(fault) => {
-                self.refuse(fault);
-                None
-            }
+        match route(&self.node, from, message) {
             Action::Hear {
                 from,
                 ticket,
@@ -231,15 +204,39 @@ impl TicketTable {
                 Some(ticket)
             }
             Action::Attend { ticket, request } => {
-                self.attend(ticket, &request, now);
-                let _ = host.send(&from, self.buffer.frame.bytes());
+                self.attend(from, ticket, &request, now, host);
                 None
             }
             Action::Answer => {
-                let _ = host.send(&from, self.buffer.frame.bytes());
+                self.answer(from, message, now, host);
                 None
             }
             Action::Rest => None,
+        }
+    }
+
+    /// Does what a datagram demands. Where it befalls a ticket, this is that one's place.
+    pub fn receive<H: Host>(
+        &mut self,
+        from: Peer,
+        bytes: &[u8],
+        now: u64,
+        host: &mut H,
+    ) -> Option<usize>
+        requires early { now < 2 ^ 62 }
+        ensures led { Led H.past H.faults (IsDone self.old.node.key) (met self.old.node now (state_with
+            self.old now) from (action self.old.node now self.old.tickets.items self.old.common from bytes.now))
+            (state_with self.new now) host.old host.new }
+        ensures node { self.new.node ≡ self.old.node }
+        ensures others { MatchOption result (self.new.tickets.items ≡ self.old.tickets.items)
+            (λ place. IsSetAt self.old.tickets.items place self.new.tickets.items) }
+    {
+        match self.node.admit(now, bytes) {
+            Ok(message) => self.follow(from, &message, now, host),
+            Err(fault) => {
+                self.refuse(fault);
+                None
+            }
         }
     }
 
@@ -247,14 +244,8 @@ impl TicketTable {
     pub fn expire<H: Host>(&mut self, place: usize, now: u64, host: &mut H)
         requires early { now < 2 ^ 62 }
         requires due { IsSomeAnd (slice_get self.old.tickets.items place) (λ ticket. IsDue ticket.known now) }
-        ensures past { GrewSome (λ es. Leads {S = State} (IsDone self.old.node.key)
-            (acts self.old.node now
-            (state_with self.old now)
-            place Event.Due)
-            es (Deeds.Ends
-            (state_with self.new now)))
-            (H.past host.old) (H.past host.new) }
-        ensures later { H.faults host.old ≤ H.faults host.new }
+        ensures led { Led H.past H.faults (IsDone self.old.node.key) (acts self.old.node now (state_with
+            self.old now) place Event.Due) (state_with self.new now) host.old host.new }
         ensures node { self.new.node ≡ self.old.node }
         ensures others { IsSetAt self.old.tickets.items place self.new.tickets.items }
     {
@@ -272,14 +263,8 @@ impl TicketTable {
     )
         requires early { now < 2 ^ 62 }
         requires there { place < length self.old.tickets.items }
-        ensures past { GrewSome (λ es. Leads {S = State} (IsDone self.old.node.key)
-            (acts self.old.node now
-            (state_with self.old now)
-            place (Event.Over job service))
-            es (Deeds.Ends
-            (state_with self.new now)))
-            (H.past host.old) (H.past host.new) }
-        ensures later { H.faults host.old ≤ H.faults host.new }
+        ensures led { Led H.past H.faults (IsDone self.old.node.key) (acts self.old.node now (state_with
+            self.old now) place (Event.Over job service)) (state_with self.new now) host.old host.new }
         ensures node { self.new.node ≡ self.old.node }
         ensures others { IsSetAt self.old.tickets.items place self.new.tickets.items }
     {

@@ -47,7 +47,7 @@ impl Core {
     ghost use Rattle.booth_raft.specs.Outcome.{telling};
     ghost use Rattle.booth_raft.specs.Sound.{IsSound};
     ghost use Rattle.booth_raft.specs.StartAndLearn.{started};
-    ghost use Rattle.booth_raft.specs.State.{IsDue, IsOver, IsWaiting, MayRelease, State, with_view};
+    ghost use Rattle.booth_raft.specs.State.{IsDue, IsOver, IsWaiting, MayRelease, State, step, with_view};
 
     /// A member starts, from the record that it kept.
     pub fn start(setup: &Setup, kept: Option<&Record>, now: u64) -> Core
@@ -103,10 +103,8 @@ impl Core {
         requires idle { self.old.view.waiting ≡ None }
         requires place { from < self.old.setup.members }
         requires other { from ≢ self.old.setup.place }
-        ensures view { self.new ≡ with_view self.old
-            (hear self.old.setup self.old.view from head.now part.now now head.now.cmd).view }
-        ensures deed { result ≡
-            (hear self.old.setup self.old.view from head.now part.now now head.now.cmd).deed }
+        ensures step { record { core = self.new; deed = result } ≡ step self.old
+            (hear self.old.setup self.old.view from head.now part.now now head.now.cmd) }
         ensures waits { KeepWaits result.keep self.new.view.waiting now }
     {
         hear(&self.setup, &mut self.view, from, head, part, now)
@@ -116,10 +114,8 @@ impl Core {
     pub fn kept(&mut self, now: u64, ok: bool) -> Deed
         requires early { now < 2 ^ 62 }
         requires waiting { IsWaiting self.old.view now }
-        ensures view { self.new ≡ with_view self.old
-            (finish self.old.setup self.old.view now ok).view }
-        ensures deed { result ≡
-            (finish self.old.setup self.old.view now ok).deed }
+        ensures step { record { core = self.new; deed = result } ≡ step self.old
+            (finish self.old.setup self.old.view now ok) }
         ensures waits { KeepWaits result.keep self.new.view.waiting now }
     {
         finish(&self.setup, &mut self.view, now, ok)
@@ -143,9 +139,8 @@ impl Core {
         requires due { IsDue self.old.view now }
         requires greeted { self.old.view.hello ≡ false }
         requires role { is_working self.old.view.role ≡ false }
-        ensures view { self.new ≡ with_view self.old
-            (due_now self.old.setup self.old.view now).view }
-        ensures deed { result ≡ (due_now self.old.setup self.old.view now).deed }
+        ensures step { record { core = self.new; deed = result } ≡ step self.old
+            (due_now self.old.setup self.old.view now) }
         ensures waits { KeepWaits result.keep self.new.view.waiting now }
     {
         due_now(&self.setup, &mut self.view, now)
@@ -156,9 +151,8 @@ impl Core {
         requires early { now < 2 ^ 62 }
         requires idle { self.old.view.waiting ≡ None }
         requires over { IsOver self.old.view now }
-        ensures view { self.new ≡ with_view self.old
-            (telling (lost self.old.setup self.old.view now) Told.Lost).view }
-        ensures deed { result ≡ (telling (lost self.old.setup self.old.view now) Told.Lost).deed }
+        ensures step { record { core = self.new; deed = result } ≡ step self.old
+            (telling (lost self.old.setup self.old.view now) Told.Lost) }
         ensures waits { KeepWaits result.keep self.new.view.waiting now }
     {
         lose(&self.setup, &mut self.view, now)
@@ -179,10 +173,8 @@ impl Core {
         requires early { now < 2 ^ 62 }
         requires idle { self.old.view.waiting ≡ None }
         requires role { IsTrue (is_leader self.old.view.role) }
-        ensures view { self.new ≡ with_view self.old
-            (renew self.old.setup self.old.view now).view }
-        ensures deed { result ≡
-            (renew self.old.setup self.old.view now).deed }
+        ensures step { record { core = self.new; deed = result } ≡ step self.old
+            (renew self.old.setup self.old.view now) }
         ensures waits { KeepWaits result.keep self.new.view.waiting now }
     {
         renew(&self.setup, &mut self.view, now)
@@ -194,8 +186,8 @@ impl Core {
         requires idle { self.old.view.waiting ≡ None }
         requires site { IsTrue self.old.setup.site }
         requires fitting { MayRelease self.old.view reason now }
-        ensures view { self.new ≡ with_view self.old (release self.old.setup self.old.view reason now).view }
-        ensures deed { result ≡ (release self.old.setup self.old.view reason now).deed }
+        ensures step { record { core = self.new; deed = result } ≡ step self.old
+            (release self.old.setup self.old.view reason now) }
         ensures waits { KeepWaits result.keep self.new.view.waiting now }
     {
         release(&self.setup, &mut self.view, reason, now)

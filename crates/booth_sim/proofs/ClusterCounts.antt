@@ -211,9 +211,9 @@ deeds_begin_none place time key (Does ask go) left (call ∷ entries) leads =
     (deed key ask leads.0 call leads.1, deeds_begin_none place time key (go leads.0) left entries leads.2)
   where
     deed : (k : Option (List ℕ)) (a : Ask) (ok : Bool) (c : Entry) → IsDone k a ok c → begins (Makes c) ≡ false
-    deed k (Send peer letter) ok (calls.Send to bytes answer) d = refl
+    deed k (Send peer message) ok (calls.Send to bytes answer) d = refl
     deed k (Keep name tried) ok (calls.Keep ticket rec answer) d = refl
     deed k (Start job) ok (calls.Start number ticket handler local expires answer) d = refl
-    deed k (Send peer letter) ok c d = absurd d
+    deed k (Send peer message) ok c d = absurd d
     deed k (Keep name tried) ok c d = absurd d
     deed k (Start job) ok c d = absurd d

@@ -40,10 +40,10 @@ calls_follow config before place time call below order reads =
 
 no_reading : (place time : ℕ) (key : Option (List ℕ)) (ask : Ask) (ok : Bool) (call : Entry) → IsDone key ask ok call
     → ReadsAt place time (Makes call)
-no_reading place time key (Send peer letter) ok (calls.Send to bytes answer) d = tt
+no_reading place time key (Send peer message) ok (calls.Send to bytes answer) d = tt
 no_reading place time key (Keep name tried) ok (calls.Keep ticket rec answer) d = tt
 no_reading place time key (Start job) ok (calls.Start number ticket handler local expires answer) d = tt
-no_reading place time key (Send peer letter) ok call d = absurd d
+no_reading place time key (Send peer message) ok call d = absurd d
 no_reading place time key (Keep name tried) ok call d = absurd d
 no_reading place time key (Start job) ok call d = absurd d
 

@@ -131,7 +131,7 @@ module _ (config : ConfigSays) (w : World) where
 
   -- a member's message that comes was sent
   abbrev pub Spoke : List WorldEntry → List ℕ → Type 0
-  Spoke before bytes = (letter : PlainMessage) → decoded bytes ≡ Ok letter → direction_of letter.head.cmd ≡ BetweenMembers → WasSent w before letter
+  Spoke before bytes = (message : PlainMessage) → decoded bytes ≡ Ok message → direction_of message.head.cmd ≡ BetweenMembers → WasSent w before message
 
   abbrev pub SpokeIn : List WorldEntry → Happening → Type 0
   SpokeIn before (Turns place (arrivals.Datagram from) bytes) = Spoke before bytes
@@ -141,11 +141,11 @@ module _ (config : ConfigSays) (w : World) where
   same_id a b e = ap (λ (n : ℕ). record { 0 = n }) e
 
   frame_spoke : (before : List WorldEntry) (frame : SentFrame) → SendOwn before → WasFrame before frame → Spoke before frame.bytes
-  frame_spoke before frame own was letter read between = record {
+  frame_spoke before frame own was message read between = record {
     entry = was.0;
     earlier = was.1;
-    sender = same_id (id_at w was.0.member) letter.head.from
-        (sym (own was.0 was.1 frame.bytes was.3) ∙ sym (read_head frame.bytes letter read).0);
+    sender = same_id (id_at w was.0.member) message.head.from
+        (sym (own was.0 was.1 frame.bytes was.3) ∙ sym (read_head frame.bytes message read).0);
     bytes = frame.bytes;
     sent = was.3;
     same = read;
@@ -164,14 +164,14 @@ module _ (config : ConfigSays) (w : World) where
       by_kind : (kind : Kind) → SpokeIn before (happens config before event draw (member_of draw (length config.members)) kind)
       by_kind kinds.Frame = by_chosen (chosen draw.first (kept_frames config before)) refl
       by_kind kinds.Quiet = tt
-      by_kind kinds.Grant = λ letter read between.
-          absurd (grant_is_a_clients (ticket_name config (ticket_of draw (length config.tickets))) event letter read between)
-      by_kind kinds.Revoke = λ letter read between.
-          absurd (revoke_is_a_clients (ticket_name config (ticket_of draw (length config.tickets))) event letter read between)
+      by_kind kinds.Grant = λ message read between.
+          absurd (grant_is_a_clients (ticket_name config (ticket_of draw (length config.tickets))) event message read between)
+      by_kind kinds.Revoke = λ message read between.
+          absurd (revoke_is_a_clients (ticket_name config (ticket_of draw (length config.tickets))) event message read between)
       by_kind kinds.Restart = tt
 
-  later : (before after : List WorldEntry) (letter : PlainMessage) → WasSent w before letter → WasSent w (before ++ after) letter
-  later before after letter s = record {
+  later : (before after : List WorldEntry) (message : PlainMessage) → WasSent w before message → WasSent w (before ++ after) message
+  later before after message s = record {
     entry = s.entry;
     earlier = has_left before after s.entry s.earlier;
     sender = s.sender;
@@ -186,10 +186,10 @@ module _ (config : ConfigSays) (w : World) where
   Hears before entry = HearsSent w before (stand_after entry.member before) entry.what
 
   says_so : (key : Option (List ℕ)) (ask : Ask) (ok : Bool) (call : Entry) → IsDone key ask ok call → ok ≡ did call
-  says_so key (Send peer letter) ok (calls.Send to bytes answer) d = d.3
+  says_so key (Send peer message) ok (calls.Send to bytes answer) d = d.3
   says_so key (Keep name tried) ok (calls.Keep ticket rec answer) d = d.2
   says_so key (Start job) ok (calls.Start number ticket handler local expires answer) d = d.1
-  says_so key (Send peer letter) ok call d = absurd d
+  says_so key (Send peer message) ok call d = absurd d
   says_so key (Keep name tried) ok call d = absurd d
   says_so key (Start job) ok call d = absurd d
 
@@ -209,9 +209,9 @@ module _ (config : ConfigSays) (w : World) where
   reading_hears : (before : List WorldEntry) (next : WorldEntry) (place : ℕ) (old : State) (arrival : Arrival) (bytes : List ℕ) (reading : ℕ)
       → SpokeIn before (Turns place arrival bytes)
       → HearsSent w (before ++ next ∷ []) (Hearing (node_in config place) old (Ok arrival) bytes) (Makes (calls.Now reading))
-  reading_hears before next place old (arrivals.Datagram from) bytes reading said = λ letter ok between.
-      later before (next ∷ []) letter
-      (said letter (was_read config (node_in config place).me (used old.last_reading reading) bytes letter ok) between)
+  reading_hears before next place old (arrivals.Datagram from) bytes reading said = λ message ok between.
+      later before (next ∷ []) message
+      (said message (was_read config (node_in config place).me (used old.last_reading reading) bytes message ok) between)
   reading_hears before next place old (arrivals.Handler job status) bytes reading said = tt
   reading_hears before next place old arrivals.Quiet bytes reading said = tt
   reading_hears before next place old arrivals.Stop bytes reading said = tt

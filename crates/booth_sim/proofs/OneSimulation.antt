@@ -26,7 +26,7 @@ one_answer (Err f) (Err g) e = refl
 -- an ask has one call with this answer, and goes on with it
 same_call : (key : Option (List ℕ)) (fails : Bool) (ask : Ask) (ok other_ok : Bool) (call other : Entry)
     → IsDone key ask ok call → IsAnswered fails call → IsDone key ask other_ok other → IsAnswered fails other → call ≡ other
-same_call key fails (Send peer letter) ok ok' (calls.Send to bytes answer) (calls.Send to' bytes' answer') d a d' a' =
+same_call key fails (Send peer message) ok ok' (calls.Send to bytes answer) (calls.Send to' bytes' answer') d a d' a' =
     ap (λ p. calls.Send p bytes answer) (d.0 ∙ sym d'.0) ∙ ap (λ b. calls.Send to' b answer) (d.1 ∙ sym d'.1)
     ∙ ap (λ r. calls.Send to' bytes' r) (one_answer answer answer' (a ∙ sym a'))
 same_call key fails (Keep name tried) ok ok' (calls.Keep ticket rec answer) (calls.Keep ticket' rec' answer') d a d' a' =
@@ -35,19 +35,19 @@ same_call key fails (Keep name tried) ok ok' (calls.Keep ticket rec answer) (cal
 same_call key fails (Start job) ok ok' (calls.Start n t h l x answer) (calls.Start n' t' h' l' x' answer') d a d' a' =
     ap (λ (j : Job). calls.Start j.number j.ticket j.handler j.local j.expires answer) (d.0 ∙ sym d'.0)
     ∙ ap (λ r. calls.Start n' t' h' l' x' r) (one_answer answer answer' (a ∙ sym a'))
-same_call key fails (Send peer letter) ok ok' (calls.Send to bytes answer) other d a d' a' = absurd d'
+same_call key fails (Send peer message) ok ok' (calls.Send to bytes answer) other d a d' a' = absurd d'
 same_call key fails (Keep name tried) ok ok' (calls.Keep ticket rec answer) other d a d' a' = absurd d'
 same_call key fails (Start job) ok ok' (calls.Start n t h l x answer) other d a d' a' = absurd d'
-same_call key fails (Send peer letter) ok ok' call other d a d' a' = absurd d
+same_call key fails (Send peer message) ok ok' call other d a d' a' = absurd d
 same_call key fails (Keep name tried) ok ok' call other d a d' a' = absurd d
 same_call key fails (Start job) ok ok' call other d a d' a' = absurd d
 
 same_ok : (key : Option (List ℕ)) (ask : Ask) (ok other_ok : Bool) (call : Entry) → IsDone key ask ok call → IsDone key ask other_ok call
     → ok ≡ other_ok
-same_ok key (Send peer letter) ok ok' (calls.Send to bytes answer) d d' = d.3 ∙ sym d'.3
+same_ok key (Send peer message) ok ok' (calls.Send to bytes answer) d d' = d.3 ∙ sym d'.3
 same_ok key (Keep name tried) ok ok' (calls.Keep ticket rec answer) d d' = d.2 ∙ sym d'.2
 same_ok key (Start job) ok ok' (calls.Start n t h l x answer) d d' = d.1 ∙ sym d'.1
-same_ok key (Send peer letter) ok ok' call d d' = absurd d
+same_ok key (Send peer message) ok ok' call d d' = absurd d
 same_ok key (Keep name tried) ok ok' call d d' = absurd d
 same_ok key (Start job) ok ok' call d d' = absurd d
 

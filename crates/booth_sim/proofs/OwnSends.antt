@@ -42,11 +42,11 @@ has_parts (z ∷ zs) y ys x (inr h) =
     ⊎_elim (λ (a : Has zs x). inl (inr a)) (λ (b : (y ≡ x) ⊎ Has ys x). inr b) (has_parts zs y ys x h)
 
 -- the bytes of a message of this member bear its id
-bears : (me : MemberId) (letter : PlainMessage) (bytes sent : List ℕ) → me.0 < 2 ^ 32 → letter.head.from ≡ me → bytes ≡ sealed None letter
+bears : (me : MemberId) (message : PlainMessage) (bytes sent : List ℕ) → me.0 < 2 ^ 32 → message.head.from ≡ me → bytes ≡ sealed None message
     → bytes ≡ sent → word_at 20 sent ≡ me.0
-bears me letter bytes sent small from spelled e =
+bears me message bytes sent small from spelled e =
     ap (word_at 20) (sym e ∙ spelled)
-    ∙ sent_from letter (subst (λ (i : MemberId). i.0 < 2 ^ 32) (sym from) small) ∙ ap (λ (i : MemberId). i.0) from
+    ∙ sent_from message (subst (λ (i : MemberId). i.0 < 2 ^ 32) (sym from) small) ∙ ap (λ (i : MemberId). i.0) from
 
 module _ (config : ConfigSays) (place : ℕ) (small : (node_in config place).me.0 < 2 ^ 32) where
   -- the call's bytes, where it is a send, bear this member's id
@@ -55,9 +55,9 @@ module _ (config : ConfigSays) (place : ℕ) (small : (node_in config place).me.
 
   own_call : (waiters : List (List Waiter)) (call : Entry) → ReachesWaiters (node_in config place) waiters call → IsOwn call
   own_call waiters (calls.Send peer bytes answer) (inl between) sent e =
-      bears (node_in config place).me between.letter bytes sent small between.from between.spelled e
+      bears (node_in config place).me between.message bytes sent small between.from between.spelled e
   own_call waiters (calls.Send peer bytes answer) (inr tells) sent e =
-      bears (node_in config place).me tells.letter bytes sent small tells.outcome.from tells.spelled e
+      bears (node_in config place).me tells.message bytes sent small tells.outcome.from tells.spelled e
   own_call waiters (calls.Keep ticket rec answer) reaches sent e = absurd e
   own_call waiters (calls.Start number ticket handler local expires answer) reaches sent e = absurd e
   own_call waiters call reaches sent e = absurd reaches
@@ -74,9 +74,9 @@ module _ (config : ConfigSays) (place : ℕ) (small : (node_in config place).me.
         (all_has (ReachesWaiters (node_in config place) old.waiters) deeds call
         (others (node_in config place) old new moment (Ok arrival) bytes deeds set_up done none) h)
 
-    asked : (from : Peer) (letter : PlainMessage) → IsAnswered (node_in config place) old moment from letter deeds new
+    asked : (from : Peer) (message : PlainMessage) → IsAnswered (node_in config place) old moment from message deeds new
         → (call : Entry) → Has deeds call → IsOwn call
-    asked from letter is call h = by_part (has_parts is.before _ is.deadlines call (subst (λ (xs : List Entry). Has xs call) is.whole h))
+    asked from message is call h = by_part (has_parts is.before _ is.deadlines call (subst (λ (xs : List Entry). Has xs call) is.whole h))
       where
         reply_own : (calls.Send from (sealed None is.reply) is.answer ≡ call) → IsOwn call
         reply_own e = subst IsOwn e (λ sent s.
@@ -90,19 +90,19 @@ module _ (config : ConfigSays) (place : ℕ) (small : (node_in config place).me.
     pub turn_own : (arrival : Arrival) (bytes : List ℕ) → DoneIn arrival bytes → (call : Entry) → Has deeds call → IsOwn call
     turn_own (arrivals.Datagram from) bytes done call h = by_verdict (verdict config None (node_in config place).me moment bytes) refl
       where
-        by_direction : (letter : PlainMessage) → verdict config None (node_in config place).me moment bytes ≡ Ok letter
-            → (d : Direction) → direction_of letter.head.cmd ≡ d → IsOwn call
-        by_direction letter v ToDaemon e =
-            asked from letter
-            (answered (node_in config place) old new moment from letter deeds set_up (record { bytes = bytes; let_in = v; deeds = done }) e) call h
-        by_direction letter v BetweenMembers e =
-            unasked (arrivals.Datagram from) bytes done (ap request_let_in v ∙ ap (λ (d : Direction). asked_by d letter) e) call h
-        by_direction letter v ToClient e =
-            unasked (arrivals.Datagram from) bytes done (ap request_let_in v ∙ ap (λ (d : Direction). asked_by d letter) e) call h
+        by_direction : (message : PlainMessage) → verdict config None (node_in config place).me moment bytes ≡ Ok message
+            → (d : Direction) → direction_of message.head.cmd ≡ d → IsOwn call
+        by_direction message v ToDaemon e =
+            asked from message
+            (answered (node_in config place) old new moment from message deeds set_up (record { bytes = bytes; let_in = v; deeds = done }) e) call h
+        by_direction message v BetweenMembers e =
+            unasked (arrivals.Datagram from) bytes done (ap request_let_in v ∙ ap (λ (d : Direction). asked_by d message) e) call h
+        by_direction message v ToClient e =
+            unasked (arrivals.Datagram from) bytes done (ap request_let_in v ∙ ap (λ (d : Direction). asked_by d message) e) call h
 
         by_verdict : (r : Result PlainMessage DropFault) → verdict config None (node_in config place).me moment bytes ≡ r → IsOwn call
         by_verdict (Err fault) v = unasked (arrivals.Datagram from) bytes done (ap request_let_in v) call h
-        by_verdict (Ok letter) v = by_direction letter v (direction_of letter.head.cmd) refl
+        by_verdict (Ok message) v = by_direction message v (direction_of message.head.cmd) refl
     turn_own (arrivals.Handler job status) bytes done call h = unasked (arrivals.Handler job status) bytes done refl call h
     turn_own arrivals.Quiet bytes done call h = unasked arrivals.Quiet bytes done refl call h
     turn_own arrivals.Stop bytes done call h = unasked arrivals.Stop bytes done refl call h

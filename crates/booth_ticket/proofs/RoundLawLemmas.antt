@@ -1,6 +1,7 @@
 -- A round that may be answered is answered.
 use Rattle.std.proofs.Common.{◌≡◌, ℕ, Bool, true, false, ◌&&◌, List, ◌∷◌, [], refl, sym, ap, subst}
 use Rattle.std.specs.Prelude.{Option, Some, ◌==◌, if◌then◌else◌}
+use Rattle.booth_base.specs.Tree.{Deeds, ◌>>=◌}
 use Rattle.booth_rec.specs.declared.record.Lease.{Lease}
 use Rattle.booth_rec.specs.declared.record.Record.{Record}
 use Rattle.booth_rec.specs.Record.{no_record}
@@ -17,18 +18,21 @@ use Rattle.booth_raft.specs.declared.view.View.{View}
 use Rattle.booth_raft.specs.AskAndRenew.{finish}
 use Rattle.booth_raft.specs.GainReleaseLost.{record_of}
 use Rattle.booth_raft.specs.Messages.{answer_cmd, answers_round, head_of, part_of}
-use Rattle.booth_raft.specs.OtherMessages.{hear}
+use Rattle.booth_raft.specs.OtherMessages.{hear as heard}
 use Rattle.booth_raft.specs.Outcome.{Outcome, keeping, saying}
 use Rattle.booth_raft.specs.RoundsAndAnswers.{MayAnswer, answered_round, may_answer, hear_round, promised, shows_site, stood_down, told_by_answer, with_due, with_site}
+use Rattle.booth_raft.specs.State.{State, step}
 use Rattle.booth_raft.specs.StartAndLearn.{awaits_failover, with_seen}
 use Rattle.booth_raft.proofs.AnswerLemmas.{tests_may_answer}
 use Rattle.booth_raft.proofs.FactsLemmas.{on_active, on_cond}
 use Rattle.booth_ticket.specs.declared.hands.To.TheVariants.{Member}
 use Rattle.booth_ticket.specs.declared.waiters.Waiter.{Waiter}
-use Rattle.booth_ticket.specs.Acts.{kept, said}
-use Rattle.booth_ticket.specs.Automatic.{ends}
-use Rattle.booth_ticket.specs.Keeping.{carry_out}
+use Rattle.booth_ticket.specs.Acts.{Ask, kept, said}
+use Rattle.booth_ticket.specs.Automatic.{hear, hear_message}
+use Rattle.booth_ticket.specs.Keeping.{carry_out, keep_once}
 use Rattle.booth_ticket.specs.Laws.{AnswersWhereItMay, IsBegunBy, answer_to, answering_acts, promise_record}
+use Rattle.booth_ticket.specs.Saying.{say_to}
+use Rattle.booth_ticket.specs.Waiting.{Left, tell}
 use Rattle.booth_ticket.proofs.CaseLemmas.{is_number, is_other, when_false, when_true}
 
 -- the record of a view whose rules are of version 2
@@ -50,6 +54,13 @@ in_second setup view lease second =
 
 module _ (setup : Setup) (view : View) (waiters : List Waiter) (from : ℕ) (kind : RoundKind) (head : Head)
     (part : TicketPart) (now : ℕ) where
+  abbrev core : State
+  core = record { setup = setup; view = view }
+
+  -- what a message leads to, by the outcome of its rule
+  abbrev deeds : Outcome → Deeds Ask Left
+  deeds o = carry_out (Some from) now (step core o) >>= tell now waiters
+
   -- the view is in the round's term, and its record is that of the promise
   abbrev IsPromised : View → Type 0
   IsPromised after =
@@ -76,20 +87,19 @@ module _ (setup : Setup) (view : View) (waiters : List Waiter) (from : ℕ) (kin
   by_version : (after : View) (told : Told) (second : Bool) → after.term ≡ part.term
       → (second ≡ true → promise_record setup view head part now ≡ record_of setup after after.kept.lease)
       → IsBegunBy
-      (carry_out setup (Some from) now
-      (if second
+      (deeds (if second
       then keeping after (rules.Answer kind head.from head.options head.request told)
       (record_of setup after after.kept.lease) now
-      else saying after (answers_round setup kind head.from head.options head.request part.term) told)
-      (ends setup now waiters))
+      else saying after (answers_round setup kind head.from head.options head.request part.term) told))
       (if second
       then kept (promise_record setup view head part now) true ∷ answer_to setup from kind head part ∷ []
       else answer_to setup from kind head part ∷ [])
+  unfolding carry_out keep_once say_to
   by_version after told true term tried =
       let rule : Rule = rules.Answer kind head.from head.options head.request told in
       let asks : Outcome = keeping after rule (record_of setup after after.kept.lease) now in
       record {
-        rest = ends setup now waiters (finish setup asks.view now true);
+        rest = tell now waiters (step core (finish setup asks.view now true));
         first = (
           true,
           ap (λ (r : Record). kept r true) (tried refl),
@@ -102,14 +112,14 @@ module _ (setup : Setup) (view : View) (waiters : List Waiter) (from : ℕ) (kin
         );
       }
   by_version after told false term tried = record {
-    rest = ends setup now waiters
-        (saying after (answers_round setup kind head.from head.options head.request part.term) told);
+    rest = tell now waiters
+        (step core (saying after (answers_round setup kind head.from head.options head.request part.term) told));
     first = (true, refl, refl);
   }
 
   abbrev Begins : Outcome → Type 0
   Begins o =
-      IsBegunBy (carry_out setup (Some from) now o (ends setup now waiters))
+      IsBegunBy (deeds o)
       (answering_acts setup view from kind head part now)
 
   answered : MayAnswer view head.from part.term now
@@ -128,16 +138,17 @@ module _ (setup : Setup) (view : View) (waiters : List Waiter) (from : ℕ) (kin
       (by_version after (told_by_answer view.role) setup.second answered_so.0 answered_so.1)
 
 pub answers : AnswersWhereItMay
+unfolding hear hear_message
 answers setup view waiters from Election head part now is may =
     subst
-    (λ (cmd : Cmd). Begins setup view waiters from Election head part now (hear setup view from head part now cmd))
+    (λ (cmd : Cmd). Begins setup view waiters from Election head part now (heard setup view from head part now cmd))
     (sym is.0)
     (when_true (Begins setup view waiters from Election head part now)
     (head.options == 0) _ _ (is_number head.options 0 is.1)
     (answered setup view waiters from Election head part now may))
 answers setup view waiters from Renewal head part now is may =
     subst
-    (λ (cmd : Cmd). Begins setup view waiters from Renewal head part now (hear setup view from head part now cmd))
+    (λ (cmd : Cmd). Begins setup view waiters from Renewal head part now (heard setup view from head part now cmd))
     (sym is.0)
     (when_false (Begins setup view waiters from Renewal head part now)
     (head.options == 0) _ _ (is_other head.options 0 is.1)

@@ -1,5 +1,5 @@
 -- Those that wait, told one after the other.
-use Rattle.std.proofs.Common.{◌≡◌, ℕ, ◌+◌, ◌<◌, ◌≤◌, List, [], ◌∷◌, ◌++◌, length, get_or, set, take, drop, refl, sym, ◌∙◌, ap, subst, arith, append-nil, length-set, get_or-set_same}
+use Rattle.std.proofs.Common.{◌≡◌, ℕ, ◌+◌, ◌<◌, ◌≤◌, List, [], ◌∷◌, ◌++◌, length, get_or, set, take, drop, refl, sym, ◌∙◌, ap, arith, append-nil, length-set, get_or-set_same}
 use Rattle.std.specs.Prelude.{Option, Some, None, not, slice_get}
 use Rattle.std.specs.List.{filter, sum_by}
 use Rattle.std.specs.Option.{is_none}
@@ -8,17 +8,9 @@ use Rattle.std.proofs.lemmas.List.Elements.{filter-append}
 use Rattle.std.proofs.lemmas.List.Filters.{length-filter_both}
 use Rattle.std.proofs.lemmas.List.Sums.{sum_by-set}
 use Rattle.std.proofs.Math.ListN.{drop_of_length-le}
-use Rattle.booth_base.specs.Tree.{Deeds, Leads}
-use Rattle.booth_base.proofs.TreeLemmas.{leads_on}
-use Rattle.booth_wire.specs.declared.message.Setup.{Setup}
-use Rattle.booth_wire.specs.declared.message.TicketPart.{TicketPart}
 use Rattle.booth_raft.specs.declared.deed.Told.{Told}
 use Rattle.booth_ticket.specs.declared.waiters.Waiter.{Waiter}
-use Rattle.booth_ticket.specs.Acts.{Ask, Act, IsAct, DidSome}
-use Rattle.booth_ticket.specs.Automatic.{Left}
-use Rattle.booth_ticket.specs.Waiting.{waiting_at, spare_in, result_for, staying, tell_one, tell_each}
-use Rattle.booth_ticket.proofs.DidLemmas.{did_none, did_joined}
-use Rattle.booth_ticket.proofs.SayLemmas.{First}
+use Rattle.booth_ticket.specs.Waiting.{waiting_at, spare_in, result_for, staying}
 
 -- ---- the lists
 
@@ -134,42 +126,3 @@ module _ (lists : List (List Waiter)) (list : ℕ) (told : Told) where
       (sym (filter-append (λ x. is_none (result_for told x)) (take i waiters) (w ∷ []))
       ∙ ap (λ (x : Waiter). staying told (take i waiters ++ x ∷ [])) w_is
       ∙ ap (staying told) (sym (take_more waiters i w below)))))
-
-  -- ---- the acts
-
-  module _ (setup : Setup) (part : TicketPart) where
-    -- what was said so far leads to what the others are told
-    abbrev pub ToldSome : ℕ → List Act → Type 0
-    ToldSome i acts = (rest : Deeds Ask Left) → Leads IsAct (tell_each setup part told waiters rest) acts
-        (tell_each setup part told (drop i waiters) rest)
-
-    module _ {X : Type 0} {did : X → Act → X → Type 0} where
-      pub told_none : (a : X) → DidSome did (ToldSome 0) a a
-      told_none a = did_none (ToldSome 0) a (λ rest. refl)
-
-      pub told_next : {a b c : X} (i : ℕ) (w : Waiter) → i < length waiters → w ≡ get_or waiters i w
-          → DidSome did (ToldSome i) a b
-          → DidSome did (First {S = Left} (tell_one setup part w (result_for told w))) b c
-          → DidSome did (ToldSome (i + 1)) a c
-      told_next i w below w_is first later =
-          let one : (rest : Deeds Ask Left) → tell_each setup part told (drop i waiters) rest
-          ≡ tell_one setup part w (result_for told w) (tell_each setup part told (drop (i + 1) waiters) rest) =
-          λ rest. ap (λ ws. tell_each setup part told ws rest) (drop_more waiters i w below)
-          ∙ ap (λ (x : Waiter). tell_one setup part x (result_for told x)
-          (tell_each setup part told (drop (i + 1) waiters) rest)) (sym w_is) in
-          did_joined (ToldSome i) (First {S = Left} (tell_one setup part w (result_for told w)))
-          (ToldSome (i + 1))
-          (λ xs ys p q rest.
-          leads_on IsAct (tell_each setup part told waiters rest)
-          (tell_each setup part told (drop i waiters) rest)
-          (tell_each setup part told (drop (i + 1) waiters) rest) xs ys (p rest)
-          (subst (λ (t : Deeds Ask Left). Leads IsAct t ys (tell_each setup part told (drop (i + 1) waiters) rest))
-          (sym (one rest)) (q (tell_each setup part told (drop (i + 1) waiters) rest))))
-          first later
-
-      pub told_all : {a b : X} (i : ℕ) → length waiters ≤ i → DidSome did (ToldSome i) a b
-          → DidSome did (First {S = Left} (tell_each setup part told waiters)) a b
-      told_all {a} {b} i past done =
-          subst (λ (ws : List Waiter). DidSome did
-          (λ acts. (rest : Deeds Ask Left) → Leads IsAct (tell_each setup part told waiters rest) acts
-          (tell_each setup part told ws rest)) a b) (drop_of_length-le waiters past) done

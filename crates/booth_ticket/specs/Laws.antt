@@ -28,10 +28,10 @@ use Rattle.booth_ticket.specs.declared.request.Request.{Request}
 use Rattle.booth_ticket.specs.declared.request.Wish.TheVariants.{Grant}
 use Rattle.booth_ticket.specs.declared.waiters.Waiter.{Waiter}
 use Rattle.booth_ticket.specs.Acts.{Ask, Act, IsAct, kept, said, said_to_each}
-use Rattle.booth_ticket.specs.Automatic.{Left, hear_message}
-use Rattle.booth_ticket.specs.Requests.{refused_grant, wish}
+use Rattle.booth_ticket.specs.Automatic.{hear}
+use Rattle.booth_ticket.specs.Requests.{follow_request, refused_grant}
 use Rattle.booth_ticket.specs.Saying.{others}
-use Rattle.booth_ticket.specs.Waiting.{joined}
+use Rattle.booth_ticket.specs.Waiting.{Left, joined}
 
 -- these acts are the first of the tree along its path of these answers, and it goes on as this rest
 pub record IsBegunBy (deeds : Deeds Ask Left) (acts : List Act) : Type 0 where
@@ -52,8 +52,8 @@ abbrev pub IsRound : RoundKind → Head → Type 0
 IsRound Election head = (head.cmd ≡ RVot) × (head.options ≡ 0)
 IsRound Renewal head = (head.cmd ≡ HrtB) × (head.options ≢ 0)
 
--- the record of the promise to a round's sender: the member is bound to it in the round's term, promised to it from now on for
--- the time of a promise, and has the lease and the abstention that it had
+-- the record of the promise to a round's sender: the member is bound to it in the round's term, promised to it from
+-- now on for the time of a promise, and has the lease and the abstention that it had
 abbrev pub promise_record : Setup → View → Head → TicketPart → ℕ → Record
 promise_record setup view head part now = record {
   version = 2;
@@ -83,17 +83,18 @@ AnswersWhereItMay =
     (setup : Setup) (view : View) (waiters : List Waiter) (from : ℕ) (kind : RoundKind) (head : Head)
     (part : TicketPart) (now : ℕ)
     → IsRound kind head → MayAnswer view head.from part.term now
-    → IsBegunBy (hear_message setup view waiters from head part now)
+    → IsBegunBy (hear (record { setup = setup; view = view }) waiters from head part now)
     (answering_acts setup view from kind head part now)
 
 -- ---- a grant
 
--- the record of a new term that is asked for a client: in version 2 with the own promise, where the member answers itself
+-- the record of a new term that is asked for a client: in version 2 with the own promise, where the member answers
+-- itself
 abbrev pub asked_record : Setup → View → ℕ → Record
 asked_record setup view now = record_of setup (asking setup view ADMN now) view.kept.lease
 
--- what a grant of a ticket without a handler does that asks all: the new term is kept, each other member is asked for its vote,
--- and the client is told that it was begun
+-- what a grant of a ticket without a handler does that asks all: the new term is kept, each other member is asked
+-- for its vote, and the client is told that it was begun
 abbrev pub asking_acts : Setup → View → Request → ℕ → List Act
 asking_acts setup view request now =
     kept (asked_record setup view now) true
@@ -106,8 +107,8 @@ asking_acts setup view request now =
 
 -- A member asks for votes, with this term kept and these clients waiting.
 pub record AsksVotes (kept : Record) (waiters : List Waiter) (left : Left) : Type 0 where
-  pub asks : left.view.role ≡ Candidate
-  pub kept_record : left.view.kept ≡ kept
+  pub asks : left.core.view.role ≡ Candidate
+  pub kept_record : left.core.view.kept ≡ kept
   pub waiting : left.waiters ≡ waiters
 
 -- A grant of a ticket without a handler that meets no refusal asks every other member, where the new term is kept and
@@ -117,7 +118,8 @@ GrantAsksAll =
     (setup : Setup) (view : View) (waiters : List Waiter) (spare : ℕ) (ready : Bool) (request : Request)
     (now : ℕ) → refused_grant setup view spare ready request.options now ≡ None
     → is_majority setup (own_answer setup view now) ≡ false
-    → IsDoneBy (wish setup view waiters spare ready None request Grant now)
+    → IsDoneBy (follow_request (record { setup = setup; view = view }) waiters spare
+    (record { now = now; ready = ready; job = None }) request Grant)
     (asking_acts setup view request now)
     (AsksVotes (asked_record setup view now) (joined request ASYN waiters))
 
@@ -161,10 +163,10 @@ gaining_acts setup view waiters lease now =
 
 -- A leader has the lease: this record of it is kept, it is shown as the owner, and no client waits.
 pub record HasLease (owner : MemberId) (own : Record) (lease : Lease) (left : Left) : Type 0 where
-  pub leads : left.view.role ≡ Leader
-  pub kept_record : left.view.kept ≡ own
-  pub sure : left.view.sure ≡ true
-  pub shown : left.view.shown ≡ Some (record { owner = owner; until = lease.until })
+  pub leads : left.core.view.role ≡ Leader
+  pub kept_record : left.core.view.kept ≡ own
+  pub sure : left.core.view.sure ≡ true
+  pub shown : left.core.view.shown ≡ Some (record { owner = owner; until = lease.until })
   pub waiting : left.waiters ≡ []
 
 -- A majority in time gives the lease, where its record is kept, and each client that waits is told.
@@ -173,6 +175,6 @@ MajorityGains =
     (setup : Setup) (view : View) (waiters : List Waiter) (round : Round) (from : ℕ) (kind : RoundKind)
     (head : Head) (part : TicketPart) (now : ℕ) → view.round ≡ Some round → IsAnswer kind head
     → Completes setup round from head part now
-    → IsDoneBy (hear_message setup view waiters from head part now)
+    → IsDoneBy (hear (record { setup = setup; view = view }) waiters from head part now)
     (gaining_acts setup view waiters (lease_of setup view round) now)
     (HasLease setup.me (lease_kept setup view (lease_of setup view round)) (lease_of setup view round))

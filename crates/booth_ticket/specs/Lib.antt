@@ -6,6 +6,7 @@ pub mod Waiting
 pub mod Pooled
 pub mod Handling
 pub mod Requests
+pub mod Answers
 pub mod Automatic
 pub mod Manual
 pub mod ManualRequests

@@ -1,6 +1,6 @@
 -- What is known of a manual ticket, and what it does when a member's message is heard.
 use Rattle.std.specs.Prelude.{ℕ, List, Option, Some, None, if◌then◌else◌}
-use Rattle.booth_base.specs.Tree.{Deeds, Ends}
+use Rattle.booth_base.specs.Tree.{Deeds, Ends, ◌>>◌}
 use Rattle.booth_rec.specs.declared.record.Record.{Record}
 use Rattle.booth_wire.specs.declared.message.Head.{Head}
 use Rattle.booth_wire.specs.declared.message.TicketPart.{TicketPart}
@@ -11,6 +11,7 @@ use Rattle.booth_manual.specs.declared.view.TheConstants.{NO_END_SECONDS}
 use Rattle.booth_manual.specs.Messages.{holder, part_of}
 use Rattle.booth_manual.specs.Outcome.{Outcome}
 use Rattle.booth_manual.specs.Start.{started}
+use Rattle.booth_manual.specs.State.{State}
 use Rattle.booth_ticket.specs.declared.manual.Job.{Job}
 use Rattle.booth_ticket.specs.declared.waiters.Waiter.{Waiter}
 use Rattle.booth_ticket.specs.Acts.{Ask}
@@ -32,25 +33,32 @@ pub record ManualState : Type 0 where
   pub setup : Setup
   pub known : ManualKnown
 
--- What a call leaves: what is known, and the clients that wait.
+-- what its rules know of it
+abbrev pub rules_of : ManualState → State
+rules_of ticket = record { setup = ticket.setup; view = ticket.known.view }
+
+-- a manual ticket, by its rules and what else is known
+abbrev pub ticket_as : State → Option ℕ → Option Job → ManualState
+ticket_as rules greets_at job = record { setup = rules.setup; known = known_as rules.view greets_at job }
+
+-- What a call leaves: the ticket, and the clients that wait.
 pub record ManualLeft : Type 0 where
-  pub known : ManualKnown
+  pub ticket : ManualState
   pub waiters : List Waiter
 
 -- a manual ticket starts, from the record that was kept; all are to be asked for their state at once
 abbrev pub manual_started : Record → ℕ → ManualKnown
 manual_started rec now = record { view = started rec; greets_at = Some now; job = None }
 
--- what the rules say of a message goes back to the member that was heard
-abbrev pub says_back : Setup → ManualKnown → List Waiter → ℕ → Outcome → Deeds Ask ManualLeft
-says_back setup known waiters from outcome =
-    say setup (Some from) outcome.say
-    (Ends (record { known = record known { view = outcome.view }; waiters = waiters }))
+-- what the rule of a message's command gives
+abbrev pub heard_of : ManualState → Head → TicketPart → Outcome
+heard_of ticket head part = hear ticket.setup ticket.known.view head part head.cmd
 
--- a member's message is heard
-abbrev pub manual_heard : Setup → ManualKnown → List Waiter → ℕ → Head → TicketPart → Deeds Ask ManualLeft
-manual_heard setup known waiters from head part =
-    says_back setup known waiters from (hear setup known.view head part head.cmd)
+-- a member's message is heard, and what the rules say of it goes back
+unfoldable pub manual_heard : ManualState → ℕ → Head → TicketPart → Deeds Ask ManualState
+manual_heard ticket from head part = do
+  say ticket.setup (Some from) (heard_of ticket head part).say
+  Ends (record ticket { known = record ticket.known { view = (heard_of ticket head part).view } })
 
 -- The state that clients are told: who holds the ticket, the own term, and the seconds left, of which none are known of
 -- another's lease.

@@ -1,55 +1,67 @@
 -- What a manual ticket does when the handler of a grant is over, and at its deadline.
 use Rattle.std.specs.Prelude.{ℕ, Bool, false, nat_le, ◌==◌, List, Option, Some, None, if◌then◌else◌}
 use Rattle.std.specs.Option.{is_some}
-use Rattle.booth_base.specs.Tree.{Deeds, Ends}
+use Rattle.booth_base.specs.Tree.{Deeds, Ends, ◌>>=◌, ◌>>◌}
 use Rattle.booth_wire.specs.declared.message.Say.{Say as Words}
 use Rattle.booth_wire.specs.declared.message.Say.TheVariants as words
 use Rattle.booth_wire.specs.declared.message.Setup.{Setup}
 use Rattle.booth_raft.specs.declared.deed.Told.{Told}
 use Rattle.booth_raft.specs.declared.deed.Told.TheVariants as tells
-use Rattle.booth_manual.specs.declared.view.ManualView.{ManualView}
 use Rattle.booth_manual.specs.GrantAndRevoke.{are_terms_spent, grant}
 use Rattle.booth_manual.specs.Messages.{asks_state}
+use Rattle.booth_manual.specs.State.{State, with_view}
 use Rattle.booth_ticket.specs.declared.handling.Service.{Service}
 use Rattle.booth_ticket.specs.declared.handling.Service.TheVariants.{CanRun, CannotRun}
 use Rattle.booth_ticket.specs.declared.manual.Job.{Job}
 use Rattle.booth_ticket.specs.declared.request.Wish.TheVariants.{Grant}
 use Rattle.booth_ticket.specs.declared.waiters.Waiter.{Waiter}
 use Rattle.booth_ticket.specs.Acts.{Ask}
-use Rattle.booth_ticket.specs.Manual.{ManualKnown, ManualLeft, manual_state}
-use Rattle.booth_ticket.specs.ManualRequests.{tried}
+use Rattle.booth_ticket.specs.Manual.{ManualKnown, ManualLeft, ManualState, manual_state, rules_of, ticket_as}
+use Rattle.booth_ticket.specs.ManualRequests.{keep_tried}
 use Rattle.booth_ticket.specs.Saying.{say}
-use Rattle.booth_ticket.specs.Waiting.{staying, tell_each}
+use Rattle.booth_ticket.specs.Waiting.{tell_each}
 
 -- ---- the end of a job
 
--- Those that wait are told of an outcome, with the state of the ticket in this view; no handler runs any longer.
-abbrev pub tells_of : Setup → ManualKnown → List Waiter → Told → ManualView → Deeds Ask ManualLeft
-tells_of setup known waiters told view =
-    tell_each setup (manual_state setup view) told waiters
-    (Ends (record { known = record known { view = view; job = None }; waiters = staying told waiters }))
+-- those that wait are told of an outcome, with the state of the ticket; and those are left that wait on
+unfoldable pub tell_waiters : State → Told → List Waiter → Deeds Ask (List Waiter)
+tell_waiters rules told waiters = tell_each rules.setup (manual_state rules.setup rules.view) told waiters
 
--- the handler of a grant is over: the ticket is granted where the service can run and a term is left; and then the rest, by
--- what those that wait are told and the view
-abbrev pub grants_after : {S : Type 0} → Setup → ManualView → Service → (Told → ManualView → Deeds Ask S)
-    → Deeds Ask S
-grants_after setup view CanRun rest =
-    if are_terms_spent view
-    then rest tells.AskFailed view
-    else tried setup Grant (grant setup view) (λ result granted. rest (tells.Gained granted.sure) granted)
-grants_after setup view CannotRun rest = rest tells.HandlerFailed view
+-- What the end of a handler leaves: what those that wait are told, and the rules.
+pub record Granted : Type 0 where
+  pub told : Told
+  pub rules : State
+
+-- the ticket is granted
+unfoldable pub grant_now : State → Deeds Ask Granted
+grant_now rules = do
+  done ← keep_tried (with_view rules (grant rules.setup rules.view).view) Grant (grant rules.setup rules.view).tried
+  Ends (record { told = tells.Gained done.rules.view.sure; rules = done.rules })
+
+-- the handler of a grant is over: the ticket is granted where the service can run and a term is left
+abbrev pub grant_after : State → Service → Deeds Ask Granted
+grant_after rules CanRun =
+    if are_terms_spent rules.view then Ends (record { told = tells.AskFailed; rules = rules }) else grant_now rules
+grant_after rules CannotRun = Ends (record { told = tells.HandlerFailed; rules = rules })
 
 -- the job is the one that a ticket waits for
 abbrev pub is_awaited : Option Job → ℕ → Bool
 is_awaited None job = false
 is_awaited (Some awaited) job = awaited.number == job
 
+-- the ticket's handler is over, and those that wait are told what came of it
+unfoldable pub end_handler : ManualState → List Waiter → Service → Deeds Ask ManualLeft
+end_handler ticket waiters service = do
+  done ← grant_after (rules_of ticket) service
+  stay ← tell_waiters done.rules done.told waiters
+  Ends (record { ticket = ticket_as done.rules ticket.known.greets_at None; waiters = stay })
+
 -- A job is over. What is no job of the ticket changes nothing.
-abbrev pub manual_over : Setup → ManualKnown → List Waiter → ℕ → Service → Deeds Ask ManualLeft
-manual_over setup known waiters job service =
-    if is_awaited known.job job
-    then grants_after setup known.view service (tells_of setup known waiters)
-    else Ends (record { known = known; waiters = waiters })
+abbrev pub manual_over : ManualState → List Waiter → ℕ → Service → Deeds Ask ManualLeft
+manual_over ticket waiters job service =
+    if is_awaited ticket.known.job job
+    then end_handler ticket waiters service
+    else Ends (record { ticket = ticket; waiters = waiters })
 
 -- ---- the deadline
 
@@ -71,14 +83,21 @@ abbrev pub is_late : Option Job → ℕ → Bool
 is_late None now = false
 is_late (Some job) now = nat_le job.limit now
 
+-- no handler runs any longer, and those that wait are told that it failed
+unfoldable pub fail_handler : ManualState → List Waiter → Deeds Ask ManualLeft
+fail_handler ticket waiters = do
+  stay ← tell_waiters (rules_of ticket) tells.HandlerFailed waiters
+  Ends (record { ticket = ticket_as (rules_of ticket) ticket.known.greets_at None; waiters = stay })
+
 -- a handler that is late has failed
-abbrev pub limit_due : Setup → ManualKnown → List Waiter → ℕ → Deeds Ask ManualLeft
-limit_due setup known waiters now =
-    if is_late known.job now
-    then tells_of setup known waiters tells.HandlerFailed known.view
-    else Ends (record { known = known; waiters = waiters })
+abbrev pub limit_due : ManualState → List Waiter → ℕ → Deeds Ask ManualLeft
+limit_due ticket waiters now =
+    if is_late ticket.known.job now
+    then fail_handler ticket waiters
+    else Ends (record { ticket = ticket; waiters = waiters })
 
 -- the deadline has come: hello, and then what a late handler leads to
-abbrev pub manual_due : Setup → ManualKnown → List Waiter → ℕ → Deeds Ask ManualLeft
-manual_due setup known waiters now =
-    say setup None (greeting setup known) (limit_due setup (record known { greets_at = None }) waiters now)
+unfoldable pub manual_due : ManualState → List Waiter → ℕ → Deeds Ask ManualLeft
+manual_due ticket waiters now = do
+  say ticket.setup None (greeting ticket.setup ticket.known)
+  limit_due (ticket_as (rules_of ticket) None ticket.known.job) waiters now

@@ -63,8 +63,11 @@ GrantsByHand =
     (number options now : ℕ) → known.view.owner ≡ false
     → refused_manual_grant setup known.view (is_some known.job) spare ready options ≡ None
     → IsDoneByHand
-    (manual_asked setup known waiters spare ready None (request_for Grant from number options) now)
-    (granting setup known.view from number) (λ left. HoldsByHand (granted_record setup known.view) left.known.view)
+    (manual_asked (record { setup = setup; known = known }) waiters spare
+    (record { now = now; ready = ready; job = None })
+    (request_for Grant from number options))
+    (granting setup known.view from number)
+    (λ left. HoldsByHand (granted_record setup known.view) left.ticket.known.view)
 
 -- the lease is kept, each other member is told, and then each client that waits
 abbrev pub granting_to_all : Setup → ManualView → List Waiter → List Act
@@ -76,8 +79,8 @@ granting_to_all setup view waiters =
 
 -- this site holds the ticket, no handler runs, and no client waits
 pub record HoldsAfterHandler (own : Record) (left : ManualLeft) : Type 0 where
-  pub holds : HoldsByHand own left.known.view
-  pub over : left.known.job ≡ None
+  pub holds : HoldsByHand own left.ticket.known.view
+  pub over : left.ticket.known.job ≡ None
   pub waiting : left.waiters ≡ []
 
 -- Where the handler of a grant says that the service can run, the grant is kept, told to all others and to each client
@@ -86,7 +89,8 @@ abbrev pub GrantsAfterHandler : Type 0
 GrantsAfterHandler =
     (setup : Setup) (known : ManualKnown) (waiters : List Waiter) (job : ℕ)
     → is_awaited known.job job ≡ true → are_terms_spent known.view ≡ false
-    → IsDoneByHand (manual_over setup known waiters job CanRun) (granting_to_all setup known.view waiters)
+    → IsDoneByHand (manual_over (record { setup = setup; known = known }) waiters job CanRun)
+    (granting_to_all setup known.view waiters)
     (HoldsAfterHandler (granted_record setup known.view))
 
 -- a record without a lease is kept, each other member is told, and then who asked
@@ -111,5 +115,8 @@ RevokesByHand =
     (setup : Setup) (known : ManualKnown) (waiters : List Waiter) (spare : ℕ) (ready : Bool) (job : Option ℕ)
     (from : Peer) (number options now : ℕ) → known.view.owner ≡ true
     → IsDoneByHand
-    (manual_asked setup known waiters spare ready job (request_for Revoke from number options) now)
-    (giving_back setup known.view from number) (λ left. HoldsNoMore (kept_by_hand setup known.view.term None) left.known.view)
+    (manual_asked (record { setup = setup; known = known }) waiters spare
+    (record { now = now; ready = ready; job = job })
+    (request_for Revoke from number options))
+    (giving_back setup known.view from number)
+    (λ left. HoldsNoMore (kept_by_hand setup known.view.term None) left.ticket.known.view)

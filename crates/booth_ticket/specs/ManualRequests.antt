@@ -3,7 +3,8 @@ use Rattle.std.specs.Prelude.{◌≡◌, ℕ, ◌+◌, ◌-◌, IsTrue, Bool, tr
 use Rattle.std.specs.Option.{is_some}
 use Rattle.std.specs.Int.{bit_at}
 use Rattle.booth_base.specs.declared.address.MemberId.{MemberId}
-use Rattle.booth_base.specs.Tree.{Deeds, Ends, Does}
+use Rattle.booth_rec.specs.declared.record.Record.{Record}
+use Rattle.booth_base.specs.Tree.{Deeds, Ends, Does, ◌>>=◌, ◌>>◌}
 use Rattle.booth_wire.specs.declared.message.Setup.{Setup}
 use Rattle.booth_wire.specs.declared.codes.results.TheConstants.{SUCCESS, ASYN, FAIL, IARG, PEND, APRQ, XPRG, TIDL, OVER, BUSY, REDR}
 use Rattle.booth_wire.specs.declared.codes.options.TheConstants.{IMMEDIATE, WAIT, COMMIT}
@@ -12,16 +13,19 @@ use Rattle.booth_raft.specs.Notes.{job_limit}
 use Rattle.booth_manual.specs.declared.view.ManualView.{ManualView}
 use Rattle.booth_manual.specs.GrantAndRevoke.{again, are_terms_spent, finish, grant, revoke}
 use Rattle.booth_manual.specs.Messages.{is_same}
-use Rattle.booth_manual.specs.Outcome.{Keep as Tries, Outcome}
+use Rattle.booth_manual.specs.Outcome.{Keep as Tries}
+use Rattle.booth_manual.specs.State.{State, with_view}
 use Rattle.booth_ticket.specs.declared.hands.To.TheVariants.{Client}
+use Rattle.booth_ticket.specs.declared.manual.Job.{Job}
+use Rattle.booth_ticket.specs.declared.request.Given.{Given}
 use Rattle.booth_ticket.specs.declared.request.Request.{Request}
 use Rattle.booth_ticket.specs.declared.request.Wish.{Wish}
 use Rattle.booth_ticket.specs.declared.request.Wish.TheVariants.{Grant, Revoke}
 use Rattle.booth_ticket.specs.declared.waiters.Waiter.{Waiter}
-use Rattle.booth_ticket.specs.Acts.{Ask, Keep, Say, Start}
-use Rattle.booth_ticket.specs.Manual.{ManualKnown, ManualLeft, manual_state}
+use Rattle.booth_ticket.specs.Acts.{Ask, Keep, Start}
+use Rattle.booth_ticket.specs.Manual.{ManualLeft, ManualState, manual_state, rules_of, ticket_as}
 use Rattle.booth_ticket.specs.Requests.{reply_cmd}
-use Rattle.booth_ticket.specs.Saying.{say}
+use Rattle.booth_ticket.specs.Saying.{say, say_to}
 use Rattle.booth_ticket.specs.Waiting.{waits, joined}
 
 -- ---- options
@@ -89,41 +93,64 @@ abbrev pub result_of_keep : Wish → Bool → ℕ
 result_of_keep Grant ok = if ok then SUCCESS else PEND
 result_of_keep Revoke ok = if ok then SUCCESS else FAIL
 
--- what the answer of a keep leads to is said to all, and then the rest, by the result and the view
-abbrev pub says_of_keep : {S : Type 0} → Setup → ℕ → Outcome → (ℕ → ManualView → Deeds Ask S) → Deeds Ask S
-says_of_keep setup result outcome rest = say setup None outcome.say (rest result outcome.view)
+-- What a keep leaves: what is answered, and the rules.
+pub record Tried : Type 0 where
+  pub answer : ℕ
+  pub rules : State
 
--- the record is kept, and the rule goes on by the answer
-abbrev pub tried : {S : Type 0} → Setup → Wish → Tries → (ℕ → ManualView → Deeds Ask S) → Deeds Ask S
-tried setup wish tries rest =
-    Does (Keep tries.tried)
-    (λ ok. says_of_keep setup (result_of_keep wish ok) (finish setup tries.view ok) rest)
+-- a record is kept, or not
+abbrev pub keep : Record → Deeds Ask Bool
+keep tried = Does (Keep tried) (λ ok. Ends ok)
+
+-- the record is kept, and what follows of the answer is said to all
+unfoldable pub keep_tried : State → Wish → Record → Deeds Ask Tried
+keep_tried rules wish tried = do
+  ok ← keep tried
+  say rules.setup None (finish rules.setup rules.view ok).say
+  Ends (record { answer = result_of_keep wish ok; rules = with_view rules (finish rules.setup rules.view ok).view })
+
+-- the wish's rule is run, and its record is kept
+unfoldable pub keep_for : State → Wish → Deeds Ask Tried
+keep_for rules wish =
+    keep_tried (with_view rules (tries_for rules.setup rules.view wish).view) wish
+    (tries_for rules.setup rules.view wish).tried
 
 -- the wish wants a handler to agree first: that of a grant at a site that does not hold the ticket
 abbrev pub wants_handler : ManualView → Wish → Bool
 wants_handler view Grant = not view.owner
 wants_handler view Revoke = false
 
+-- What a wish leaves: what is answered, the rules, and the handler that runs.
+pub record Begun : Type 0 where
+  pub answer : ℕ
+  pub rules : State
+  pub running : Option Job
+
 -- what the start of a handler leads to: the grant waits for its end, or it failed
-abbrev pub waits_for : {S : Type 0} → Setup → ManualKnown → ℕ → ℕ → (ℕ → ManualKnown → Deeds Ask S) → Bool
-    → Deeds Ask S
-waits_for setup known job now rest true =
-    rest ASYN (record known { job = Some (record { number = job; limit = job_limit setup now }) })
-waits_for setup known job now rest false = rest XPRG known
+abbrev pub waits_for : State → Option Job → ℕ → ℕ → Bool → Begun
+waits_for rules running job now true = record {
+  answer = ASYN;
+  rules = rules;
+  running = Some (record { number = job; limit = job_limit rules.setup now });
+}
+waits_for rules running job now false = record { answer = XPRG; rules = rules; running = running }
+
+unfoldable pub start_for : State → Option Job → ℕ → ℕ → Deeds Ask Begun
+start_for rules running job now = Does (Start job 0) (λ ok. Ends (waits_for rules running job now ok))
 
 -- a wish that is not refused: its record is kept, after the handler that is started as this job, where there is one
-abbrev pub begun_by_hand : {S : Type 0} → Setup → ManualKnown → Option ℕ → Wish → ℕ
-    → (ℕ → ManualKnown → Deeds Ask S) → Deeds Ask S
-begun_by_hand setup known None wish now rest =
-    tried setup wish (tries_for setup known.view wish) (λ result view. rest result (record known { view = view }))
-begun_by_hand setup known (Some job) wish now rest = Does (Start job 0) (waits_for setup known job now rest)
+abbrev pub begin_for : State → Option Job → Option ℕ → Wish → ℕ → Deeds Ask Begun
+begin_for rules running None wish now = do
+  done ← keep_for rules wish
+  Ends (record { answer = done.answer; rules = done.rules; running = running })
+begin_for rules running (Some job) wish now = start_for rules running job now
 
--- what a wish comes to: it is refused, or begun; and then the rest
-abbrev pub done_by_hand : {S : Type 0} → Setup → ManualKnown → Option ℕ → Option ℕ → Wish → ℕ
-    → (ℕ → ManualKnown → Deeds Ask S) → Deeds Ask S
-done_by_hand setup known (Some result) job wish now rest = rest result known
-done_by_hand setup known None job wish now rest =
-    begun_by_hand setup known (if wants_handler known.view wish then job else None) wish now rest
+-- what a wish comes to: it is refused, or begun
+abbrev pub do_for : State → Option Job → Option ℕ → Option ℕ → Wish → ℕ → Deeds Ask Begun
+do_for rules running (Some result) job wish now =
+    Ends (record { answer = result; rules = rules; running = running })
+do_for rules running None job wish now =
+    begin_for rules running (if wants_handler rules.view wish then job else None) wish now
 
 -- ---- the reply
 
@@ -131,19 +158,27 @@ done_by_hand setup known None job wish now rest =
 abbrev pub as_waiting : Request → Request
 as_waiting request = record request { options = if waits (unforced request.options) then WAIT else 0 }
 
--- the reply to a request, with the state of the ticket; and who asked waits, where it does
-abbrev pub manual_reply : Setup → Request → List Waiter → ℕ → ManualKnown → Deeds Ask ManualLeft
-manual_reply setup request waiters result known =
-    Does
-    (Say (Client request.from) (head_of setup (reply_cmd request.wish) request.number 0 0 result)
-    (manual_state setup known.view))
-    (λ ok. Ends (record { known = known; waiters = joined (as_waiting request) result waiters }))
+-- the reply to a request, with the state of the ticket
+unfoldable pub manual_reply : State → Request → ℕ → Deeds Ask (Unit {0})
+manual_reply rules request answer =
+    say_to (Client request.from) (head_of rules.setup (reply_cmd request.wish) request.number 0 0 answer)
+    (manual_state rules.setup rules.view)
 
--- A client's request is followed, and the reply is the last deed. So many more clients may wait, the prerequisites
--- of a grant that is asked for hold or do not, and a handler is started as this job, where there is one.
-abbrev pub manual_asked : Setup → ManualKnown → List Waiter → ℕ → Bool → Option ℕ → Request → ℕ
-    → Deeds Ask ManualLeft
-manual_asked setup known waiters spare ready job request now =
-    done_by_hand setup known
-    (refused_by_hand setup known.view (is_some known.job) spare ready request.options request.wish)
-    job request.wish now (manual_reply setup request waiters)
+-- what is done for a client before it is answered
+abbrev pub done_by_hand : ManualState → ℕ → Given → Request → Deeds Ask Begun
+done_by_hand ticket spare given request =
+    do_for (rules_of ticket) ticket.known.job
+    (refused_by_hand ticket.setup ticket.known.view (is_some ticket.known.job) spare given.ready request.options
+    request.wish)
+    given.job request.wish given.now
+
+-- A client's request is followed, and the reply is the last deed; and it waits, where it does. So many more clients
+-- may wait.
+unfoldable pub manual_asked : ManualState → List Waiter → ℕ → Given → Request → Deeds Ask ManualLeft
+manual_asked ticket waiters spare given request = do
+  done ← done_by_hand ticket spare given request
+  manual_reply done.rules request done.answer
+  Ends (record {
+    ticket = ticket_as done.rules ticket.known.greets_at done.running;
+    waiters = joined (as_waiting request) done.answer waiters;
+  })

@@ -1,6 +1,6 @@
 -- A ticket between two calls, and what it does in each.
-use Rattle.std.specs.Prelude.{◌≤◌, ℕ, ◌/◌, Bool, nat_lt, List, Option, Some, None, IsSomeAnd, if◌then◌else◌}
-use Rattle.booth_base.specs.Tree.{Deeds, Ends, next}
+use Rattle.std.specs.Prelude.{◌≤◌, ℕ, ◌/◌, nat_lt, List, Option, Some, None, IsSomeAnd, if◌then◌else◌}
+use Rattle.booth_base.specs.Tree.{Deeds, Ends, ◌>>=◌}
 use Rattle.booth_rec.specs.declared.record.Record.{Record}
 use Rattle.booth_wire.specs.declared.message.Head.{Head}
 use Rattle.booth_wire.specs.declared.message.TicketPart.{TicketPart}
@@ -12,14 +12,16 @@ use Rattle.booth_base.specs.declared.address.MemberId.{MemberId}
 use Rattle.booth_manual.specs.declared.view.ManualView.{ManualView}
 use Rattle.booth_ticket.specs.declared.handling.Service.{Service}
 use Rattle.booth_ticket.specs.declared.ticket.Owner.{Owner}
+use Rattle.booth_ticket.specs.declared.request.Given.{Given}
 use Rattle.booth_ticket.specs.declared.request.Request.{Request}
 use Rattle.booth_ticket.specs.declared.waiters.Waiter.{Waiter}
 use Rattle.booth_ticket.specs.Acts.{Ask}
-use Rattle.booth_ticket.specs.Automatic.{Left, end_job, hear_message, tick}
+use Rattle.booth_ticket.specs.Automatic.{come_due, end_job, hear}
 use Rattle.booth_ticket.specs.Manual.{ManualKnown, ManualLeft, manual_started, manual_heard}
 use Rattle.booth_ticket.specs.ManualHandling.{manual_deadline, manual_due, manual_over}
 use Rattle.booth_ticket.specs.ManualRequests.{manual_asked}
-use Rattle.booth_ticket.specs.Requests.{wish}
+use Rattle.booth_ticket.specs.Requests.{follow_request}
+use Rattle.booth_ticket.specs.Waiting.{Left}
 
 -- What the rules of a ticket know of it, by its kind.
 pub data Known : Type 0 where
@@ -44,55 +46,55 @@ pub record TicketLeft : Type 0 where
   pub ticket : TicketState
   pub waiters : List Waiter
 
-abbrev pub left_as : Setup → Left → TicketLeft
-left_as setup left = record {
-  ticket = record { setup = setup; known = Automatic left.view };
+-- what an automatic ticket's call leaves
+abbrev pub left_as : Left → TicketLeft
+left_as left = record {
+  ticket = record { setup = left.core.setup; known = Automatic left.core.view };
   waiters = left.waiters;
 }
 
--- the deeds of an automatic ticket are those of its rules, which leave the setup as it is
-abbrev pub by_rules : Setup → Deeds Ask Left → Deeds Ask TicketLeft
-by_rules setup deeds = next deeds (λ left. Ends (left_as setup left))
-
--- a manual ticket's deeds likewise
-abbrev pub left_by_hand : Setup → ManualLeft → TicketLeft
-left_by_hand setup left = record {
-  ticket = record { setup = setup; known = Manual left.known };
+-- a manual ticket's likewise
+abbrev pub left_by_hand : ManualLeft → TicketLeft
+left_by_hand left = record {
+  ticket = record { setup = left.ticket.setup; known = Manual left.ticket.known };
   waiters = left.waiters;
 }
-
-abbrev pub by_hand : Setup → Deeds Ask ManualLeft → Deeds Ask TicketLeft
-by_hand setup deeds = next deeds (λ left. Ends (left_by_hand setup left))
 
 -- the message of the member at a place is heard
 abbrev pub ticket_heard : Setup → Known → List Waiter → ℕ → Head → TicketPart → ℕ → Deeds Ask TicketLeft
-ticket_heard setup (Automatic view) waiters from head part now =
-    by_rules setup (hear_message setup view waiters from head part now)
-ticket_heard setup (Manual known) waiters from head part now =
-    by_hand setup (manual_heard setup known waiters from head part)
+ticket_heard setup (Automatic view) waiters from head part now = do
+  left ← hear (record { setup = setup; view = view }) waiters from head part now
+  Ends (left_as left)
+ticket_heard setup (Manual known) waiters from head part now = do
+  ticket ← manual_heard (record { setup = setup; known = known }) from head part
+  Ends (left_by_hand (record { ticket = ticket; waiters = waiters }))
 
--- a client's request is followed; so many more clients may wait, the prerequisites of a grant that is asked
--- for hold or do not, and a handler is started as this job, where there is one
-abbrev pub ticket_asked : Setup → Known → List Waiter → ℕ → Bool → Option ℕ → Request → ℕ
-    → Deeds Ask TicketLeft
-ticket_asked setup (Automatic view) waiters spare ready job request now =
-    by_rules setup (wish setup view waiters spare ready job request request.wish now)
-ticket_asked setup (Manual known) waiters spare ready job request now =
-    by_hand setup (manual_asked setup known waiters spare ready job request now)
+-- a client's request is followed; so many more clients may wait
+abbrev pub ticket_asked : Setup → Known → List Waiter → ℕ → Given → Request → Deeds Ask TicketLeft
+ticket_asked setup (Automatic view) waiters spare given request = do
+  left ← follow_request (record { setup = setup; view = view }) waiters spare given request request.wish
+  Ends (left_as left)
+ticket_asked setup (Manual known) waiters spare given request = do
+  left ← manual_asked (record { setup = setup; known = known }) waiters spare given request
+  Ends (left_by_hand left)
 
--- the deadline has come; the prerequisites of a takeover hold or do not, and a handler is started as this job,
--- where there is one
-abbrev pub ticket_due : Setup → Known → List Waiter → Bool → Option ℕ → ℕ → Deeds Ask TicketLeft
-ticket_due setup (Automatic view) waiters ready job now =
-    by_rules setup (tick setup view waiters ready job now)
-ticket_due setup (Manual known) waiters ready job now = by_hand setup (manual_due setup known waiters now)
+-- the deadline has come
+abbrev pub ticket_due : Setup → Known → List Waiter → Given → Deeds Ask TicketLeft
+ticket_due setup (Automatic view) waiters given = do
+  left ← come_due (record { setup = setup; view = view }) waiters given
+  Ends (left_as left)
+ticket_due setup (Manual known) waiters given = do
+  left ← manual_due (record { setup = setup; known = known }) waiters given.now
+  Ends (left_by_hand left)
 
 -- the job of a handler is over
 abbrev pub ticket_over : Setup → Known → List Waiter → ℕ → Service → ℕ → Deeds Ask TicketLeft
-ticket_over setup (Automatic view) waiters job service now =
-    by_rules setup (end_job setup view waiters job service now)
-ticket_over setup (Manual known) waiters job service now =
-    by_hand setup (manual_over setup known waiters job service)
+ticket_over setup (Automatic view) waiters job service now = do
+  left ← end_job (record { setup = setup; view = view }) waiters job service now
+  Ends (left_as left)
+ticket_over setup (Manual known) waiters job service now = do
+  left ← manual_over (record { setup = setup; known = known }) waiters job service
+  Ends (left_by_hand left)
 
 -- when the ticket is next to be looked at
 abbrev pub deadline : Known → Option ℕ

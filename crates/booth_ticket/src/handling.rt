@@ -1,20 +1,15 @@
 //! What an automatic ticket does for its handler: its starts, and what comes of its end.
-ghost use Rattle.std.specs.Prelude.{◌≡◌, ◌<◌, ◌^◌, ◌||◌, None, IsTrue, is_some, length, slice_set, if◌then◌else◌};
-ghost use Rattle.booth_base.specs.Tree.{Deeds, Leads};
+ghost use Rattle.std.specs.Prelude.{◌≡◌, ◌<◌, ◌^◌, ◌||◌, None, IsTrue, is_some, if◌then◌else◌};
 ghost use Rattle.booth_raft.specs.Facts.{KeepWaits};
 ghost use Rattle.booth_raft.specs.Members.{is_follower, is_leader, is_working};
-ghost use Rattle.booth_raft.specs.Outcome.{Outcome};
 ghost use Rattle.booth_raft.specs.Speech.{IsSpeech};
-ghost use Rattle.booth_ticket.specs.Acts.{Ask, DidSome, IsAct};
-ghost use Rattle.booth_ticket.specs.Automatic.{Left, end_job};
+ghost use Rattle.booth_raft.specs.State.{step};
+ghost use Rattle.booth_ticket.specs.Acts.{Did};
+ghost use Rattle.booth_ticket.specs.Automatic.{hear_job};
 ghost use Rattle.booth_ticket.specs.Handling.{acquire, acquires, checks, goes_on, job_over, leads_on, renews, renews_or_releases, service_of, works, works_on};
-ghost use Rattle.booth_ticket.specs.Keeping.{carry_out};
-ghost use Rattle.booth_ticket.specs.Waiting.{waiting_at};
 
 use crate::hands::Hands;
 use crate::keeping::carry_out;
-use crate::telling::tell;
-use crate::waiters::Waiters;
 use booth_raft::{Core, Deed, Note, Role, Told, Want, is_promised_elsewhere, own_end};
 use booth_wire::Say;
 use booth_wire::reasons::{LOCF, RACQ};
@@ -48,9 +43,8 @@ fn acquire(core: &mut Core, reason: u32, now: u64) -> Deed
     requires idle { core.old.view.waiting ≡ None }
     requires site { IsTrue core.old.setup.site }
     requires rests { IsTrue (is_follower core.old.view.role || is_working core.old.view.role) }
-    ensures view { core.new.view ≡ (acquire core.old.setup core.old.view reason now).view }
-    ensures deed { result ≡ (acquire core.old.setup core.old.view reason now).deed }
-    ensures setup { core.new.setup ≡ core.old.setup }
+    ensures step { record { core = core.new; deed = result }
+        ≡ step core.old (acquire core.old.setup core.old.view reason now) }
     ensures waits { KeepWaits result.keep core.new.view.waiting now }
     ensures speech { IsSpeech core.new.setup result.say }
 {
@@ -68,9 +62,8 @@ fn work(core: &mut Core, job: u64, reason: u32, now: u64, ok: bool) -> Deed
     requires early { now < 2 ^ 62 }
     requires idle { core.old.view.waiting ≡ None }
     requires follows { IsTrue (is_follower core.old.view.role) }
-    ensures view { core.new.view ≡ (works core.old.setup core.old.view job reason now ok).view }
-    ensures deed { result ≡ (works core.old.setup core.old.view job reason now ok).deed }
-    ensures setup { core.new.setup ≡ core.old.setup }
+    ensures step { record { core = core.new; deed = result }
+        ≡ step core.old (works core.old.setup core.old.view job reason now ok) }
     ensures waits { KeepWaits result.keep core.new.view.waiting now }
     ensures speech { IsSpeech core.new.setup result.say }
 {
@@ -84,6 +77,7 @@ fn work(core: &mut Core, job: u64, reason: u32, now: u64, ok: bool) -> Deed
 
 /// The ticket is acquired: its handler is started as this job, where it has one, and a new term is asked
 /// for at once where it has none.
+#[tactic(auto, using(crate::proofs::DidLemmas::did_end))]
 pub(crate) fn acquire_by<W: Hands>(
     core: &mut Core,
     job: Option<u64>,
@@ -95,10 +89,8 @@ pub(crate) fn acquire_by<W: Hands>(
     requires idle { core.old.view.waiting ≡ None }
     requires site { IsTrue core.old.setup.site }
     requires follows { IsTrue (is_follower core.old.view.role) }
-    ensures did { DidSome W.did (λ acts. (rest : Outcome → Deeds Ask Left) → Leads IsAct
-        (acquires core.old.setup core.old.view job reason now rest) acts
-        (rest (record { view = core.new.view; deed = result }))) hands.old hands.new }
-    ensures setup { core.new.setup ≡ core.old.setup }
+    ensures did { Did W.did (acquires core.old job reason now) (record { core = core.new; deed = result })
+        hands.old hands.new }
     ensures waits { KeepWaits result.keep core.new.view.waiting now }
     ensures speech { IsSpeech core.new.setup result.say }
 {
@@ -117,9 +109,8 @@ fn check(core: &mut Core, job: u64, now: u64, ok: bool) -> Deed
     requires idle { core.old.view.waiting ≡ None }
     requires site { IsTrue core.old.setup.site }
     requires leads { IsTrue (is_leader core.old.view.role) }
-    ensures view { core.new.view ≡ (checks core.old.setup core.old.view job now ok).view }
-    ensures deed { result ≡ (checks core.old.setup core.old.view job now ok).deed }
-    ensures setup { core.new.setup ≡ core.old.setup }
+    ensures step { record { core = core.new; deed = result }
+        ≡ step core.old (checks core.old.setup core.old.view job now ok) }
     ensures waits { KeepWaits result.keep core.new.view.waiting now }
     ensures speech { IsSpeech core.new.setup result.say }
 {
@@ -138,14 +129,13 @@ fn job_at(site: bool, job: Option<u64>) -> Option<u64>
 }
 
 /// The lease is renewed, after the handler where the ticket of a site has one.
+#[tactic(auto, using(crate::proofs::DidLemmas::did_end))]
 pub(crate) fn renew_by<W: Hands>(core: &mut Core, job: Option<u64>, now: u64, hands: &mut W) -> Deed
     requires early { now < 2 ^ 62 }
     requires idle { core.old.view.waiting ≡ None }
     requires leads { IsTrue (is_leader core.old.view.role) }
-    ensures did { DidSome W.did (λ acts. (rest : Outcome → Deeds Ask Left) → Leads IsAct
-        (renews core.old.setup core.old.view job now rest) acts
-        (rest (record { view = core.new.view; deed = result }))) hands.old hands.new }
-    ensures setup { core.new.setup ≡ core.old.setup }
+    ensures did { Did W.did (renews core.old job now) (record { core = core.new; deed = result })
+        hands.old hands.new }
     ensures waits { KeepWaits result.keep core.new.view.waiting now }
     ensures speech { IsSpeech core.new.setup result.say }
 {
@@ -177,9 +167,8 @@ fn acquire_after(core: &mut Core, now: u64) -> Deed
     requires idle { core.old.view.waiting ≡ None }
     requires site { IsTrue core.old.setup.site }
     requires works { IsTrue (is_working core.old.view.role) }
-    ensures view { core.new.view ≡ (works_on core.old.setup core.old.view Service.CanRun now).view }
-    ensures deed { result ≡ (works_on core.old.setup core.old.view Service.CanRun now).deed }
-    ensures setup { core.new.setup ≡ core.old.setup }
+    ensures step { record { core = core.new; deed = result }
+        ≡ step core.old (works_on core.old.setup core.old.view Service.CanRun now) }
     ensures waits { KeepWaits result.keep core.new.view.waiting now }
     ensures speech { IsSpeech core.new.setup result.say }
 {
@@ -197,9 +186,8 @@ fn work_on(core: &mut Core, service: Service, now: u64) -> Deed
     requires idle { core.old.view.waiting ≡ None }
     requires site { IsTrue core.old.setup.site }
     requires works { IsTrue (is_working core.old.view.role) }
-    ensures view { core.new.view ≡ (works_on core.old.setup core.old.view service now).view }
-    ensures deed { result ≡ (works_on core.old.setup core.old.view service now).deed }
-    ensures setup { core.new.setup ≡ core.old.setup }
+    ensures step { record { core = core.new; deed = result }
+        ≡ step core.old (works_on core.old.setup core.old.view service now) }
     ensures waits { KeepWaits result.keep core.new.view.waiting now }
     ensures speech { IsSpeech core.new.setup result.say }
 {
@@ -218,9 +206,8 @@ fn renew_or_release(core: &mut Core, service: Service, now: u64) -> Deed
     requires idle { core.old.view.waiting ≡ None }
     requires site { IsTrue core.old.setup.site }
     requires leads { IsTrue (is_leader core.old.view.role) }
-    ensures view { core.new.view ≡ (renews_or_releases core.old.setup core.old.view service now).view }
-    ensures deed { result ≡ (renews_or_releases core.old.setup core.old.view service now).deed }
-    ensures setup { core.new.setup ≡ core.old.setup }
+    ensures step { record { core = core.new; deed = result }
+        ≡ step core.old (renews_or_releases core.old.setup core.old.view service now) }
     ensures waits { KeepWaits result.keep core.new.view.waiting now }
     ensures speech { IsSpeech core.new.setup result.say }
 {
@@ -236,9 +223,8 @@ fn lead_on(core: &mut Core, service: Service, now: u64) -> Deed
     requires idle { core.old.view.waiting ≡ None }
     requires site { IsTrue core.old.setup.site }
     requires leads { IsTrue (is_leader core.old.view.role) }
-    ensures view { core.new.view ≡ (leads_on core.old.setup core.old.view service now).view }
-    ensures deed { result ≡ (leads_on core.old.setup core.old.view service now).deed }
-    ensures setup { core.new.setup ≡ core.old.setup }
+    ensures step { record { core = core.new; deed = result }
+        ≡ step core.old (leads_on core.old.setup core.old.view service now) }
     ensures waits { KeepWaits result.keep core.new.view.waiting now }
     ensures speech { IsSpeech core.new.setup result.say }
 {
@@ -254,9 +240,8 @@ fn go_on(core: &mut Core, service: Service, now: u64) -> Deed
     requires idle { core.old.view.waiting ≡ None }
     requires site { IsTrue core.old.setup.site }
     requires runs { IsTrue (is_some core.old.view.job) }
-    ensures view { core.new.view ≡ (goes_on core.old.setup core.old.view service now).view }
-    ensures deed { result ≡ (goes_on core.old.setup core.old.view service now).deed }
-    ensures setup { core.new.setup ≡ core.old.setup }
+    ensures step { record { core = core.new; deed = result }
+        ≡ step core.old (goes_on core.old.setup core.old.view service now) }
     ensures waits { KeepWaits result.keep core.new.view.waiting now }
     ensures speech { IsSpeech core.new.setup result.say }
 {
@@ -271,12 +256,11 @@ fn go_on(core: &mut Core, service: Service, now: u64) -> Deed
 }
 
 // A job is over: the one that the ticket waits for, or another.
-fn end_job(core: &mut Core, job: u64, service: Service, now: u64) -> Deed
+fn job_over(core: &mut Core, job: u64, service: Service, now: u64) -> Deed
     requires early { now < 2 ^ 62 }
     requires idle { core.old.view.waiting ≡ None }
-    ensures view { core.new.view ≡ (job_over core.old.setup core.old.view job service now).view }
-    ensures deed { result ≡ (job_over core.old.setup core.old.view job service now).deed }
-    ensures setup { core.new.setup ≡ core.old.setup }
+    ensures step { record { core = core.new; deed = result }
+        ≡ step core.old (job_over core.old.setup core.old.view job service now) }
     ensures waits { KeepWaits result.keep core.new.view.waiting now }
     ensures speech { IsSpeech core.new.setup result.say }
 {
@@ -287,6 +271,7 @@ fn end_job(core: &mut Core, job: u64, service: Service, now: u64) -> Deed
 }
 
 /// A job is over. The last deed says what clients are told.
+#[tactic(auto, unfolding(crate::specs::Automatic::hear_job))]
 pub(crate) fn hear_job<W: Hands>(
     core: &mut Core,
     job: u64,
@@ -296,38 +281,10 @@ pub(crate) fn hear_job<W: Hands>(
 ) -> Deed
     requires early { now < 2 ^ 62 }
     requires idle { core.old.view.waiting ≡ None }
-    ensures did { DidSome W.did (λ acts. (rest : Outcome → Deeds Ask Left) → Leads IsAct
-        (carry_out core.old.setup None now
-        (job_over core.old.setup core.old.view job service now) rest) acts
-        (rest (record { view = core.new.view; deed = result }))) hands.old hands.new }
-    ensures setup { core.new.setup ≡ core.old.setup }
-    ensures idle { core.new.view.waiting ≡ None }
-{
-    let deed = end_job(core, job, service, now);
-    carry_out(core, None, now, deed, hands)
-}
-
-/// A job is over, and those that wait are told.
-pub(crate) fn handler_done<W: Hands>(
-    core: &mut Core,
-    now: u64,
-    job: u64,
-    service: Service,
-    list: u32,
-    waiters: &mut Waiters,
-    hands: &mut W,
-)
-    requires early { now < 2 ^ 62 }
-    requires idle { core.old.view.waiting ≡ None }
-    requires exists { list < length waiters.old }
-    ensures did { DidSome W.did (λ acts. Leads IsAct
-        (end_job core.old.setup core.old.view (waiting_at waiters.old list) job service now) acts
-        (Deeds.Ends (record { view = core.new.view; waiters = waiting_at waiters.new list })))
+    ensures did { Did W.did (hear_job core.old job service now) (record { core = core.new; deed = result })
         hands.old hands.new }
-    ensures others { waiters.new ≡ slice_set waiters.old list (waiting_at waiters.new list) }
-    ensures setup { core.new.setup ≡ core.old.setup }
     ensures idle { core.new.view.waiting ≡ None }
 {
-    let last = hear_job(core, job, service, now, hands);
-    tell(core, last.told, now, list, waiters, hands);
+    let deed = job_over(core, job, service, now);
+    carry_out(core, None, now, deed, hands)
 }

@@ -1,13 +1,10 @@
 //! The deeds of an outcome of the lease rules: what is kept, and then what is said.
 ghost use Rattle.std.specs.Prelude.{◌≡◌, ◌<◌, ◌^◌, None};
 ghost use Rattle.std.specs.Option.{ForSome};
-ghost use Rattle.booth_base.specs.Tree.{Deeds, Leads};
 ghost use Rattle.booth_raft.specs.Facts.{KeepWaits};
-ghost use Rattle.booth_raft.specs.Outcome.{Outcome};
 ghost use Rattle.booth_raft.specs.Speech.{IsSpeech};
 ghost use Rattle.booth_raft.specs.declared.view.Rule.TheVariants as rules;
-ghost use Rattle.booth_ticket.specs.Acts.{Ask, DidSome, IsAct};
-ghost use Rattle.booth_ticket.specs.Automatic.{Left};
+ghost use Rattle.booth_ticket.specs.Acts.{Did};
 ghost use Rattle.booth_ticket.specs.Keeping.{keep_once, carry_out};
 
 use crate::hands::Hands;
@@ -20,10 +17,8 @@ fn keep_once<W: Hands>(core: &mut Core, now: u64, deed: Deed, hands: &mut W) -> 
     requires early { now < 2 ^ 62 }
     requires waits { KeepWaits deed.keep core.old.view.waiting now }
     requires speech { IsSpeech core.old.setup deed.say }
-    ensures did { DidSome W.did (λ acts. (rest : Outcome → Deeds Ask Left) → Leads IsAct
-        (keep_once core.old.setup now (record { view = core.old.view; deed = deed }) rest) acts
-        (rest (record { view = core.new.view; deed = result }))) hands.old hands.new }
-    ensures setup { core.new.setup ≡ core.old.setup }
+    ensures did { Did W.did (keep_once now (record { core = core.old; deed = deed }))
+        (record { core = core.new; deed = result }) hands.old hands.new }
     ensures waits { KeepWaits result.keep core.new.view.waiting now }
     ensures speech { IsSpeech core.new.setup result.say }
     ensures gains { ForSome core.new.view.waiting (λ waits. waits.rule ≡ rules.Gain) }
@@ -37,8 +32,9 @@ fn keep_once<W: Hands>(core: &mut Core, now: u64, deed: Deed, hands: &mut W) -> 
     core.kept(now, ok)
 }
 
-/// Does an outcome: its keeps, and then what it says, where the message of the member at the place
+/// Does a step: its keeps, and then what it says, where the message of the member at the place
 /// `from` was heard or none was. The last deed says what clients are told.
+#[tactic(auto, using(crate::proofs::DidLemmas::did_then, crate::proofs::DidLemmas::did_end), unfolding(crate::specs::Keeping::carry_out))]
 pub(crate) fn carry_out<W: Hands>(
     core: &mut Core,
     from: Option<u32>,
@@ -49,10 +45,8 @@ pub(crate) fn carry_out<W: Hands>(
     requires early { now < 2 ^ 62 }
     requires waits { KeepWaits deed.keep core.old.view.waiting now }
     requires speech { IsSpeech core.old.setup deed.say }
-    ensures did { DidSome W.did (λ acts. (rest : Outcome → Deeds Ask Left) → Leads IsAct
-        (carry_out core.old.setup from now (record { view = core.old.view; deed = deed }) rest) acts
-        (rest (record { view = core.new.view; deed = result }))) hands.old hands.new }
-    ensures setup { core.new.setup ≡ core.old.setup }
+    ensures did { Did W.did (carry_out from now (record { core = core.old; deed = deed }))
+        (record { core = core.new; deed = result }) hands.old hands.new }
     ensures idle { core.new.view.waiting ≡ None }
 {
     let first = keep_once(core, now, deed, hands);

@@ -21,6 +21,6 @@ pub use fake::{FakeHands, Noted};
 pub use handling::Service;
 pub use hands::{Hands, To};
 pub use manual::Job;
-pub use request::{Request, Wish};
+pub use request::{Given, Request, Wish};
 pub use ticket::{Owner, Ticket};
 pub use waiters::{WAITERS, Waiter, Waiters};

@@ -1,10 +1,8 @@
 //! A manual ticket: what is known of it, and what it does in each call.
-ghost use Rattle.std.specs.Prelude.{◌≡◌, ◌≤◌, ◌<◌, ◌^◌, List, None, IsTrue, length, slice_set};
-ghost use Rattle.booth_base.specs.Tree.{Deeds, Leads};
+ghost use Rattle.std.specs.Prelude.{◌≡◌, ◌≤◌, ◌<◌, ◌^◌, None, IsTrue, length, slice_set};
 ghost use Rattle.booth_raft.specs.Sound.{IsSound};
-ghost use Rattle.booth_ticket.specs.Acts.{Ask, DidSome, IsAct};
-ghost use Rattle.booth_ticket.specs.Manual.{ManualKnown, manual_heard};
-ghost use Rattle.booth_ticket.specs.declared.waiters.Waiter as Waiting;
+ghost use Rattle.booth_ticket.specs.Acts.{Did};
+ghost use Rattle.booth_ticket.specs.Manual.{manual_heard};
 ghost use Rattle.booth_ticket.specs.ManualHandling.{greeting, is_awaited, is_late, limit_due, manual_deadline, manual_due, manual_over};
 ghost use Rattle.booth_ticket.specs.ManualRequests.{manual_asked};
 ghost use Rattle.booth_ticket.specs.Waiting.{spare_in, waiting_at};
@@ -12,9 +10,10 @@ ghost use Rattle.booth_ticket.specs.Waiting.{spare_in, waiting_at};
 use crate::handling::Service;
 use crate::hands::Hands;
 use crate::manual_handling::{grant_after, tell_waiters};
-use crate::manual_requests::follow_request;
-use crate::request::Request;
+use crate::manual_requests::{as_waiting, do_for, manual_reply};
+use crate::request::{Given, Request};
 use crate::saying::say;
+use crate::telling::join;
 use crate::waiters::Waiters;
 use booth_manual::{Manual, ManualView};
 use booth_raft::Told;
@@ -103,49 +102,38 @@ impl ManualTicket {
 
     /// The message of the member at the place `from` is heard.
     pub fn hear<W: Hands>(&mut self, from: u32, head: &Head, part: &TicketPart, hands: &mut W)
-        ensures did { DidSome W.did (λ acts. (waiters : List Waiting.Waiter) → Leads IsAct
-            (manual_heard self.old.setup self.old.known waiters from head.now part.now) acts
-            (Deeds.Ends (record { known = self.new.known; waiters = waiters }))) hands.old hands.new }
-        ensures setup { self.new.setup ≡ self.old.setup }
+        ensures did { Did W.did (manual_heard self.old from head.now part.now) self.new hands.old hands.new }
     {
         let words = self.rules.hear(head, part);
         say(self.rules.setup(), Some(from), &words, hands);
     }
 
-    /// A client's request is followed. The reply is the last deed. `ready` says whether the prerequisites of a
-    /// grant hold that is asked for. Where the ticket has a handler, `job` is the number of the job that may be
-    /// started.
+    /// A client's request is followed. The reply is the last deed.
     pub fn client<W: Hands>(
         &mut self,
         request: &Request,
-        ready: bool,
-        job: Option<u64>,
-        now: u64,
+        given: Given,
         list: u32,
         waiters: &mut Waiters,
         hands: &mut W,
     )
-        requires early { now < 2 ^ 62 }
+        requires early { given.now < 2 ^ 62 }
         requires exists { list < length waiters.old }
-        ensures did { DidSome W.did (λ acts. Leads IsAct
-            (manual_asked self.old.setup self.old.known (waiting_at waiters.old list) (spare_in waiters.old)
-            ready job request.now now) acts
-            (Deeds.Ends (record { known = self.new.known; waiters = waiting_at waiters.new list })))
-            hands.old hands.new }
-        ensures setup { self.new.setup ≡ self.old.setup }
+        ensures did { Did W.did
+            (manual_asked self.old (waiting_at waiters.old list) (spare_in waiters.old) given request.now)
+            (record { ticket = self.new; waiters = waiting_at waiters.new list }) hands.old hands.new }
         ensures others { waiters.new ≡ slice_set waiters.old list (waiting_at waiters.new list) }
     {
-        follow_request(
+        let answer = do_for(
             &mut self.rules,
             &mut self.running,
             request,
-            ready,
-            job,
-            now,
-            list,
-            waiters,
+            waiters.spare(),
+            given,
             hands,
         );
+        manual_reply(&self.rules, request, answer, hands);
+        join(&as_waiting(request), answer, list, waiters);
     }
 
     // The job is the one that is waited for.
@@ -165,11 +153,8 @@ impl ManualTicket {
         hands: &mut W,
     )
         requires exists { list < length waiters.old }
-        ensures did { DidSome W.did (λ acts. Leads IsAct
-            (manual_over self.old.setup self.old.known (waiting_at waiters.old list) job service) acts
-            (Deeds.Ends (record { known = self.new.known; waiters = waiting_at waiters.new list })))
-            hands.old hands.new }
-        ensures setup { self.new.setup ≡ self.old.setup }
+        ensures did { Did W.did (manual_over self.old (waiting_at waiters.old list) job service)
+            (record { ticket = self.new; waiters = waiting_at waiters.new list }) hands.old hands.new }
         ensures others { waiters.new ≡ slice_set waiters.old list (waiting_at waiters.new list) }
     {
         if !self.awaits(job) {
@@ -201,11 +186,8 @@ impl ManualTicket {
     // A handler that is late has failed.
     fn end_late<W: Hands>(&mut self, now: u64, list: u32, waiters: &mut Waiters, hands: &mut W)
         requires exists { list < length waiters.old }
-        ensures did { DidSome W.did (λ acts. Leads IsAct
-            (limit_due self.old.setup self.old.known (waiting_at waiters.old list) now) acts
-            (Deeds.Ends (record { known = self.new.known; waiters = waiting_at waiters.new list })))
-            hands.old hands.new }
-        ensures setup { self.new.setup ≡ self.old.setup }
+        ensures did { Did W.did (limit_due self.old (waiting_at waiters.old list) now)
+            (record { ticket = self.new; waiters = waiting_at waiters.new list }) hands.old hands.new }
         ensures others { waiters.new ≡ slice_set waiters.old list (waiting_at waiters.new list) }
     {
         if !self.is_late(now) {
@@ -218,11 +200,8 @@ impl ManualTicket {
     /// The deadline has come.
     pub fn tick<W: Hands>(&mut self, now: u64, list: u32, waiters: &mut Waiters, hands: &mut W)
         requires exists { list < length waiters.old }
-        ensures did { DidSome W.did (λ acts. Leads IsAct
-            (manual_due self.old.setup self.old.known (waiting_at waiters.old list) now) acts
-            (Deeds.Ends (record { known = self.new.known; waiters = waiting_at waiters.new list })))
-            hands.old hands.new }
-        ensures setup { self.new.setup ≡ self.old.setup }
+        ensures did { Did W.did (manual_due self.old (waiting_at waiters.old list) now)
+            (record { ticket = self.new; waiters = waiting_at waiters.new list }) hands.old hands.new }
         ensures others { waiters.new ≡ slice_set waiters.old list (waiting_at waiters.new list) }
     {
         say(self.rules.setup(), None, &self.greeting(), hands);

@@ -1,14 +1,9 @@
 //! What the end of a handler before a grant by hand leads to.
-ghost use Rattle.std.specs.Prelude.{◌≡◌, ◌<◌, ℕ, List, None, length, slice_set};
-ghost use Rattle.booth_base.specs.Tree.{Deeds, Leads};
+ghost use Rattle.std.specs.Prelude.{◌≡◌, ◌<◌, None, length, slice_set};
 ghost use Rattle.booth_raft.specs.Sound.{IsSound};
-ghost use Rattle.booth_raft.specs.declared.deed.Told as Telling;
-ghost use Rattle.booth_manual.specs.declared.view.ManualView as View;
-ghost use Rattle.booth_ticket.specs.Acts.{Ask, DidSome, IsAct};
-ghost use Rattle.booth_ticket.specs.Automatic.{Left};
-ghost use Rattle.booth_ticket.specs.Manual.{ManualLeft, manual_state};
-ghost use Rattle.booth_ticket.specs.ManualHandling.{grants_after};
-ghost use Rattle.booth_ticket.specs.Waiting.{staying, tell_each, waiting_at};
+ghost use Rattle.booth_ticket.specs.Acts.{Did};
+ghost use Rattle.booth_ticket.specs.ManualHandling.{grant_after, tell_waiters};
+ghost use Rattle.booth_ticket.specs.Waiting.{waiting_at};
 
 use crate::handling::Service;
 use crate::hands::Hands;
@@ -23,10 +18,8 @@ use booth_raft::Told;
 fn grant<W: Hands>(rules: &mut Manual, hands: &mut W) -> Told
     requires sound { IsSound rules.old.setup }
     requires idle { rules.old.view.waiting ≡ None }
-    ensures did { DidSome W.did (λ acts. (rest : Telling.Told → View.ManualView → Deeds Ask ManualLeft)
-        → Leads IsAct (grants_after rules.old.setup rules.old.view Service.CanRun rest) acts
-        (rest result rules.new.view)) hands.old hands.new }
-    ensures setup { rules.new.setup ≡ rules.old.setup }
+    ensures did { Did W.did (grant_after rules.old Service.CanRun) (record { told = result; rules = rules.new })
+        hands.old hands.new }
     ensures idle { rules.new.view.waiting ≡ None }
 {
     match rules.grant() {
@@ -41,13 +34,12 @@ fn grant<W: Hands>(rules: &mut Manual, hands: &mut W) -> Told
 }
 
 /// The handler of a grant is over. What those that wait are told.
+#[tactic(auto, using(crate::proofs::DidLemmas::did_end))]
 pub(crate) fn grant_after<W: Hands>(rules: &mut Manual, service: Service, hands: &mut W) -> Told
     requires sound { IsSound rules.old.setup }
     requires idle { rules.old.view.waiting ≡ None }
-    ensures did { DidSome W.did (λ acts. (rest : Telling.Told → View.ManualView → Deeds Ask ManualLeft)
-        → Leads IsAct (grants_after rules.old.setup rules.old.view service rest) acts
-        (rest result rules.new.view)) hands.old hands.new }
-    ensures setup { rules.new.setup ≡ rules.old.setup }
+    ensures did { Did W.did (grant_after rules.old service) (record { told = result; rules = rules.new })
+        hands.old hands.new }
     ensures idle { rules.new.view.waiting ≡ None }
 {
     match service {
@@ -57,6 +49,7 @@ pub(crate) fn grant_after<W: Hands>(rules: &mut Manual, service: Service, hands:
 }
 
 /// Tells those that wait for a manual ticket of an outcome.
+#[tactic(auto, unfolding(crate::specs::ManualHandling::tell_waiters))]
 pub(crate) fn tell_waiters<W: Hands>(
     rules: &Manual,
     told: Told,
@@ -65,11 +58,9 @@ pub(crate) fn tell_waiters<W: Hands>(
     hands: &mut W,
 )
     requires exists { list < length waiters.old }
-    ensures did { DidSome W.did (λ acts. (rest : Deeds Ask Left) → Leads IsAct
-        (tell_each rules.now.setup (manual_state rules.now.setup rules.now.view) told
-        (waiting_at waiters.old list) rest) acts rest) hands.old hands.new }
-    ensures left { waiters.new
-        ≡ slice_set waiters.old list (staying told (waiting_at waiters.old list)) }
+    ensures did { Did W.did (tell_waiters rules.now told (waiting_at waiters.old list))
+        (waiting_at waiters.new list) hands.old hands.new }
+    ensures others { waiters.new ≡ slice_set waiters.old list (waiting_at waiters.new list) }
 {
     let part = client_part(rules.setup(), rules.view());
     tell_each(rules.setup(), &part, told, list, waiters, hands);

@@ -1,22 +1,17 @@
 //! What a client asks of a manual ticket.
-ghost use Rattle.std.specs.Prelude.{◌≡◌, ◌≢◌, ◌<◌, ◌^◌, ℕ, List, Option, None, IsSome, IsTrue, IfNone, false, is_some, length, slice_set, if◌then◌else◌};
-ghost use Rattle.booth_base.specs.Tree.{Deeds, Leads};
+ghost use Rattle.std.specs.Prelude.{◌≡◌, ◌≢◌, ◌<◌, ◌^◌, None, IsSome, IsTrue, IfNone, is_some, if◌then◌else◌};
 ghost use Rattle.booth_raft.specs.Sound.{IsSound};
-ghost use Rattle.booth_manual.specs.declared.view.ManualView as View;
-ghost use Rattle.booth_manual.specs.GrantAndRevoke.{are_terms_spent};
-ghost use Rattle.booth_ticket.specs.Acts.{Ask, Start, DidSome, IsAct};
-ghost use Rattle.booth_ticket.specs.Manual.{ManualKnown, ManualLeft, known_as, manual_state};
-ghost use Rattle.booth_ticket.specs.ManualRequests.{forces, unforced, is_strange, is_another_shown, refused_manual_grant, refused_manual_revoke, refused_by_hand, MayTry, tries_for, result_of_keep, tried, wants_handler, waits_for, begun_by_hand, done_by_hand, as_waiting, manual_reply, manual_asked};
-ghost use Rattle.booth_ticket.specs.declared.manual.Job as Running;
-ghost use Rattle.booth_ticket.specs.declared.waiters.Waiter as Waiting;
-ghost use Rattle.booth_ticket.specs.Waiting.{joined, joins, spare_in, waiting_at, waits};
+ghost use Rattle.booth_manual.specs.State.{with_view};
+ghost use Rattle.booth_ticket.specs.Acts.{Did};
+ghost use Rattle.booth_ticket.specs.Manual.{manual_state};
+ghost use Rattle.booth_ticket.specs.ManualRequests.{forces, unforced, is_strange, is_another_shown, refused_manual_grant, refused_manual_revoke, refused_by_hand, MayTry, tries_for, result_of_keep, keep_tried, keep_for, wants_handler, start_for, begin_for, do_for, as_waiting, manual_reply};
+ghost use Rattle.booth_ticket.specs.Waiting.{joins};
 
 use crate::hands::{Hands, To};
 use crate::manual::Job;
-use crate::request::{Request, Wish};
+use crate::request::{Given, Request, Wish};
 use crate::saying::say;
-use crate::telling::{join, reply_cmd, reply_head, waits};
-use crate::waiters::Waiters;
+use crate::telling::{reply_cmd, reply_head, waits};
 use booth_base::MemberId;
 use booth_manual::{Manual, ManualView, NO_END_SECONDS, are_terms_spent, holder};
 use booth_raft::job_limit;
@@ -115,14 +110,13 @@ fn refused(
     runs: bool,
     spare: u32,
     ready: bool,
-    options: u32,
-    wish: Wish,
+    request: &Request,
 ) -> Option<u32>
-    ensures answer { result ≡ refused_by_hand setup.now view.now runs spare ready options wish }
-    ensures may { IfNone result (MayTry view.now wish) }
+    ensures answer { result ≡ refused_by_hand setup.now view.now runs spare ready request.now.options request.now.wish }
+    ensures may { IfNone result (MayTry view.now request.now.wish) }
 {
-    match wish {
-        Wish::Grant => refused_grant(setup, view, runs, spare, ready, options),
+    match request.wish {
+        Wish::Grant => refused_grant(setup, view, runs, spare, ready, request.options),
         Wish::Revoke => refused_revoke(setup, view, runs),
     }
 }
@@ -131,9 +125,8 @@ fn refused(
 fn try_grant(rules: &mut Manual) -> Record
     requires idle { rules.old.view.waiting ≡ None }
     requires may { MayTry rules.old.view Wish.Grant }
-    ensures view { rules.new.view ≡ (tries_for rules.old.setup rules.old.view Wish.Grant).view }
+    ensures rules { rules.new ≡ with_view rules.old (tries_for rules.old.setup rules.old.view Wish.Grant).view }
     ensures tried { result ≡ (tries_for rules.old.setup rules.old.view Wish.Grant).tried }
-    ensures setup { rules.new.setup ≡ rules.old.setup }
     ensures waits { IsSome rules.new.view.waiting }
 {
     if rules.view().owner {
@@ -149,9 +142,8 @@ fn try_grant(rules: &mut Manual) -> Record
 fn try_for(rules: &mut Manual, wish: Wish) -> Record
     requires idle { rules.old.view.waiting ≡ None }
     requires may { MayTry rules.old.view wish }
-    ensures view { rules.new.view ≡ (tries_for rules.old.setup rules.old.view wish).view }
+    ensures rules { rules.new ≡ with_view rules.old (tries_for rules.old.setup rules.old.view wish).view }
     ensures tried { result ≡ (tries_for rules.old.setup rules.old.view wish).tried }
-    ensures setup { rules.new.setup ≡ rules.old.setup }
     ensures waits { IsSome rules.new.view.waiting }
 {
     match wish {
@@ -180,11 +172,9 @@ pub(crate) fn keep_tried<W: Hands>(
 ) -> u32
     requires sound { IsSound rules.old.setup }
     requires waits { IsSome rules.old.view.waiting }
-    ensures did { DidSome W.did (λ acts. (rest : ℕ → View.ManualView → Deeds Ask ManualLeft) → Leads IsAct
-        (tried rules.old.setup wish (record { view = rules.old.view; tried = rec.now }) rest) acts
-        (rest result rules.new.view)) hands.old hands.new }
+    ensures did { Did W.did (keep_tried rules.old wish rec.now) (record { answer = result; rules = rules.new })
+        hands.old hands.new }
     ensures never { result ≢ ASYN }
-    ensures setup { rules.new.setup ≡ rules.old.setup }
     ensures idle { rules.new.view.waiting ≡ None }
 {
     let ok = hands.keep(rec);
@@ -198,11 +188,9 @@ fn keep_for<W: Hands>(rules: &mut Manual, wish: Wish, hands: &mut W) -> u32
     requires sound { IsSound rules.old.setup }
     requires idle { rules.old.view.waiting ≡ None }
     requires may { MayTry rules.old.view wish }
-    ensures did { DidSome W.did (λ acts. (rest : ℕ → View.ManualView → Deeds Ask ManualLeft) → Leads IsAct
-        (tried rules.old.setup wish (tries_for rules.old.setup rules.old.view wish) rest) acts
-        (rest result rules.new.view)) hands.old hands.new }
+    ensures did { Did W.did (keep_for rules.old wish) (record { answer = result; rules = rules.new })
+        hands.old hands.new }
     ensures never { result ≢ ASYN }
-    ensures setup { rules.new.setup ≡ rules.old.setup }
     ensures idle { rules.new.view.waiting ≡ None }
 {
     let tried = try_for(rules, wish);
@@ -221,25 +209,23 @@ fn wants_handler(view: &ManualView, wish: Wish) -> bool
 
 // The handler of a grant is started as this job. The result is for the client that asked.
 fn start_for<W: Hands>(
-    setup: &Setup,
+    rules: &Manual,
     running: &mut Option<Job>,
     job: u64,
     now: u64,
     hands: &mut W,
 ) -> u32
     requires early { now < 2 ^ 62 }
-    requires sound { IsSound setup.now }
-    ensures did { DidSome W.did (λ acts. (view : View.ManualView) (greets_at : Option ℕ)
-        (rest : ℕ → ManualKnown → Deeds Ask ManualLeft) → Leads IsAct
-        (Deeds.Does (Start job 0) (waits_for setup.now (known_as view greets_at running.old) job now rest)) acts
-        (rest result (known_as view greets_at running.new))) hands.old hands.new }
+    requires sound { IsSound rules.now.setup }
+    ensures did { Did W.did (start_for rules.now running.old job now)
+        (record { answer = result; rules = rules.now; running = running.new }) hands.old hands.new }
 {
     if !hands.start(job, 0) {
         return XPRG;
     }
     *running = Some(Job {
         number: job,
-        limit: job_limit(setup, now),
+        limit: job_limit(rules.setup(), now),
     });
     ASYN
 }
@@ -265,43 +251,35 @@ fn begin_for<W: Hands>(
     requires sound { IsSound rules.old.setup }
     requires idle { rules.old.view.waiting ≡ None }
     requires may { MayTry rules.old.view wish }
-    ensures did { DidSome W.did (λ acts. (greets_at : Option ℕ)
-        (rest : ℕ → ManualKnown → Deeds Ask ManualLeft) → Leads IsAct
-        (begun_by_hand rules.old.setup (known_as rules.old.view greets_at running.old)
-        (if wants_handler rules.old.view wish then job else None) wish now rest) acts
-        (rest result (known_as rules.new.view greets_at running.new))) hands.old hands.new }
+    ensures did { Did W.did (begin_for rules.old running.old
+        (if wants_handler rules.old.view wish then job else None) wish now)
+        (record { answer = result; rules = rules.new; running = running.new }) hands.old hands.new }
     ensures begun { result ≡ ASYN → IsTrue (wants_handler rules.old.view wish) }
-    ensures setup { rules.new.setup ≡ rules.old.setup }
     ensures idle { rules.new.view.waiting ≡ None }
 {
     match job_for(rules.view(), job, wish) {
-        Some(job) => start_for(rules.setup(), running, job, now, hands),
+        Some(job) => start_for(rules, running, job, now, hands),
         None => keep_for(rules, wish, hands),
     }
 }
 
-// What the client wishes is begun, or it is found why not. What it is answered.
-fn do_for<W: Hands>(
+/// What the client wishes is begun, or it is found why not. What it is answered.
+pub(crate) fn do_for<W: Hands>(
     rules: &mut Manual,
     running: &mut Option<Job>,
     request: &Request,
     spare: u32,
-    ready: bool,
-    job: Option<u64>,
-    now: u64,
+    given: Given,
     hands: &mut W,
 ) -> u32
-    requires early { now < 2 ^ 62 }
+    requires early { given.now < 2 ^ 62 }
     requires sound { IsSound rules.old.setup }
     requires idle { rules.old.view.waiting ≡ None }
-    ensures did { DidSome W.did (λ acts. (greets_at : Option ℕ)
-        (rest : ℕ → ManualKnown → Deeds Ask ManualLeft) → Leads IsAct
-        (done_by_hand rules.old.setup (known_as rules.old.view greets_at running.old)
-        (refused_by_hand rules.old.setup rules.old.view (is_some running.old) spare ready
-        request.now.options request.now.wish) job request.now.wish now rest) acts
-        (rest result (known_as rules.new.view greets_at running.new))) hands.old hands.new }
+    ensures did { Did W.did (do_for rules.old running.old
+        (refused_by_hand rules.old.setup rules.old.view (is_some running.old) spare given.ready
+        request.now.options request.now.wish) given.job request.now.wish given.now)
+        (record { answer = result; rules = rules.new; running = running.new }) hands.old hands.new }
     ensures room { IsTrue (joins (as_waiting request.now) result) → 0 < spare }
-    ensures setup { rules.new.setup ≡ rules.old.setup }
     ensures idle { rules.new.view.waiting ≡ None }
 {
     match refused(
@@ -309,12 +287,11 @@ fn do_for<W: Hands>(
         rules.view(),
         running.is_some(),
         spare,
-        ready,
-        request.options,
-        request.wish,
+        given.ready,
+        request,
     ) {
         Some(answer) => answer,
-        None => begin_for(rules, running, request.wish, job, now, hands),
+        None => begin_for(rules, running, request.wish, given.job, given.now, hands),
     }
 }
 
@@ -330,15 +307,9 @@ pub(crate) fn client_part(setup: &Setup, view: &ManualView) -> TicketPart
     }
 }
 
-// Replies to a request, with the state of the ticket.
-fn reply<W: Hands>(rules: &Manual, request: &Request, answer: u32, hands: &mut W)
-    ensures did { DidSome W.did (λ acts. (greets_at : Option ℕ) (running : Option Running.Job)
-        (waiters : List Waiting.Waiter) → Leads IsAct
-        (manual_reply rules.now.setup request.now waiters answer (known_as rules.now.view greets_at running)) acts
-        (Deeds.Ends (record {
-          known = known_as rules.now.view greets_at running;
-          waiters = joined (as_waiting request.now) answer waiters;
-        }))) hands.old hands.new }
+/// Replies to a request, with the state of the ticket.
+pub(crate) fn manual_reply<W: Hands>(rules: &Manual, request: &Request, answer: u32, hands: &mut W)
+    ensures did { Did W.did (manual_reply rules.now request.now answer) tt hands.old hands.new }
 {
     let cmd = reply_cmd(request.wish);
     let head = reply_head(rules.setup(), request.number, cmd, answer);
@@ -346,8 +317,8 @@ fn reply<W: Hands>(rules: &Manual, request: &Request, answer: u32, hands: &mut W
     hands.say(To::Client(request.from), &head, &part);
 }
 
-// The request as it waits: it hears of a keep that failed too.
-fn as_waiting(request: &Request) -> Request
+/// The request as it waits: it hears of a keep that failed too.
+pub(crate) fn as_waiting(request: &Request) -> Request
     ensures { result ≡ as_waiting request.now }
 {
     Request {
@@ -358,46 +329,4 @@ fn as_waiting(request: &Request) -> Request
         },
         ..*request
     }
-}
-
-/// A client's request is followed: what it wishes is begun, and then it is answered. `ready` where the
-/// prerequisites of a grant hold that is asked for; a handler is started as this job, where there is one.
-pub(crate) fn follow_request<W: Hands>(
-    rules: &mut Manual,
-    running: &mut Option<Job>,
-    request: &Request,
-    ready: bool,
-    job: Option<u64>,
-    now: u64,
-    list: u32,
-    waiters: &mut Waiters,
-    hands: &mut W,
-)
-    requires early { now < 2 ^ 62 }
-    requires sound { IsSound rules.old.setup }
-    requires idle { rules.old.view.waiting ≡ None }
-    requires exists { list < length waiters.old }
-    ensures did { DidSome W.did (λ acts. (greets_at : Option ℕ) → Leads IsAct
-        (manual_asked rules.old.setup (known_as rules.old.view greets_at running.old)
-        (waiting_at waiters.old list) (spare_in waiters.old) ready job request.now now) acts
-        (Deeds.Ends (record {
-          known = known_as rules.new.view greets_at running.new;
-          waiters = waiting_at waiters.new list;
-        }))) hands.old hands.new }
-    ensures others { waiters.new ≡ slice_set waiters.old list (waiting_at waiters.new list) }
-    ensures setup { rules.new.setup ≡ rules.old.setup }
-    ensures idle { rules.new.view.waiting ≡ None }
-{
-    let answer = do_for(
-        rules,
-        running,
-        request,
-        waiters.spare(),
-        ready,
-        job,
-        now,
-        hands,
-    );
-    reply(rules, request, answer, hands);
-    join(&as_waiting(request), answer, list, waiters);
 }

@@ -1,18 +1,16 @@
 //! What a client asks of an automatic ticket.
-ghost use Rattle.std.specs.Prelude.{◌≡◌, ◌≢◌, ◌<◌, ◌^◌, ◌&&◌, ◌==◌, ℕ, None, IsTrue, length, slice_set};
-ghost use Rattle.booth_base.specs.Tree.{Deeds, Leads};
+ghost use Rattle.std.specs.Prelude.{◌≡◌, ◌≢◌, ◌<◌, ◌^◌, ◌&&◌, ◌==◌, None, IsTrue, length, slice_set};
 ghost use Rattle.booth_wire.specs.declared.codes.results.TheConstants.{ASYN};
 ghost use Rattle.booth_raft.specs.Members.{is_follower};
-ghost use Rattle.booth_raft.specs.Outcome.{Outcome};
-ghost use Rattle.booth_ticket.specs.Acts.{Ask, DidSome, IsAct};
-ghost use Rattle.booth_ticket.specs.Automatic.{Left};
-ghost use Rattle.booth_ticket.specs.Requests.{is_holder, is_shown_elsewhere, holder_result, refused_grant, grant_result, grant, refused_revoke, revoke_result, revoke, done_for, wish};
+ghost use Rattle.booth_ticket.specs.Acts.{Did};
+ghost use Rattle.booth_ticket.specs.Answers.{answered};
+ghost use Rattle.booth_ticket.specs.Requests.{is_holder, is_shown_elsewhere, holder_result, refused_grant, grant_result, acquire_for, grant, refused_revoke, revoke_result, release_for, revoke, do_for, follow_request};
 ghost use Rattle.booth_ticket.specs.Waiting.{waiting_at, spare_in, waits, joins};
 
 use crate::handling::{acquire_by, telling};
 use crate::hands::Hands;
 use crate::keeping::carry_out;
-use crate::request::{Request, Wish};
+use crate::request::{Given, Request, Wish};
 use crate::telling::{commits, join, reply, tell, waits};
 use crate::waiters::Waiters;
 use booth_base::MemberId;
@@ -110,6 +108,7 @@ pub(crate) struct Done {
 }
 
 // The ticket is acquired for a client.
+#[tactic(auto, using(crate::proofs::DidLemmas::did_then, crate::proofs::DidLemmas::did_end), unfolding(crate::specs::Requests::acquire_for))]
 fn acquire_for<W: Hands>(
     core: &mut Core,
     options: u32,
@@ -121,11 +120,8 @@ fn acquire_for<W: Hands>(
     requires idle { core.old.view.waiting ≡ None }
     requires site { IsTrue core.old.setup.site }
     requires follows { IsTrue (is_follower core.old.view.role) }
-    ensures did { DidSome W.did (λ acts. (rest : ℕ → Outcome → Deeds Ask Left) → Leads IsAct
-        (grant core.old.setup core.old.view options None job now rest) acts
-        (rest result.answer (record { view = core.new.view; deed = result.last })))
+    ensures did { Did W.did (acquire_for core.old options job now) (answered result core.new)
         hands.old hands.new }
-    ensures setup { core.new.setup ≡ core.old.setup }
     ensures idle { core.new.view.waiting ≡ None }
 {
     core.note(now, Note::Asked);
@@ -138,32 +134,29 @@ fn acquire_for<W: Hands>(
 }
 
 // The ticket is granted, or it is found why not.
-fn grant<W: Hands>(
-    core: &mut Core,
-    spare: u32,
-    ready: bool,
-    job: Option<u64>,
-    options: u32,
-    now: u64,
-    hands: &mut W,
-) -> Done
-    requires early { now < 2 ^ 62 }
+#[tactic(auto, using(crate::proofs::DidLemmas::did_end))]
+fn grant<W: Hands>(core: &mut Core, spare: u32, given: Given, options: u32, hands: &mut W) -> Done
+    requires early { given.now < 2 ^ 62 }
     requires idle { core.old.view.waiting ≡ None }
-    ensures did { DidSome W.did (λ acts. (rest : ℕ → Outcome → Deeds Ask Left) → Leads IsAct
-        (grant core.old.setup core.old.view options
-        (refused_grant core.old.setup core.old.view spare ready options now) job now rest) acts
-        (rest result.answer (record { view = core.new.view; deed = result.last })))
-        hands.old hands.new }
+    ensures did { Did W.did (grant core.old options
+        (refused_grant core.old.setup core.old.view spare given.ready options given.now)
+        given.job given.now) (answered result core.new) hands.old hands.new }
     ensures room { IsTrue (waits options && result.answer == ASYN) → 0 < spare }
-    ensures setup { core.new.setup ≡ core.old.setup }
     ensures idle { core.new.view.waiting ≡ None }
 {
-    match refused_grant(core.setup(), core.view(), spare, ready, options, now) {
+    match refused_grant(
+        core.setup(),
+        core.view(),
+        spare,
+        given.ready,
+        options,
+        given.now,
+    ) {
         Some(answer) => Done {
             answer,
             last: telling(Told::Nothing),
         },
-        None => acquire_for(core, options, job, now, hands),
+        None => acquire_for(core, options, given.job, given.now, hands),
     }
 }
 
@@ -198,16 +191,13 @@ fn revoke_result(told: Told) -> u32
 }
 
 // The lease is given back for a client.
+#[tactic(auto, using(crate::proofs::DidLemmas::did_then, crate::proofs::DidLemmas::did_end), unfolding(crate::specs::Requests::release_for))]
 fn release_for<W: Hands>(core: &mut Core, now: u64, hands: &mut W) -> Done
     requires early { now < 2 ^ 62 }
     requires idle { core.old.view.waiting ≡ None }
     requires holds { IsTrue (is_holder core.old.setup core.old.view now) }
-    ensures did { DidSome W.did (λ acts. (rest : ℕ → Outcome → Deeds Ask Left) → Leads IsAct
-        (revoke core.old.setup core.old.view None now rest) acts
-        (rest result.answer (record { view = core.new.view; deed = result.last })))
-        hands.old hands.new }
+    ensures did { Did W.did (release_for core.old now) (answered result core.new) hands.old hands.new }
     ensures never { result.answer ≢ ASYN }
-    ensures setup { core.new.setup ≡ core.old.setup }
     ensures idle { core.new.view.waiting ≡ None }
 {
     let deed = core.release(now, ADMN);
@@ -219,16 +209,13 @@ fn release_for<W: Hands>(core: &mut Core, now: u64, hands: &mut W) -> Done
 }
 
 // The lease is given back, or it is found why not.
+#[tactic(auto, using(crate::proofs::DidLemmas::did_end))]
 fn revoke<W: Hands>(core: &mut Core, options: u32, now: u64, hands: &mut W) -> Done
     requires early { now < 2 ^ 62 }
     requires idle { core.old.view.waiting ≡ None }
-    ensures did { DidSome W.did (λ acts. (rest : ℕ → Outcome → Deeds Ask Left) → Leads IsAct
-        (revoke core.old.setup core.old.view
-        (refused_revoke core.old.setup core.old.view options now) now rest) acts
-        (rest result.answer (record { view = core.new.view; deed = result.last })))
-        hands.old hands.new }
+    ensures did { Did W.did (revoke core.old (refused_revoke core.old.setup core.old.view options now) now)
+        (answered result core.new) hands.old hands.new }
     ensures never { result.answer ≢ ASYN }
-    ensures setup { core.new.setup ≡ core.old.setup }
     ensures idle { core.new.view.waiting ≡ None }
 {
     match refused_revoke(core.setup(), core.view(), options, now) {
@@ -245,54 +232,43 @@ fn do_for<W: Hands>(
     core: &mut Core,
     request: &Request,
     spare: u32,
-    ready: bool,
-    job: Option<u64>,
-    now: u64,
+    given: Given,
     hands: &mut W,
 ) -> Done
-    requires early { now < 2 ^ 62 }
+    requires early { given.now < 2 ^ 62 }
     requires idle { core.old.view.waiting ≡ None }
-    ensures did { DidSome W.did (λ acts. (rest : ℕ → Outcome → Deeds Ask Left) → Leads IsAct
-        (done_for core.old.setup core.old.view spare ready job request.now.options request.now.wish now
-        rest) acts (rest result.answer (record { view = core.new.view; deed = result.last })))
-        hands.old hands.new }
+    ensures did { Did W.did (do_for core.old spare given request.now.options request.now.wish)
+        (answered result core.new) hands.old hands.new }
     ensures room { IsTrue (joins request.now result.answer) → 0 < spare }
-    ensures setup { core.new.setup ≡ core.old.setup }
     ensures idle { core.new.view.waiting ≡ None }
 {
     match request.wish {
-        Wish::Grant => grant(core, spare, ready, job, request.options, now, hands),
-        Wish::Revoke => revoke(core, request.options, now, hands),
+        Wish::Grant => grant(core, spare, given, request.options, hands),
+        Wish::Revoke => revoke(core, request.options, given.now, hands),
     }
 }
 
 /// A client's request is followed: what it wishes is done, those that wait are told, and then it is
-/// answered. `ready` where the prerequisites of a grant hold; a handler is started as this job, where
-/// there is one.
+/// answered.
 pub(crate) fn follow_request<W: Hands>(
     core: &mut Core,
     request: &Request,
-    ready: bool,
-    job: Option<u64>,
-    now: u64,
+    given: Given,
     list: u32,
     waiters: &mut Waiters,
     hands: &mut W,
 )
-    requires early { now < 2 ^ 62 }
+    requires early { given.now < 2 ^ 62 }
     requires idle { core.old.view.waiting ≡ None }
     requires exists { list < length waiters.old }
-    ensures did { DidSome W.did (λ acts. Leads IsAct
-        (wish core.old.setup core.old.view (waiting_at waiters.old list) (spare_in waiters.old) ready job
-        request.now request.now.wish now) acts
-        (Deeds.Ends (record { view = core.new.view; waiters = waiting_at waiters.new list })))
-        hands.old hands.new }
+    ensures did { Did W.did (follow_request core.old (waiting_at waiters.old list) (spare_in waiters.old)
+        given request.now request.now.wish)
+        (record { core = core.new; waiters = waiting_at waiters.new list }) hands.old hands.new }
     ensures others { waiters.new ≡ slice_set waiters.old list (waiting_at waiters.new list) }
-    ensures setup { core.new.setup ≡ core.old.setup }
     ensures idle { core.new.view.waiting ≡ None }
 {
-    let done = do_for(core, request, waiters.spare(), ready, job, now, hands);
-    tell(core, done.last.told, now, list, waiters, hands);
-    reply(core, request, done.answer, now, hands);
+    let done = do_for(core, request, waiters.spare(), given, hands);
+    tell(core, &done.last, given.now, list, waiters, hands);
+    reply(core, request, done.answer, given.now, hands);
     join(request, done.answer, list, waiters);
 }

@@ -2,14 +2,12 @@
 ghost use Rattle.std.specs.Prelude.{◌≡◌, ◌==◌, ◌<◌, ◌++◌, ◌∷◌, [], cond};
 ghost use Rattle.std.specs.Int.{bit_at};
 ghost use Rattle.arrayvec.specs.ArrayVec.{array_vec_len};
-ghost use Rattle.booth_base.specs.Tree.{Deeds, Leads};
 ghost use Rattle.booth_wire.specs.Command.{kind_of};
 ghost use Rattle.booth_wire.specs.declared.command.Kind.{Kind};
 ghost use Rattle.booth_raft.specs.Sound.{IsSound};
 ghost use Rattle.booth_raft.specs.Speech.{IsSpeech};
 ghost use Rattle.booth_base.specs.declared.limits.TheConstants.{MEMBERS};
-ghost use Rattle.booth_ticket.specs.Acts.{Ask, DidSome, IsAct};
-ghost use Rattle.booth_ticket.specs.Automatic.{Left};
+ghost use Rattle.booth_ticket.specs.Acts.{Did};
 ghost use Rattle.booth_ticket.specs.Saying.{others, places_in, say, say_back};
 
 use crate::hands::{Hands, To};
@@ -60,10 +58,10 @@ fn places_in(bits: u16) -> Places
 }
 
 // Answers the member whose message was heard.
+#[tactic(auto, using(crate::proofs::DidLemmas::did_end))]
 fn say_back<W: Hands>(from: Option<u32>, head: &Head, part: &TicketPart, hands: &mut W)
     requires kind { kind_of head.now.cmd ≡ Kind.Ticket }
-    ensures did { DidSome W.did (λ acts. (rest : Deeds Ask Left) →
-        Leads IsAct (say_back from head.now part.now rest) acts rest) hands.old hands.new }
+    ensures did { Did W.did (say_back from head.now part.now) tt hands.old hands.new }
 {
     if let Some(from) = from {
         hands.say(To::Member(from), head, part);
@@ -75,8 +73,7 @@ fn say_back<W: Hands>(from: Option<u32>, head: &Head, part: &TicketPart, hands: 
 pub(crate) fn say<W: Hands>(setup: &Setup, from: Option<u32>, words: &Say, hands: &mut W)
     requires sound { IsSound setup.now }
     requires speech { IsSpeech setup.now words.now }
-    ensures did { DidSome W.did (λ acts. (rest : Deeds Ask Left) →
-        Leads IsAct (say setup.now from words.now rest) acts rest) hands.old hands.new }
+    ensures did { Did W.did (say setup.now from words.now) tt hands.old hands.new }
 {
     match words {
         Say::Nothing => {}

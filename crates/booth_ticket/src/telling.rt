@@ -1,19 +1,16 @@
 //! What clients are told: those that wait, and who asked.
-ghost use Rattle.std.specs.Prelude.{◌≡◌, ◌≤◌, ◌<◌, ◌++◌, List, [], ◌∷◌, IsTrue, length, slice_set};
-ghost use Rattle.booth_base.specs.Tree.{Deeds, Leads};
+ghost use Rattle.std.specs.Prelude.{◌≡◌, ◌≤◌, ◌<◌, ◌++◌, [], ◌∷◌, IsTrue, length, slice_set};
 ghost use Rattle.booth_wire.specs.Command.{kind_of};
 ghost use Rattle.booth_wire.specs.declared.command.Kind.{Kind};
 ghost use Rattle.booth_raft.specs.Messages.{head_of, state_part};
-ghost use Rattle.booth_ticket.specs.Acts.{Ask, DidSome, IsAct};
-ghost use Rattle.booth_ticket.specs.Automatic.{Left};
+ghost use Rattle.booth_ticket.specs.Acts.{Did};
 ghost use Rattle.booth_ticket.specs.Requests.{reply, reply_cmd};
-ghost use Rattle.booth_ticket.specs.declared.waiters.Waiter as Waiting;
-ghost use Rattle.booth_ticket.specs.Waiting.{waiting_at, spare_in, commits, waits, joins, joined, result_for, staying, tell_one, tell_each};
+ghost use Rattle.booth_ticket.specs.Waiting.{waiting_at, spare_in, commits, waits, joins, joined, result_for, staying, tell, tell_each, tell_one};
 
 use crate::hands::{Hands, To};
 use crate::request::{Request, Wish};
 use crate::waiters::{Waiter, Waiters};
-use booth_raft::{Core, Told, View, owner_now, seconds_left, shown_end};
+use booth_raft::{Core, Deed, Told, View, owner_now, seconds_left, shown_end};
 use booth_wire::options::{COMMIT, WAIT};
 use booth_wire::results::{ASYN, FAIL, PEND, SUCCESS, XPRG};
 use booth_wire::{Cmd, Head, Setup, TicketPart};
@@ -74,18 +71,11 @@ fn result_for(told: Told, waiter: &Waiter) -> Option<u32>
 }
 
 // Tells a client that waits its result, where it has one.
-fn tell_one<W: Hands>(
-    setup: &Setup,
-    part: &TicketPart,
-    waiter: &Waiter,
-    answer: Option<u32>,
-    hands: &mut W,
-)
-    ensures did { DidSome W.did (λ acts. (rest : Deeds Ask Left) → Leads IsAct
-        (tell_one setup.now part.now waiter.now answer rest) acts rest)
-        hands.old hands.new }
+#[tactic(auto, using(crate::proofs::DidLemmas::did_end), unfolding(crate::specs::Waiting::tell_one))]
+fn tell_one<W: Hands>(setup: &Setup, part: &TicketPart, waiter: &Waiter, told: Told, hands: &mut W)
+    ensures did { Did W.did (tell_one setup.now part.now told waiter.now) tt hands.old hands.new }
 {
-    if let Some(answer) = answer {
+    if let Some(answer) = result_for(told, waiter) {
         let head = reply_head(setup, waiter.number, Cmd::RGnt, answer);
         hands.say(To::Client(waiter.from), &head, part);
     }
@@ -114,41 +104,39 @@ pub(crate) fn tell_each<W: Hands>(
     hands: &mut W,
 )
     requires exists { list < length waiters.old }
-    ensures did { DidSome W.did (λ acts. (rest : Deeds Ask Left) → Leads IsAct
-        (tell_each setup.now part.now told (waiting_at waiters.old list) rest) acts
-        rest) hands.old hands.new }
-    ensures left { waiters.new
-        ≡ slice_set waiters.old list (staying told (waiting_at waiters.old list)) }
+    ensures did { Did W.did (tell_each setup.now part.now told (waiting_at waiters.old list))
+        (waiting_at waiters.new list) hands.old hands.new }
+    ensures others { waiters.new ≡ slice_set waiters.old list (waiting_at waiters.new list) }
     ensures room { spare_in waiters.old ≤ spare_in waiters.new }
 {
     for _place in 0..waiters.count(list) {
         let Some(waiter) = waiters.pop(list) else {
             return;
         };
-        tell_one(setup, part, &waiter, result_for(told, &waiter), hands);
+        tell_one(setup, part, &waiter, told, hands);
         keep_waiting(waiter, told, list, waiters);
     }
 }
 
-/// Tells those that wait for an automatic ticket of an outcome.
+/// Tells those that wait for an automatic ticket of its last deed.
+#[tactic(auto, using(crate::proofs::DidLemmas::did_then, crate::proofs::DidLemmas::did_end), unfolding(crate::specs::Waiting::tell))]
 pub(crate) fn tell<W: Hands>(
     core: &Core,
-    told: Told,
+    last: &Deed,
     now: u64,
     list: u32,
     waiters: &mut Waiters,
     hands: &mut W,
 )
     requires exists { list < length waiters.old }
-    ensures did { DidSome W.did (λ acts. (rest : Deeds Ask Left) → Leads IsAct
-        (tell_each core.now.setup (state_part core.now.setup core.now.view now) told
-        (waiting_at waiters.old list) rest) acts rest) hands.old hands.new }
-    ensures left { waiters.new
-        ≡ slice_set waiters.old list (staying told (waiting_at waiters.old list)) }
+    ensures did { Did W.did
+        (tell now (waiting_at waiters.old list) (record { core = core.now; deed = last.now }))
+        (record { core = core.now; waiters = waiting_at waiters.new list }) hands.old hands.new }
+    ensures others { waiters.new ≡ slice_set waiters.old list (waiting_at waiters.new list) }
     ensures room { spare_in waiters.old ≤ spare_in waiters.new }
 {
     let part = reply_part(core.setup(), core.view(), now);
-    tell_each(core.setup(), &part, told, list, waiters, hands);
+    tell_each(core.setup(), &part, last.told, list, waiters, hands);
 }
 
 /// Who asked waits for the outcome, where its request was begun and it wants that.
@@ -183,13 +171,7 @@ pub(crate) fn reply_cmd(wish: Wish) -> Cmd
 
 /// Replies to a request, with the state of the ticket.
 pub(crate) fn reply<W: Hands>(core: &Core, request: &Request, answer: u32, now: u64, hands: &mut W)
-    ensures did { DidSome W.did (λ acts. (waiters : List Waiting.Waiter) → Leads IsAct
-        (reply core.now.setup request.now (reply_cmd request.now.wish) answer core.now.view now
-        waiters) acts
-        (Deeds.Ends (record {
-          view = core.now.view;
-          waiters = joined request.now answer waiters;
-        }))) hands.old hands.new }
+    ensures did { Did W.did (reply core.now request.now request.now.wish answer now) tt hands.old hands.new }
 {
     let cmd = reply_cmd(request.wish);
     let head = reply_head(core.setup(), request.number, cmd, answer);

@@ -5,7 +5,8 @@ ghost use Rattle.booth_ticket.specs.Ticket.{manual_owner, shown_owner};
 use crate::handling::Service;
 use crate::hands::Hands;
 use crate::manual::ManualTicket;
-use crate::request::Request;
+use crate::request::{Given, Request};
+use crate::telling::tell;
 use crate::waiters::Waiters;
 use crate::{automatic, handling, requests};
 use booth_base::MemberId;
@@ -80,11 +81,10 @@ fn manual_owner(ticket: &ManualTicket) -> Option<Owner>
 }
 
 impl Ticket {
-    ghost use Rattle.booth_base.specs.Tree.{Deeds, Leads};
     ghost use Rattle.booth_raft.specs.Sound.{IsSound};
     ghost use Rattle.booth_rec.specs.Record.{record_or_none};
     ghost use Rattle.std.specs.Prelude.{option_copied};
-    ghost use Rattle.booth_ticket.specs.Acts.{DidSome, IsAct};
+    ghost use Rattle.booth_ticket.specs.Acts.{Did};
     ghost use Rattle.booth_ticket.specs.Ticket.{opened, opened_by_hand, ticket_heard, ticket_asked, ticket_due, ticket_over, deadline, owner, IsDue};
     ghost use Rattle.booth_ticket.specs.Waiting.{waiting_at, spare_in};
 
@@ -137,17 +137,16 @@ impl Ticket {
         requires place { from < self.old.setup.members }
         requires other { from ≢ self.old.setup.place }
         requires exists { list < length waiters.old }
-        ensures did { DidSome W.did (λ acts. Leads IsAct
-            (ticket_heard self.old.setup self.old.known (waiting_at waiters.old list) from head.now
-            part.now now) acts
-            (Deeds.Ends (record { ticket = self.new; waiters = waiting_at waiters.new list })))
-            hands.old hands.new }
+        ensures did { Did W.did (ticket_heard self.old.setup self.old.known (waiting_at waiters.old list)
+            from head.now part.now now)
+            (record { ticket = self.new; waiters = waiting_at waiters.new list }) hands.old hands.new }
         ensures setup { self.new.setup ≡ self.old.setup }
         ensures others { waiters.new ≡ slice_set waiters.old list (waiting_at waiters.new list) }
     {
         match &mut self.kind {
             Kind::Automatic(core) => {
-                automatic::hear(core, now, from, head, part, list, waiters, hands)
+                let last = automatic::hear_message(core, from, head, part, now, hands);
+                tell(core, &last, now, list, waiters, hands)
             }
             Kind::Manual(ticket) => ticket.hear(from, head, part, hands),
         }
@@ -168,19 +167,18 @@ impl Ticket {
     )
         requires early { now < 2 ^ 62 }
         requires exists { list < length waiters.old }
-        ensures did { DidSome W.did (λ acts. Leads IsAct
-            (ticket_asked self.old.setup self.old.known (waiting_at waiters.old list)
-            (spare_in waiters.old) ready job request.now now) acts
-            (Deeds.Ends (record { ticket = self.new; waiters = waiting_at waiters.new list })))
-            hands.old hands.new }
+        ensures did { Did W.did (ticket_asked self.old.setup self.old.known (waiting_at waiters.old list)
+            (spare_in waiters.old) (record { now = now; ready = ready; job = job }) request.now)
+            (record { ticket = self.new; waiters = waiting_at waiters.new list }) hands.old hands.new }
         ensures setup { self.new.setup ≡ self.old.setup }
         ensures others { waiters.new ≡ slice_set waiters.old list (waiting_at waiters.new list) }
     {
+        let given = Given { now, ready, job };
         match &mut self.kind {
             Kind::Automatic(core) => {
-                requests::follow_request(core, request, ready, job, now, list, waiters, hands)
+                requests::follow_request(core, request, given, list, waiters, hands)
             }
-            Kind::Manual(ticket) => ticket.client(request, ready, job, now, list, waiters, hands),
+            Kind::Manual(ticket) => ticket.client(request, given, list, waiters, hands),
         }
     }
 
@@ -196,16 +194,16 @@ impl Ticket {
     )
         requires early { now < 2 ^ 62 }
         requires exists { list < length waiters.old }
-        ensures did { DidSome W.did (λ acts. Leads IsAct
-            (ticket_over self.old.setup self.old.known (waiting_at waiters.old list) job service now)
-            acts (Deeds.Ends (record { ticket = self.new; waiters = waiting_at waiters.new list })))
-            hands.old hands.new }
+        ensures did { Did W.did (ticket_over self.old.setup self.old.known (waiting_at waiters.old list)
+            job service now)
+            (record { ticket = self.new; waiters = waiting_at waiters.new list }) hands.old hands.new }
         ensures setup { self.new.setup ≡ self.old.setup }
         ensures others { waiters.new ≡ slice_set waiters.old list (waiting_at waiters.new list) }
     {
         match &mut self.kind {
             Kind::Automatic(core) => {
-                handling::handler_done(core, now, job, service, list, waiters, hands)
+                let last = handling::hear_job(core, job, service, now, hands);
+                tell(core, &last, now, list, waiters, hands)
             }
             Kind::Manual(ticket) => ticket.handler_done(job, service, list, waiters, hands),
         }
@@ -225,16 +223,15 @@ impl Ticket {
         requires early { now < 2 ^ 62 }
         requires due { IsDue self.old.known now }
         requires exists { list < length waiters.old }
-        ensures did { DidSome W.did (λ acts. Leads IsAct
-            (ticket_due self.old.setup self.old.known (waiting_at waiters.old list) ready job now) acts
-            (Deeds.Ends (record { ticket = self.new; waiters = waiting_at waiters.new list })))
-            hands.old hands.new }
+        ensures did { Did W.did (ticket_due self.old.setup self.old.known (waiting_at waiters.old list)
+            (record { now = now; ready = ready; job = job }))
+            (record { ticket = self.new; waiters = waiting_at waiters.new list }) hands.old hands.new }
         ensures setup { self.new.setup ≡ self.old.setup }
         ensures others { waiters.new ≡ slice_set waiters.old list (waiting_at waiters.new list) }
     {
         match &mut self.kind {
             Kind::Automatic(core) => {
-                automatic::come_due(core, now, ready, job, list, waiters, hands)
+                automatic::come_due(core, Given { now, ready, job }, list, waiters, hands)
             }
             Kind::Manual(ticket) => ticket.tick(now, list, waiters, hands),
         }

@@ -140,9 +140,9 @@ pub ok_is : (x y : PlainMessage) (read : Result PlainMessage DropFault) → read
 ok_is x y read a b = cc
 
 pub from_client : (x : PlainMessage) (read : Result PlainMessage DropFault) → read ≡ Ok x → direction_of x.head.cmd ≡ ToDaemon
-    → (A : PlainMessage → Type 0) → (letter : PlainMessage) → read ≡ Ok letter → direction_of letter.head.cmd ≡ BetweenMembers → A letter
-from_client x read is_x asks A letter is_letter between =
-    absurd (other (sym asks ∙ ap (λ (l : PlainMessage). direction_of l.head.cmd) (ok_is x letter read is_x is_letter) ∙ between))
+    → (A : PlainMessage → Type 0) → (message : PlainMessage) → read ≡ Ok message → direction_of message.head.cmd ≡ BetweenMembers → A message
+from_client x read is_x asks A message is_message between =
+    absurd (other (sym asks ∙ ap (λ (l : PlainMessage). direction_of l.head.cmd) (ok_is x message read is_x is_message) ∙ between))
   where
     other : ToDaemon ≡ BetweenMembers → ⊥
     other e = cc
@@ -151,9 +151,9 @@ from_client x read is_x asks A letter is_letter between =
 pub from_member : (w : World) (before : List WorldEntry) (x : PlainMessage) (read : Result PlainMessage DropFault) → read ≡ Ok x
     → (k : ℕ) (entry : WorldEntry) → slice_get before k ≡ Some entry → id_at w entry.member ≡ x.head.from
     → (bytes : List ℕ) → IsSend entry.what bytes → decoded bytes ≡ Ok x
-    → (letter : PlainMessage) → read ≡ Ok letter → direction_of letter.head.cmd ≡ BetweenMembers → WasSent w before letter
-from_member w before x read is_x k entry there sender bytes sent same letter is_letter between =
-    subst (λ (l : PlainMessage). WasSent w before l) (ok_is x letter read is_x is_letter)
+    → (message : PlainMessage) → read ≡ Ok message → direction_of message.head.cmd ≡ BetweenMembers → WasSent w before message
+from_member w before x read is_x k entry there sender bytes sent same message is_message between =
+    subst (λ (l : PlainMessage). WasSent w before l) (ok_is x message read is_x is_message)
     (record { entry = entry; earlier = has_at before k entry there; sender = sender; bytes = bytes; sent = sent; same = same })
 
 -- a reading of the true clock below an end

@@ -212,10 +212,10 @@ call_steps c clocks w a g i none (Asks reason) may =
     let x = w.member a.place in
     subst (λ (s : Setup). GivesOutcome c w a (ask s a.view reason x.reading)) (sym i.seated)
     (asks_term c a.id_of w.now a.place (placed c w a i) a.setup w.facts x a.view reason (g.each a.place) none i.agrees (at_site c w a i may))
-call_steps c clocks w a g i none (Hears letter) may =
+call_steps c clocks w a g i none (Hears message) may =
     let x = w.member a.place in
-    subst (λ (s : Setup). GivesOutcome c w a (hear s a.view letter.sender letter.head letter.part x.reading letter.head.cmd)) (sym i.seated)
-    (hears c a.id_of w.now a.place (placed c w a i) a.setup w.facts x a.view letter.sender letter.head letter.part letter.head.cmd (g.each a.place) g.facts may.timely none i.view_facts.round_fits i.agrees may.below may.from may.fact)
+    subst (λ (s : Setup). GivesOutcome c w a (hear s a.view message.sender message.head message.part x.reading message.head.cmd)) (sym i.seated)
+    (hears c a.id_of w.now a.place (placed c w a i) a.setup w.facts x a.view message.sender message.head message.part message.head.cmd (g.each a.place) g.facts may.timely none i.view_facts.round_fits i.agrees may.below may.from may.fact)
 call_steps c clocks w a g i none Greets may =
     let x = w.member a.place in
     subst (λ (s : Setup). GivesOutcome c w a (saying (greeted a.view) (hello s a.view x.reading) tells.Nothing)) (sym i.seated)

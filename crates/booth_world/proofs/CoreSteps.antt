@@ -22,7 +22,7 @@ use Rattle.booth_world.specs.Agreement.{IsSeated, records_in, Agrees}
 use Rattle.booth_world.specs.Messages.{IsFact, IsSaid}
 use Rattle.booth_world.specs.Gives.{Mark, AddsOnly, IsMarkedRound, IsMarkedAnswer, IsMarkedGain, Given, given_by, may_answered, releases_answered}
 use Rattle.booth_world.specs.Calls.{mark_at, Caller, IsMember, MayCall, Gives, GivesIn}
-use Rattle.booth_world.specs.Rules.{MemberLetter, CoreCall, Asks, Hears, Greets, MeetsDeadline, MakesNote, RenewsLease, GivesBack, lease_call}
+use Rattle.booth_world.specs.Rules.{MemberMessage, CoreCall, Asks, Hears, Greets, MeetsDeadline, MakesNote, RenewsLease, GivesBack, lease_call}
 use Rattle.booth_world.specs.Cores.{CoreEntry, ReadsTime, CallsCore, HasAnswer, Stops, StartsWith, CorePlace, Cores, opening_cores, Cast, IsCast, MayCallCore, MayEnter, said_more, has_given, after_call, after_answer, mark_in, entered, AreEntered, cores_after, setup_in, TimePasses}
 use Rattle.booth_world.proofs.Lists.{none_is, some_same, put_all}
 use Rattle.booth_world.proofs.Invariant.{Good}
@@ -73,7 +73,7 @@ marks_more mark marks releases f f' i adds = record {
 pub record CoresHold (c : Cluster) (cast : Cast) (cores : Cores) (w : WorldState) : Type 0 where
   pub same_now : w.now ≡ cores.now
   pub each : (m : ℕ) → m < c.members → CorePlaceHolds c cast w.facts m (w.member m) (cores.place m)
-  pub heard_now : (l : MemberLetter) → Has cores.said l
+  pub heard_now : (l : MemberMessage) → Has cores.said l
       → (l.sender < c.members) × IsFact cast.id_of w.facts l.sender l.head l.part l.head.cmd
   pub same_releases : w.facts.releases ≡ cores.releases
   pub marked : IsMarked cores.marks w.facts
@@ -139,18 +139,18 @@ module _ (c : Cluster) (cast : Cast) (clocks : HasClocks c) (is_cast : IsCast c 
     view_facts = i.view_facts;
   }
 
-  letters_hold : (f : Facts) (m : ℕ) (say : Say) (said : List MemberLetter) → m < c.members → IsSaid cast.id_of f m say
-      → ((l : MemberLetter) → Has said l → (l.sender < c.members) × IsFact cast.id_of f l.sender l.head l.part l.head.cmd)
-      → (l : MemberLetter) → Has (said_more m say said) l → (l.sender < c.members) × IsFact cast.id_of f l.sender l.head l.part l.head.cmd
-  letters_hold f m says.Nothing said below fact old l h = old l h
-  letters_hold f m (says.All head part) said below fact old l h = ⊎_elim
-      (λ (e : record { sender = m; head = head; part = part } ≡ l). subst (λ (l : MemberLetter). (l.sender < c.members) × IsFact cast.id_of f l.sender l.head l.part l.head.cmd) e (below, fact))
+  messages_hold : (f : Facts) (m : ℕ) (say : Say) (said : List MemberMessage) → m < c.members → IsSaid cast.id_of f m say
+      → ((l : MemberMessage) → Has said l → (l.sender < c.members) × IsFact cast.id_of f l.sender l.head l.part l.head.cmd)
+      → (l : MemberMessage) → Has (said_more m say said) l → (l.sender < c.members) × IsFact cast.id_of f l.sender l.head l.part l.head.cmd
+  messages_hold f m says.Nothing said below fact old l h = old l h
+  messages_hold f m (says.All head part) said below fact old l h = ⊎_elim
+      (λ (e : record { sender = m; head = head; part = part } ≡ l). subst (λ (l : MemberMessage). (l.sender < c.members) × IsFact cast.id_of f l.sender l.head l.part l.head.cmd) e (below, fact))
       (λ (i : Has said l). old l i) h
-  letters_hold f m (says.Unanswered head part members) said below fact old l h = ⊎_elim
-      (λ (e : record { sender = m; head = head; part = part } ≡ l). subst (λ (l : MemberLetter). (l.sender < c.members) × IsFact cast.id_of f l.sender l.head l.part l.head.cmd) e (below, fact))
+  messages_hold f m (says.Unanswered head part members) said below fact old l h = ⊎_elim
+      (λ (e : record { sender = m; head = head; part = part } ≡ l). subst (λ (l : MemberMessage). (l.sender < c.members) × IsFact cast.id_of f l.sender l.head l.part l.head.cmd) e (below, fact))
       (λ (i : Has said l). old l i) h
-  letters_hold f m (says.Reply head part) said below fact old l h = ⊎_elim
-      (λ (e : record { sender = m; head = head; part = part } ≡ l). subst (λ (l : MemberLetter). (l.sender < c.members) × IsFact cast.id_of f l.sender l.head l.part l.head.cmd) e (below, fact))
+  messages_hold f m (says.Reply head part) said below fact old l h = ⊎_elim
+      (λ (e : record { sender = m; head = head; part = part } ≡ l). subst (λ (l : MemberMessage). (l.sender < c.members) × IsFact cast.id_of f l.sender l.head l.part l.head.cmd) e (below, fact))
       (λ (i : Has said l). old l i) h
 
   same_mark : (cores : Cores) (w : WorldState) (m : ℕ) → CoresHold c cast cores w → m < c.members → mark_at w m ≡ mark_in cores m
@@ -186,7 +186,7 @@ module _ (c : Cluster) (cast : Cast) (clocks : HasClocks c) (is_cast : IsCast c 
             })
             (λ k other within. others_stay w.facts z.facts k (w.member k) (z.member k) (cores.place k) (next.unmoved k other)
             (λ view a. next.others_agree k view other a) (i.each k within));
-        heard_now = letters_hold z.facts m given.say cores.said below next.reached.said
+        heard_now = messages_hold z.facts m given.say cores.said below next.reached.said
             (λ l h. let q = i.heard_now l h in (q.0, next.said_on l.sender l.head l.part l.head.cmd q.1));
         same_releases = next.adds.releases_now;
         marked = subst (λ (mark : Mark). IsMarked (record mark { second = second } ∷ cores.marks) z.facts) (same_mark cores w m i below)
@@ -221,8 +221,8 @@ module _ (c : Cluster) (cast : Cast) (clocks : HasClocks c) (is_cast : IsCast c 
   may_call : (cores : Cores) (w : WorldState) (m : ℕ) (view : View) (call : CoreCall) → CoresHold c cast cores w → m < c.members
       → MayCallCore cast cores m view call → MayCall c w (caller cores m view) call
   may_call cores w m view (Asks reason) i below may = may
-  may_call cores w m view (Hears letter) i below may =
-      let q = i.heard_now letter may.0 in
+  may_call cores w m view (Hears message) i below may =
+      let q = i.heard_now message may.0 in
       record { timely = (i.each m below).same_at ∙ may.2 ∙ sym i.same_now; below = q.0; from = may.1; fact = q.1 }
   may_call cores w m view Greets i below may = tt
   may_call cores w m view MeetsDeadline i below may = tt
@@ -239,8 +239,8 @@ module _ (c : Cluster) (cast : Cast) (clocks : HasClocks c) (is_cast : IsCast c 
   call_facts : (cores : Cores) (m : ℕ) (view : View) (now : ℕ) (call : CoreCall) → view.waiting ≡ None → MayCallCore cast cores m view call → now < 2 ^ 62 → ViewFacts (setup_in cast cores m) view
       → ViewFacts (setup_in cast cores m) (lease_call (setup_in cast cores m) view now call).view
   call_facts cores m view now (Asks reason) none may small facts = (ask_good (setup_in cast cores m) view reason now).facts
-  call_facts cores m view now (Hears letter) none may small facts =
-      (hear_good (setup_in cast cores m) view letter.sender letter.head letter.part now letter.head.cmd none facts).facts
+  call_facts cores m view now (Hears message) none may small facts =
+      (hear_good (setup_in cast cores m) view message.sender message.head message.part now message.head.cmd none facts).facts
   call_facts cores m view now Greets none may small facts = greeted_facts (setup_in cast cores m) view facts
   call_facts cores m view now MeetsDeadline none may small facts = (due_now_good (setup_in cast cores m) view now none facts).facts
   call_facts cores m view now (MakesNote note) none may small facts = noted_facts (setup_in cast cores m) view now note none may facts

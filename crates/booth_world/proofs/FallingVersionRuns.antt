@@ -4,6 +4,11 @@ use Rattle.std.specs.Prelude.{None}
 use Rattle.booth_wire.specs.Spelling.{header}
 use Rattle.booth_wire.specs.Layout.{word, padded_to}
 use Rattle.booth_auth.specs.Sealed.{sealed}
+use Rattle.booth_ticket.specs.Keeping.{carry_out, keep_once}
+use Rattle.booth_ticket.specs.Waiting.{tell, tell_each, tell_one}
+use Rattle.booth_ticket.specs.Saying.{say_each, say_to}
+use Rattle.booth_ticket.specs.Requests.{acquire_for, follow_request, release_for, reply}
+use Rattle.booth_ticket.specs.Automatic.{come_due, hear, hear_message, tick}
 use Rattle.booth_node.specs.Session.{AreSessions, Down}
 use Rattle.booth_node.specs.World.{HasForm, HasConfiguration, HasTrueClocks, entries_of, members_of, AtEach, HearsSent, ReadsKept, stand_after}
 use Rattle.booth_node.specs.Held.{Moment}
@@ -14,17 +19,17 @@ use Rattle.booth_world.proofs.AlongWorlds.{◌&◌, at_each, reads_true, only_we
 use Rattle.booth_world.proofs.WorldParts.{three_sound, has_form, exact_clocks, asks_votes_fit, votes_fit, is_open_fits, asks_state_fits}
 
 session_one : AreSessions Down (entries_of 0 with_a_falling_version.entries)
-unfolding header word padded_to
+unfolding header word padded_to carry_out keep_once tell tell_each tell_one say_each say_to acquire_for follow_request release_for reply come_due hear hear_message tick
 session_one =
     (refl, (refl, (tt, ((refl, refl, refl), ((refl, refl, asks_votes_fit site_one 1 7000 (omega arith) (omega arith) (omega arith), refl), ((refl, refl, asks_votes_fit site_one 1 7000 (omega arith) (omega arith) (omega arith), refl), ((refl, refl, is_open_fits site_one 1 7000 (omega arith) (omega arith) (omega arith), refl), (refl, (refl, (tt, ((refl, refl, refl), ((refl, refl, asks_votes_fit site_one 2 20000 (omega arith) (omega arith) (omega arith), refl), ((refl, refl, asks_votes_fit site_one 2 20000 (omega arith) (omega arith) (omega arith), refl), ((refl, refl, is_open_fits site_one 2 20000 (omega arith) (omega arith) (omega arith), refl), (refl, (tt, ((refl, refl, refl), tt)))))))))))))))))
 
 session_two : AreSessions Down (entries_of 1 with_a_falling_version.entries)
-unfolding header word padded_to
+unfolding header word padded_to carry_out keep_once tell tell_each tell_one say_each say_to acquire_for follow_request release_for reply come_due hear hear_message tick
 session_two =
     (refl, (refl, (tt, ((refl, refl, votes_fit site_two site_one 1 7010 (omega arith) (omega arith) (omega arith) (omega arith), refl), ((refl, refl, asks_state_fits site_two 1 7010 (omega arith) (omega arith) (omega arith), refl), ((refl, refl, asks_state_fits site_two 1 7010 (omega arith) (omega arith) (omega arith), refl), (refl, (tt, ((refl, refl, refl), ((refl, refl, asks_votes_fit site_two 2 22000 (omega arith) (omega arith) (omega arith), refl), ((refl, refl, asks_votes_fit site_two 2 22000 (omega arith) (omega arith) (omega arith), refl), ((refl, refl, is_open_fits site_two 2 22000 (omega arith) (omega arith) (omega arith), refl), (refl, (tt, ((refl, refl, refl), tt)))))))))))))))
 
 session_three : AreSessions Down (entries_of 2 with_a_falling_version.entries)
-unfolding header word padded_to
+unfolding header word padded_to carry_out keep_once tell tell_each tell_one say_each say_to acquire_for follow_request release_for reply come_due hear hear_message tick
 session_three =
     (refl, (refl, (tt, ((refl, refl, refl), (refl, (refl, (tt, ((refl, refl, votes_fit arbitrator site_one 2 20010 (omega arith) (omega arith) (omega arith) (omega arith), refl), (refl, (refl, (tt, ((refl, refl, votes_fit arbitrator site_two 2 22010 (omega arith) (omega arith) (omega arith) (omega arith), refl), tt))))))))))))
 
@@ -35,7 +40,7 @@ daemons (suc (suc zero)) below = session_three
 daemons (suc (suc (suc m))) below = absurd (omega (arith, below))
 
 messages : AtEach with_a_falling_version (λ before entry. HearsSent with_a_falling_version before (stand_after entry.member before) entry.what)
-unfolding header word padded_to
+unfolding header word padded_to carry_out keep_once tell tell_each tell_one say_each say_to acquire_for follow_request release_for reply come_due hear hear_message tick
 messages =
     at_each with_a_falling_version _ (tt
     & tt

@@ -4,6 +4,11 @@ use Rattle.std.specs.Prelude.{◌*◌}
 use Rattle.booth_wire.specs.Spelling.{header}
 use Rattle.booth_wire.specs.Layout.{word, padded_to}
 use Rattle.booth_auth.specs.Sealed.{sealed}
+use Rattle.booth_ticket.specs.Keeping.{carry_out, keep_once}
+use Rattle.booth_ticket.specs.Waiting.{tell, tell_each, tell_one}
+use Rattle.booth_ticket.specs.Saying.{say_each, say_to}
+use Rattle.booth_ticket.specs.Requests.{acquire_for, follow_request, release_for, reply}
+use Rattle.booth_ticket.specs.Automatic.{come_due, hear, hear_message, tick}
 use Rattle.booth_node.specs.Clock.{IsClock}
 use Rattle.booth_node.specs.Session.{AreSessions, Down}
 use Rattle.booth_node.specs.World.{HasForm, entries_of}
@@ -16,7 +21,7 @@ use Rattle.booth_world.proofs.AlongWorlds.{◌&◌, at_each, versions_first, rea
 use Rattle.booth_world.proofs.WorldParts.{three_sound, has_form, asks_votes_fit, votes_fit, is_open_fits, asks_state_fits}
 
 first_session : AreSessions Down (entries_of 0 with_a_fast_clock.entries)
-unfolding header word padded_to
+unfolding header word padded_to carry_out keep_once tell tell_each tell_one say_each say_to acquire_for follow_request release_for reply come_due hear hear_message tick
 first_session = (
   refl,
   (
@@ -50,7 +55,7 @@ first_session = (
 )
 
 second_session : AreSessions Down (entries_of 1 with_a_fast_clock.entries)
-unfolding header word padded_to
+unfolding header word padded_to carry_out keep_once tell tell_each tell_one say_each say_to acquire_for follow_request release_for reply come_due hear hear_message tick
 second_session = (
   refl,
   (
@@ -99,7 +104,7 @@ second_session = (
 )
 
 third_session : AreSessions Down (entries_of 2 with_a_fast_clock.entries)
-unfolding header word padded_to
+unfolding header word padded_to carry_out keep_once tell tell_each tell_one say_each say_to acquire_for follow_request release_for reply come_due hear hear_message tick
 third_session = (
   refl,
   (
@@ -121,7 +126,7 @@ one_daemon (suc (suc zero)) below = third_session
 one_daemon (suc (suc (suc m))) below = absurd (omega (arith, below))
 
 messages : Meets with_a_fast_clock MembersSpeak
-unfolding header word padded_to
+unfolding header word padded_to carry_out keep_once tell tell_each tell_one say_each say_to acquire_for follow_request release_for reply come_due hear hear_message tick
 messages =
     at_each with_a_fast_clock _ (tt
     & tt

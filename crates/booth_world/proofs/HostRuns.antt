@@ -53,7 +53,7 @@ module _ (c : Cluster) (cast : Cast) where
     abbrev pub says : TurnTree → List HostEntry
     says (Ends view) = []
     says (Does (Keeps kept) go) = []
-    says (Does (Sends letter) go) = DoesAsk m (Sends letter) true ∷ says (go true)
+    says (Does (Sends message) go) = DoesAsk m (Sends message) true ∷ says (go true)
     says (Does AsksElse go) = []
 
     -- they lead to the next keep or start, or the end, with all said
@@ -78,13 +78,13 @@ module _ (c : Cluster) (cast : Cast) where
         record { hosted_all = tt; own = of_none m hosts; tree_now = is; same_reading = refl; same_may = refl; same_second = refl; all_sent = refl; unreleased = λ z r. r; unread = λ k t r. r; unstarted = λ b r. r }
     all_said hosts (Does (Keeps kept) go) is =
         record { hosted_all = tt; own = of_none m hosts; tree_now = is; same_reading = refl; same_may = refl; same_second = refl; all_sent = refl; unreleased = λ z r. r; unread = λ k t r. r; unstarted = λ b r. r }
-    all_said hosts (Does (Sends letter) go) is =
-        let next_hosts : Hosts = hosted c cast hosts (DoesAsk m (Sends letter) true) in
+    all_said hosts (Does (Sends message) go) is =
+        let next_hosts : Hosts = hosted c cast hosts (DoesAsk m (Sends message) true) in
         let there : (next_hosts.place m).tree ≡ Some (go true) =
         ap (λ (p : HostPlace). p.tree) (put_same hosts.place m _) ∙ ap (λ (o : Option TurnTree). went_on true o) is in
         let rest : AreSaid next_hosts (go true) = all_said next_hosts (go true) there in
         record {
-          hosted_all = (at_ask hosts (Sends letter) true go is, rest.hosted_all);
+          hosted_all = (at_ask hosts (Sends message) true go is, rest.hosted_all);
           own = of_both m hosts next_hosts (hosts_after c cast next_hosts (says (go true)))
               (record { same_now = refl; others = λ k ne. put_other hosts.place m k _ ne; still_sent = λ l h. inr h }) rest.own;
           tree_now = rest.tree_now;

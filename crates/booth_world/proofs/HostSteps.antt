@@ -15,7 +15,7 @@ use Rattle.booth_node.specs.Clock.{Cluster, HasClocks, reads}
 use Rattle.booth_world.specs.Facts.{Has, Release}
 use Rattle.booth_world.specs.States.{put}
 use Rattle.booth_world.specs.Gives.{Given, may_answered}
-use Rattle.booth_world.specs.Rules.{MemberLetter}
+use Rattle.booth_world.specs.Rules.{MemberMessage}
 use Rattle.booth_world.specs.Cores.{CoreEntry, TimePasses, ReadsTime, HasAnswer, Stops, StartsWith, CorePlace, Cores, opening_cores, Cast, IsCast, MayEnter, has_given, answer_given, after_answer, entered, AreEntered, cores_after}
 use Rattle.booth_world.specs.CoreLaws.{CoreHoldsBy, IsReleaseAt, IsReleaseIn}
 use Rattle.booth_world.specs.Turns.{TicketAsk, Keeps, Sends, AsksElse, TurnTree, Plan, turn_tree, MayTurn}
@@ -41,7 +41,7 @@ pub record PlaceHolds (c : Cluster) (cast : Cast) (m : ℕ) (cores : Cores) (p :
 pub record HostsHold (c : Cluster) (cast : Cast) (hosts : Hosts) (cores : Cores) : Type 0 where
   pub same_now : cores.now ≡ hosts.now
   pub each : (m : ℕ) → m < c.members → PlaceHolds c cast m cores (hosts.place m)
-  pub said : (l : MemberLetter) → Has hosts.sent l → Has cores.said l
+  pub said : (l : MemberMessage) → Has hosts.sent l → Has cores.said l
 
 -- entries of the cores lead to a cores that is related, release only this, and read at these true times alone
 abbrev Follows : Cluster → Cast → Hosts → Cores → (Release → Type 0) → (ℕ → ℕ → Type 0) → (Bool → Type 0) → Type 0
@@ -61,9 +61,9 @@ module _ (c : Cluster) (cast : Cast) (clocks : HasClocks c) (is_cast : IsCast c 
   }
 
   -- one member has gone on, and the others are as they were
-  moved : (hosts : Hosts) (cores cores' : Cores) (m now : ℕ) (p : HostPlace) (sent : List MemberLetter) → HostsHold c cast hosts cores → cores'.now ≡ now
-      → ((k : ℕ) → k ≢ m → cores'.place k ≡ cores.place k) → ((l : MemberLetter) → Has cores.said l → Has cores'.said l)
-      → PlaceHolds c cast m cores' p → ((l : MemberLetter) → Has sent l → Has cores'.said l)
+  moved : (hosts : Hosts) (cores cores' : Cores) (m now : ℕ) (p : HostPlace) (sent : List MemberMessage) → HostsHold c cast hosts cores → cores'.now ≡ now
+      → ((k : ℕ) → k ≢ m → cores'.place k ≡ cores.place k) → ((l : MemberMessage) → Has cores.said l → Has cores'.said l)
+      → PlaceHolds c cast m cores' p → ((l : MemberMessage) → Has sent l → Has cores'.said l)
       → HostsHold c cast (record { now = now; place = put hosts.place m p; sent = sent }) cores'
   moved hosts cores cores' m now p sent i same_now others said_on here sent_said = record {
     same_now = same_now;
@@ -77,7 +77,7 @@ module _ (c : Cluster) (cast : Cast) (clocks : HasClocks c) (is_cast : IsCast c 
   pending_more m now second (Ends view) may cores h more = more
   pending_more m now second (Does (Keeps kept) g) may cores h more =
       λ k i. ⊎_elim (λ (e : kept ≡ k). subst (λ (k : Record). Has (cores.place m).may k) e h.0) (λ (old : Has may k). more k old) i
-  pending_more m now second (Does (Sends letter) g) may cores h more = more
+  pending_more m now second (Does (Sends message) g) may cores h more = more
   pending_more m now second (Does AsksElse g) may cores h more = more
 
   stands : (m : ℕ) (p : HostPlace) (t : TurnTree) (cores : Cores) → p.tree ≡ Some t → (cores.place m).second ≡ p.second → At c cast m p.reading p.second p.may t cores → IsUp (cores.place m) → MayMore p.may (cores.place m).may
@@ -97,7 +97,7 @@ module _ (c : Cluster) (cast : Cast) (clocks : HasClocks c) (is_cast : IsCast c 
       by_pending : (t : TurnTree) → MayMore (pending_in t p.may) (cores.place m).may → MayMore p.may (cores.place m).may
       by_pending (Ends view) more = more
       by_pending (Does (Keeps kept) g) more = λ k h. more k (inr h)
-      by_pending (Does (Sends letter) g) more = more
+      by_pending (Does (Sends message) g) more = more
       by_pending (Does AsksElse g) more = more
 
       by_tree : (o : Option TurnTree) → MayMore (pending o p.may) (cores.place m).may → MayMore p.may (cores.place m).may
@@ -122,18 +122,18 @@ module _ (c : Cluster) (cast : Cast) (clocks : HasClocks c) (is_cast : IsCast c 
       subst (λ (s : CorePlace). IsIdle (cast.setup m second) second (reads c m time) view s) (sym (put_same cores.place m _))
       (record { shows = i.shows; in_version = i.in_version; at_rest = i.at_rest; at_reading = refl; view_facts = i.view_facts })
 
-  turn_soon : (m time : ℕ) (second : Bool) (base : List Record) (view : View) (came : Option MemberLetter) (plan : View → Plan) (cores : Cores) → m < c.members → time < c.span
+  turn_soon : (m time : ℕ) (second : Bool) (base : List Record) (view : View) (came : Option MemberMessage) (plan : View → Plan) (cores : Cores) → m < c.members → time < c.span
       → IsIdle (cast.setup m second) second (reads c m time) view (cores.place m) → (cores.place m).at ≡ cores.now
       → MayMore (cores.place m).may base → ForSome came (λ l. (Has cores.said l) × (l.head.from ≡ cast.id_of l.sender))
       → MayTurn (cast.setup m second) (reads c m time) view came plan
       → Soon c cast m (reads c m time) second (At c cast m (reads c m time) second base (turn_tree (cast.setup m second) (reads c m time) view came plan)) cores
   turn_soon m time second base view None plan cores below within idle timely only so may =
       plan_at c cast m (reads c m time) second below (small m time below within) (own_place m second below) (plan view) base view cores idle only may
-  turn_soon m time second base view (Some letter) plan cores below within idle timely only so may =
-      let l = so letter refl in
-      heard_at c cast m (reads c m time) second below (small m time below within) (own_place m second below) letter plan base view cores idle only (l.0, l.1, timely) may
+  turn_soon m time second base view (Some message) plan cores below within idle timely only so may =
+      let l = so message refl in
+      heard_at c cast m (reads c m time) second below (small m time below within) (own_place m second below) message plan base view cores idle only (l.0, l.1, timely) may
 
-  begins : (hosts : Hosts) (cores : Cores) (m time : ℕ) (came : Option MemberLetter) (plan : View → Plan) → HostsHold c cast hosts cores → MayHost c cast hosts (BeginsTurn m time came plan)
+  begins : (hosts : Hosts) (cores : Cores) (m time : ℕ) (came : Option MemberMessage) (plan : View → Plan) → HostsHold c cast hosts cores → MayHost c cast hosts (BeginsTurn m time came plan)
       → Follows c cast (hosted c cast hosts (BeginsTurn m time came plan)) cores (IsHostReleaseAt c hosts (BeginsTurn m time came plan)) (ReadsAt (BeginsTurn m time came plan)) (StartsAt (BeginsTurn m time came plan))
   begins hosts cores m time came plan i may =
       let p = the_value _ (hosts.place m).tree may.3 in
@@ -244,24 +244,24 @@ module _ (c : Cluster) (cast : Cast) (clocks : HasClocks c) (is_cast : IsCast c 
             (tt, calls_read c cast (ReadsAt (DoesAsk m (Keeps kept) ok)) one q.1.0 led.are_calls),
             (tt, calls_start (StartsAt (DoesAsk m (Keeps kept) ok)) q.1.0 led.are_calls),
           )
-      by_tree (Does (Sends letter) g) e same =
-          let h = here.stands_at (Does (Sends letter) g) e in
+      by_tree (Does (Sends message) g) e same =
+          let h = here.stands_at (Does (Sends message) g) e in
           let q = h.2 ok cores (record { same = refl; said_still = λ l h. h }) in
           let end = cores_after c cast cores q.0 in
           let led : IsLed c cast m (hosts.place m).reading (hosts.place m).second cores q.0 = q.2 in
           subst (λ (a : TicketAsk). Follows c cast (hosted c cast hosts (DoesAsk m a ok)) cores (IsHostReleaseAt c hosts (DoesAsk m a ok)) (ReadsAt (DoesAsk m a ok)) (StartsAt (DoesAsk m a ok))) same (
             q.0,
             q.1,
-            moved hosts cores end m hosts.now _ (letter ∷ hosts.sent) i (led.own.same_time ∙ i.same_now)
+            moved hosts cores end m hosts.now _ (message ∷ hosts.sent) i (led.own.same_time ∙ i.same_now)
                 led.own.others
                 led.own.said_on
                 (stands m (record (hosts.place m) { tree = went_on ok (hosts.place m).tree; may = (hosts.place m).may })
                 (g ok) end (ap (λ (o : Option TurnTree). went_on ok o) e) (led.same_version ∙ here.in_version) q.3 (led.up_still (here.is_up _ e))
                 (λ k h. led.more k (still m (hosts.place m) cores here k h)))
-                (λ l d. led.own.said_on l (⊎_elim (λ (e : letter ≡ l). subst (λ (l : MemberLetter). Has cores.said l) e h.0) (λ (old : Has hosts.sent l). i.said l old) d)),
+                (λ l d. led.own.said_on l (⊎_elim (λ (e : message ≡ l). subst (λ (l : MemberMessage). Has cores.said l) e h.0) (λ (old : Has hosts.sent l). i.said l old) d)),
             λ z h. led.unreleased z h,
-            calls_read c cast (ReadsAt (DoesAsk m (Sends letter) ok)) cores q.0 led.are_calls,
-            calls_start (StartsAt (DoesAsk m (Sends letter) ok)) q.0 led.are_calls,
+            calls_read c cast (ReadsAt (DoesAsk m (Sends message) ok)) cores q.0 led.are_calls,
+            calls_start (StartsAt (DoesAsk m (Sends message) ok)) q.0 led.are_calls,
           )
       by_tree (Does AsksElse g) e same =
           let h = here.stands_at (Does AsksElse g) e in

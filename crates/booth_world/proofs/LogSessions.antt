@@ -25,10 +25,10 @@ path_join stand mid last (x ∷ xs) ys p q =
 
 -- a deed says itself what it was answered
 says_so : (key : Option (List ℕ)) (ask : Ask) (ok : Bool) (call : Entry) → IsDone key ask ok call → ok ≡ did call
-says_so key (Send peer letter) ok (calls.Send to bytes answer) d = d.3
+says_so key (Send peer message) ok (calls.Send to bytes answer) d = d.3
 says_so key (Keep name tried) ok (calls.Keep ticket rec answer) d = d.2
 says_so key (Start job) ok (calls.Start number ticket handler local expires answer) d = d.1
-says_so key (Send peer letter) ok call d = absurd d
+says_so key (Send peer message) ok call d = absurd d
 says_so key (Keep name tried) ok call d = absurd d
 says_so key (Start job) ok call d = absurd d
 

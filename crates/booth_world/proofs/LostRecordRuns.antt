@@ -3,6 +3,11 @@ use Rattle.std.proofs.Common.{◌≢◌, None, zero, suc, [], refl, sym, inl, ar
 use Rattle.booth_wire.specs.Spelling.{header}
 use Rattle.booth_wire.specs.Layout.{word, padded_to}
 use Rattle.booth_auth.specs.Sealed.{sealed}
+use Rattle.booth_ticket.specs.Keeping.{carry_out, keep_once}
+use Rattle.booth_ticket.specs.Waiting.{tell, tell_each, tell_one}
+use Rattle.booth_ticket.specs.Saying.{say_each, say_to}
+use Rattle.booth_ticket.specs.Requests.{acquire_for, follow_request, release_for, reply}
+use Rattle.booth_ticket.specs.Automatic.{come_due, hear, hear_message, tick}
 use Rattle.booth_node.specs.Session.{AreSessions, Down}
 use Rattle.booth_node.specs.World.{HasForm, entries_of}
 use Rattle.booth_node.specs.Held.{Moment}
@@ -13,7 +18,7 @@ use Rattle.booth_world.proofs.AlongWorlds.{◌&◌, at_each, versions_first, rea
 use Rattle.booth_world.proofs.WorldParts.{three_sound, has_form, exact_clocks, asks_votes_fit, votes_fit, is_open_fits, asks_state_fits}
 
 first_session : AreSessions Down (entries_of 0 with_a_lost_record.entries)
-unfolding header word padded_to
+unfolding header word padded_to carry_out keep_once tell tell_each tell_one say_each say_to acquire_for follow_request release_for reply come_due hear hear_message tick
 first_session = (
   refl,
   (
@@ -68,7 +73,7 @@ first_session = (
 )
 
 second_session : AreSessions Down (entries_of 1 with_a_lost_record.entries)
-unfolding header word padded_to
+unfolding header word padded_to carry_out keep_once tell tell_each tell_one say_each say_to acquire_for follow_request release_for reply come_due hear hear_message tick
 second_session = (
   refl,
   (
@@ -117,7 +122,7 @@ second_session = (
 )
 
 third_session : AreSessions Down (entries_of 2 with_a_lost_record.entries)
-unfolding header word padded_to
+unfolding header word padded_to carry_out keep_once tell tell_each tell_one say_each say_to acquire_for follow_request release_for reply come_due hear hear_message tick
 third_session = (
   refl,
   (
@@ -139,7 +144,7 @@ one_daemon (suc (suc zero)) below = third_session
 one_daemon (suc (suc (suc m))) below = absurd (omega (arith, below))
 
 messages : Meets with_a_lost_record MembersSpeak
-unfolding header word padded_to
+unfolding header word padded_to carry_out keep_once tell tell_each tell_one say_each say_to acquire_for follow_request release_for reply come_due hear hear_message tick
 messages =
     at_each with_a_lost_record _ (tt
     & tt

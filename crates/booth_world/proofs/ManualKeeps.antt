@@ -1,10 +1,11 @@
 -- What a turn keeps of a manual ticket: each record's term is at least that of the record in force.
-use Rattle.std.proofs.Common.{◌≡◌, ◌≢◌, ◌⊎◌, inl, inr, ℕ, ◌+◌, ◌≤◌, Bool, true, false, List, [], ◌∷◌, set, slice_get, refl, sym, ap, ◌∙◌, subst, arith}
+use Rattle.std.proofs.Common.{◌≡◌, ◌≢◌, ◌⊎◌, inl, inr, ℕ, ◌≤◌, Bool, true, false, List, [], ◌∷◌, set, slice_get, refl, sym, ap, ◌∙◌, subst, arith}
 use Rattle.std.specs.Prelude.{Option, Some, None, Result, Ok, Err, ◌&&◌, not, is_none, is_some, if◌then◌else◌}
 use Rattle.std.proofs.lemmas.Option.{slice_get_within}
 use Rattle.booth_base.specs.declared.address.Peer.{Peer}
 use Rattle.booth_base.specs.declared.address.TheConstants.{NO_ONE}
-use Rattle.booth_base.specs.Tree.{Deeds, Ends, Does, next}
+use Rattle.booth_base.specs.Tree.{Deeds, Ends, Does, ◌>>=◌, each, Always}
+use Rattle.booth_base.proofs.TreeLemmas.{always_then}
 use Rattle.booth_chain.proofs.NodesLemmas.{same_or_not, slice_get-set_other, slice_get-set_same}
 use Rattle.booth_conf.specs.declared.tickets.GrantKind.{GrantKind}
 use Rattle.booth_conf.specs.declared.tickets.GrantKind.TheVariants as kinds
@@ -26,6 +27,10 @@ use Rattle.booth_manual.specs.GrantAndRevoke.{again, are_terms_spent, finish, gr
 use Rattle.booth_manual.specs.Hearing.{hear, is_shown}
 use Rattle.booth_manual.specs.Messages.{is_same}
 use Rattle.booth_manual.specs.Outcome.{Keep as Tries}
+use Rattle.booth_manual.specs.State.{State as Rules, with_view}
+use Rattle.booth_rec.specs.declared.record.Record.{Record}
+use Rattle.booth_ticket.specs.declared.manual.Job.{Job}
+use Rattle.booth_ticket.specs.declared.request.Given.{Given}
 use Rattle.booth_ticket.specs.declared.request.Request.{Request}
 use Rattle.booth_ticket.specs.declared.request.Wish.{Wish}
 use Rattle.booth_ticket.specs.declared.request.Wish.TheVariants.{Grant, Revoke}
@@ -34,24 +39,25 @@ use Rattle.booth_ticket.specs.Acts.{Ask as TicketAsk, Keep as KeepsRecord, Start
 use Rattle.booth_ticket.specs.declared.handling.Service.{Service}
 use Rattle.booth_ticket.specs.declared.handling.Service.TheVariants.{CanRun, CannotRun}
 use Rattle.booth_ticket.specs.Handling.{service_of}
-use Rattle.booth_ticket.specs.Manual.{ManualKnown, ManualLeft, manual_heard, manual_state}
-use Rattle.booth_ticket.specs.ManualHandling.{grants_after, greeting, is_awaited, is_late, limit_due, manual_due, manual_over, tells_of}
-use Rattle.booth_ticket.specs.ManualRequests.{begun_by_hand, done_by_hand, manual_asked, manual_reply, refused_by_hand, result_of_keep, tried, tries_for, waits_for, wants_handler}
-use Rattle.booth_ticket.specs.Saying.{others, places_in, say, say_back, say_each}
-use Rattle.booth_ticket.specs.Ticket.{TicketState, TicketLeft, Known, Automatic, Manual, by_hand, left_by_hand}
-use Rattle.booth_ticket.specs.Waiting.{result_for, spare_in, staying, tell_each, tell_one, waiting_at}
+use Rattle.booth_ticket.specs.Manual.{ManualKnown, ManualLeft, ManualState, heard_of, manual_heard, manual_state, rules_of, ticket_as}
+use Rattle.booth_ticket.specs.ManualHandling.{Granted, end_handler, fail_handler, grant_after, grant_now, greeting, is_awaited, is_late, manual_due, manual_over, tell_waiters}
+use Rattle.booth_ticket.specs.ManualRequests.{Begun, Tried, begin_for, do_for, done_by_hand, keep_for, keep_tried, manual_asked, manual_reply, refused_by_hand, start_for, waits_for, wants_handler}
+use Rattle.booth_ticket.specs.Saying.{others, places_in, say, say_each, say_to}
+use Rattle.booth_ticket.specs.Ticket.{TicketState, TicketLeft, Known, Automatic, Manual, left_by_hand}
+use Rattle.booth_ticket.specs.Waiting.{result_for, spare_in, tell_each, tell_one, tell_result, waiting_at}
 use Rattle.booth_node.specs.declared.node.Turn.{Turn}
 use Rattle.booth_node.specs.declared.node.Turn.TheVariants.{Went, Stopped}
 use Rattle.booth_node.specs.declared.node_config.NodeConfig.{NodeConfig}
 use Rattle.booth_node.specs.declared.state.Common.{Common}
 use Rattle.booth_node.specs.Befalling.{Befalling, comes_due, ends_job, is_told, is_asked}
 use Rattle.booth_node.specs.AttributeRequests.{is_ready}
-use Rattle.booth_node.specs.Counting.{accepted, with_send}
-use Rattle.booth_node.specs.Jobs.{job_at, with_start}
-use Rattle.booth_node.specs.Reaction.{Action, Drops, Hears, Asks, Attends, Answers, Rests, Ask, Send, Keep, Start, action, acts, acts_as, all_places, arrived, befalls, due_places, dues, each_due, each_over, lifted, met, peer_of, react, sends, sent_as, turn_end}
+use Rattle.booth_node.specs.Counting.{accepted, count_send}
+use Rattle.booth_node.specs.Jobs.{job_at, count_start}
+use Rattle.booth_node.specs.Reaction.{Action, Drops, Hears, Asks, Attends, Answers, Rests, Ask, Send, Keep, Start, action, acts, acts_as, all_places, arrived, befalls, due_places, dues, each_due, each_over, met, peer_of, react, sent_as, turn_end}
 use Rattle.booth_node.specs.State.{State, with_ticket}
+use Rattle.booth_ticket.proofs.WalkLemmas.{Any}
 use Rattle.booth_world.proofs.Lists.{some_same}
-use Rattle.booth_world.proofs.NodeTrees.{Minds, HasSetup, minds_asked, minds_due, minds_heard, minds_over}
+use Rattle.booth_world.proofs.NodeTrees.{Minds, HasSetup, lifts, sends_on, minds_asked, minds_due, minds_heard, minds_over}
 
 -- ---- one ticket's deeds
 
@@ -64,43 +70,61 @@ High P term (Does (KeepsRecord record_kept) go) =
     (term ≤ record_kept.term) × High P record_kept.term (go true) × High P term (go false)
 High P term (Does (StartsJob job expires) go) = (ok : Bool) → High P term (go ok)
 
-high_as : {V W : Type 0} (P : ℕ → V → Type 0) (Q : ℕ → W → Type 0) (f : V → W) (term : ℕ) (deeds : Deeds TicketAsk V)
-    → ((least : ℕ) (left : V) → P least left → Q least (f left)) → High P term deeds
-    → High Q term (next deeds (λ left. Ends (f left)))
-high_as P Q f term (Ends left) gives h = gives term left h
-high_as P Q f term (Does (Say to head part) go) gives h = high_as P Q f term (go true) gives h
-high_as P Q f term (Does (KeepsRecord kept) go) gives h =
-    (h.0, high_as P Q f kept.term (go true) gives h.1, high_as P Q f term (go false) gives h.2)
-high_as P Q f term (Does (StartsJob job expires) go) gives h = λ ok. high_as P Q f term (go ok) gives (h ok)
+-- what follows deeds begins with what is then the least
+high_then : {V W : Type 0} (P : ℕ → V → Type 0) (Q : ℕ → W → Type 0) (term : ℕ) (deeds : Deeds TicketAsk V) (f : V → Deeds TicketAsk W)
+    → High P term deeds → ((least : ℕ) (left : V) → P least left → High Q least (f left)) → High Q term (deeds >>= f)
+high_then P Q term (Ends left) f h on = on term left h
+high_then P Q term (Does (Say to head part) go) f h on = high_then P Q term (go true) f h on
+high_then P Q term (Does (KeepsRecord kept) go) f h on =
+    (h.0, high_then P Q kept.term (go true) f h.1 on, high_then P Q term (go false) f h.2 on)
+high_then P Q term (Does (StartsJob job expires) go) f h on = λ ok. high_then P Q term (go ok) f (h ok) on
 
-module _ {V : Type 0} (P : ℕ → V → Type 0) (s : Setup) (term : ℕ) where
-  high_each : (places : List ℕ) (head : Head) (part : TicketPart) (rest : Deeds TicketAsk V) → High P term rest
-      → High P term (say_each places head part rest)
-  high_each [] head part rest h = h
-  high_each (place ∷ places) head part rest h = high_each places head part rest h
+-- ---- deeds that only say something
 
-  high_back : (from : Option ℕ) (head : Head) (part : TicketPart) (rest : Deeds TicketAsk V) → High P term rest
-      → High P term (say_back from head part rest)
-  high_back None head part rest h = h
-  high_back (Some place) head part rest h = h
+abbrev OnlySays : TicketAsk → Type 0
+OnlySays (Say to head part) = Unit {0}
+OnlySays (KeepsRecord tried) = ⊥
+OnlySays (StartsJob job expires) = ⊥
 
-  high_say : (from : Option ℕ) (rule_words : Words) (rest : Deeds TicketAsk V) → High P term rest
-      → High P term (say s from rule_words rest)
-  high_say from words.Nothing rest h = h
-  high_say from (words.Reply head part) rest h = high_back from head part rest h
-  high_say from (words.All head part) rest h = high_each (others s) head part rest h
-  high_say from (words.Unanswered head part bits) rest h = high_each (places_in bits) head part rest h
+-- what follows them begins with the same term
+high_on : {V W : Type 0} (Q : ℕ → W → Type 0) (term : ℕ) (deeds : Deeds TicketAsk V) (f : V → Deeds TicketAsk W)
+    → Always OnlySays Any deeds → ((left : V) → High Q term (f left)) → High Q term (deeds >>= f)
+high_on Q term (Ends left) f says on = on left
+high_on Q term (Does (Say to head part) go) f says on = high_on Q term (go true) f (says.1 true) on
+high_on Q term (Does (KeepsRecord kept) go) f says on = absurd says.0
+high_on Q term (Does (StartsJob job expires) go) f says on = absurd says.0
 
-  -- those that wait are told
-  high_told : (part : TicketPart) (told : Told) (waiters : List Waiter) (rest : Deeds TicketAsk V) → High P term rest
-      → High P term (tell_each s part told waiters rest)
-  high_told part told [] rest h = h
-  high_told part told (w ∷ ws) rest h = by_result (result_for told w) (high_told part told ws rest h)
-    where
-      by_result : (r : Option ℕ) → High P term (tell_each s part told ws rest)
-          → High P term (tell_one s part w r (tell_each s part told ws rest))
-      by_result None more = more
-      by_result (Some result) more = more
+each_says : (places : List ℕ) (head : Head) (part : TicketPart) → Always OnlySays Any (say_each places head part)
+unfolding say_each say_to
+each_says [] head part = tt
+each_says (place ∷ places) head part = (tt, λ ok. each_says places head part)
+
+says : (s : Setup) (from : Option ℕ) (rule_words : Words) → Always OnlySays Any (say s from rule_words)
+unfolding say_to
+says s from words.Nothing = tt
+says s None (words.Reply head part) = tt
+says s (Some place) (words.Reply head part) = (tt, λ ok. tt)
+says s from (words.All head part) = each_says (others s) head part
+says s from (words.Unanswered head part bits) = each_says (places_in bits) head part
+
+-- those that wait are told
+each_told : (s : Setup) (part : TicketPart) (told : Told) (waiters : List Waiter)
+    → Always OnlySays Any (each (tell_one s part told) waiters)
+unfolding tell_one say_to
+each_told s part told [] = tt
+each_told s part told (w ∷ ws) =
+    always_then OnlySays Any Any (tell_result s part w (result_for told w)) _ (by_result (result_for told w))
+    (λ done any. each_told s part told ws)
+  where
+    by_result : (r : Option ℕ) → Always OnlySays Any (tell_result s part w r)
+    by_result None = tt
+    by_result (Some result) = (tt, λ ok. tt)
+
+tells_only : (rules : Rules) (told : Told) (waiters : List Waiter) → Always OnlySays Any (tell_waiters rules told waiters)
+unfolding tell_waiters tell_each
+tells_only rules told waiters =
+    always_then OnlySays Any Any (each (tell_one rules.setup (manual_state rules.setup rules.view) told) waiters) _
+    (each_told rules.setup (manual_state rules.setup rules.view) told waiters) (λ done any. tt)
 
 -- ---- a manual ticket's rules
 
@@ -111,8 +135,21 @@ IsHighView term view = (term ≤ view.term) × (view.kept.term ≡ view.term)
 abbrev pub IsHighKnown : ℕ → ManualKnown → Type 0
 IsHighKnown term known = IsHighView term known.view
 
+-- what deeds of a manual ticket leave
+abbrev IsHighTicket : ℕ → ManualState → Type 0
+IsHighTicket term ticket = IsHighKnown term ticket.known
+
 abbrev IsHighByHand : ℕ → ManualLeft → Type 0
-IsHighByHand term left = IsHighKnown term left.known
+IsHighByHand term left = IsHighTicket term left.ticket
+
+abbrev IsHighTried : ℕ → Tried → Type 0
+IsHighTried term done = IsHighView term done.rules.view
+
+abbrev IsHighGranted : ℕ → Granted → Type 0
+IsHighGranted term done = IsHighView term done.rules.view
+
+abbrev IsHighBegun : ℕ → Begun → Type 0
+IsHighBegun term done = IsHighView term done.rules.view
 
 heard_high : (s : Setup) (view : ManualView) (head : Head) (part : TicketPart) (term : ℕ) (cmd : Cmd) → IsHighView term view
     → IsHighView term (hear s view head part cmd).view
@@ -129,102 +166,133 @@ heard_high s view head part term MIdx h =
     (record view { shown = Some part.leader }) view h h
 heard_high s view head part term cmd h = h
 
--- those that wait are told, and no handler runs any longer
-tells_keep : (s : Setup) (term : ℕ) (known : ManualKnown) (waiters : List Waiter) (told : Told) (view : ManualView) → IsHighView term view
-    → High IsHighByHand term (tells_of s known waiters told view)
-tells_keep s term known waiters told view h =
-    high_told IsHighByHand s term (manual_state s view) told waiters
-    (Ends (record { known = record known { view = view; job = None }; waiters = staying told waiters })) h
+module _ (term : ℕ) where
+  heard_keeps : (ticket : ManualState) (from : ℕ) (head : Head) (part : TicketPart) → IsHighTicket term ticket
+      → High IsHighTicket term (manual_heard ticket from head part)
+  unfolding manual_heard
+  heard_keeps ticket from head part h =
+      high_on IsHighTicket term (say ticket.setup (Some from) (heard_of ticket head part).say) _
+      (says ticket.setup (Some from) (heard_of ticket head part).say)
+      (λ done. heard_high ticket.setup ticket.known.view head part term head.cmd h)
 
-module _ (s : Setup) (term : ℕ) where
-  heard_keeps : (known : ManualKnown) (waiters : List Waiter) (from : ℕ) (head : Head) (part : TicketPart) → IsHighKnown term known
-      → High IsHighByHand term (manual_heard s known waiters from head part)
-  heard_keeps known waiters from head part h =
-      high_say IsHighByHand s term (Some from) (hear s known.view head part head.cmd).say
-      (Ends (record { known = record known { view = (hear s known.view head part head.cmd).view }; waiters = waiters }))
-      (heard_high s known.view head part term head.cmd h)
+  -- no handler runs any longer
+  fail_keeps : (ticket : ManualState) (waiters : List Waiter) → IsHighTicket term ticket
+      → High IsHighByHand term (fail_handler ticket waiters)
+  unfolding fail_handler
+  fail_keeps ticket waiters h =
+      high_on IsHighByHand term (tell_waiters (rules_of ticket) tells.HandlerFailed waiters) _
+      (tells_only (rules_of ticket) tells.HandlerFailed waiters) (λ stay. h)
 
-  due_keeps : (known : ManualKnown) (waiters : List Waiter) (now : ℕ) → IsHighKnown term known
-      → High IsHighByHand term (manual_due s known waiters now)
-  due_keeps known waiters now h =
-      high_say IsHighByHand s term None (greeting s known) (limit_due s greeted waiters now)
-      (on_cond (High IsHighByHand term) (is_late known.job now) (tells_of s greeted waiters tells.HandlerFailed known.view)
-      (Ends (record { known = greeted; waiters = waiters })) (tells_keep s term greeted waiters tells.HandlerFailed known.view h) h)
+  due_keeps : (ticket : ManualState) (waiters : List Waiter) (now : ℕ) → IsHighTicket term ticket
+      → High IsHighByHand term (manual_due ticket waiters now)
+  unfolding manual_due
+  due_keeps ticket waiters now h =
+      high_on IsHighByHand term (say ticket.setup None (greeting ticket.setup ticket.known)) _
+      (says ticket.setup None (greeting ticket.setup ticket.known))
+      (λ done. on_cond (High IsHighByHand term) (is_late ticket.known.job now) (fail_handler greeted waiters)
+      (Ends (record { ticket = greeted; waiters = waiters })) (fail_keeps greeted waiters h) h)
     where
-      greeted : ManualKnown
-      greeted = record known { greets_at = None }
+      greeted : ManualState
+      greeted = ticket_as (rules_of ticket) None ticket.known.job
 
-  -- what follows a keep goes on from a view of at least this term
-  abbrev GoesOn : (ℕ → ManualView → Deeds TicketAsk ManualLeft) → Type 0
-  GoesOn rest = (least result : ℕ) (view : ManualView) → IsHighView least view → High IsHighByHand least (rest result view)
+  -- a keep, and what follows of its answer
+  tried_keeps : (rules : Rules) (wish : Wish) (tried : Record) → term ≤ tried.term
+      → IsHighView tried.term (finish rules.setup rules.view true).view → IsHighView term (finish rules.setup rules.view false).view
+      → High IsHighTried term (keep_tried rules wish tried)
+  unfolding keep_tried
+  tried_keeps rules wish tried less kept failed = (
+    less,
+    high_on IsHighTried tried.term (say rules.setup None (finish rules.setup rules.view true).say) _
+        (says rules.setup None (finish rules.setup rules.view true).say) (λ done. kept),
+    high_on IsHighTried term (say rules.setup None (finish rules.setup rules.view false).say) _
+        (says rules.setup None (finish rules.setup rules.view false).say) (λ done. failed),
+  )
 
-  module _ (rest : ℕ → ManualView → Deeds TicketAsk ManualLeft) (on : GoesOn rest) where
-    grant_keeps : (view : ManualView) → IsHighView term view → High IsHighByHand term (tried s Grant (grant s view) rest)
-    grant_keeps view h = (
-      omega (arith, h.0),
-      high_say IsHighByHand s (view.term + 1) None (finish s (grant s view).view true).say
-          (rest (result_of_keep Grant true) (finish s (grant s view).view true).view)
-          (on (view.term + 1) (result_of_keep Grant true) (finish s (grant s view).view true).view (omega arith, refl)),
-      on term (result_of_keep Grant false) (finish s (grant s view).view false).view (omega (arith, h.0), refl),
-    )
+  grant_keeps : (rules : Rules) → IsHighView term rules.view
+      → High IsHighTried term
+      (keep_tried (with_view rules (grant rules.setup rules.view).view) Grant (grant rules.setup rules.view).tried)
+  grant_keeps rules h =
+      tried_keeps (with_view rules (grant rules.setup rules.view).view) Grant (grant rules.setup rules.view).tried
+      (omega (arith, h.0)) (omega arith, refl) (omega (arith, h.0), refl)
 
-    again_keeps : (view : ManualView) → IsHighView term view → High IsHighByHand term (tried s Grant (again s view) rest)
-    again_keeps view h = (
-      omega (arith, h.0, h.1),
-      on view.kept.term (result_of_keep Grant true) (finish s (again s view).view true).view (omega (arith, h.1), h.1),
-      on term (result_of_keep Grant false) (finish s (again s view).view false).view h,
-    )
+  again_keeps : (rules : Rules) → IsHighView term rules.view
+      → High IsHighTried term
+      (keep_tried (with_view rules (again rules.setup rules.view).view) Grant (again rules.setup rules.view).tried)
+  again_keeps rules h =
+      tried_keeps (with_view rules (again rules.setup rules.view).view) Grant (again rules.setup rules.view).tried
+      (omega (arith, h.0, h.1)) (omega (arith, h.1), h.1) h
 
-    wish_keeps : (view : ManualView) (wish : Wish) → IsHighView term view
-        → High IsHighByHand term (tried s wish (tries_for s view wish) rest)
-    wish_keeps view Grant h =
-        on_cond (λ (tries : Tries). High IsHighByHand term (tried s Grant tries rest)) view.owner (again s view) (grant s view)
-        (again_keeps view h) (grant_keeps view h)
-    wish_keeps view Revoke h = (
-      h.0,
-      high_say IsHighByHand s view.term None (finish s (revoke s view).view true).say
-          (rest (result_of_keep Revoke true) (finish s (revoke s view).view true).view)
-          (on view.term (result_of_keep Revoke true) (finish s (revoke s view).view true).view (omega arith, refl)),
-      on term (result_of_keep Revoke false) (finish s (revoke s view).view false).view h,
-    )
+  for_keeps : (rules : Rules) (wish : Wish) → IsHighView term rules.view → High IsHighTried term (keep_for rules wish)
+  unfolding keep_for
+  for_keeps rules Grant h =
+      on_cond (λ (tries : Tries). High IsHighTried term (keep_tried (with_view rules tries.view) Grant tries.tried)) rules.view.owner
+      (again rules.setup rules.view) (grant rules.setup rules.view) (again_keeps rules h) (grant_keeps rules h)
+  for_keeps rules Revoke h =
+      tried_keeps (with_view rules (revoke rules.setup rules.view).view) Revoke (revoke rules.setup rules.view).tried
+      h.0 (omega arith, refl) h
 
   -- the handler of a grant is over
-  after_keeps : (known : ManualKnown) (waiters : List Waiter) (service : Service) → IsHighKnown term known
-      → High IsHighByHand term (grants_after s known.view service (tells_of s known waiters))
-  after_keeps known waiters CanRun h =
-      on_cond (High IsHighByHand term) (are_terms_spent known.view) (tells_of s known waiters tells.AskFailed known.view)
-      (tried s Grant (grant s known.view) granted) (tells_keep s term known waiters tells.AskFailed known.view h)
-      (grant_keeps granted (λ least result view high. tells_keep s least known waiters (tells.Gained view.sure) view high) known.view h)
+  now_keeps : (rules : Rules) → IsHighView term rules.view → High IsHighGranted term (grant_now rules)
+  unfolding grant_now
+  now_keeps rules h =
+      high_then IsHighTried IsHighGranted term
+      (keep_tried (with_view rules (grant rules.setup rules.view).view) Grant (grant rules.setup rules.view).tried)
+      (λ done. Ends (record { told = tells.Gained done.rules.view.sure; rules = done.rules }))
+      (grant_keeps rules h) (λ least done high. high)
+
+  after_keeps : (rules : Rules) (service : Service) → IsHighView term rules.view → High IsHighGranted term (grant_after rules service)
+  after_keeps rules CanRun h =
+      on_cond (High IsHighGranted term) (are_terms_spent rules.view) (Ends (record { told = tells.AskFailed; rules = rules }))
+      (grant_now rules) h (now_keeps rules h)
+  after_keeps rules CannotRun h = h
+
+  end_keeps : (ticket : ManualState) (waiters : List Waiter) (service : Service) → IsHighTicket term ticket
+      → High IsHighByHand term (end_handler ticket waiters service)
+  unfolding end_handler
+  end_keeps ticket waiters service h =
+      high_then IsHighGranted IsHighByHand term (grant_after (rules_of ticket) service) _ (after_keeps (rules_of ticket) service h)
+      (λ least done high. high_on IsHighByHand least (tell_waiters done.rules done.told waiters) _
+      (tells_only done.rules done.told waiters) (λ stay. high))
+
+  over_keeps_by_hand : (ticket : ManualState) (waiters : List Waiter) (job : ℕ) (service : Service) → IsHighTicket term ticket
+      → High IsHighByHand term (manual_over ticket waiters job service)
+  over_keeps_by_hand ticket waiters job service h =
+      on_cond (High IsHighByHand term) (is_awaited ticket.known.job job) (end_handler ticket waiters service)
+      (Ends (record { ticket = ticket; waiters = waiters })) (end_keeps ticket waiters service h) h
+
+  -- a client's request
+  start_keeps : (rules : Rules) (running : Option Job) (job now : ℕ) → IsHighView term rules.view
+      → High IsHighBegun term (start_for rules running job now)
+  unfolding start_for
+  start_keeps rules running job now h = by_answer
     where
-      granted : ℕ → ManualView → Deeds TicketAsk ManualLeft
-      granted result view = tells_of s known waiters (tells.Gained view.sure) view
-  after_keeps known waiters CannotRun h = tells_keep s term known waiters tells.HandlerFailed known.view h
+      by_answer : (ok : Bool) → IsHighBegun term (waits_for rules running job now ok)
+      by_answer true = h
+      by_answer false = h
 
-  over_keeps_by_hand : (known : ManualKnown) (waiters : List Waiter) (job : ℕ) (service : Service) → IsHighKnown term known
-      → High IsHighByHand term (manual_over s known waiters job service)
-  over_keeps_by_hand known waiters job service h =
-      on_cond (High IsHighByHand term) (is_awaited known.job job) (grants_after s known.view service (tells_of s known waiters))
-      (Ends (record { known = known; waiters = waiters })) (after_keeps known waiters service h) h
+  begin_keeps : (rules : Rules) (running : Option Job) (job : Option ℕ) (wish : Wish) (now : ℕ) → IsHighView term rules.view
+      → High IsHighBegun term (begin_for rules running job wish now)
+  begin_keeps rules running None wish now h =
+      high_then IsHighTried IsHighBegun term (keep_for rules wish)
+      (λ done. Ends (record { answer = done.answer; rules = done.rules; running = running }))
+      (for_keeps rules wish h) (λ least done high. high)
+  begin_keeps rules running (Some job) wish now h = start_keeps rules running job now h
 
-  module _ (request : Request) (waiters : List Waiter) (now : ℕ) where
-    abbrev replied : ℕ → ManualKnown → Deeds TicketAsk ManualLeft
-    replied = manual_reply s request waiters
+  do_keeps : (rules : Rules) (running : Option Job) (refused job : Option ℕ) (wish : Wish) (now : ℕ) → IsHighView term rules.view
+      → High IsHighBegun term (do_for rules running refused job wish now)
+  do_keeps rules running (Some result) job wish now h = h
+  do_keeps rules running None job wish now h =
+      begin_keeps rules running (if wants_handler rules.view wish then job else None) wish now h
 
-    waits_keep : (known : ManualKnown) (number : ℕ) → IsHighKnown term known → (ok : Bool)
-        → High IsHighByHand term (waits_for s known number now replied ok)
-    waits_keep known number h true = h
-    waits_keep known number h false = h
-
-    begun_keeps : (known : ManualKnown) (job : Option ℕ) (wish : Wish) → IsHighKnown term known
-        → High IsHighByHand term (begun_by_hand s known job wish now replied)
-    begun_keeps known None wish h =
-        wish_keeps (λ result view. replied result (record known { view = view })) (λ least result view high. high) known.view wish h
-    begun_keeps known (Some number) wish h = waits_keep known number h
-
-    done_keeps : (known : ManualKnown) (refused job : Option ℕ) (wish : Wish) → IsHighKnown term known
-        → High IsHighByHand term (done_by_hand s known refused job wish now replied)
-    done_keeps known (Some result) job wish h = h
-    done_keeps known None job wish h = begun_keeps known (if wants_handler known.view wish then job else None) wish h
+  asked_keeps : (ticket : ManualState) (waiters : List Waiter) (spare : ℕ) (given : Given) (request : Request) → IsHighTicket term ticket
+      → High IsHighByHand term (manual_asked ticket waiters spare given request)
+  unfolding manual_asked manual_reply say_to
+  asked_keeps ticket waiters spare given request h =
+      high_then IsHighBegun IsHighByHand term (done_by_hand ticket spare given request) _
+      (do_keeps (rules_of ticket) ticket.known.job
+      (refused_by_hand ticket.setup ticket.known.view (is_some ticket.known.job) spare given.ready request.options request.wish)
+      given.job request.wish given.now h)
+      (λ least done high. high)
 
 -- what is left of a manual ticket
 abbrev pub IsHigh : ℕ → Known → Type 0
@@ -238,9 +306,10 @@ high_lower term higher (Manual known) less h = (omega (arith, less, h.0), h.1)
 abbrev IsHighLeft : ℕ → TicketLeft → Type 0
 IsHighLeft term left = IsHigh term left.ticket.known
 
-as_left : (s : Setup) (term : ℕ) (deeds : Deeds TicketAsk ManualLeft) → High IsHighByHand term deeds
-    → High IsHighLeft term (by_hand s deeds)
-as_left s term deeds high = high_as IsHighByHand IsHighLeft (left_by_hand s) term deeds (λ least left g. g) high
+as_left : (term : ℕ) (deeds : Deeds TicketAsk ManualLeft) → High IsHighByHand term deeds
+    → High IsHighLeft term (deeds >>= (λ left. Ends (left_by_hand left)))
+as_left term deeds high =
+    high_then IsHighByHand IsHighLeft term deeds (λ left. Ends (left_by_hand left)) high (λ least left g. g)
 
 -- what befalls a ticket, of a term at least this one
 abbrev BefallsHigh : ℕ → Befalling → Type 0
@@ -248,27 +317,34 @@ BefallsHigh moment event =
     (s : Setup) (known : Known) (waiters : List Waiter) (spare term : ℕ) (ready : GrantKind → Bool) (job : Option ℕ) → IsHigh term known
     → High IsHighLeft term (befalls (record { setup = s; known = known }) waiters spare ready job event moment)
 
+-- a manual ticket, by its parts
+abbrev by_parts : Setup → ManualKnown → ManualState
+by_parts s known = record { setup = s; known = known }
+
 due_high : (moment : ℕ) → BefallsHigh moment comes_due
 due_high moment s (Automatic view) waiters spare term ready job h = absurd h
 due_high moment s (Manual known) waiters spare term ready job h =
-    as_left s term (manual_due s known waiters moment) (due_keeps s term known waiters moment h)
+    as_left term (manual_due (by_parts s known) waiters moment) (due_keeps term (by_parts s known) waiters moment h)
 
 told_high : (moment from : ℕ) (head : Head) (part : TicketPart) → BefallsHigh moment (is_told from head part)
 told_high moment from head part s (Automatic view) waiters spare term ready job h = absurd h
 told_high moment from head part s (Manual known) waiters spare term ready job h =
-    as_left s term (manual_heard s known waiters from head part) (heard_keeps s term known waiters from head part h)
+    high_then IsHighTicket IsHighLeft term (manual_heard (by_parts s known) from head part)
+    (λ ticket. Ends (left_by_hand (record { ticket = ticket; waiters = waiters })))
+    (heard_keeps term (by_parts s known) from head part h) (λ least ticket g. g)
 
 asked_high : (moment : ℕ) (request : Request) → BefallsHigh moment (is_asked request)
 asked_high moment request s (Automatic view) waiters spare term ready job h = absurd h
 asked_high moment request s (Manual known) waiters spare term ready job h =
-    as_left s term (manual_asked s known waiters spare (ready kinds.Manual) job request moment)
-    (done_keeps s term request waiters moment known
-    (refused_by_hand s known.view (is_some known.job) spare (ready kinds.Manual) request.options request.wish) job request.wish h)
+    let given : Given = record { now = moment; ready = ready kinds.Manual; job = job } in
+    as_left term (manual_asked (by_parts s known) waiters spare given request)
+    (asked_keeps term (by_parts s known) waiters spare given request h)
 
 over_high : (moment number : ℕ) (service : Service) → BefallsHigh moment (ends_job number service)
 over_high moment number service s (Automatic view) waiters spare term ready job h = absurd h
 over_high moment number service s (Manual known) waiters spare term ready job h =
-    as_left s term (manual_over s known waiters number service) (over_keeps_by_hand s term known waiters number service h)
+    as_left term (manual_over (by_parts s known) waiters number service)
+    (over_keeps_by_hand term (by_parts s known) waiters number service h)
 
 -- ---- the node's deeds
 
@@ -283,7 +359,7 @@ module _ (name : List ℕ) (place : ℕ) where
   -- the same of the node's deeds, in which other tickets' keeps stand between
   abbrev pub KeepsHigh : ℕ → Deeds Ask State → Type 0
   KeepsHigh term (Ends state) = IsPlaced term state.tickets
-  KeepsHigh term (Does (Send peer letter) go) = (ok : Bool) → KeepsHigh term (go ok)
+  KeepsHigh term (Does (Send peer message) go) = (ok : Bool) → KeepsHigh term (go ok)
   KeepsHigh term (Does (Keep ticket_name kept) go) =
       ((ticket_name ≢ name) × ((ok : Bool) → KeepsHigh term (go ok)))
       ⊎ ((term ≤ kept.term) × KeepsHigh kept.term (go true) × KeepsHigh term (go false))
@@ -299,7 +375,7 @@ module _ (name : List ℕ) (place : ℕ) where
 
   pub keeps_lower : (term higher : ℕ) (deeds : Deeds Ask State) → term ≤ higher → KeepsHigh higher deeds → KeepsHigh term deeds
   keeps_lower term higher (Ends state) less h = placed_lower term higher state.tickets less h
-  keeps_lower term higher (Does (Send peer letter) go) less h = λ ok. keeps_lower term higher (go ok) less (h ok)
+  keeps_lower term higher (Does (Send peer message) go) less h = λ ok. keeps_lower term higher (go ok) less (h ok)
   keeps_lower term higher (Does (Keep ticket_name kept) go) less (inl h) = inl (h.0, λ ok. keeps_lower term higher (go ok) less (h.1 ok))
   keeps_lower term higher (Does (Keep ticket_name kept) go) less (inr h) =
       inr (omega (arith, less, h.0), h.1, keeps_lower term higher (go false) less h.2)
@@ -307,9 +383,9 @@ module _ (name : List ℕ) (place : ℕ) where
 
   keeps_next : (f : State → Deeds Ask State) (term : ℕ) (deeds : Deeds Ask State)
       → ((least : ℕ) (state : State) → IsPlaced least state.tickets → KeepsHigh least (f state))
-      → KeepsHigh term deeds → KeepsHigh term (next deeds f)
+      → KeepsHigh term deeds → KeepsHigh term (deeds >>= f)
   keeps_next f term (Ends state) on h = on term state h
-  keeps_next f term (Does (Send peer letter) go) on h = λ ok. keeps_next f term (go ok) on (h ok)
+  keeps_next f term (Does (Send peer message) go) on h = λ ok. keeps_next f term (go ok) on (h ok)
   keeps_next f term (Does (Keep ticket_name kept) go) on (inl h) = inl (h.0, λ ok. keeps_next f term (go ok) on (h.1 ok))
   keeps_next f term (Does (Keep ticket_name kept) go) on (inr h) =
       inr (h.0, keeps_next f kept.term (go true) on h.1, keeps_next f term (go false) on h.2)
@@ -319,36 +395,36 @@ module _ (name : List ℕ) (place : ℕ) where
     own_keeps : (ticket_name : List ℕ) (term : ℕ) (common : Common) (deeds : Deeds TicketAsk TicketLeft) (rest : Common → TicketLeft → Deeds Ask State)
         → High IsHighLeft term deeds
         → ((least : ℕ) (counted : Common) (left : TicketLeft) → IsHighLeft least left → KeepsHigh least (rest counted left))
-        → KeepsHigh term (lifted node moment ticket_name common deeds rest)
+        → KeepsHigh term (lifts node moment ticket_name common deeds rest)
     own_keeps ticket_name term common (Ends left) rest h on = on term common left h
     own_keeps ticket_name term common (Does (KeepsRecord kept) go) rest h on =
         inr (h.0, own_keeps ticket_name kept.term common (go true) rest h.1 on, own_keeps ticket_name term common (go false) rest h.2 on)
     own_keeps ticket_name term common (Does (StartsJob job expires) go) rest h on =
-        λ ok. own_keeps ticket_name term (with_start common) (go ok) rest (h ok) on
+        λ ok. own_keeps ticket_name term (count_start common) (go ok) rest (h ok) on
     own_keeps ticket_name term common (Does (Say to head part) go) rest h on =
         by_peer (peer_of node.config to) (λ counted. own_keeps ticket_name term counted (go true) rest h on)
       where
-        by_peer : (o : Option Peer) → ((counted : Common) → KeepsHigh term (lifted node moment ticket_name counted (go true) rest))
-            → KeepsHigh term (sends o (sent_as node moment head part) common to (λ counted. lifted node moment ticket_name counted (go true) rest))
+        by_peer : (o : Option Peer) → ((counted : Common) → KeepsHigh term (lifts node moment ticket_name counted (go true) rest))
+            → KeepsHigh term (sends_on node moment ticket_name o (sent_as node moment head part) common to go rest)
         by_peer None more = more common
-        by_peer (Some peer) more = λ ok. more (with_send common to ok)
+        by_peer (Some peer) more = λ ok. more (count_send common to ok)
 
     other_keeps : (ticket_name : List ℕ) → ticket_name ≢ name → (term : ℕ) (common : Common) (P : TicketLeft → Type 0) (deeds : Deeds TicketAsk TicketLeft)
         (rest : Common → TicketLeft → Deeds Ask State)
         → Minds P ticket_name deeds → ((counted : Common) (left : TicketLeft) → P left → KeepsHigh term (rest counted left))
-        → KeepsHigh term (lifted node moment ticket_name common deeds rest)
+        → KeepsHigh term (lifts node moment ticket_name common deeds rest)
     other_keeps ticket_name other term common P (Ends left) rest m on = on common left m
     other_keeps ticket_name other term common P (Does (KeepsRecord kept) go) rest m on =
         inl (other, λ ok. other_keeps ticket_name other term common P (go ok) rest (m ok) on)
     other_keeps ticket_name other term common P (Does (StartsJob job expires) go) rest m on =
-        λ ok. other_keeps ticket_name other term (with_start common) P (go ok) rest (m ok) on
+        λ ok. other_keeps ticket_name other term (count_start common) P (go ok) rest (m ok) on
     other_keeps ticket_name other term common P (Does (Say to head part) go) rest m on =
         by_peer (peer_of node.config to) (λ counted. other_keeps ticket_name other term counted P (go true) rest m.1 on)
       where
-        by_peer : (o : Option Peer) → ((counted : Common) → KeepsHigh term (lifted node moment ticket_name counted (go true) rest))
-            → KeepsHigh term (sends o (sent_as node moment head part) common to (λ counted. lifted node moment ticket_name counted (go true) rest))
+        by_peer : (o : Option Peer) → ((counted : Common) → KeepsHigh term (lifts node moment ticket_name counted (go true) rest))
+            → KeepsHigh term (sends_on node moment ticket_name o (sent_as node moment head part) common to go rest)
         by_peer None more = more common
-        by_peer (Some peer) more = λ ok. more (with_send common to ok)
+        by_peer (Some peer) more = λ ok. more (count_send common to ok)
 
     -- what a ticket left stands in its place
     own_left : (state : State) (term least : ℕ) (counted : Common) (left : TicketLeft) → IsPlaced term state.tickets → IsHighLeft least left
@@ -432,7 +508,7 @@ module _ (name : List ℕ) (place : ℕ) where
         acts_keep state ticket term (is_asked request) (asked_high moment request)
         (λ t waiters spare ready job. minds_asked t.setup moment t.known waiters spare (ready kinds.Manual) job request) at
     met_keeps state from (Attends ticket request) term at = λ ok. at
-    met_keeps state from (Answers letter) term at = λ ok. at
+    met_keeps state from (Answers message) term at = λ ok. at
     met_keeps state from Rests term at = at
 
     -- a job is over, and each ticket is told

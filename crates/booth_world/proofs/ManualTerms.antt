@@ -157,9 +157,9 @@ module _ (ticket : TicketPlace) where
   makes term (Doing node (Ends old)) (calls.Next wait answer bytes) may x d =
       stays term (Doing node (Ends old)) (Hearing node old answer bytes) may x x.high
   makes term (Doing node (Ends old)) call may x d = absurd d
-  makes term (Doing node (Does (Send peer letter) go)) (calls.Send to bytes answer) may x d =
-      stays term (Doing node (Does (Send peer letter) go)) (Doing node (go (is_ok answer))) may x (x.high (is_ok answer))
-  makes term (Doing node (Does (Send peer letter) go)) call may x d = absurd d
+  makes term (Doing node (Does (Send peer message) go)) (calls.Send to bytes answer) may x d =
+      stays term (Doing node (Does (Send peer message) go)) (Doing node (go (is_ok answer))) may x (x.high (is_ok answer))
+  makes term (Doing node (Does (Send peer message) go)) call may x d = absurd d
   makes term (Doing node (Does (Keep name tried) go)) (calls.Keep ticket_name rec answer) may x d =
       keeps term node name tried go ticket_name rec (is_ok answer) may x d.0 d.1
   makes term (Doing node (Does (Keep name tried) go)) call may x d = absurd d
@@ -179,7 +179,7 @@ module _ (ticket : TicketPlace) where
   cuts term stand (CutStart job) may x d = stays term stand Down may x tt
   cuts term Down (CutKeep ticket_name rec) may x d = absurd d
   cuts term (Doing node (Ends old)) (CutKeep ticket_name rec) may x d = absurd d
-  cuts term (Doing node (Does (Send peer letter) go)) (CutKeep ticket_name rec) may x d = absurd d
+  cuts term (Doing node (Does (Send peer message) go)) (CutKeep ticket_name rec) may x d = absurd d
   cuts term (Doing node (Does (Start job) go)) (CutKeep ticket_name rec) may x d = absurd d
   cuts term (Doing node (Does (Keep name tried) go)) (CutKeep ticket_name rec) may x d =
       cuts_keep term node name tried go ticket_name rec may x d.0 d.1
@@ -206,14 +206,14 @@ module _ (ticket : TicketPlace) where
       → MayDo stand x → Has (with_next ticket may (x ∷ xs)) k → term ≤ k.term
   next_above term (Doing node (Does (Keep name tried) go)) may (Makes (calls.Keep ticket_name rec answer)) xs k x d h =
       next_keep term node name tried go ticket_name rec may k x d.0 d.1 h
-  next_above term (Doing node (Does (Send peer letter) go)) may (Makes (calls.Keep ticket_name rec answer)) xs k x d h = absurd d
+  next_above term (Doing node (Does (Send peer message) go)) may (Makes (calls.Keep ticket_name rec answer)) xs k x d h = absurd d
   next_above term (Doing node (Does (Start job) go)) may (Makes (calls.Keep ticket_name rec answer)) xs k x d h = absurd d
   next_above term (Doing node (Ends old)) may (Makes (calls.Keep ticket_name rec answer)) xs k x d h = absurd d
   next_above term Down may (Makes (calls.Keep ticket_name rec answer)) xs k x d h = absurd d
   next_above term (Hearing node old got into) may (Makes (calls.Keep ticket_name rec answer)) xs k x d h = absurd d
   next_above term (Doing node (Does (Keep name tried) go)) may (IsCut (CutKeep ticket_name rec)) xs k x d h =
       next_keep term node name tried go ticket_name rec may k x d.0 d.1 h
-  next_above term (Doing node (Does (Send peer letter) go)) may (IsCut (CutKeep ticket_name rec)) xs k x d h = absurd d
+  next_above term (Doing node (Does (Send peer message) go)) may (IsCut (CutKeep ticket_name rec)) xs k x d h = absurd d
   next_above term (Doing node (Does (Start job) go)) may (IsCut (CutKeep ticket_name rec)) xs k x d h = absurd d
   next_above term (Doing node (Ends old)) may (IsCut (CutKeep ticket_name rec)) xs k x d h = absurd d
   next_above term Down may (IsCut (CutKeep ticket_name rec)) xs k x d h = absurd d

@@ -5,7 +5,7 @@ use Rattle.std.specs.List.{range_with_len}
 use Rattle.std.specs.Option.{ForSome}
 use Rattle.std.proofs.lemmas.Option.{slice_get_within}
 use Rattle.booth_base.specs.declared.address.Peer.{Peer}
-use Rattle.booth_base.specs.Tree.{Deeds, next}
+use Rattle.booth_base.specs.Tree.{Deeds, ◌>>=◌}
 use Rattle.booth_chain.proofs.NodesLemmas.{same_or_not}
 use Rattle.booth_conf.specs.Config.{has_id}
 use Rattle.booth_conf.specs.Lookups.{is_called}
@@ -26,11 +26,12 @@ use Rattle.booth_host.specs.declared.host.Arrival.TheVariants as arrivals
 use Rattle.booth_raft.specs.declared.view.View.{View}
 use Rattle.booth_ticket.specs.declared.request.Request.{Request}
 use Rattle.booth_ticket.specs.declared.handling.Service.{Service}
-use Rattle.booth_ticket.specs.Automatic.{Left, end_job, hear_message}
+use Rattle.booth_ticket.specs.Automatic.{end_job, hear as hears_words, hear_message}
 use Rattle.booth_ticket.specs.Handling.{service_of}
-use Rattle.booth_ticket.specs.Requests.{wish}
-use Rattle.booth_ticket.specs.Ticket.{TicketState}
-use Rattle.booth_ticket.specs.Waiting.{spare_in, waiting_at}
+use Rattle.booth_ticket.specs.declared.request.Given.{Given}
+use Rattle.booth_ticket.specs.Requests.{follow_request}
+use Rattle.booth_ticket.specs.Ticket.{TicketState, left_as}
+use Rattle.booth_ticket.specs.Waiting.{Left, spare_in, waiting_at}
 use Rattle.booth_node.specs.declared.node.Turn.{Turn}
 use Rattle.booth_node.specs.declared.node_config.NodeConfig.{NodeConfig}
 use Rattle.booth_node.specs.declared.state.Common.{Common}
@@ -39,40 +40,40 @@ use Rattle.booth_node.specs.Counting.{dropped, accepted}
 use Rattle.booth_auth.specs.Verdict.{verdict}
 use Rattle.booth_conf.specs.declared.tickets.GrantKind.TheVariants.{Manual}
 use Rattle.booth_node.specs.AttributeRequests.{attr_request_in, is_ready}
-use Rattle.booth_node.proofs.ActionLemmas.{attr_to_client}
+use Rattle.booth_node.proofs.RoutingLemmas.{attr_to_client}
 use Rattle.booth_node.specs.Jobs.{handler_at, job_at}
 use Rattle.booth_node.specs.Reaction.{Ask, Action, Drops, Hears, Asks, Attends, Answers, Rests, answers, asks, attends, attended, requested, hears, said, routed, demanded, action, after_attending, met, turn_end, dues, acts, all_places, each_over, react}
 use Rattle.booth_node.specs.Replies.{Reply, answered, reply_to, request_in}
 use Rattle.booth_node.specs.State.{State, with_ticket}
-use Rattle.booth_world.specs.Rules.{MemberLetter, Hears as HearsLetter}
+use Rattle.booth_world.specs.Rules.{MemberMessage, Hears as HearsMessage}
 use Rattle.booth_world.specs.Turns.{TurnTree, Plan, plan_tree, call_tree, turn_tree, MayPlan, MayTurn}
 use Rattle.booth_world.proofs.Lists.{none_is, some_same}
 use Rattle.booth_world.proofs.Mirrors.{IsKept, Mirrors, mirrors_kept, mirrors_next}
 use Rattle.booth_world.proofs.Echoes.{echoes_as}
 use Rattle.booth_world.proofs.Plans.{always, ask_plan, ask_may, over_plan, over_may, heard, asked, job_ended}
-use Rattle.booth_world.proofs.NodeTrees.{IsFew, left_as, minds_heard, minds_asked, minds_over}
-use Rattle.booth_world.proofs.NodeTurns.{IsPlacedAt, IsOver, Over, over_kept, own_set, own_acts, other_acts, ready_in, after_plan, after_may, dues_over, below_most}
+use Rattle.booth_world.proofs.NodeTrees.{IsFew, minds_heard, minds_asked, minds_over}
+use Rattle.booth_world.proofs.NodeTurns.{IsPlacedAt, IsOver, Over, over_kept, left_set, own_acts, other_acts, ready_in, after_plan, after_may, dues_over, below_most}
 
 -- ---- what an action stands for
 
 -- a message was let in, that a member said about the ticket at a place
 pub record IsLetIn (node : NodeConfig) (r : Result PlainMessage DropFault) (member place : ℕ) (head : Head) (part : TicketPart) : Type 0 where
-  pub letter : PlainMessage
-  pub let_in : r ≡ Ok letter
-  pub between : direction_of letter.head.cmd ≡ BetweenMembers
-  pub head_is : letter.head ≡ head
-  pub content_is : letter.content ≡ Ticket part
+  pub message : PlainMessage
+  pub let_in : r ≡ Ok message
+  pub between : direction_of message.head.cmd ≡ BetweenMembers
+  pub head_is : message.head ≡ head
+  pub content_is : message.content ≡ Ticket part
   pub from : position (has_id head.from) node.config.members ≡ Some member
   pub about : position (is_called part.ticket) node.config.tickets ≡ Some place
 
 -- a reply says truly whether there is a key, and is no member's message
 abbrev pub IsReply : NodeConfig → PlainMessage → Type 0
-IsReply node letter = (letter.head.auth ≡ is_some node.key) × (direction_of letter.head.cmd ≡ BetweenMembers → ⊥)
+IsReply node message = (message.head.auth ≡ is_some node.key) × (direction_of message.head.cmd ≡ BetweenMembers → ⊥)
 
 -- what an action that hears or answers comes from
 abbrev Comes : NodeConfig → Result PlainMessage DropFault → Action → Type 0
 Comes node r (Hears member place head part) = IsLetIn node r member place head part
-Comes node r (Answers letter) = IsReply node letter
+Comes node r (Answers message) = IsReply node message
 Comes node r act = Unit {0}
 
 abbrev IsToClient : Option Cmd → Type 0
@@ -93,42 +94,42 @@ to_client cmd = tt
 not_between : (d : Direction) → d ≡ ToClient → d ≡ BetweenMembers → ⊥
 not_between d is e = cc
 
-module _ (node : NodeConfig) (moment : ℕ) (tickets : List TicketState) (common : Common) (r : Result PlainMessage DropFault) where
+module _ (node : NodeConfig) (now : ℕ) (tickets : List TicketState) (common : Common) (r : Result PlainMessage DropFault) where
   from_answer : (request : ℕ) (cmd : Option Cmd) (made : Option Reply) → IsToClient cmd
-      → Comes node r (answers node.key moment (answered node.me request cmd made))
+      → Comes node r (answers node.key now (answered node.me request cmd made))
   from_answer request None made client = tt
   from_answer request (Some cmd) None client = tt
   from_answer request (Some cmd) (Some made) client = (refl, not_between (direction_of cmd) client)
 
-  from_reply : (letter : PlainMessage) → Comes node r (answers node.key moment (reply_to node moment tickets common letter))
-  from_reply letter = from_answer letter.head.request (answer_of letter.head.cmd) _ (to_client letter.head.cmd)
+  from_reply : (message : PlainMessage) → Comes node r (answers node.key now (reply_to node now tickets common message))
+  from_reply message = from_answer message.head.request (answer_of message.head.cmd) _ (to_client message.head.cmd)
 
-  from_ask : (place : Option ℕ) (request : Request) (letter : PlainMessage)
-      → Comes node r (asks place request (answers node.key moment (reply_to node moment tickets common letter)))
-  from_ask None request letter = from_reply letter
-  from_ask (Some place) request letter = tt
+  from_ask : (place : Option ℕ) (request : Request) (message : PlainMessage)
+      → Comes node r (asks place request (answers node.key now (reply_to node now tickets common message)))
+  from_ask None request message = from_reply message
+  from_ask (Some place) request message = tt
 
-  from_attend : (place : Option ℕ) (request : AttributeAsking) (letter : PlainMessage)
-      → Comes node r (attends place request (answers node.key moment (reply_to node moment tickets common letter)))
-  from_attend None request letter = from_reply letter
-  from_attend (Some place) request letter = tt
+  from_attend : (place : Option ℕ) (request : AttributeAsking) (message : PlainMessage)
+      → Comes node r (attends place request (answers node.key now (reply_to node now tickets common message)))
+  from_attend None request message = from_reply message
+  from_attend (Some place) request message = tt
 
-  from_attended : (letter : PlainMessage) (found : Option AttributeAsking)
-      → Comes node r (attended node found (answers node.key moment (reply_to node moment tickets common letter)))
-  from_attended letter None = from_reply letter
-  from_attended letter (Some request) = from_attend _ request letter
+  from_attended : (message : PlainMessage) (found : Option AttributeAsking)
+      → Comes node r (attended node found (answers node.key now (reply_to node now tickets common message)))
+  from_attended message None = from_reply message
+  from_attended message (Some request) = from_attend _ request message
 
-  from_request : (letter : PlainMessage) (found : Option (TicketPart × Request)) → Comes node r (requested node moment tickets common letter found)
-  from_request letter None = from_attended letter (attr_request_in letter)
-  from_request letter (Some found) = from_ask (position (is_called found.0.ticket) node.config.tickets) found.1 letter
+  from_request : (message : PlainMessage) (found : Option (TicketPart × Request)) → Comes node r (requested node now tickets common message found)
+  from_request message None = from_attended message (attr_request_in message)
+  from_request message (Some found) = from_ask (position (is_called found.0.ticket) node.config.tickets) found.1 message
 
-  from_hear : (letter : PlainMessage) (part : TicketPart) (member place : Option ℕ) → r ≡ Ok letter → direction_of letter.head.cmd ≡ BetweenMembers
-      → letter.content ≡ Ticket part → position (has_id letter.head.from) node.config.members ≡ member
-      → position (is_called part.ticket) node.config.tickets ≡ place → Comes node r (hears member place letter.head part)
-  from_hear letter part None place is between content from about = tt
-  from_hear letter part (Some member) None is between content from about = tt
-  from_hear letter part (Some member) (Some place) is between content from about = record {
-    letter = letter;
+  from_hear : (message : PlainMessage) (part : TicketPart) (member place : Option ℕ) → r ≡ Ok message → direction_of message.head.cmd ≡ BetweenMembers
+      → message.content ≡ Ticket part → position (has_id message.head.from) node.config.members ≡ member
+      → position (is_called part.ticket) node.config.tickets ≡ place → Comes node r (hears member place message.head part)
+  from_hear message part None place is between content from about = tt
+  from_hear message part (Some member) None is between content from about = tt
+  from_hear message part (Some member) (Some place) is between content from about = record {
+    message = message;
     let_in = is;
     between = between;
     head_is = refl;
@@ -137,184 +138,190 @@ module _ (node : NodeConfig) (moment : ℕ) (tickets : List TicketState) (common
     about = about;
   }
 
-  from_said : (letter : PlainMessage) (content : Content) → letter.content ≡ content → r ≡ Ok letter → direction_of letter.head.cmd ≡ BetweenMembers
-      → Comes node r (said node letter.head content)
-  from_said letter Bare e is between = tt
-  from_said letter (Ticket part) e is between =
-      from_hear letter part (position (has_id letter.head.from) node.config.members) (position (is_called part.ticket) node.config.tickets) is between e refl refl
-  from_said letter (Attr part) e is between = tt
-  from_said letter (Text text) e is between = tt
+  from_said : (message : PlainMessage) (content : Content) → message.content ≡ content → r ≡ Ok message → direction_of message.head.cmd ≡ BetweenMembers
+      → Comes node r (said node message.head content)
+  from_said message Bare e is between = tt
+  from_said message (Ticket part) e is between =
+      from_hear message part (position (has_id message.head.from) node.config.members) (position (is_called part.ticket) node.config.tickets) is between e refl refl
+  from_said message (Attr part) e is between = tt
+  from_said message (Text text) e is between = tt
 
-  from_routed : (from : Peer) (letter : PlainMessage) (d : Direction) → direction_of letter.head.cmd ≡ d → r ≡ Ok letter
-      → Comes node r (routed node moment tickets common from letter d)
-  from_routed from letter ToDaemon e is = from_request letter (request_in from letter)
-  from_routed from letter ToClient e is = tt
-  from_routed from letter BetweenMembers e is = from_said letter letter.content refl is e
+  from_routed : (from : Peer) (message : PlainMessage) (d : Direction) → direction_of message.head.cmd ≡ d → r ≡ Ok message
+      → Comes node r (routed node now tickets common from message d)
+  from_routed from message ToDaemon e is = from_request message (request_in from message)
+  from_routed from message ToClient e is = tt
+  from_routed from message BetweenMembers e is = from_said message message.content refl is e
 
-  comes : (from : Peer) (o : Result PlainMessage DropFault) → r ≡ o → Comes node r (demanded node moment tickets common from o)
+  comes : (from : Peer) (o : Result PlainMessage DropFault) → r ≡ o → Comes node r (demanded node now tickets common from o)
   comes from (Err fault) e = tt
-  comes from (Ok letter) e = from_routed from letter (direction_of letter.head.cmd) refl e
+  comes from (Ok message) e = from_routed from message (direction_of message.head.cmd) refl e
 
 -- ---- the turn
 
-no_letter : (Good : MemberLetter → Type 0) → ForSome None Good
-no_letter Good = λ letter e. absurd (none_is letter e)
+no_message : (Good : MemberMessage → Type 0) → ForSome None Good
+no_message Good = λ message e. absurd (none_is message e)
 
-one_letter : (Good : MemberLetter → Type 0) (letter : MemberLetter) → Good letter → ForSome (Some letter) Good
-one_letter Good letter good = λ other e. subst Good (some_same letter other e) good
+one_message : (Good : MemberMessage → Type 0) (message : MemberMessage) → Good message → ForSome (Some message) Good
+one_message Good message good = λ other e. subst Good (some_same message other e) good
 
-module _ (s : Setup) (place : ℕ) (node : NodeConfig) (moment : ℕ) (all : s.members ≡ length node.config.members) (own : s.place < s.members)
-    (most : ℕ) (enough : 2 ^ 64 ≤ most) (Good : MemberLetter → Type 0) where
+module _ (s : Setup) (place : ℕ) (node : NodeConfig) (now : ℕ) (all : s.members ≡ length node.config.members) (own : s.place < s.members)
+    (most : ℕ) (enough : 2 ^ 64 ≤ most) (Good : MemberMessage → Type 0) where
   -- The deeds are those of a turn of the host: with the message that is heard, and a plan whose calls may be made.
   pub record IsTurnOf (view : View) (deeds : Deeds Ask State) : Type 0 where
-    pub came : Option MemberLetter
+    pub came : Option MemberMessage
     pub plan : View → Plan
-    pub may : MayTurn s moment view came plan
+    pub may : MayTurn s now view came plan
     pub good : ForSome came Good
-    pub over : (sent : List MemberLetter) → Over s place node moment all sent deeds (turn_tree s moment view came plan)
+    pub over : (sent : List MemberMessage) → Over s place node now all sent deeds (turn_tree s now view came plan)
 
-  -- what is heard of the ticket is a letter that may come, but for its stamp
+  -- what is heard of the ticket is a message that may come, but for its stamp
   abbrev pub Unstamped : ℕ → Head → TicketPart → Type 0
   Unstamped member head part =
       (plain : Head) × (auth : Bool) × (time : ℕ) × (head ≡ stamped_head auth time plain) × Good (record { sender = member; head = plain; part = part })
 
   module _ (turn : Turn) where
-    abbrev Then : List MemberLetter → State → TurnTree → Type 0
-    Then sent state tree = Over s place node moment all sent (dues node moment turn state) tree
+    abbrev Then : List MemberMessage → State → TurnTree → Type 0
+    Then sent state tree = Over s place node now all sent (dues node now turn state) tree
 
     abbrev ready_at : State → Bool
-    ready_at state = ready_in s place node moment all own most enough state
+    ready_at state = ready_in s place node now all own most enough state
 
     abbrev ready_by : State → Bool
     ready_by state = is_ready node state.attributes place Manual
 
     abbrev then_plan : State → View → Plan
-    then_plan state view = after_plan s place node moment all own most enough (ready_at state) turn view
+    then_plan state view = after_plan s place node now all own most enough (ready_at state) turn view
 
-    then_dues : (state : State) (view : View) (sent : List MemberLetter) → IsPlacedAt s place view state.tickets → state.last_reading ≡ moment
-        → IsFew state.common → Then sent state (plan_tree s moment view (then_plan state view))
-    then_dues state view sent at last_is few = dues_over s place node moment all own most enough turn state view sent at last_is few
+    then_dues : (state : State) (view : View) (sent : List MemberMessage) → IsPlacedAt s place view state.tickets → state.last_reading ≡ now
+        → IsFew state.common → Then sent state (plan_tree s now view (then_plan state view))
+    then_dues state view sent at last_is few = dues_over s place node now all own most enough turn state view sent at last_is few
 
-    nothing : (state : State) (view : View) → IsPlacedAt s place view state.tickets → state.last_reading ≡ moment
-        → IsFew state.common → IsTurnOf view (dues node moment turn state)
+    nothing : (state : State) (view : View) → IsPlacedAt s place view state.tickets → state.last_reading ≡ now
+        → IsFew state.common → IsTurnOf view (dues node now turn state)
     nothing state view at last_is few = record {
       came = None;
       plan = then_plan state;
-      may = after_may s place node moment all own most enough (ready_at state) turn view;
-      good = no_letter Good;
+      may = after_may s place node now all own most enough (ready_at state) turn view;
+      good = no_message Good;
       over = λ sent. then_dues state view sent at last_is few;
     }
 
     -- what the ticket leaves goes on with the deadlines
-    abbrev LeftThen : State → List MemberLetter → Left → TurnTree → Type 0
-    LeftThen state sent left tree = (counted : Common) → IsFew counted → Then sent (with_ticket state place counted (left_as s moment left)) tree
+    abbrev LeftThen : State → List MemberMessage → Left → TurnTree → Type 0
+    LeftThen state sent left tree = (counted : Common) → IsFew counted → Then sent (with_ticket state place counted (left_as left)) tree
 
     left_kept : (state : State) → IsKept (LeftThen state)
     left_kept state left sent sent' tree tree' x m =
-        λ counted few_now. mirrors_kept node s (IsOver s place node moment all) (dues node moment turn (with_ticket state place counted (left_as s moment left)))
-        (over_kept s place node moment all) sent sent' tree tree' x (m counted few_now)
+        λ counted few_now. mirrors_kept node s (IsOver s place node now all) (dues node now turn (with_ticket state place counted (left_as left)))
+        (over_kept s place node now all) sent sent' tree tree' x (m counted few_now)
 
-    left_dues : (state : State) (view : View) → IsPlacedAt s place view state.tickets → state.last_reading ≡ moment
-        → (left : Left) (sent : List MemberLetter) → LeftThen state sent left (plan_tree s moment left.view (then_plan state left.view))
-    left_dues state view at last_is left sent =
-        λ counted few_now. then_dues (with_ticket state place counted (left_as s moment left)) left.view sent (own_set s place view left.view state.tickets at) last_is few_now
+    left_dues : (state : State) (view : View) → IsPlacedAt s place view state.tickets → state.last_reading ≡ now
+        → (left : Left) (sent : List MemberMessage) → left.core.setup ≡ s
+        → LeftThen state sent left (plan_tree s now left.core.view (then_plan state left.core.view))
+    left_dues state view at last_is left sent same =
+        λ counted few_now. then_dues (with_ticket state place counted (left_as left)) left.core.view sent
+        (left_set s place view state.tickets left same at) last_is few_now
 
-    joined : (deeds : Deeds Ask State) (sent : List MemberLetter) (tree : TurnTree)
-        → Mirrors node s Then sent deeds tree → Over s place node moment all sent (next deeds (dues node moment turn)) tree
+    joined : (deeds : Deeds Ask State) (sent : List MemberMessage) (tree : TurnTree)
+        → Mirrors node s Then sent deeds tree → Over s place node now all sent (deeds >>= dues node now turn) tree
     joined deeds sent tree m =
-        mirrors_next node s Then (IsOver s place node moment all) (dues node moment turn) sent deeds tree (λ sent' state' tree' x. x) m
+        mirrors_next node s Then (IsOver s place node now all) (dues node now turn) sent deeds tree (λ sent' state' tree' x. x) m
 
     hears_own : (state : State) (view : View) (member : ℕ) (head : Head) (part : TicketPart) → IsPlacedAt s place view state.tickets
-        → state.last_reading ≡ moment → IsFew state.common → Unstamped member head part
-        → IsTurnOf view (next (acts node moment state place (is_told member head part)) (dues node moment turn))
+        → state.last_reading ≡ now → IsFew state.common → Unstamped member head part
+        → IsTurnOf view (acts node now state place (is_told member head part) >>= dues node now turn)
+    unfolding hears_words hear_message
     hears_own state view member head part at last_is few plain = record {
       came = Some (record { sender = member; head = plain.0; part = part });
       plan = then_plan state;
-      may = always (λ left. MayPlan s moment left (then_plan state left))
-          (call_tree s moment view (HearsLetter (record { sender = member; head = plain.0; part = part })))
-          (after_may s place node moment all own most enough (ready_at state) turn);
-      good = one_letter Good _ plain.4;
-      over = λ sent. joined (acts node moment state place (is_told member head part)) sent (heard_tree plain.0)
-          (subst (λ (h : Head). Mirrors node s Then sent (acts node moment state place (is_told member h part)) (heard_tree plain.0))
+      may = always (λ left. MayPlan s now left (then_plan state left))
+          (call_tree s now view (HearsMessage (record { sender = member; head = plain.0; part = part })))
+          (after_may s place node now all own most enough (ready_at state) turn);
+      good = one_message Good _ plain.4;
+      over = λ sent. joined (acts node now state place (is_told member head part)) sent (heard_tree plain.0)
+          (subst (λ (h : Head). Mirrors node s Then sent (acts node now state place (is_told member h part)) (heard_tree plain.0))
           (sym plain.3)
-          (own_acts s place node moment all Then state view (is_told member (stamped_head plain.1 plain.2 plain.0) part) sent (heard_tree plain.0) few at.own
-          (echoes_as s (LeftThen state) (λ sent' left tree'. (counted : Common) → IsFew counted → Then sent' (with_ticket state place counted left) tree') (left_as s moment)
-          sent (hear_message s view (waiting_at state.waiters place) member plain.0 part moment) (heard_tree plain.0) (λ sent' left tree' m. m)
-          (heard s moment most own (LeftThen state) (left_kept state) (then_plan state) (left_dues state view at last_is) (handler_at node place)
-          state.common.next_job (below_most s place node moment all own most enough state.common few) view (waiting_at state.waiters place) member plain.0 part sent))));
+          (own_acts s place node now all Then state view (is_told member (stamped_head plain.1 plain.2 plain.0) part) sent (heard_tree plain.0) few at.own
+          (echoes_as s (LeftThen state) (λ sent' left tree'. (counted : Common) → IsFew counted → Then sent' (with_ticket state place counted left) tree') left_as
+          sent (hears_words (record { setup = s; view = view }) (waiting_at state.waiters place) member plain.0 part now) (heard_tree plain.0) (λ sent' left tree' m. m)
+          (heard s now most own (LeftThen state) (left_kept state) (then_plan state) (left_dues state view at last_is) (handler_at node place)
+          state.common.next_job (below_most s place node now all own most enough state.common few) view (waiting_at state.waiters place) member plain.0 part sent))));
     }
       where
         heard_tree : Head → TurnTree
-        heard_tree h = turn_tree s moment view (Some (record { sender = member; head = h; part = part })) (then_plan state)
+        heard_tree h = turn_tree s now view (Some (record { sender = member; head = h; part = part })) (then_plan state)
 
-    asks_own : (state : State) (view : View) (request : Request) → IsPlacedAt s place view state.tickets → state.last_reading ≡ moment
-        → IsFew state.common → IsTurnOf view (next (acts node moment state place (is_asked request)) (dues node moment turn))
+    asks_own : (state : State) (view : View) (request : Request) → IsPlacedAt s place view state.tickets → state.last_reading ≡ now
+        → IsFew state.common → IsTurnOf view (acts node now state place (is_asked request) >>= dues node now turn)
     asks_own state view request at last_is few = record {
       came = None;
       plan = asks_so;
-      may = ask_may s moment most (spare_in state.waiters) (ready_by state) (handler_at node place) request (then_plan state)
-          (after_may s place node moment all own most enough (ready_at state) turn) view;
-      good = no_letter Good;
-      over = λ sent. joined (acts node moment state place (is_asked request)) sent (plan_tree s moment view (asks_so view))
-          (own_acts s place node moment all Then state view (is_asked request) sent (plan_tree s moment view (asks_so view)) few at.own
+      may = ask_may s now most (spare_in state.waiters) (ready_by state) (handler_at node place) request (then_plan state)
+          (after_may s place node now all own most enough (ready_at state) turn) view;
+      good = no_message Good;
+      over = λ sent. joined (acts node now state place (is_asked request)) sent (plan_tree s now view (asks_so view))
+          (own_acts s place node now all Then state view (is_asked request) sent (plan_tree s now view (asks_so view)) few at.own
           (echoes_as s (LeftThen state) (λ sent' left tree'. (counted : Common) → IsFew counted → Then sent' (with_ticket state place counted left) tree')
-          (left_as s moment) sent
-          (wish s view (waiting_at state.waiters place) (spare_in state.waiters) (ready_by state) (job_at node place state.common) request request.wish moment)
-          (plan_tree s moment view (asks_so view)) (λ sent' left tree' m. m)
-          (asked s moment most own (LeftThen state) (left_kept state) (then_plan state) (left_dues state view at last_is) (handler_at node place)
-          state.common.next_job (below_most s place node moment all own most enough state.common few) view (waiting_at state.waiters place)
+          left_as sent
+          (follow_request (record { setup = s; view = view }) (waiting_at state.waiters place) (spare_in state.waiters) given request request.wish)
+          (plan_tree s now view (asks_so view)) (λ sent' left tree' m. m)
+          (asked s now most own (LeftThen state) (left_kept state) (then_plan state) (left_dues state view at last_is) (handler_at node place)
+          state.common.next_job (below_most s place node now all own most enough state.common few) view (waiting_at state.waiters place)
           (spare_in state.waiters) (ready_by state) request sent)));
     }
       where
+        given : Given
+        given = record { now = now; ready = ready_by state; job = job_at node place state.common }
+
         asks_so : View → Plan
-        asks_so = ask_plan s moment most (spare_in state.waiters) (ready_by state) (handler_at node place) request (then_plan state)
+        asks_so = ask_plan s now most (spare_in state.waiters) (ready_by state) (handler_at node place) request (then_plan state)
 
     hears_other : (state : State) (view : View) (member other : ℕ) (head : Head) (part : TicketPart) → other ≢ place → IsPlacedAt s place view state.tickets
-        → state.last_reading ≡ moment → IsFew state.common → IsTurnOf view (next (acts node moment state other (is_told member head part)) (dues node moment turn))
+        → state.last_reading ≡ now → IsFew state.common → IsTurnOf view (acts node now state other (is_told member head part) >>= dues node now turn)
     hears_other state view member other head part ne at last_is few = record {
       came = None;
       plan = then_plan state;
-      may = after_may s place node moment all own most enough (ready_at state) turn view;
-      good = no_letter Good;
-      over = λ sent. joined (acts node moment state other (is_told member head part)) sent (plan_tree s moment view (then_plan state view))
-          (other_acts s place node moment all Then state view other (is_told member head part) sent (plan_tree s moment view (then_plan state view)) at ne few
-          (λ t waiters spare ready job. minds_heard t.setup moment t.known waiters member head part)
+      may = after_may s place node now all own most enough (ready_at state) turn view;
+      good = no_message Good;
+      over = λ sent. joined (acts node now state other (is_told member head part)) sent (plan_tree s now view (then_plan state view))
+          (other_acts s place node now all Then state view other (is_told member head part) sent (plan_tree s now view (then_plan state view)) at ne few
+          (λ t waiters spare ready job. minds_heard t.setup now t.known waiters member head part)
           (λ tickets waiters counted few_now placed_now. then_dues (record state { tickets = tickets; waiters = waiters; common = counted }) view sent placed_now last_is few_now));
     }
 
     asks_other : (state : State) (view : View) (other : ℕ) (request : Request) → other ≢ place → IsPlacedAt s place view state.tickets
-        → state.last_reading ≡ moment → IsFew state.common → IsTurnOf view (next (acts node moment state other (is_asked request)) (dues node moment turn))
+        → state.last_reading ≡ now → IsFew state.common → IsTurnOf view (acts node now state other (is_asked request) >>= dues node now turn)
     asks_other state view other request ne at last_is few = record {
       came = None;
       plan = then_plan state;
-      may = after_may s place node moment all own most enough (ready_at state) turn view;
-      good = no_letter Good;
-      over = λ sent. joined (acts node moment state other (is_asked request)) sent (plan_tree s moment view (then_plan state view))
-          (other_acts s place node moment all Then state view other (is_asked request) sent (plan_tree s moment view (then_plan state view)) at ne few
-          (λ t waiters spare ready job. minds_asked t.setup moment t.known waiters spare (ready Manual) job request)
+      may = after_may s place node now all own most enough (ready_at state) turn view;
+      good = no_message Good;
+      over = λ sent. joined (acts node now state other (is_asked request)) sent (plan_tree s now view (then_plan state view))
+          (other_acts s place node now all Then state view other (is_asked request) sent (plan_tree s now view (then_plan state view)) at ne few
+          (λ t waiters spare ready job. minds_asked t.setup now t.known waiters spare (ready Manual) job request)
           (λ tickets waiters counted few_now placed_now. then_dues (record state { tickets = tickets; waiters = waiters; common = counted }) view sent placed_now last_is few_now));
     }
 
     meets : (r : Result PlainMessage DropFault) (state : State) (view : View) (from : Peer) (act : Action) → IsPlacedAt s place view state.tickets
-        → state.last_reading ≡ moment → IsFew state.common → Comes node r act
+        → state.last_reading ≡ now → IsFew state.common → Comes node r act
         → ((member : ℕ) (head : Head) (part : TicketPart) → IsLetIn node r member place head part → Unstamped member head part)
-        → IsTurnOf view (next (met node moment state from act) (dues node moment turn))
+        → IsTurnOf view (met node now state from act >>= dues node now turn)
     meets r state view from (Drops fault) at last_is few c unstamp = nothing (dropped state fault) view at last_is few
     meets r state view from (Hears member ticket head part) at last_is few c unstamp = by_place (same_or_not ticket place)
       where
         by_place : (ticket ≡ place) ⊎ (ticket ≢ place)
-            → IsTurnOf view (next (acts node moment (accepted state member moment) ticket (is_told member head part)) (dues node moment turn))
+            → IsTurnOf view (acts node now (accepted state member now) ticket (is_told member head part) >>= dues node now turn)
         by_place (inl e) =
-            subst (λ (p : ℕ). IsTurnOf view (next (acts node moment (accepted state member moment) p (is_told member head part)) (dues node moment turn))) (sym e)
-            (hears_own (accepted state member moment) view member head part at last_is few
+            subst (λ (p : ℕ). IsTurnOf view (acts node now (accepted state member now) p (is_told member head part) >>= dues node now turn)) (sym e)
+            (hears_own (accepted state member now) view member head part at last_is few
             (unstamp member head part (subst (λ (p : ℕ). IsLetIn node r member p head part) e c)))
-        by_place (inr ne) = hears_other (accepted state member moment) view member ticket head part ne at last_is few
+        by_place (inr ne) = hears_other (accepted state member now) view member ticket head part ne at last_is few
     meets r state view from (Asks ticket request) at last_is few c unstamp = by_place (same_or_not ticket place)
       where
         by_place : (ticket ≡ place) ⊎ (ticket ≢ place)
-            → IsTurnOf view (next (acts node moment state ticket (is_asked request)) (dues node moment turn))
+            → IsTurnOf view (acts node now state ticket (is_asked request) >>= dues node now turn)
         by_place (inl e) =
-            subst (λ (p : ℕ). IsTurnOf view (next (acts node moment state p (is_asked request)) (dues node moment turn))) (sym e)
+            subst (λ (p : ℕ). IsTurnOf view (acts node now state p (is_asked request) >>= dues node now turn)) (sym e)
             (asks_own state view request at last_is few)
         by_place (inr ne) = asks_other state view ticket request ne at last_is few
     meets r state view from (Attends ticket request) at last_is few c unstamp =
@@ -322,18 +329,18 @@ module _ (s : Setup) (place : ℕ) (node : NodeConfig) (moment : ℕ) (all : s.m
         record {
           came = None;
           plan = then_plan after;
-          may = after_may s place node moment all own most enough (ready_at after) turn view;
-          good = no_letter Good;
+          may = after_may s place node now all own most enough (ready_at after) turn view;
+          good = no_message Good;
           over = λ sent. (
             record { truly = refl; spoken = λ part between is named. absurd (attr_to_client _ between) },
             λ ok. then_dues after view sent at last_is few,
           );
         }
-    meets r state view from (Answers letter) at last_is few c unstamp = record {
+    meets r state view from (Answers message) at last_is few c unstamp = record {
       came = None;
       plan = then_plan state;
-      may = after_may s place node moment all own most enough (ready_at state) turn view;
-      good = no_letter Good;
+      may = after_may s place node now all own most enough (ready_at state) turn view;
+      good = no_message Good;
       over = λ sent. (
         record { truly = c.0; spoken = λ part between is named. absurd (c.1 between) },
         λ ok. then_dues state view sent at last_is few,
@@ -344,84 +351,84 @@ module _ (s : Setup) (place : ℕ) (node : NodeConfig) (moment : ℕ) (all : s.m
     -- ---- a job is over
 
     module _ (job : ℕ) (service : Service) where
-      abbrev Told : List MemberLetter → Deeds Ask State → TurnTree → Type 0
+      abbrev Told : List MemberMessage → Deeds Ask State → TurnTree → Type 0
       Told sent deeds tree = Mirrors node s Then sent deeds tree
 
       abbrev after_tree : View → Bool → TurnTree
-      after_tree view ready = plan_tree s moment view (after_plan s place node moment all own most enough ready turn view)
+      after_tree view ready = plan_tree s now view (after_plan s place node now all own most enough ready turn view)
 
       abbrev tells_plan : Bool → View → Plan
-      tells_plan ready view = over_plan s moment job service (after_plan s place node moment all own most enough ready turn) view
+      tells_plan ready view = over_plan s now job service (after_plan s place node now all own most enough ready turn) view
 
       -- the ticket stands so, and this is what its host does
-      pub record StandsSo (tree : TurnTree) (view : View) (ready : Bool) (sent : List MemberLetter) (state : State) (now : TurnTree) : Type 0 where
-        pub same : now ≡ tree
+      pub record StandsSo (tree : TurnTree) (view : View) (ready : Bool) (sent : List MemberMessage) (state : State) (standing : TurnTree) : Type 0 where
+        pub same : standing ≡ tree
         pub placed_at : IsPlacedAt s place view state.tickets
-        pub moment_is : state.last_reading ≡ moment
+        pub moment_is : state.last_reading ≡ now
         pub few : IsFew state.common
         pub ready_is : ready_at state ≡ ready
 
       -- the tickets that come behind this one
-      others_over : (n from : ℕ) (state : State) (view : View) (ready : Bool) (sent : List MemberLetter) → place < from
-          → IsPlacedAt s place view state.tickets → state.last_reading ≡ moment → IsFew state.common → ready_at state ≡ ready
-          → Told sent (each_over node moment job service (range_with_len from n) state) (after_tree view ready)
+      others_over : (n from : ℕ) (state : State) (view : View) (ready : Bool) (sent : List MemberMessage) → place < from
+          → IsPlacedAt s place view state.tickets → state.last_reading ≡ now → IsFew state.common → ready_at state ≡ ready
+          → Told sent (each_over node now job service (range_with_len from n) state) (after_tree view ready)
       others_over zero from state view ready sent behind at last_is few ready_is =
           subst (λ (b : Bool). Then sent state (after_tree view b)) ready_is (then_dues state view sent at last_is few)
       others_over (suc n) from state view ready sent behind at last_is few ready_is =
           mirrors_next node s (StandsSo (after_tree view ready) view ready) Then
-          (each_over node moment job service (range_with_len (from + 1) n)) sent (acts node moment state from (ends_job job service)) (after_tree view ready)
-          (λ sent' state' tree' m. subst (λ (t : TurnTree). Told sent' (each_over node moment job service (range_with_len (from + 1) n) state') t) (sym m.same)
+          (each_over node now job service (range_with_len (from + 1) n)) sent (acts node now state from (ends_job job service)) (after_tree view ready)
+          (λ sent' state' tree' m. subst (λ (t : TurnTree). Told sent' (each_over node now job service (range_with_len (from + 1) n) state') t) (sym m.same)
           (others_over n (from + 1) state' view ready sent' (omega (arith, behind)) m.placed_at m.moment_is m.few m.ready_is))
-          (other_acts s place node moment all (StandsSo (after_tree view ready) view ready) state view from (ends_job job service) sent (after_tree view ready) at
+          (other_acts s place node now all (StandsSo (after_tree view ready) view ready) state view from (ends_job job service) sent (after_tree view ready) at
           (λ e. absurd (omega (arith, behind, e))) few
-          (λ t waiters spare ready_of next_job. minds_over t.setup moment t.known waiters job service)
+          (λ t waiters spare ready_of next_job. minds_over t.setup now t.known waiters job service)
           (λ tickets waiters counted few_now placed_now.
           record { same = refl; placed_at = placed_now; moment_is = last_is; few = few_now; ready_is = ready_is }))
 
       -- what this ticket leaves goes on with those behind it, and then with the deadlines
-      abbrev LeftOver : ℕ → State → List MemberLetter → Left → TurnTree → Type 0
+      abbrev LeftOver : ℕ → State → List MemberMessage → Left → TurnTree → Type 0
       LeftOver n state sent left tree =
           (counted : Common) → IsFew counted
-          → Told sent (each_over node moment job service (range_with_len (place + 1) n) (with_ticket state place counted (left_as s moment left))) tree
+          → Told sent (each_over node now job service (range_with_len (place + 1) n) (with_ticket state place counted (left_as left))) tree
 
       then_kept : IsKept Then
       then_kept state sent sent' tree tree' x m =
-          mirrors_kept node s (IsOver s place node moment all) (dues node moment turn state) (over_kept s place node moment all) sent sent' tree
+          mirrors_kept node s (IsOver s place node now all) (dues node now turn state) (over_kept s place node now all) sent sent' tree
           tree' x m
 
       over_left : (n : ℕ) (state : State) → IsKept (LeftOver n state)
       over_left n state left sent sent' tree tree' x m =
           λ counted few_now. mirrors_kept node s Then
-          (each_over node moment job service (range_with_len (place + 1) n) (with_ticket state place counted (left_as s moment left))) then_kept sent sent' tree
+          (each_over node now job service (range_with_len (place + 1) n) (with_ticket state place counted (left_as left))) then_kept sent sent' tree
           tree' x (m counted few_now)
 
-      own_over : (n : ℕ) (state : State) (view : View) (sent : List MemberLetter) → IsPlacedAt s place view state.tickets → state.last_reading ≡ moment
+      own_over : (n : ℕ) (state : State) (view : View) (sent : List MemberMessage) → IsPlacedAt s place view state.tickets → state.last_reading ≡ now
           → IsFew state.common
-          → Told sent (next (acts node moment state place (ends_job job service)) (each_over node moment job service (range_with_len (place + 1) n)))
-          (plan_tree s moment view (tells_plan (ready_at state) view))
+          → Told sent (acts node now state place (ends_job job service) >>= each_over node now job service (range_with_len (place + 1) n))
+          (plan_tree s now view (tells_plan (ready_at state) view))
       own_over n state view sent at last_is few =
-          mirrors_next node s Next Then (each_over node moment job service (range_with_len (place + 1) n)) sent
-          (acts node moment state place (ends_job job service)) tree (λ sent' state' tree' m. m)
-          (own_acts s place node moment all Next state view (ends_job job service) sent tree few at.own
+          mirrors_next node s Next Then (each_over node now job service (range_with_len (place + 1) n)) sent
+          (acts node now state place (ends_job job service)) tree (λ sent' state' tree' m. m)
+          (own_acts s place node now all Next state view (ends_job job service) sent tree few at.own
           (echoes_as s (LeftOver n state) (λ sent' left tree'. (counted : Common) → IsFew counted → Next sent' (with_ticket state place counted left) tree')
-          (left_as s moment) sent (end_job s view (waiting_at state.waiters place) job service moment) tree (λ sent' left tree' m. m)
-          (job_ended s moment most own (LeftOver n state) (over_left n state) (then_plan state)
-          (λ left sent' counted few_now.
-          others_over n (place + 1) (with_ticket state place counted (left_as s moment left)) left.view (ready_at state) sent' (omega arith)
-          (own_set s place view left.view state.tickets at) last_is few_now refl)
-          (handler_at node place) state.common.next_job (below_most s place node moment all own most enough state.common few) view
+          left_as sent (end_job (record { setup = s; view = view }) (waiting_at state.waiters place) job service now) tree (λ sent' left tree' m. m)
+          (job_ended s now most own (LeftOver n state) (over_left n state) (then_plan state)
+          (λ left sent' same counted few_now.
+          others_over n (place + 1) (with_ticket state place counted (left_as left)) left.core.view (ready_at state) sent' (omega arith)
+          (left_set s place view state.tickets left same at) last_is few_now refl)
+          (handler_at node place) state.common.next_job (below_most s place node now all own most enough state.common few) view
           (waiting_at state.waiters place) job service sent)))
         where
           tree : TurnTree
-          tree = plan_tree s moment view (tells_plan (ready_at state) view)
+          tree = plan_tree s now view (tells_plan (ready_at state) view)
 
-          Next : List MemberLetter → State → TurnTree → Type 0
-          Next sent' state' tree' = Told sent' (each_over node moment job service (range_with_len (place + 1) n) state') tree'
+          Next : List MemberMessage → State → TurnTree → Type 0
+          Next sent' state' tree' = Told sent' (each_over node now job service (range_with_len (place + 1) n) state') tree'
 
       -- all tickets from this place on, this one among them
-      all_over : (n from : ℕ) (state : State) (view : View) (ready : Bool) (sent : List MemberLetter) → from ≤ place → place < from + n
-          → IsPlacedAt s place view state.tickets → state.last_reading ≡ moment → IsFew state.common → ready_at state ≡ ready
-          → Told sent (each_over node moment job service (range_with_len from n) state) (plan_tree s moment view (tells_plan ready view))
+      all_over : (n from : ℕ) (state : State) (view : View) (ready : Bool) (sent : List MemberMessage) → from ≤ place → place < from + n
+          → IsPlacedAt s place view state.tickets → state.last_reading ≡ now → IsFew state.common → ready_at state ≡ ready
+          → Told sent (each_over node now job service (range_with_len from n) state) (plan_tree s now view (tells_plan ready view))
       all_over zero from state view ready sent before within at last_is few ready_is = absurd (omega (arith, before, within))
       all_over (suc n) from state view ready sent before within at last_is few ready_is =
           by_place (same_or_not from place)
@@ -429,39 +436,39 @@ module _ (s : Setup) (place : ℕ) (node : NodeConfig) (moment : ℕ) (all : s.m
           all_over n (from + 1) state' view ready sent' before_now (omega (arith, within)) at_now last_now few_now ready_now)
         where
           tree : TurnTree
-          tree = plan_tree s moment view (tells_plan ready view)
+          tree = plan_tree s now view (tells_plan ready view)
 
           by_place : (from ≡ place) ⊎ (from ≢ place)
-              → ((state' : State) (sent' : List MemberLetter) → from + 1 ≤ place → IsPlacedAt s place view state'.tickets
-              → state'.last_reading ≡ moment → IsFew state'.common → ready_at state' ≡ ready
-              → Told sent' (each_over node moment job service (range_with_len (from + 1) n) state') tree)
-              → Told sent (each_over node moment job service (range_with_len from (suc n)) state) tree
+              → ((state' : State) (sent' : List MemberMessage) → from + 1 ≤ place → IsPlacedAt s place view state'.tickets
+              → state'.last_reading ≡ now → IsFew state'.common → ready_at state' ≡ ready
+              → Told sent' (each_over node now job service (range_with_len (from + 1) n) state') tree)
+              → Told sent (each_over node now job service (range_with_len from (suc n)) state) tree
           by_place (inl e) rest =
-              subst (λ (p : ℕ). Told sent (next (acts node moment state p (ends_job job service)) (each_over node moment job service (range_with_len (p + 1) n))) tree)
+              subst (λ (p : ℕ). Told sent (acts node now state p (ends_job job service) >>= each_over node now job service (range_with_len (p + 1) n)) tree)
               (sym e)
               (subst (λ (b : Bool). Told sent
-              (next (acts node moment state place (ends_job job service)) (each_over node moment job service (range_with_len (place + 1) n)))
-              (plan_tree s moment view (tells_plan b view))) ready_is (own_over n state view sent at last_is few))
+              (acts node now state place (ends_job job service) >>= each_over node now job service (range_with_len (place + 1) n))
+              (plan_tree s now view (tells_plan b view))) ready_is (own_over n state view sent at last_is few))
           by_place (inr ne) rest =
-              mirrors_next node s (StandsSo tree view ready) Then (each_over node moment job service (range_with_len (from + 1) n)) sent
-              (acts node moment state from (ends_job job service)) tree
+              mirrors_next node s (StandsSo tree view ready) Then (each_over node now job service (range_with_len (from + 1) n)) sent
+              (acts node now state from (ends_job job service)) tree
               (λ sent' state' tree' m.
-              subst (λ (t : TurnTree). Told sent' (each_over node moment job service (range_with_len (from + 1) n) state') t) (sym m.same)
+              subst (λ (t : TurnTree). Told sent' (each_over node now job service (range_with_len (from + 1) n) state') t) (sym m.same)
               (rest state' sent' (omega (arith, before, ne)) m.placed_at m.moment_is m.few m.ready_is))
-              (other_acts s place node moment all (StandsSo tree view ready) state view from (ends_job job service) sent tree at ne few
-              (λ t waiters spare ready_of next_job. minds_over t.setup moment t.known waiters job service)
+              (other_acts s place node now all (StandsSo tree view ready) state view from (ends_job job service) sent tree at ne few
+              (λ t waiters spare ready_of next_job. minds_over t.setup now t.known waiters job service)
               (λ tickets waiters counted few_now placed_now.
               record { same = refl; placed_at = placed_now; moment_is = last_is; few = few_now; ready_is = ready_is }))
 
-      ends_so : (state : State) (view : View) → IsPlacedAt s place view state.tickets → state.last_reading ≡ moment → IsFew state.common
-          → IsTurnOf view (next (each_over node moment job service (all_places state) state) (dues node moment turn))
+      ends_so : (state : State) (view : View) → IsPlacedAt s place view state.tickets → state.last_reading ≡ now → IsFew state.common
+          → IsTurnOf view (each_over node now job service (all_places state) state >>= dues node now turn)
       ends_so state view at last_is few = record {
         came = None;
         plan = tells_plan (ready_at state);
-        may = over_may s moment most job service (then_plan state) (after_may s place node moment all own most enough (ready_at state) turn) view;
-        good = no_letter Good;
+        may = over_may s now most job service (then_plan state) (after_may s place node now all own most enough (ready_at state) turn) view;
+        good = no_message Good;
         over = λ sent. let inside : place < length state.tickets = slice_get_within state.tickets place _ at.own in
-            joined (each_over node moment job service (all_places state) state) sent (plan_tree s moment view (tells_plan (ready_at state) view))
+            joined (each_over node now job service (all_places state) state) sent (plan_tree s now view (tells_plan (ready_at state) view))
             (all_over (length state.tickets) 0 state view (ready_at state) sent (omega arith) (omega (arith, inside)) at last_is few refl);
       }
 
@@ -469,17 +476,17 @@ module _ (s : Setup) (place : ℕ) (node : NodeConfig) (moment : ℕ) (all : s.m
   abbrev pub HearsGood : Result Arrival Failed → List ℕ → Type 0
   HearsGood (Ok (arrivals.Datagram from)) bytes =
       (member : ℕ) (head : Head) (part : TicketPart)
-      → IsLetIn node (verdict node.config node.key node.me moment bytes) member place head part → Unstamped member head part
+      → IsLetIn node (verdict node.config node.key node.me now bytes) member place head part → Unstamped member head part
   HearsGood answer bytes = Unit {0}
 
   pub reacts : (old : State) (view : View) (answer : Result Arrival Failed) (bytes : List ℕ) → IsPlacedAt s place view old.tickets
-      → IsFew old.common → HearsGood answer bytes → IsTurnOf view (react node old moment answer bytes)
+      → IsFew old.common → HearsGood answer bytes → IsTurnOf view (react node old now answer bytes)
   reacts old view (Ok (arrivals.Datagram from)) bytes at few good =
-      meets (turn_end (Ok (arrivals.Datagram from))) (verdict node.config node.key node.me moment bytes) (record old { last_reading = moment }) view from
-      (action node moment old.tickets old.common from bytes) at refl few
-      (comes node moment old.tickets old.common (verdict node.config node.key node.me moment bytes) from (verdict node.config node.key node.me moment bytes) refl)
+      meets (turn_end (Ok (arrivals.Datagram from))) (verdict node.config node.key node.me now bytes) (record old { last_reading = now }) view from
+      (action node now old.tickets old.common from bytes) at refl few
+      (comes node now old.tickets old.common (verdict node.config node.key node.me now bytes) from (verdict node.config node.key node.me now bytes) refl)
       good
-  reacts old view (Ok (arrivals.Handler job status)) bytes at few good = ends_so (turn_end (Ok (arrivals.Handler job status))) job (service_of status) (record old { last_reading = moment }) view at refl few
-  reacts old view (Ok arrivals.Quiet) bytes at few good = nothing (turn_end (Ok arrivals.Quiet)) (record old { last_reading = moment }) view at refl few
-  reacts old view (Ok arrivals.Stop) bytes at few good = nothing (turn_end (Ok arrivals.Stop)) (record old { last_reading = moment }) view at refl few
-  reacts old view (Err failed) bytes at few good = nothing (turn_end (Err failed)) (record old { last_reading = moment }) view at refl few
+  reacts old view (Ok (arrivals.Handler job status)) bytes at few good = ends_so (turn_end (Ok (arrivals.Handler job status))) job (service_of status) (record old { last_reading = now }) view at refl few
+  reacts old view (Ok arrivals.Quiet) bytes at few good = nothing (turn_end (Ok arrivals.Quiet)) (record old { last_reading = now }) view at refl few
+  reacts old view (Ok arrivals.Stop) bytes at few good = nothing (turn_end (Ok arrivals.Stop)) (record old { last_reading = now }) view at refl few
+  reacts old view (Err failed) bytes at few good = nothing (turn_end (Err failed)) (record old { last_reading = now }) view at refl few

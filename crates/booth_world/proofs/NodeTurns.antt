@@ -3,15 +3,16 @@ use Rattle.std.proofs.Common.{◌≡◌, ◌≢◌, ◌⊎◌, inl, inr, ℕ, ze
 use Rattle.std.specs.Prelude.{Option, Some, None, nat_le, IsSomeAnd}
 use Rattle.std.proofs.lemmas.Bool.Decides.{nat_tests}
 use Rattle.std.proofs.lemmas.Option.{slice_get_within}
-use Rattle.booth_base.specs.Tree.{Deeds, Ends, next}
+use Rattle.booth_base.specs.Tree.{Deeds, Ends, ◌>>=◌}
 use Rattle.booth_chain.specs.DueList.{comes_before, placed, due_from, due_list}
 use Rattle.booth_chain.proofs.NodesLemmas.{same_or_not, slice_get-set_other, slice_get-set_same}
 use Rattle.booth_wire.specs.declared.message.Setup.{Setup}
 use Rattle.booth_raft.specs.declared.view.View.{View}
-use Rattle.booth_ticket.specs.Automatic.{Left, tick}
+use Rattle.booth_ticket.specs.Automatic.{come_due}
+use Rattle.booth_ticket.specs.declared.request.Given.{Given}
 use Rattle.booth_ticket.specs.declared.waiters.Waiter.{Waiter}
-use Rattle.booth_ticket.specs.Ticket.{TicketState, Automatic, IsDue}
-use Rattle.booth_ticket.specs.Waiting.{spare_in, waiting_at}
+use Rattle.booth_ticket.specs.Ticket.{TicketState, Automatic, IsDue, left_as}
+use Rattle.booth_ticket.specs.Waiting.{Left, spare_in, waiting_at}
 use Rattle.booth_node.specs.declared.node.Turn.{Turn}
 use Rattle.booth_node.specs.declared.node.Turn.TheVariants.{Went, Stopped}
 use Rattle.booth_node.specs.declared.node_config.NodeConfig.{NodeConfig}
@@ -25,13 +26,13 @@ use Rattle.booth_node.specs.Reaction.{Ask, befalls, acts_as, acts, deadline_of, 
 use Rattle.booth_node.specs.State.{State, with_ticket}
 use Rattle.booth_node.proofs.DueLemmas.{Each, Once, DueAt, all_due, all_once}
 use Rattle.booth_world.specs.Facts.{Has}
-use Rattle.booth_world.specs.Rules.{MemberLetter}
+use Rattle.booth_world.specs.Rules.{MemberMessage}
 use Rattle.booth_world.specs.Turns.{TurnTree, Plan, Rests, plan_tree, MayPlan}
 use Rattle.booth_world.proofs.Lists.{none_is, some_same}
 use Rattle.booth_world.proofs.Mirrors.{skip, IsKept, Mirrors, mirrors_next}
 use Rattle.booth_world.proofs.Echoes.{Echoes, echoes_as}
 use Rattle.booth_world.proofs.Plans.{due_plan, due_may, ticked}
-use Rattle.booth_world.proofs.NodeTrees.{IsFew, Minds, HasSetup, left_as, minds_due, own_lifted, other_lifted}
+use Rattle.booth_world.proofs.NodeTrees.{IsFew, Minds, HasSetup, minds_due, own_lifted, other_lifted}
 
 -- ---- one ticket among others
 
@@ -40,12 +41,19 @@ pub record IsPlacedAt (s : Setup) (place : ℕ) (view : View) (tickets : List Ti
   pub own : slice_get tickets place ≡ Some (record { setup = s; known = Automatic view })
   pub others : (other : ℕ) (t : TicketState) → slice_get tickets other ≡ Some t → other ≢ place → t.setup.ticket ≢ s.ticket
 
-pub own_set : (s : Setup) (place : ℕ) (view view' : View) (tickets : List TicketState) → IsPlacedAt s place view tickets
+own_set : (s : Setup) (place : ℕ) (view view' : View) (tickets : List TicketState) → IsPlacedAt s place view tickets
     → IsPlacedAt s place view' (set tickets place (record { setup = s; known = Automatic view' }))
 own_set s place view view' tickets at = record {
   own = slice_get-set_same tickets place (record { setup = s; known = Automatic view' }) (slice_get_within tickets place _ at.own);
   others = λ other t is ne. at.others other t (sym (slice_get-set_other tickets place other (record { setup = s; known = Automatic view' }) ne) ∙ is) ne;
 }
+
+-- a ticket whose core kept its setup leaves it at its place
+pub left_set : (s : Setup) (place : ℕ) (view : View) (tickets : List TicketState) (left : Left) → left.core.setup ≡ s
+    → IsPlacedAt s place view tickets → IsPlacedAt s place left.core.view (set tickets place (left_as left).ticket)
+left_set s place view tickets left same at =
+    subst (λ (t : Setup). IsPlacedAt s place left.core.view (set tickets place (record { setup = t; known = Automatic left.core.view })))
+    (sym same) (own_set s place view left.core.view tickets at)
 
 other_set : (s : Setup) (place other : ℕ) (view : View) (tickets : List TicketState) (t t' : TicketState) → IsPlacedAt s place view tickets
     → slice_get tickets other ≡ Some t → other ≢ place → t'.setup ≡ t.setup → IsPlacedAt s place view (set tickets other t')
@@ -147,55 +155,55 @@ not_in_dues now place tickets t is due h =
 
 -- ---- what one ticket does
 
-module _ (s : Setup) (place : ℕ) (node : NodeConfig) (moment : ℕ) (all : s.members ≡ length node.config.members) where
+module _ (s : Setup) (place : ℕ) (node : NodeConfig) (now : ℕ) (all : s.members ≡ length node.config.members) where
   -- a turn is over: the host's tree is, with the ticket's view
-  pub record IsOver (sent : List MemberLetter) (state : State) (tree : TurnTree) : Type 0 where
+  pub record IsOver (sent : List MemberMessage) (state : State) (tree : TurnTree) : Type 0 where
     pub view : View
     pub ended : skip tree ≡ Ends view
     pub at : IsPlacedAt s place view state.tickets
-    pub moment_is : state.last_reading ≡ moment
+    pub moment_is : state.last_reading ≡ now
     pub few : IsFew state.common
 
-  abbrev pub Over : List MemberLetter → Deeds Ask State → TurnTree → Type 0
+  abbrev pub Over : List MemberMessage → Deeds Ask State → TurnTree → Type 0
   Over sent deeds tree = Mirrors node s IsOver sent deeds tree
 
   pub over_kept : IsKept IsOver
   over_kept state sent sent' tree tree' x m = record { view = m.view; ended = sym x.same ∙ m.ended; at = m.at; moment_is = m.moment_is; few = m.few }
 
-  module _ (Q : List MemberLetter → State → TurnTree → Type 0) where
-    abbrev Here : List MemberLetter → Deeds Ask State → TurnTree → Type 0
+  module _ (Q : List MemberMessage → State → TurnTree → Type 0) where
+    abbrev Here : List MemberMessage → Deeds Ask State → TurnTree → Type 0
     Here sent deeds tree = Mirrors node s Q sent deeds tree
 
     -- the ticket's own deeds
-    pub own_acts : (state : State) (view : View) (event : Befalling) (sent : List MemberLetter) (tree : TurnTree) → IsFew state.common
+    pub own_acts : (state : State) (view : View) (event : Befalling) (sent : List MemberMessage) (tree : TurnTree) → IsFew state.common
         → slice_get state.tickets place ≡ Some (record { setup = s; known = Automatic view })
         → Echoes s (λ sent' left tree'. (counted : Common) → IsFew counted → Q sent' (with_ticket state place counted left) tree') sent
         (befalls (record { setup = s; known = Automatic view }) (waiting_at state.waiters place) (spare_in state.waiters)
-        (is_ready node state.attributes place) (job_at node place state.common) event moment) tree
-        → Here sent (acts node moment state place event) tree
+        (is_ready node state.attributes place) (job_at node place state.common) event now) tree
+        → Here sent (acts node now state place event) tree
     own_acts state view event sent tree few is m =
-        subst (λ (o : Option TicketState). Here sent (acts_as node moment state place event o) tree) (sym is)
-        (own_lifted s node moment Q all state.common few sent
+        subst (λ (o : Option TicketState). Here sent (acts_as node now state place event o) tree) (sym is)
+        (own_lifted s node now Q all state.common few sent
         (befalls (record { setup = s; known = Automatic view }) (waiting_at state.waiters place) (spare_in state.waiters)
-        (is_ready node state.attributes place) (job_at node place state.common) event moment) tree
+        (is_ready node state.attributes place) (job_at node place state.common) event now) tree
         (λ common left. Ends (with_ticket state place common left)) m)
 
     -- those of another ticket
-    pub other_acts : (state : State) (view : View) (other : ℕ) (event : Befalling) (sent : List MemberLetter) (tree : TurnTree)
+    pub other_acts : (state : State) (view : View) (other : ℕ) (event : Befalling) (sent : List MemberMessage) (tree : TurnTree)
         → IsPlacedAt s place view state.tickets → other ≢ place → IsFew state.common
         → ((t : TicketState) (waiters : List Waiter) (spare : ℕ) (ready : GrantKind → Bool) (job : Option ℕ)
-        → Minds (HasSetup t.setup moment) t.setup.ticket (befalls t waiters spare ready job event moment))
+        → Minds (HasSetup t.setup now) t.setup.ticket (befalls t waiters spare ready job event now))
         → ((tickets : List TicketState) (waiters : List (List Waiter)) (counted : Common) → IsFew counted → IsPlacedAt s place view tickets
         → Q sent (record state { tickets = tickets; waiters = waiters; common = counted }) tree)
-        → Here sent (acts node moment state other event) tree
+        → Here sent (acts node now state other event) tree
     other_acts state view other event sent tree at ne few minds on = by_ticket (slice_get state.tickets other) refl
       where
-        by_ticket : (o : Option TicketState) → slice_get state.tickets other ≡ o → Here sent (acts_as node moment state other event o) tree
+        by_ticket : (o : Option TicketState) → slice_get state.tickets other ≡ o → Here sent (acts_as node now state other event o) tree
         by_ticket None is = on state.tickets state.waiters state.common few at
         by_ticket (Some t) is =
-            other_lifted s node moment Q t.setup.ticket (at.others other t is ne) state.common few sent (HasSetup t.setup moment)
+            other_lifted s node now Q t.setup.ticket (at.others other t is ne) state.common few sent (HasSetup t.setup now)
             (befalls t (waiting_at state.waiters other) (spare_in state.waiters) (is_ready node state.attributes other)
-            (job_at node other state.common) event moment) tree
+            (job_at node other state.common) event now) tree
             (λ common left. Ends (with_ticket state other common left))
             (minds t (waiting_at state.waiters other) (spare_in state.waiters) (is_ready node state.attributes other) (job_at node other state.common))
             (λ counted left few_now same. on (set state.tickets other left.ticket) (set state.waiters other left.waiters) counted few_now
@@ -210,20 +218,32 @@ module _ (s : Setup) (place : ℕ) (node : NodeConfig) (moment : ℕ) (all : s.m
     pub below_most : (common : Common) → IsFew common → common.next_job < most
     below_most common few = omega (arith, few, enough)
 
-    abbrev Done : List MemberLetter → Left → TurnTree → Type 0
-    Done sent left tree = skip tree ≡ Ends left.view
+    -- what the ticket leaves at its deadline is the end for it
+    abbrev Done : State → List MemberMessage → Left → TurnTree → Type 0
+    Done state sent left tree = (counted : Common) → IsFew counted → IsOver sent (with_ticket state place counted (left_as left)) tree
 
-    done_kept : IsKept Done
-    done_kept left sent sent' tree tree' x m = sym x.same ∙ m
+    done_kept : (state : State) → IsKept (Done state)
+    done_kept state left sent sent' tree tree' x m =
+        λ counted few. over_kept (with_ticket state place counted (left_as left)) sent sent' tree tree' x (m counted few)
 
-    passing : (places : List ℕ) (state : State) (sent : List MemberLetter) (tree : TurnTree) → (Has places place → ⊥)
-        → IsOver sent state tree → Over sent (each_due node moment places state) tree
+    left_done : (state : State) (view : View) → IsPlacedAt s place view state.tickets → state.last_reading ≡ now
+        → (left : Left) (sent : List MemberMessage) → left.core.setup ≡ s → Done state sent left (plan_tree s now left.core.view (rests left.core.view))
+    left_done state view at last_is left sent same = λ counted few. record {
+      view = left.core.view;
+      ended = refl;
+      at = left_set s place view state.tickets left same at;
+      moment_is = last_is;
+      few = few;
+    }
+
+    passing : (places : List ℕ) (state : State) (sent : List MemberMessage) (tree : TurnTree) → (Has places place → ⊥)
+        → IsOver sent state tree → Over sent (each_due node now places state) tree
     passing [] state sent tree none over = over
     passing (p ∷ places) state sent tree none over =
-        mirrors_next node s IsOver IsOver (each_due node moment places) sent (acts node moment state p comes_due) tree
+        mirrors_next node s IsOver IsOver (each_due node now places) sent (acts node now state p comes_due) tree
         (λ sent' state' tree' m. passing places state' sent' tree' (λ h. none (inr h)) m)
         (other_acts IsOver state over.view p comes_due sent tree over.at (λ e. none (inl e)) over.few
-        (λ t waiters spare ready job. minds_due t.setup moment t.known waiters (ready Auto) job)
+        (λ t waiters spare ready job. minds_due t.setup now t.known waiters (ready Auto) job)
         (λ tickets waiters counted few_now at. record { view = over.view; ended = over.ended; at = at; moment_is = over.moment_is; few = few_now }))
 
     -- the prerequisites of a takeover hold
@@ -231,53 +251,52 @@ module _ (s : Setup) (place : ℕ) (node : NodeConfig) (moment : ℕ) (all : s.m
     ready_in state = is_ready node state.attributes place Auto
 
     abbrev pub due_tree : View → Bool → TurnTree
-    due_tree view ready = plan_tree s moment view (due_plan s moment most ready (handler_at node place) rests)
+    due_tree view ready = plan_tree s now view (due_plan s now most ready (handler_at node place) rests)
 
     -- where its deadline is still to come in the turn
-    pub record IsAhead (view : View) (ready : Bool) (sent : List MemberLetter) (state : State) (tree : TurnTree) : Type 0 where
+    pub record IsAhead (view : View) (ready : Bool) (sent : List MemberMessage) (state : State) (tree : TurnTree) : Type 0 where
       pub ahead : tree ≡ due_tree view ready
       pub placed_at : IsPlacedAt s place view state.tickets
-      pub moment_is : state.last_reading ≡ moment
+      pub moment_is : state.last_reading ≡ now
       pub few : IsFew state.common
       pub ready_is : ready_in state ≡ ready
 
-    own_due : (state : State) (view : View) (sent : List MemberLetter) → IsPlacedAt s place view state.tickets → state.last_reading ≡ moment
-        → IsFew state.common → Over sent (acts node moment state place comes_due) (due_tree view (ready_in state))
+    own_due : (state : State) (view : View) (sent : List MemberMessage) → IsPlacedAt s place view state.tickets → state.last_reading ≡ now
+        → IsFew state.common → Over sent (acts node now state place comes_due) (due_tree view (ready_in state))
     own_due state view sent at last_is few =
+        let given : Given = record { now = now; ready = ready_in state; job = job_at node place state.common } in
         own_acts IsOver state view comes_due sent (due_tree view (ready_in state)) few at.own
-        (echoes_as s Done (λ sent' left tree'. (counted : Common) → IsFew counted → IsOver sent' (with_ticket state place counted left) tree')
-        (left_as s moment) sent (tick s view (waiting_at state.waiters place) (ready_in state) (job_at node place state.common) moment)
-        (due_tree view (ready_in state))
-        (λ sent' left tree' m counted few_now.
-        record { view = left.view; ended = m; at = own_set s place view left.view state.tickets at; moment_is = last_is; few = few_now })
-        (ticked s moment most own Done done_kept rests (λ left sent'. refl) (handler_at node place) state.common.next_job (below_most state.common few)
-        view (waiting_at state.waiters place) (ready_in state) sent))
+        (echoes_as s (Done state) (λ sent' left tree'. (counted : Common) → IsFew counted → IsOver sent' (with_ticket state place counted left) tree')
+        left_as sent (come_due (record { setup = s; view = view }) (waiting_at state.waiters place) given)
+        (due_tree view (ready_in state)) (λ sent' left tree' m. m)
+        (ticked s now most own (Done state) (done_kept state) rests (left_done state view at last_is) (handler_at node place)
+        state.common.next_job (below_most state.common few) view (waiting_at state.waiters place) (ready_in state) sent))
 
-    meeting : (places : List ℕ) (state : State) (view : View) (ready : Bool) (sent : List MemberLetter) → Has places place → Once places
-        → IsPlacedAt s place view state.tickets → state.last_reading ≡ moment → IsFew state.common → ready_in state ≡ ready
-        → Over sent (each_due node moment places state) (due_tree view ready)
+    meeting : (places : List ℕ) (state : State) (view : View) (ready : Bool) (sent : List MemberMessage) → Has places place → Once places
+        → IsPlacedAt s place view state.tickets → state.last_reading ≡ now → IsFew state.common → ready_in state ≡ ready
+        → Over sent (each_due node now places state) (due_tree view ready)
     meeting [] state view ready sent h once at last_is few ready_is = absurd h
     meeting (p ∷ places) state view ready sent h once at last_is few ready_is =
         by_place (same_or_not p place) (λ state' sent' g. meeting places state' view ready sent' g once.1)
       where
         by_place : (p ≡ place) ⊎ (p ≢ place)
-            → ((state' : State) (sent' : List MemberLetter) → Has places place → IsPlacedAt s place view state'.tickets → state'.last_reading ≡ moment
-            → IsFew state'.common → ready_in state' ≡ ready → Over sent' (each_due node moment places state') (due_tree view ready))
-            → Over sent (next (acts node moment state p comes_due) (each_due node moment places)) (due_tree view ready)
+            → ((state' : State) (sent' : List MemberMessage) → Has places place → IsPlacedAt s place view state'.tickets → state'.last_reading ≡ now
+            → IsFew state'.common → ready_in state' ≡ ready → Over sent' (each_due node now places state') (due_tree view ready))
+            → Over sent (acts node now state p comes_due >>= each_due node now places) (due_tree view ready)
         by_place (inl e) rest =
-            subst (λ (q : ℕ). Over sent (next (acts node moment state q comes_due) (each_due node moment places)) (due_tree view ready)) (sym e)
-            (mirrors_next node s IsOver IsOver (each_due node moment places) sent (acts node moment state place comes_due)
+            subst (λ (q : ℕ). Over sent (acts node now state q comes_due >>= each_due node now places) (due_tree view ready)) (sym e)
+            (mirrors_next node s IsOver IsOver (each_due node now places) sent (acts node now state place comes_due)
             (due_tree view ready)
             (λ sent' state' tree' m. passing places state' sent' tree'
             (λ g. each_has (λ y. p ≢ y) places place once.0 g e) m)
-            (subst (λ (b : Bool). Over sent (acts node moment state place comes_due) (due_tree view b)) ready_is (own_due state view sent at last_is few)))
+            (subst (λ (b : Bool). Over sent (acts node now state place comes_due) (due_tree view b)) ready_is (own_due state view sent at last_is few)))
         by_place (inr ne) rest =
-            mirrors_next node s (IsAhead view ready) IsOver (each_due node moment places) sent (acts node moment state p comes_due)
+            mirrors_next node s (IsAhead view ready) IsOver (each_due node now places) sent (acts node now state p comes_due)
             (due_tree view ready)
-            (λ sent' state' tree' m. subst (λ (t : TurnTree). Over sent' (each_due node moment places state') t) (sym m.ahead)
+            (λ sent' state' tree' m. subst (λ (t : TurnTree). Over sent' (each_due node now places state') t) (sym m.ahead)
             (rest state' sent' (still ne h) m.placed_at m.moment_is m.few m.ready_is))
             (other_acts (IsAhead view ready) state view p comes_due sent (due_tree view ready) at ne few
-            (λ t waiters spare ready job. minds_due t.setup moment t.known waiters (ready Auto) job)
+            (λ t waiters spare ready job. minds_due t.setup now t.known waiters (ready Auto) job)
             (λ tickets waiters counted few_now placed_now.
             record { ahead = refl; placed_at = placed_now; moment_is = last_is; few = few_now; ready_is = ready_is }))
           where
@@ -287,27 +306,27 @@ module _ (s : Setup) (place : ℕ) (node : NodeConfig) (moment : ℕ) (all : s.m
 
     -- what follows the arrival
     abbrev pub after_plan : Bool → Turn → View → Plan
-    after_plan ready Went view = if is_due view.due moment then due_plan s moment most ready (handler_at node place) rests else Rests
+    after_plan ready Went view = if is_due view.due now then due_plan s now most ready (handler_at node place) rests else Rests
     after_plan ready Stopped view = Rests
 
-    pub after_may : (ready : Bool) (turn : Turn) (view : View) → MayPlan s moment view (after_plan ready turn view)
-    after_may ready Went view = by_test (is_due view.due moment)
+    pub after_may : (ready : Bool) (turn : Turn) (view : View) → MayPlan s now view (after_plan ready turn view)
+    after_may ready Went view = by_test (is_due view.due now)
       where
-        by_test : (b : Bool) → MayPlan s moment view (if b then due_plan s moment most ready (handler_at node place) rests else Rests)
-        by_test true = due_may s moment most ready (handler_at node place) rests view (λ left. tt)
+        by_test : (b : Bool) → MayPlan s now view (if b then due_plan s now most ready (handler_at node place) rests else Rests)
+        by_test true = due_may s now most ready (handler_at node place) rests view (λ left. tt)
         by_test false = tt
     after_may ready Stopped view = tt
 
-    pub dues_over : (turn : Turn) (state : State) (view : View) (sent : List MemberLetter) → IsPlacedAt s place view state.tickets
-        → state.last_reading ≡ moment → IsFew state.common → Over sent (dues node moment turn state) (plan_tree s moment view (after_plan (ready_in state) turn view))
+    pub dues_over : (turn : Turn) (state : State) (view : View) (sent : List MemberMessage) → IsPlacedAt s place view state.tickets
+        → state.last_reading ≡ now → IsFew state.common → Over sent (dues node now turn state) (plan_tree s now view (after_plan (ready_in state) turn view))
     dues_over Stopped state view sent at last_is few = record { view = view; ended = refl; at = at; moment_is = last_is; few = few }
-    dues_over Went state view sent at last_is few = by_test (is_due view.due moment) refl
+    dues_over Went state view sent at last_is few = by_test (is_due view.due now) refl
       where
-        by_test : (b : Bool) → is_due view.due moment ≡ b
-            → Over sent (each_due node moment (due_places moment state.tickets) state) (plan_tree s moment view (if b then due_plan s moment most (ready_in state) (handler_at node place) rests else Rests))
+        by_test : (b : Bool) → is_due view.due now ≡ b
+            → Over sent (each_due node now (due_places now state.tickets) state) (plan_tree s now view (if b then due_plan s now most (ready_in state) (handler_at node place) rests else Rests))
         by_test true due =
-            meeting (due_places moment state.tickets) state view (ready_in state) sent (in_dues moment place state.tickets _ at.own due)
-            (all_once moment state.tickets) at last_is few refl
+            meeting (due_places now state.tickets) state view (ready_in state) sent (in_dues now place state.tickets _ at.own due)
+            (all_once now state.tickets) at last_is few refl
         by_test false due =
-            passing (due_places moment state.tickets) state sent (Ends view) (not_in_dues moment place state.tickets _ at.own due)
+            passing (due_places now state.tickets) state sent (Ends view) (not_in_dues now place state.tickets _ at.own due)
             (record { view = view; ended = refl; at = at; moment_is = last_is; few = few })

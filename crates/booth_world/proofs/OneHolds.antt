@@ -2,6 +2,11 @@
 use Rattle.std.proofs.Common.{ℕ, zero, suc, ◌<◌, [], refl, sym, inl, arith}
 use Rattle.booth_wire.specs.Spelling.{header}
 use Rattle.booth_wire.specs.Layout.{word, padded_to}
+use Rattle.booth_ticket.specs.Keeping.{carry_out, keep_once}
+use Rattle.booth_ticket.specs.Waiting.{tell, tell_each, tell_one}
+use Rattle.booth_ticket.specs.Saying.{say_each, say_to}
+use Rattle.booth_ticket.specs.Requests.{acquire_for, follow_request, release_for, reply}
+use Rattle.booth_ticket.specs.Automatic.{come_due, hear, hear_message, tick}
 use Rattle.booth_node.specs.Session.{AreSessions, Down}
 use Rattle.booth_node.specs.World.{HasForm, HasTrueClocks, IsWorld, entries_of, members_of, AtEach, HearsSent, ReadsKept, stand_after}
 use Rattle.booth_node.specs.Held.{Moment}
@@ -17,7 +22,7 @@ one_clocks : HasTrueClocks one_holds
 one_clocks = exact_clocks alone _ (sym (reads_true 60000 0 (omega arith)), (tt, (sym (reads_true 60000 7000 (omega arith)), (tt, (tt, tt)))))
 
 one_session : AreSessions Down (entries_of 0 one_holds.entries)
-unfolding header word padded_to
+unfolding header word padded_to carry_out keep_once tell tell_each tell_one say_each say_to acquire_for follow_request release_for reply come_due hear hear_message tick
 one_session = (refl, (refl, (tt, ((refl, refl, refl), ((refl, refl, refl), tt)))))
 
 one_daemon : (m : ℕ) → m < members_of one_holds → AreSessions Down (entries_of m one_holds.entries)
@@ -28,7 +33,7 @@ one_reads : AtEach one_holds (λ before entry. ReadsKept one_holds before entry 
 one_reads = at_each one_holds _ (only_web _ (inl refl), (tt, (tt, (tt, (tt, tt)))))
 
 one_hears : AtEach one_holds (λ before entry. HearsSent one_holds before (stand_after entry.member before) entry.what)
-unfolding header word padded_to
+unfolding header word padded_to carry_out keep_once tell tell_each tell_one say_each say_to acquire_for follow_request release_for reply come_due hear hear_message tick
 one_hears = at_each one_holds _ (tt, (tt, (from_client grant_it _ refl refl _, (tt, (tt, tt)))))
 
 pub one_is_world : IsWorld one_holds

@@ -2,6 +2,11 @@
 use Rattle.std.proofs.Common.{◌≢◌, zero, suc, [], refl, sym, inl, arith}
 use Rattle.booth_wire.specs.Spelling.{header}
 use Rattle.booth_wire.specs.Layout.{word, padded_to}
+use Rattle.booth_ticket.specs.Keeping.{carry_out, keep_once}
+use Rattle.booth_ticket.specs.Waiting.{tell, tell_each, tell_one}
+use Rattle.booth_ticket.specs.Saying.{say_each, say_to}
+use Rattle.booth_ticket.specs.Requests.{acquire_for, follow_request, release_for, reply}
+use Rattle.booth_ticket.specs.Automatic.{come_due, hear, hear_message, tick}
 use Rattle.booth_node.specs.Session.{AreSessions, Down}
 use Rattle.booth_node.specs.World.{HasForm, entries_of}
 use Rattle.booth_node.specs.Held.{Moment}
@@ -56,11 +61,11 @@ foreign_two = record {
 -- ---- forged votes
 
 first_session : AreSessions Down (entries_of 0 with_forged_votes.entries)
-unfolding header word padded_to
+unfolding header word padded_to carry_out keep_once tell tell_each tell_one say_each say_to acquire_for follow_request release_for reply come_due hear hear_message tick
 first_session = (refl, (refl, (tt, ((refl, refl, refl), ((refl, refl, asks_votes_fit site_one 1 7000 (omega arith) (omega arith) (omega arith), refl), ((refl, refl, is_open_fits site_one 1 7000 (omega arith) (omega arith) (omega arith), refl), (refl, (tt, ((refl, refl, refl), tt)))))))))
 
 second_session : AreSessions Down (entries_of 1 with_forged_votes.entries)
-unfolding header word padded_to
+unfolding header word padded_to carry_out keep_once tell tell_each tell_one say_each say_to acquire_for follow_request release_for reply come_due hear hear_message tick
 second_session = (refl, (refl, (tt, ((refl, refl, refl), ((refl, refl, asks_votes_fit site_two 1 7000 (omega arith) (omega arith) (omega arith), refl), ((refl, refl, is_open_fits site_two 1 7000 (omega arith) (omega arith) (omega arith), refl), (refl, (tt, ((refl, refl, refl), tt)))))))))
 
 forged_daemons : Meets with_forged_votes OneDaemon

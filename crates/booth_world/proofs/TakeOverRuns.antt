@@ -4,6 +4,11 @@ use Rattle.std.specs.Prelude.{None}
 use Rattle.booth_wire.specs.Spelling.{header}
 use Rattle.booth_wire.specs.Layout.{word, padded_to}
 use Rattle.booth_auth.specs.Sealed.{sealed}
+use Rattle.booth_ticket.specs.Keeping.{carry_out, keep_once}
+use Rattle.booth_ticket.specs.Waiting.{tell, tell_each, tell_one}
+use Rattle.booth_ticket.specs.Saying.{say_each, say_to}
+use Rattle.booth_ticket.specs.Requests.{acquire_for, follow_request, release_for, reply}
+use Rattle.booth_ticket.specs.Automatic.{come_due, hear, hear_message, tick}
 use Rattle.booth_node.specs.Session.{AreSessions, Down}
 use Rattle.booth_node.specs.World.{HasForm, HasTrueClocks, IsWorld, entries_of, members_of, AtEach, HearsSent, ReadsKept, stand_after}
 use Rattle.booth_node.specs.Held.{Moment}
@@ -100,7 +105,7 @@ clocks =
 -- ---- sessions
 
 first_session : AreSessions Down (entries_of 0 taken_over.entries)
-unfolding header word padded_to
+unfolding header word padded_to carry_out keep_once tell tell_each tell_one say_each say_to acquire_for follow_request release_for reply come_due hear hear_message tick
 first_session = (
   refl,
   (
@@ -158,7 +163,7 @@ first_session = (
 )
 
 second_session : AreSessions Down (entries_of 1 taken_over.entries)
-unfolding header word padded_to
+unfolding header word padded_to carry_out keep_once tell tell_each tell_one say_each say_to acquire_for follow_request release_for reply come_due hear hear_message tick
 second_session = (
   refl,
   (
@@ -210,7 +215,7 @@ second_session = (
 )
 
 third_session : AreSessions Down (entries_of 2 taken_over.entries)
-unfolding header word padded_to
+unfolding header word padded_to carry_out keep_once tell tell_each tell_one say_each say_to acquire_for follow_request release_for reply come_due hear hear_message tick
 third_session = (
   refl,
   (
@@ -276,7 +281,7 @@ records =
     & tt)
 
 messages : AtEach taken_over (λ before entry. HearsSent taken_over before (stand_after entry.member before) entry.what)
-unfolding header word padded_to
+unfolding header word padded_to carry_out keep_once tell tell_each tell_one say_each say_to acquire_for follow_request release_for reply come_due hear hear_message tick
 messages =
     at_each taken_over _ (tt
     & tt

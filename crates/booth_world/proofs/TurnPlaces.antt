@@ -1,7 +1,7 @@
 -- A ticket's turn as a tree of asks, and the core's entries along it.
 use Rattle.std.proofs.Common.{◌≡◌, ℕ, zero, suc, ◌-◌, ◌^◌, ◌<◌, List, [], ◌∷◌, ◌++◌, Bool, true, false, refl, sym, ap, ◌∙◌, subst, inl, inr, ◌≢◌, arith, ◌⊎◌, ⊎_elim}
 use Rattle.std.specs.Prelude.{Option, Some, None, ◌==◌, IsSomeAnd, if◌then◌else◌}
-use Rattle.booth_base.specs.Tree.{Ends, Does, next}
+use Rattle.booth_base.specs.Tree.{Ends, Does, ◌>>=◌}
 use Rattle.booth_rec.specs.declared.record.Record.{Record}
 use Rattle.booth_wire.specs.declared.message.Say.{Say}
 use Rattle.booth_wire.specs.declared.message.Say.TheVariants as says
@@ -29,7 +29,7 @@ use Rattle.booth_node.specs.Clock.{Cluster}
 use Rattle.booth_world.specs.Facts.{Has, Release}
 use Rattle.booth_world.specs.States.{put}
 use Rattle.booth_world.specs.Gives.{Given, may_after, may_answered}
-use Rattle.booth_world.specs.Rules.{MemberLetter, CoreCall, Asks, Hears, Greets, MeetsDeadline, MakesNote, RenewsLease, GivesBack, lease_call}
+use Rattle.booth_world.specs.Rules.{MemberMessage, CoreCall, Asks, Hears, Greets, MeetsDeadline, MakesNote, RenewsLease, GivesBack, lease_call}
 use Rattle.booth_world.specs.Cores.{CoreEntry, CallsCore, HasAnswer, CorePlace, Cores, Cast, MayCallAlone, MayCallCore, MayEnter, said_more, has_given, call_given, after_call, answer_given, after_answer, entered, AreEntered, cores_after}
 use Rattle.booth_world.specs.CoreLaws.{IsReleasing, IsReleaseAt, IsReleaseIn}
 use Rattle.booth_world.specs.HostLaws.{Revokes}
@@ -48,7 +48,7 @@ use Rattle.booth_world.proofs.TurnKeeps.{IsGainAtMost, second_gains, third_keeps
 -- others have gone on, and this member has not
 pub record IsLater (m : ℕ) (cores cores' : Cores) : Type 0 where
   pub same : cores'.place m ≡ cores.place m
-  pub said_still : (l : MemberLetter) → Has cores.said l → Has cores'.said l
+  pub said_still : (l : MemberMessage) → Has cores.said l → Has cores'.said l
 
 at_once : (m : ℕ) (cores : Cores) → IsLater m cores cores
 at_once m cores = record { same = refl; said_still = λ l h. h }
@@ -59,7 +59,7 @@ later_still m a b d x y = record { same = y.same ∙ x.same; said_still = λ l h
 -- this member's core has gone on, and nobody else
 pub record IsOwn (m : ℕ) (cores cores' : Cores) : Type 0 where
   pub others : (k : ℕ) → k ≢ m → cores'.place k ≡ cores.place k
-  pub said_on : (l : MemberLetter) → Has cores.said l → Has cores'.said l
+  pub said_on : (l : MemberMessage) → Has cores.said l → Has cores'.said l
   pub same_time : cores'.now ≡ cores.now
 
 pub own_none : (m : ℕ) (cores : Cores) → IsOwn m cores cores
@@ -79,7 +79,7 @@ put_other {A} states m k x other = by_test (k == m) refl
     by_test true e = absurd (other (grind (arith, nat_tests)))
     by_test false e = refl
 
-said_still_said : (m : ℕ) (say : Say) (said : List MemberLetter) (l : MemberLetter) → Has said l → Has (said_more m say said) l
+said_still_said : (m : ℕ) (say : Say) (said : List MemberMessage) (l : MemberMessage) → Has said l → Has (said_more m say said) l
 said_still_said m says.Nothing said l h = h
 said_still_said m (says.All head part) said l h = inr h
 said_still_said m (says.Unanswered head part members) said l h = inr h
@@ -133,17 +133,17 @@ both_calls (entry ∷ a) b x y = absurd x
 
 -- ---- what is said after a keep that gave a term back
 
-pub sends_first : (n : ℕ) (letter : MemberLetter) (tree : TurnTree) → 0 < n
-    → (go : Bool → TurnTree) × (sends n letter tree ≡ Does (Sends letter) go)
-sends_first zero letter tree some = absurd (omega (arith, some))
-sends_first (suc n) letter tree some = ((λ ok. sends n letter tree), refl)
+pub sends_first : (n : ℕ) (message : MemberMessage) (tree : TurnTree) → 0 < n
+    → (go : Bool → TurnTree) × (sends n message tree ≡ Does (Sends message) go)
+sends_first zero message tree some = absurd (omega (arith, some))
+sends_first (suc n) message tree some = ((λ ok. sends n message tree), refl)
 
 -- the others are told, whatever follows
-pub revokes_next : (term : ℕ) (tree : TurnTree) (f : View → TurnTree) → Revokes term tree → Revokes term (next tree f)
+pub revokes_next : (term : ℕ) (tree : TurnTree) (f : View → TurnTree) → Revokes term tree → Revokes term (tree >>= f)
 revokes_next term tree f r = record {
-  letter = r.letter;
-  go = λ ok. next (r.go ok) f;
-  next_is = ap (λ (t : TurnTree). next t f) r.next_is;
+  message = r.message;
+  go = λ ok. r.go ok >>= f;
+  next_is = ap (λ (t : TurnTree). t >>= f) r.next_is;
   revokes = r.revokes;
   same_term = r.same_term;
 }
@@ -158,9 +158,9 @@ revokes_after s view now waits term is gives same others =
   where
     told : (left : View) (reason : ℕ) → Revokes term (says_of s (revokes s view.term reason) (Ends left))
     told left reason =
-        let letter : MemberLetter = record { sender = s.place; head = head_of s Revk 0 0 reason 0; part = part_of s NO_ONE view.term 0 } in
-        let first = sends_first (s.members - 1) letter (Ends left) (omega (arith, others)) in
-        record { letter = letter; go = first.0; next_is = first.1; revokes = refl; same_term = same }
+        let message : MemberMessage = record { sender = s.place; head = head_of s Revk 0 0 reason 0; part = part_of s NO_ONE view.term 0 } in
+        let first = sends_first (s.members - 1) message (Ends left) (omega (arith, others)) in
+        record { message = message; go = first.0; next_is = first.1; revokes = refl; same_term = same }
 
     by_rule : (rule : Rule) (tried : Record) → IsReleasing rule
         → Revokes term (keeps_of s now (goes_on s (record view { waiting = None }) rule tried now true).deed.keep
@@ -198,7 +198,7 @@ module _ (c : Cluster) (cast : Cast) (m now : ℕ) (second : Bool) where
       × P (cores_after c cast cores entries)
 
   -- The core's entries stand where the tree does: a keep that comes next is what the view waits
-  -- for, and its answer is an entry; a letter that comes next was said. All of this stays while
+  -- for, and its answer is an entry; a message that comes next was said. All of this stays while
   -- others go on.
   abbrev pub At : List Record → TurnTree → Cores → Type 0
   At base (Ends view) cores = IsIdle (cast.setup m second) second now view (cores.place m) × MayMore (cores.place m).may base
@@ -210,8 +210,8 @@ module _ (c : Cluster) (cast : Cast) (m now : ℕ) (second : Bool) where
       × IsLed (entered c cast cores' (HasAnswer m kept ok)) entries
       × At (may_left (Keeps kept) ok base) (g ok) (cores_after c cast (entered c cast cores' (HasAnswer m kept ok)) entries)))
       × IsToldAfter c.members (cores.place m) kept (g true)
-  At base (Does (Sends letter) g) cores =
-      (Has cores.said letter) × MayMore (cores.place m).may base
+  At base (Does (Sends message) g) cores =
+      (Has cores.said message) × MayMore (cores.place m).may base
       × ((ok : Bool) (cores' : Cores) → IsLater m cores cores'
       → (entries : List CoreEntry) × AreEntered c cast cores' entries × IsLed cores' entries
       × At base (g ok) (cores_after c cast cores' entries))
@@ -259,8 +259,8 @@ module _ (c : Cluster) (cast : Cast) (m now : ℕ) (second : Bool) where
     (λ ok on more. h.2 ok on (later_still m cores cores' on later more)),
     subst (λ (s : CorePlace). IsToldAfter c.members s kept (g true)) (sym later.same) h.3,
   )
-  at_later base (Does (Sends letter) g) cores cores' later h = (
-    later.said_still letter h.0,
+  at_later base (Does (Sends message) g) cores cores' later h = (
+    later.said_still message h.0,
     subst (λ (s : CorePlace). MayMore s.may base) (sym later.same) h.1,
     λ ok on more. h.2 ok on (later_still m cores cores' on later more),
   )
@@ -273,7 +273,7 @@ module _ (c : Cluster) (cast : Cast) (m now : ℕ) (second : Bool) where
   pub at_no_more : (base : List Record) (t : TurnTree) (cores : Cores) → At base t cores → MayMore (cores.place m).may (pending_in t base)
   at_no_more base (Ends view) cores h = h.1
   at_no_more base (Does (Keeps kept) g) cores h = h.1
-  at_no_more base (Does (Sends letter) g) cores h = h.1
+  at_no_more base (Does (Sends message) g) cores h = h.1
   at_no_more base (Does AsksElse g) cores h = h.0
 
   pub entries_join : (cores : Cores) (a b : List CoreEntry) → AreEntered c cast cores a → AreEntered c cast (cores_after c cast cores a) b
@@ -295,7 +295,7 @@ module _ (c : Cluster) (cast : Cast) (m now : ℕ) (second : Bool) where
   -- a tree, and what follows its end, where this is so of what the tree leaves
   at_next : (P : View → Type 0) (base : List Record) (t : TurnTree) (f : View → TurnTree) (cores : Cores) → At base t cores → LeavesAlways P t
       → ((base : List Record) (view : View) (cores' : Cores) → IsIdle (cast.setup m second) second now view (cores'.place m) → MayMore (cores'.place m).may base → P view → Soon (At base (f view)) cores')
-      → Soon (At base (next t f)) cores
+      → Soon (At base (t >>= f)) cores
   at_next P base (Ends view) f cores h so go = go base view cores h.0 h.1 so
   at_next P base (Does (Keeps kept) g) f cores h so go = (
     [],
@@ -307,39 +307,39 @@ module _ (c : Cluster) (cast : Cast) (m now : ℕ) (second : Bool) where
       (λ ok on later.
           let one = h.2 ok on later in
           let left = may_left (Keeps kept) ok base in
-          (one.0, soon_on (At left (g ok)) (At left (next (g ok) f)) _ one.1 (λ n a. at_next P left (g ok) f n a (so ok) go))),
+          (one.0, soon_on (At left (g ok)) (At left (g ok >>= f)) _ one.1 (λ n a. at_next P left (g ok) f n a (so ok) go))),
       λ view shows waits is gives others. revokes_next kept.term (g true) f (h.3 view shows waits is gives others),
     ),
   )
-  at_next P base (Does (Sends letter) g) f cores h so go = (
+  at_next P base (Does (Sends message) g) f cores h so go = (
     [],
     tt,
     led_none cores,
-    (h.0, h.1, λ ok on later. soon_on (At base (g ok)) (At base (next (g ok) f)) on (h.2 ok on later) (λ n a. at_next P base (g ok) f n a (so ok) go)),
+    (h.0, h.1, λ ok on later. soon_on (At base (g ok)) (At base (g ok >>= f)) on (h.2 ok on later) (λ n a. at_next P base (g ok) f n a (so ok) go)),
   )
   at_next P base (Does AsksElse g) f cores h so go = (
     [],
     tt,
     led_none cores,
-    (h.0, λ ok on later. soon_on (At base (g ok)) (At base (next (g ok) f)) on (h.1 ok on later) (λ n a. at_next P base (g ok) f n a (so ok) go)),
+    (h.0, λ ok on later. soon_on (At base (g ok)) (At base (g ok >>= f)) on (h.1 ok on later) (λ n a. at_next P base (g ok) f n a (so ok) go)),
   )
 
   -- ---- an outcome's tree
 
-  -- a letter that was said
-  abbrev IsSaidOf : Say → List MemberLetter → Type 0
+  -- a message that was said
+  abbrev IsSaidOf : Say → List MemberMessage → Type 0
   IsSaidOf says.Nothing said = Unit {0}
   IsSaidOf (says.All head part) said = Has said (record { sender = m; head = head; part = part })
   IsSaidOf (says.Unanswered head part members) said = Has said (record { sender = m; head = head; part = part })
   IsSaidOf (says.Reply head part) said = Has said (record { sender = m; head = head; part = part })
 
-  said_now : (say : Say) (said : List MemberLetter) → IsSaidOf say (said_more m say said)
+  said_now : (say : Say) (said : List MemberMessage) → IsSaidOf say (said_more m say said)
   said_now says.Nothing said = tt
   said_now (says.All head part) said = inl refl
   said_now (says.Unanswered head part members) said = inl refl
   said_now (says.Reply head part) said = inl refl
 
-  sends_at : (base : List Record) (n : ℕ) (l : MemberLetter) (t : TurnTree) (cores : Cores) → Has cores.said l → MayMore (cores.place m).may base → At base t cores → At base (sends n l t) cores
+  sends_at : (base : List Record) (n : ℕ) (l : MemberMessage) (t : TurnTree) (cores : Cores) → Has cores.said l → MayMore (cores.place m).may base → At base t cores → At base (sends n l t) cores
   sends_at base zero l t cores has more h = h
   sends_at base (suc n) l t cores has more h = (
     has,
@@ -526,7 +526,7 @@ module _ (c : Cluster) (cast : Cast) (m now : ℕ) (second : Bool) where
   call_leaves : now < 2 ^ 62 → (view : View) (call : CoreCall) → view.waiting ≡ None → ViewFacts (cast.setup m second) view → MayCallAlone (cast.setup m second) view call
       → Leaves (cast.setup m second) now (lease_call (cast.setup m second) view now call).view (lease_call (cast.setup m second) view now call).deed
   call_leaves small view (Asks reason) none facts may = ask_good (cast.setup m second) view reason now
-  call_leaves small view (Hears letter) none facts may = absurd may
+  call_leaves small view (Hears message) none facts may = absurd may
   call_leaves small view Greets none facts may = record { facts = greeted_facts (cast.setup m second) view facts; waits = none }
   call_leaves small view MeetsDeadline none facts may = due_now_good (cast.setup m second) view now none facts
   call_leaves small view (MakesNote note) none facts may =
@@ -536,7 +536,7 @@ module _ (c : Cluster) (cast : Cast) (m now : ℕ) (second : Bool) where
 
   may_alone : (cores : Cores) (view : View) (call : CoreCall) → (cores.place m).second ≡ second → MayCallAlone (cast.setup m second) view call → MayCallCore cast cores m view call
   may_alone cores view (Asks reason) version may = subst (λ (b : Bool). MayCallAlone (cast.setup m b) view (Asks reason)) (sym version) may
-  may_alone cores view (Hears letter) version may = absurd may
+  may_alone cores view (Hears message) version may = absurd may
   may_alone cores view Greets version may = may
   may_alone cores view MeetsDeadline version may = may
   may_alone cores view (MakesNote note) version may = may
@@ -550,7 +550,7 @@ module _ (c : Cluster) (cast : Cast) (m now : ℕ) (second : Bool) where
   plan_at below small place Rests base view cores idle only may = ([], tt, led_none cores, (idle, only))
   plan_at below small place (Calls call go) base view cores idle only may =
       soon_on (At base (call_tree (cast.setup m second) now view call))
-      (At base (next (call_tree (cast.setup m second) now view call) (λ left. plan_tree (cast.setup m second) now left (go left)))) cores
+      (At base (call_tree (cast.setup m second) now view call >>= (λ left. plan_tree (cast.setup m second) now left (go left)))) cores
       (call_at below small place base view call cores idle only (may_alone cores view call idle.in_version may.0) (call_leaves small view call idle.at_rest idle.view_facts may.0))
       (λ on h. at_next (λ left. MayPlan (cast.setup m second) now left (go left)) base (call_tree (cast.setup m second) now view call) (λ left. plan_tree (cast.setup m second) now left (go left)) on h may.1
       (λ base left on idle only may. plan_at below small place (go left) base left on idle only may))
@@ -568,14 +568,14 @@ module _ (c : Cluster) (cast : Cast) (m now : ℕ) (second : Bool) where
   )
 
   -- and after a message that is heard
-  pub heard_at : m < c.members → now < 2 ^ 62 → IsSeatedAt c cast m second → (letter : MemberLetter) (plan : View → Plan) (base : List Record) (view : View) (cores : Cores)
-      → IsIdle (cast.setup m second) second now view (cores.place m) → MayMore (cores.place m).may base → MayCallCore cast cores m view (Hears letter)
-      → LeavesAlways (λ left. MayPlan (cast.setup m second) now left (plan left)) (call_tree (cast.setup m second) now view (Hears letter))
-      → Soon (At base (next (call_tree (cast.setup m second) now view (Hears letter)) (λ left. plan_tree (cast.setup m second) now left (plan left)))) cores
-  heard_at below small place letter plan base view cores idle only heard may =
-      soon_on (At base (call_tree (cast.setup m second) now view (Hears letter)))
-      (At base (next (call_tree (cast.setup m second) now view (Hears letter)) (λ left. plan_tree (cast.setup m second) now left (plan left)))) cores
-      (call_at below small place base view (Hears letter) cores idle only heard
-      (hear_good (cast.setup m second) view letter.sender letter.head letter.part now letter.head.cmd idle.at_rest idle.view_facts))
-      (λ on h. at_next (λ left. MayPlan (cast.setup m second) now left (plan left)) base (call_tree (cast.setup m second) now view (Hears letter)) (λ left. plan_tree (cast.setup m second) now left (plan left)) on h may
+  pub heard_at : m < c.members → now < 2 ^ 62 → IsSeatedAt c cast m second → (message : MemberMessage) (plan : View → Plan) (base : List Record) (view : View) (cores : Cores)
+      → IsIdle (cast.setup m second) second now view (cores.place m) → MayMore (cores.place m).may base → MayCallCore cast cores m view (Hears message)
+      → LeavesAlways (λ left. MayPlan (cast.setup m second) now left (plan left)) (call_tree (cast.setup m second) now view (Hears message))
+      → Soon (At base (call_tree (cast.setup m second) now view (Hears message) >>= (λ left. plan_tree (cast.setup m second) now left (plan left)))) cores
+  heard_at below small place message plan base view cores idle only heard may =
+      soon_on (At base (call_tree (cast.setup m second) now view (Hears message)))
+      (At base (call_tree (cast.setup m second) now view (Hears message) >>= (λ left. plan_tree (cast.setup m second) now left (plan left)))) cores
+      (call_at below small place base view (Hears message) cores idle only heard
+      (hear_good (cast.setup m second) view message.sender message.head message.part now message.head.cmd idle.at_rest idle.view_facts))
+      (λ on h. at_next (λ left. MayPlan (cast.setup m second) now left (plan left)) base (call_tree (cast.setup m second) now view (Hears message)) (λ left. plan_tree (cast.setup m second) now left (plan left)) on h may
       (λ base left on idle only may. plan_at below small place (plan left) base left on idle only may))

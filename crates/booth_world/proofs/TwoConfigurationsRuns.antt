@@ -2,6 +2,11 @@
 use Rattle.std.proofs.Common.{◌≢◌, zero, suc, [], refl, sym, inl, arith}
 use Rattle.booth_wire.specs.Spelling.{header}
 use Rattle.booth_wire.specs.Layout.{word, padded_to}
+use Rattle.booth_ticket.specs.Keeping.{carry_out, keep_once}
+use Rattle.booth_ticket.specs.Waiting.{tell, tell_each, tell_one}
+use Rattle.booth_ticket.specs.Saying.{say_each, say_to}
+use Rattle.booth_ticket.specs.Requests.{acquire_for, follow_request, release_for, reply}
+use Rattle.booth_ticket.specs.Automatic.{come_due, hear, hear_message, tick}
 use Rattle.booth_node.specs.Session.{AreSessions, Down}
 use Rattle.booth_node.specs.World.{HasForm, entries_of}
 use Rattle.booth_node.specs.Held.{Moment}
@@ -12,7 +17,7 @@ use Rattle.booth_world.proofs.AlongWorlds.{◌&◌, at_each, versions_first, rea
 use Rattle.booth_world.proofs.WorldParts.{two_sound, has_form, exact_clocks}
 
 first_session : AreSessions Down (entries_of 0 with_two_configurations.entries)
-unfolding header word padded_to
+unfolding header word padded_to carry_out keep_once tell tell_each tell_one say_each say_to acquire_for follow_request release_for reply come_due hear hear_message tick
 first_session = (
   refl,
   (
@@ -31,7 +36,7 @@ first_session = (
 )
 
 second_session : AreSessions Down (entries_of 1 with_two_configurations.entries)
-unfolding header word padded_to
+unfolding header word padded_to carry_out keep_once tell tell_each tell_one say_each say_to acquire_for follow_request release_for reply come_due hear hear_message tick
 second_session = (
   refl,
   (
@@ -55,7 +60,7 @@ one_daemon (suc zero) below = second_session
 one_daemon (suc (suc m)) below = absurd (omega (arith, below))
 
 messages : Meets with_two_configurations MembersSpeak
-unfolding header word padded_to
+unfolding header word padded_to carry_out keep_once tell tell_each tell_one say_each say_to acquire_for follow_request release_for reply come_due hear hear_message tick
 messages =
     at_each with_two_configurations _ (tt
     & tt

@@ -82,11 +82,11 @@ started_is node now first (suc i) (x ∷ tickets) (r ∷ records) s is = started
 -- ---- what follows a release
 
 -- what is so of each send
-sends_so : {S : Type 0} (config : ConfigSays) (places : List ℕ) (P Q : PlainMessage → Type 0) (deeds : Deeds Ask S) → ((letter : PlainMessage) → P letter → Q letter)
+sends_so : {S : Type 0} (config : ConfigSays) (places : List ℕ) (P Q : PlainMessage → Type 0) (deeds : Deeds Ask S) → ((message : PlainMessage) → P message → Q message)
     → SendsEach config places P deeds → SendsEach config places Q deeds
 sends_so config [] P Q deeds gives x = tt
-sends_so config (place ∷ places) P Q (Does (Send peer letter) go) gives x =
-    (x.0, gives letter x.1, λ ok. sends_so config places P Q (go ok) gives (x.2 ok))
+sends_so config (place ∷ places) P Q (Does (Send peer message) go) gives x =
+    (x.0, gives message x.1, λ ok. sends_so config places P Q (go ok) gives (x.2 ok))
 sends_so config (place ∷ places) P Q (Does (Keep name tried) go) gives x = absurd x
 sends_so config (place ∷ places) P Q (Does (Start job) go) gives x = absurd x
 sends_so config (place ∷ places) P Q (Ends state) gives x = absurd x
@@ -112,12 +112,12 @@ revoked w place ticket setting m second below term term' same tree deeds says to
     ⊎_elim
     (λ (more : 1 < members_of w).
     let first = says more in
-    let all = told more first.letter first.go first.next_is first.revokes in
+    let all = told more first.message first.go first.next_is first.revokes in
     subst (λ (k : ℕ). SendsEach w.config (filter (λ other. not (other == k)) (range_with_len 0 (members_of w))) (IsRevocation ticket.name term') deeds)
     (own_place_is w place ticket setting m second below)
-    (sends_so w.config (others (setup_at w place ticket setting m second)) (Repeats first.letter) (IsRevocation ticket.name term') deeds
-    (λ letter is. record {
-      part = first.letter.part;
+    (sends_so w.config (others (setup_at w place ticket setting m second)) (Repeats first.message) (IsRevocation ticket.name term') deeds
+    (λ message is. record {
+      part = first.message.part;
       revokes = is.0 ∙ first.revokes;
       about = is.1;
       named = all.0;
@@ -285,10 +285,10 @@ module _ (w : World) (clocks : HasTrueClocks w) (place : ℕ) (ticket : TicketCo
         rests_here (Doing node (Ends old)) (Hearing node old answer bytes) may may _ x refl
         (x.stands.0, x.stands.5.view, x.stands.3 ∙ ap (λ (t : TurnTree). Some t) x.stands.5.ended, x.stands.5.at, x.stands.5.moment_is, x.stands.5.few)
     makes (Doing node (Ends old)) call may x d r g = absurd d
-    makes (Doing node (Does (Send peer letter) go)) (calls.Send to bytes answer) may x d r g =
-        rests_here (Doing node (Does (Send peer letter) go)) (Doing node (go (is_ok answer))) may may _ x refl
+    makes (Doing node (Does (Send peer message) go)) (calls.Send to bytes answer) may x d r g =
+        rests_here (Doing node (Does (Send peer message) go)) (Doing node (go (is_ok answer))) may may _ x refl
         (x.stands.0, x.stands.1, x.stands.2, x.stands.3, x.stands.4, x.stands.5.1 (is_ok answer))
-    makes (Doing node (Does (Send peer letter) go)) call may x d r g = absurd d
+    makes (Doing node (Does (Send peer message) go)) call may x d r g = absurd d
     makes (Doing node (Does (Keep name tried) go)) (calls.Keep ticket_name rec answer) may x d r g =
         keeps node name tried go may ticket_name rec answer x d.0 d.1
     makes (Doing node (Does (Keep name tried) go)) call may x d r g = absurd d
@@ -342,7 +342,7 @@ module _ (w : World) (clocks : HasTrueClocks w) (place : ℕ) (ticket : TicketCo
     cuts stand (CutStart job) may x d = rests_here stand Down may may _ x refl tt
     cuts Down (CutKeep ticket_name rec) may x d = absurd d
     cuts (Doing node (Ends old)) (CutKeep ticket_name rec) may x d = absurd d
-    cuts (Doing node (Does (Send peer letter) go)) (CutKeep ticket_name rec) may x d = absurd d
+    cuts (Doing node (Does (Send peer message) go)) (CutKeep ticket_name rec) may x d = absurd d
     cuts (Doing node (Does (Keep name tried) go)) (CutKeep ticket_name rec) may x d = cuts_keep node name tried go may ticket_name rec x d.0 d.1
     cuts (Doing node (Does (Start job) go)) (CutKeep ticket_name rec) may x d = absurd d
     cuts (Hearing node old answer bytes) (CutKeep ticket_name rec) may x d = absurd d

@@ -35,7 +35,7 @@ use Rattle.booth_node.specs.Session.{CutSend, SessionEntry, Starts, Makes, IsCut
 use Rattle.booth_node.specs.State.{State}
 use Rattle.booth_node.specs.World.{WorldEntry, World, members_of, id_at, node_at, entries_of, last_time, HasConfiguration, ReadsClock, ReadsKept, WasSecond, StaysSecond, IsSend, WasSent, HearsSent, stand_after, IsWorld}
 use Rattle.booth_world.specs.Facts.{Has, Release}
-use Rattle.booth_world.specs.Rules.{MemberLetter}
+use Rattle.booth_world.specs.Rules.{MemberMessage}
 use Rattle.booth_world.specs.Turns.{Keeps, TurnTree}
 use Rattle.booth_world.specs.Hosts.{HostEntry, LetsPass, HostPlace, Hosts, AreHosted, hosts_after}
 use Rattle.booth_world.specs.HostLaws.{IsHostReleaseIn}
@@ -131,8 +131,8 @@ in_either [] e x (inr h) = absurd h
 in_either (y ∷ ys) e x (inl is) = inl (inl is)
 in_either (y ∷ ys) e x (inr h) = ⊎_elim (λ (a : Holds ys x). inl (inr a)) (λ (b : e ≡ x). inr b) (in_either ys e x h)
 
-same_letter : (r : Result PlainMessage FrameFault) (a b : PlainMessage) → r ≡ Ok a → r ≡ Ok b → a ≡ b
-same_letter r a b e f = cc
+same_message : (r : Result PlainMessage FrameFault) (a b : PlainMessage) → r ≡ Ok a → r ≡ Ok b → a ≡ b
+same_message r a b e f = cc
 
 module _ (w : World) (is_world : IsWorld w) (place : ℕ) (ticket : TicketConf) (setting : Setting w place ticket) where
   abbrev pub may_of : ℕ → List WorldEntry → List Record
@@ -141,30 +141,30 @@ module _ (w : World) (is_world : IsWorld w) (place : ℕ) (ticket : TicketConf) 
   abbrev pub after_hosts : Hosts → List HostEntry → Hosts
   after_hosts hosts entries = hosts_after (cluster w place ticket setting) (cast w place ticket setting) hosts entries
 
-  -- a message of this ticket that a member sent is one of these letters, but for its stamp
-  abbrev pub IsSaidBy : List MemberLetter → ℕ → PlainMessage → Type 0
-  IsSaidBy sent m letter =
-      (part : TicketPart) → direction_of letter.head.cmd ≡ BetweenMembers → letter.content ≡ Ticket part → part.ticket ≡ ticket.name
-      → (head : Head) × (auth : Bool) × (time : ℕ) × (letter.head ≡ stamped_head auth time head)
+  -- a message of this ticket that a member sent is one of these messages, but for its stamp
+  abbrev pub IsSaidBy : List MemberMessage → ℕ → PlainMessage → Type 0
+  IsSaidBy sent m message =
+      (part : TicketPart) → direction_of message.head.cmd ≡ BetweenMembers → message.content ≡ Ticket part → part.ticket ≡ ticket.name
+      → (head : Head) × (auth : Bool) × (time : ℕ) × (message.head ≡ stamped_head auth time head)
       × Has sent (record { sender = m; head = head; part = part })
 
   -- The hosts stand where these entries of the world leave its members.
   pub record Shadows (before : List WorldEntry) (hosts : Hosts) : Type 0 where
     pub each : (m : ℕ) → m < members_of w → Shows w place ticket setting m (is_second_at m before) (stand_after m before) (may_of m before) hosts.now (hosts.place m) hosts.sent
-    pub said : (entry : WorldEntry) → Holds before entry → (bytes : List ℕ) → IsSend entry.what bytes → (letter : PlainMessage)
-        → decoded bytes ≡ Ok letter → IsSaidBy hosts.sent entry.member letter
+    pub said : (entry : WorldEntry) → Holds before entry → (bytes : List ℕ) → IsSend entry.what bytes → (message : PlainMessage)
+        → decoded bytes ≡ Ok message → IsSaidBy hosts.sent entry.member message
     pub coming : (m : ℕ) → m < members_of w → (kept : Record) (go : Bool → TurnTree) → (hosts.place m).tree ≡ Some (Does (Keeps kept) go)
         → IsComing ticket.name (entries_of m before) kept
 
   -- ---- what was sent
 
-  sealed_said : (m : ℕ) (second : Bool) → m < members_of w → (node : NodeConfig) (letter' letter : PlainMessage) (bytes : List ℕ) (known sent : List MemberLetter)
-      → node ≡ node_at w m second → SentMore known sent → IsSpoken (node_at w m second) (setup_at w place ticket setting m second) known letter'
-      → bytes ≡ sealed node.key letter' → Fits letter' → decoded bytes ≡ Ok letter → IsSaidBy sent m letter
-  sealed_said m second below node letter' letter bytes known sent node_is more spoken bytes_are fits read part between is named =
-      let truly : letter'.head.auth ≡ is_some node.key = spoken.truly ∙ ap (λ (n : NodeConfig). is_some n.key) (sym node_is) in
-      let same : letter' ≡ letter =
-      same_letter (decoded bytes) letter' letter (ap decoded bytes_are ∙ sealed_read node.key letter' fits truly) read in
+  sealed_said : (m : ℕ) (second : Bool) → m < members_of w → (node : NodeConfig) (message' message : PlainMessage) (bytes : List ℕ) (known sent : List MemberMessage)
+      → node ≡ node_at w m second → SentMore known sent → IsSpoken (node_at w m second) (setup_at w place ticket setting m second) known message'
+      → bytes ≡ sealed node.key message' → Fits message' → decoded bytes ≡ Ok message → IsSaidBy sent m message
+  sealed_said m second below node message' message bytes known sent node_is more spoken bytes_are fits read part between is named =
+      let truly : message'.head.auth ≡ is_some node.key = spoken.truly ∙ ap (λ (n : NodeConfig). is_some n.key) (sym node_is) in
+      let same : message' ≡ message =
+      same_message (decoded bytes) message' message (ap decoded bytes_are ∙ sealed_read node.key message' fits truly) read in
       let q = spoken.spoken part (ap (λ (l : PlainMessage). direction_of l.head.cmd) same ∙ between)
       (ap (λ (l : PlainMessage). l.content) same ∙ is) named in (
         q.0,
@@ -174,24 +174,24 @@ module _ (w : World) (is_world : IsWorld w) (place : ℕ) (ticket : TicketConf) 
         subst (λ (n : ℕ). Has sent (record { sender = n; head = q.0; part = part })) (own_place_is w place ticket setting m second below) (more _ q.3),
       )
 
-  send_said : (m : ℕ) (second : Bool) → m < members_of w → (stand : Stand) (what : SessionEntry) (may : List Record) (now : ℕ) (p : HostPlace) (sent : List MemberLetter)
-      → Shows w place ticket setting m second stand may now p sent → MayDo stand what → (bytes : List ℕ) → IsSend what bytes → (letter : PlainMessage)
-      → decoded bytes ≡ Ok letter → IsSaidBy sent m letter
-  send_said m second below (Doing node (Does (Send peer letter') go)) (Makes (calls.Send to sent_bytes answer)) may now p sent x d bytes is letter read =
-      sealed_said m second below node letter' letter bytes (sent_by x.stands.1 x.stands.2) sent x.stands.0 x.stands.4 x.stands.5.0 (sym is ∙ d.1) d.2 read
-  send_said m second below (Doing node (Does (Keep name tried) go)) (Makes (calls.Send to sent_bytes answer)) may now p sent x d bytes is letter read = absurd d
-  send_said m second below (Doing node (Does (Start job) go)) (Makes (calls.Send to sent_bytes answer)) may now p sent x d bytes is letter read = absurd d
-  send_said m second below (Doing node (Ends old)) (Makes (calls.Send to sent_bytes answer)) may now p sent x d bytes is letter read = absurd d
-  send_said m second below Down (Makes (calls.Send to sent_bytes answer)) may now p sent x d bytes is letter read = absurd d
-  send_said m second below (Hearing node old got into) (Makes (calls.Send to sent_bytes answer)) may now p sent x d bytes is letter read = absurd d
-  send_said m second below (Doing node (Does (Send peer letter') go)) (IsCut (CutSend to sent_bytes)) may now p sent x d bytes is letter read =
-      sealed_said m second below node letter' letter bytes (sent_by x.stands.1 x.stands.2) sent x.stands.0 x.stands.4 x.stands.5.0 (sym is ∙ d.1) d.2 read
-  send_said m second below (Doing node (Does (Keep name tried) go)) (IsCut (CutSend to sent_bytes)) may now p sent x d bytes is letter read = absurd d
-  send_said m second below (Doing node (Does (Start job) go)) (IsCut (CutSend to sent_bytes)) may now p sent x d bytes is letter read = absurd d
-  send_said m second below (Doing node (Ends old)) (IsCut (CutSend to sent_bytes)) may now p sent x d bytes is letter read = absurd d
-  send_said m second below Down (IsCut (CutSend to sent_bytes)) may now p sent x d bytes is letter read = absurd d
-  send_said m second below (Hearing node old got into) (IsCut (CutSend to sent_bytes)) may now p sent x d bytes is letter read = absurd d
-  send_said m second below stand what may now p sent x d bytes is letter read = absurd is
+  send_said : (m : ℕ) (second : Bool) → m < members_of w → (stand : Stand) (what : SessionEntry) (may : List Record) (now : ℕ) (p : HostPlace) (sent : List MemberMessage)
+      → Shows w place ticket setting m second stand may now p sent → MayDo stand what → (bytes : List ℕ) → IsSend what bytes → (message : PlainMessage)
+      → decoded bytes ≡ Ok message → IsSaidBy sent m message
+  send_said m second below (Doing node (Does (Send peer message') go)) (Makes (calls.Send to sent_bytes answer)) may now p sent x d bytes is message read =
+      sealed_said m second below node message' message bytes (sent_by x.stands.1 x.stands.2) sent x.stands.0 x.stands.4 x.stands.5.0 (sym is ∙ d.1) d.2 read
+  send_said m second below (Doing node (Does (Keep name tried) go)) (Makes (calls.Send to sent_bytes answer)) may now p sent x d bytes is message read = absurd d
+  send_said m second below (Doing node (Does (Start job) go)) (Makes (calls.Send to sent_bytes answer)) may now p sent x d bytes is message read = absurd d
+  send_said m second below (Doing node (Ends old)) (Makes (calls.Send to sent_bytes answer)) may now p sent x d bytes is message read = absurd d
+  send_said m second below Down (Makes (calls.Send to sent_bytes answer)) may now p sent x d bytes is message read = absurd d
+  send_said m second below (Hearing node old got into) (Makes (calls.Send to sent_bytes answer)) may now p sent x d bytes is message read = absurd d
+  send_said m second below (Doing node (Does (Send peer message') go)) (IsCut (CutSend to sent_bytes)) may now p sent x d bytes is message read =
+      sealed_said m second below node message' message bytes (sent_by x.stands.1 x.stands.2) sent x.stands.0 x.stands.4 x.stands.5.0 (sym is ∙ d.1) d.2 read
+  send_said m second below (Doing node (Does (Keep name tried) go)) (IsCut (CutSend to sent_bytes)) may now p sent x d bytes is message read = absurd d
+  send_said m second below (Doing node (Does (Start job) go)) (IsCut (CutSend to sent_bytes)) may now p sent x d bytes is message read = absurd d
+  send_said m second below (Doing node (Ends old)) (IsCut (CutSend to sent_bytes)) may now p sent x d bytes is message read = absurd d
+  send_said m second below Down (IsCut (CutSend to sent_bytes)) may now p sent x d bytes is message read = absurd d
+  send_said m second below (Hearing node old got into) (IsCut (CutSend to sent_bytes)) may now p sent x d bytes is message read = absurd d
+  send_said m second below stand what may now p sent x d bytes is message read = absurd is
 
   -- ---- what is heard
 
@@ -205,17 +205,17 @@ module _ (w : World) (is_world : IsWorld w) (place : ℕ) (ticket : TicketConf) 
       → Shadows before hosts → node ≡ node_at w m second → used old.last_reading reading ≡ moment
       → HearsSent w before (Hearing node old (Ok (arrivals.Datagram from)) bytes) (Makes (calls.Now reading))
       → ((entry : WorldEntry) → Holds before entry → entry.member < members_of w)
-      → (sent : List MemberLetter) → sent ≡ hosts.sent
+      → (sent : List MemberMessage) → sent ≡ hosts.sent
       → (member : ℕ) (head : Head) (part : TicketPart)
       → IsLetIn (node_at w m second) (verdict w.config w.key (id_at w m) moment bytes) member place head part
       → (plain : Head) × (auth : Bool) × (time : ℕ) × (head ≡ stamped_head auth time plain)
       × Has sent (record { sender = member; head = plain; part = part }) × (plain.from ≡ id_at w member)
   hears_so m second before hosts node old from bytes reading moment shadow node_is used_so heard members sent same member head part x =
-      let let_in : verdict node.config node.key node.me (used old.last_reading reading) bytes ≡ Ok x.letter =
+      let let_in : verdict node.config node.key node.me (used old.last_reading reading) bytes ≡ Ok x.message =
       ap (λ (n : NodeConfig). verdict n.config n.key n.me (used old.last_reading reading) bytes) node_is
       ∙ ap (λ (t : ℕ). verdict w.config w.key (id_at w m) t bytes) used_so ∙ x.let_in in
-      let was : WasSent w before x.letter = heard x.letter let_in x.between in
-      let q = shadow.said was.entry was.earlier was.bytes was.sent x.letter was.same part x.between x.content_is (named_so part x.about) in
+      let was : WasSent w before x.message = heard x.message let_in x.between in
+      let q = shadow.said was.entry was.earlier was.bytes was.sent x.message was.same part x.between x.content_is (named_so part x.about) in
       let at : position (has_id (id_at w was.entry.member)) w.config.members ≡ Some member =
       ap (λ (i : MemberId). position (has_id i) w.config.members) (was.sender ∙ ap (λ (h : Head). h.from) x.head_is) ∙ x.from in
       let same_member : was.entry.member ≡ member =
@@ -225,7 +225,7 @@ module _ (w : World) (is_world : IsWorld w) (place : ℕ) (ticket : TicketConf) 
         q.2,
         sym x.head_is ∙ q.3,
         subst (λ (n : ℕ). Has sent (record { sender = n; head = q.0; part = part })) same_member
-            (subst (λ (ls : List MemberLetter). Has ls (record { sender = was.entry.member; head = q.0; part = part })) (sym same) q.4),
+            (subst (λ (ls : List MemberMessage). Has ls (record { sender = was.entry.member; head = q.0; part = part })) (sym same) q.4),
         ap (λ (h : Head). h.from) (sym q.3) ∙ sym was.sender ∙ ap (λ (n : ℕ). id_at w n) same_member,
       )
 
@@ -327,7 +327,7 @@ module _ (w : World) (is_world : IsWorld w) (place : ℕ) (ticket : TicketConf) 
   up_after (Hearing node old answer bytes) call d is = absurd d
   up_after Down call d is = absurd d
 
-  coming_own : (stand last : Stand) (what : SessionEntry) (sent : List MemberLetter) (old new : HostPlace) (sent' : List MemberLetter) (kept : Record) (go : Bool → TurnTree)
+  coming_own : (stand last : Stand) (what : SessionEntry) (sent : List MemberMessage) (old new : HostPlace) (sent' : List MemberMessage) (kept : Record) (go : Bool → TurnTree)
       → (m : ℕ) (second : Bool) → MayDo stand what → (stand ≡ Down) ⊎ (stand ≡ last)
       → StandsAt w place ticket setting m second (after_entry stand what) new sent' → AtCut w place ticket setting (after_entry stand what) old new
       → (old.tree ≡ Some (Does (Keeps kept) go) → IsNextAt ticket.name last kept)
@@ -385,14 +385,14 @@ module _ (w : World) (is_world : IsWorld w) (place : ℕ) (ticket : TicketConf) 
           each = λ m m_below. by_member m m_below (same_or_not e.member m) later last steps.own.same_now steps.own.others steps.own.still_sent
               (subst (λ (n : ℕ). Shows w place ticket setting e.member (second_after (is_second_at e.member before) e.what) (after_entry (stand_after e.member before) e.what)
               (may_after (own_ticket w place ticket setting) (may_of e.member before) e.what) n (last.place e.member) last.sent) (sym steps.own.same_now) steps.here);
-          said = λ entry h bytes is letter read. ⊎_elim
+          said = λ entry h bytes is message read. ⊎_elim
               (λ (old : Holds before entry). λ part between content named.
-              let q = shadow.said entry old bytes is letter read part between content named in
+              let q = shadow.said entry old bytes is message read part between content named in
               (q.0, q.1, q.2, q.3, steps.own.still_sent _ q.4))
-              (λ (new : e ≡ entry). subst (λ (x : WorldEntry). IsSaidBy last.sent x.member letter) new
+              (λ (new : e ≡ entry). subst (λ (x : WorldEntry). IsSaidBy last.sent x.member message) new
               (λ part between content named.
               let q = send_said e.member (is_second_at e.member before) below (stand_after e.member before) e.what (may_of e.member before) e.time (hosts.place e.member) hosts.sent
-              shown may_do bytes (subst (λ (x : WorldEntry). IsSend x.what bytes) (sym new) is) letter read part between content named in
+              shown may_do bytes (subst (λ (x : WorldEntry). IsSend x.what bytes) (sym new) is) message read part between content named in
               (q.0, q.1, q.2, q.3, steps.own.still_sent _ q.4)))
               (in_either before e entry h);
           coming = λ m m_below kept go is. ⊎_elim

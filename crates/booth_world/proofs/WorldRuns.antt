@@ -12,7 +12,7 @@ use Rattle.booth_wire.specs.declared.message.Setup.{Setup}
 use Rattle.booth_host.specs.declared.entry.Entry.TheVariants as calls
 use Rattle.booth_node.specs.declared.node_config.NodeConfig.{NodeConfig}
 use Rattle.booth_node.specs.State.{State}
-use Rattle.booth_world.specs.Rules.{MemberLetter}
+use Rattle.booth_world.specs.Rules.{MemberMessage}
 use Rattle.booth_node.specs.Clock.{reads}
 use Rattle.booth_node.specs.Opening.{is_site_at}
 use Rattle.booth_node.specs.Reaction.{Ask, Send, Keep, Start}
@@ -123,7 +123,7 @@ module _ (w : World) (is_world : IsWorld w) (place : ℕ) (ticket : TicketConf) 
   opening_shadow : Shadows w is_world place ticket setting [] Opening
   opening_shadow = record {
     each = λ m below. record { same_second = refl; same_may = refl; time = 0; past = omega arith; read = refl; stands = tt };
-    said = λ entry h bytes is letter read. absurd h;
+    said = λ entry h bytes is message read. absurd h;
     coming = λ m below kept go is. absurd (none_is (Does (Keeps kept) go) is);
   }
 
@@ -228,7 +228,7 @@ module _ (w : World) (is_world : IsWorld w) (place : ℕ) (ticket : TicketConf) 
   in_pending (Some (Does ask go)) may k h = h
 
   next_kept : (m : ℕ) (second : Bool) (node : NodeConfig) (name : List ℕ) (tried : Record) (go : Bool → Deeds Ask State) (ticket_name : List ℕ) (rec k : Record)
-      (may : List Record) (now : ℕ) (p : HostPlace) (sent : List MemberLetter)
+      (may : List Record) (now : ℕ) (p : HostPlace) (sent : List MemberMessage)
       → Shows w place ticket setting m second (Doing node (Does (Keep name tried) go)) may now p sent → ticket_name ≡ name → rec ≡ tried
       → Holds (if bytes_eq ticket_name ticket.name then rec ∷ may else may) k → Has (pending p.tree p.may) k
   next_kept m second node name tried go ticket_name rec k may now p sent x named same h = by_name (bytes_eq ticket_name ticket.name) refl h
@@ -245,19 +245,19 @@ module _ (w : World) (is_world : IsWorld w) (place : ℕ) (ticket : TicketConf) 
           (λ own. subst (λ (o : Option TurnTree). Has (pending o p.may) k) (sym (x.stands.3 ∙ ap (λ (t : TurnTree). Some t) own.2)) (inl (sym same ∙ is)))
           x.stands.5
 
-  next_covers : (m : ℕ) (second : Bool) (stand : Stand) (x : SessionEntry) (xs : List SessionEntry) (may : List Record) (now : ℕ) (p : HostPlace) (sent : List MemberLetter) (k : Record)
+  next_covers : (m : ℕ) (second : Bool) (stand : Stand) (x : SessionEntry) (xs : List SessionEntry) (may : List Record) (now : ℕ) (p : HostPlace) (sent : List MemberMessage) (k : Record)
       → Shows w place ticket setting m second stand may now p sent → MayDo stand x → Holds (with_next (own_ticket w place ticket setting) may (x ∷ xs)) k
       → Has (pending p.tree p.may) k
   next_covers m second (Doing node (Does (Keep name tried) go)) (Makes (calls.Keep ticket_name rec answer)) xs may now p sent k x d h =
       next_kept m second node name tried go ticket_name rec k may now p sent x d.0 d.1 h
-  next_covers m second (Doing node (Does (Send peer letter) go)) (Makes (calls.Keep ticket_name rec answer)) xs may now p sent k x d h = absurd d
+  next_covers m second (Doing node (Does (Send peer message) go)) (Makes (calls.Keep ticket_name rec answer)) xs may now p sent k x d h = absurd d
   next_covers m second (Doing node (Does (Start job) go)) (Makes (calls.Keep ticket_name rec answer)) xs may now p sent k x d h = absurd d
   next_covers m second (Doing node (Ends old)) (Makes (calls.Keep ticket_name rec answer)) xs may now p sent k x d h = absurd d
   next_covers m second Down (Makes (calls.Keep ticket_name rec answer)) xs may now p sent k x d h = absurd d
   next_covers m second (Hearing node old got into) (Makes (calls.Keep ticket_name rec answer)) xs may now p sent k x d h = absurd d
   next_covers m second (Doing node (Does (Keep name tried) go)) (IsCut (CutKeep ticket_name rec)) xs may now p sent k x d h =
       next_kept m second node name tried go ticket_name rec k may now p sent x d.0 d.1 h
-  next_covers m second (Doing node (Does (Send peer letter) go)) (IsCut (CutKeep ticket_name rec)) xs may now p sent k x d h = absurd d
+  next_covers m second (Doing node (Does (Send peer message) go)) (IsCut (CutKeep ticket_name rec)) xs may now p sent k x d h = absurd d
   next_covers m second (Doing node (Does (Start job) go)) (IsCut (CutKeep ticket_name rec)) xs may now p sent k x d h = absurd d
   next_covers m second (Doing node (Ends old)) (IsCut (CutKeep ticket_name rec)) xs may now p sent k x d h = absurd d
   next_covers m second Down (IsCut (CutKeep ticket_name rec)) xs may now p sent k x d h = absurd d

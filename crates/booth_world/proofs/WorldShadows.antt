@@ -111,12 +111,12 @@ module _ (w : World) (is_world : IsWorld w) (place : ℕ) (ticket : TicketConf) 
   said_at : (cores : Cores) (state : WorldState)
       → HostsHold (cluster w place ticket setting) (cast w place ticket setting) hosts cores
       → CoresHold (cluster w place ticket setting) (cast w place ticket setting) cores state
-      → (m : ℕ) (letter : PlainMessage) (part : TicketPart) → IsSentIn ticket.name moment.before m letter part
-      → IsFact (id_at w) state.facts m letter.head part letter.head.cmd
-  said_at cores state hold core_hold m letter part is =
-      let q = shadow.said is.entry is.one is.bytes is.sent letter is.read part is.members is.about is.named in
+      → (m : ℕ) (message : PlainMessage) (part : TicketPart) → IsSentIn ticket.name moment.before m message part
+      → IsFact (id_at w) state.facts m message.head part message.head.cmd
+  said_at cores state hold core_hold m message part is =
+      let q = shadow.said is.entry is.one is.bytes is.sent message is.read part is.members is.about is.named in
       let fact = core_hold.heard_now _ (hold.said _ q.4) in
-      subst (λ (n : ℕ). IsFact (id_at w) state.facts n letter.head part letter.head.cmd) is.own
+      subst (λ (n : ℕ). IsFact (id_at w) state.facts n message.head part message.head.cmd) is.own
       (subst (λ (h : Head). IsFact (id_at w) state.facts is.entry.member h part h.cmd) (sym q.3)
       (same_fact (id_at w) state.facts is.entry.member q.1 q.2 q.0 part q.0.cmd fact.1))
 

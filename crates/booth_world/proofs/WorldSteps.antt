@@ -18,7 +18,7 @@ use Rattle.booth_node.specs.State.{State}
 use Rattle.booth_node.specs.World.{World, members_of, id_at, node_at, clock_at, cluster_of, ticket_at}
 use Rattle.booth_world.specs.Facts.{Release}
 use Rattle.booth_world.specs.States.{put}
-use Rattle.booth_world.specs.Rules.{MemberLetter}
+use Rattle.booth_world.specs.Rules.{MemberMessage}
 use Rattle.booth_world.specs.Cores.{Cast}
 use Rattle.booth_world.specs.Turns.{Keeps, Sends, AsksElse, TurnTree}
 use Rattle.booth_world.specs.Hosts.{HostEntry, DoesAsk, HostPlace, Hosts, MayHost, IsNextAsk, went_on, may_left, hosted, AreHosted, hosts_after}
@@ -101,21 +101,21 @@ module _ (w : World) (place : ℕ) (ticket : TicketConf) (setting : Setting w pl
 
   -- ---- where a member of the world and its host stand
 
-  abbrev pub Doings : ℕ → Bool → ℕ → List MemberLetter → Deeds Ask State → TurnTree → Type 0
+  abbrev pub Doings : ℕ → Bool → ℕ → List MemberMessage → Deeds Ask State → TurnTree → Type 0
   Doings m second moment known deeds tree = Over (setup_at m second) place (node_at w m second) moment refl known deeds tree
 
   -- In a session of this version the host is at the next keep or start of this ticket, or at the end of its turn; what
   -- comes before that is said already.
-  abbrev pub StandsAt : ℕ → Bool → Stand → HostPlace → List MemberLetter → Type 0
+  abbrev pub StandsAt : ℕ → Bool → Stand → HostPlace → List MemberMessage → Type 0
   StandsAt m second Down p sent = Unit {0}
   StandsAt m second (Doing node deeds) p sent =
-      (node ≡ node_at w m second) × (tree : TurnTree) × (known : List MemberLetter) × (p.tree ≡ Some (skip tree))
+      (node ≡ node_at w m second) × (tree : TurnTree) × (known : List MemberMessage) × (p.tree ≡ Some (skip tree))
       × SentMore (sent_by tree known) sent × Doings m second p.reading known deeds tree
   StandsAt m second (Hearing node old answer bytes) p sent =
       (node ≡ node_at w m second) × (view : View) × (p.tree ≡ Some (Ends view)) × IsPlacedAt (setup_at m second) place view old.tickets
       × (old.last_reading ≡ p.reading) × IsFew old.common
 
-  pub record Shows (m : ℕ) (second : Bool) (stand : Stand) (may : List Record) (now : ℕ) (p : HostPlace) (sent : List MemberLetter) : Type 0 where
+  pub record Shows (m : ℕ) (second : Bool) (stand : Stand) (may : List Record) (now : ℕ) (p : HostPlace) (sent : List MemberMessage) : Type 0 where
     pub same_second : p.second ≡ second
     pub same_may : p.may ≡ may
     pub time : ℕ
@@ -123,13 +123,13 @@ module _ (w : World) (place : ℕ) (ticket : TicketConf) (setting : Setting w pl
     pub read : p.reading ≡ reads cluster m time
     pub stands : StandsAt m second stand p sent
 
-  stands_more : (m : ℕ) (second : Bool) (stand : Stand) (p : HostPlace) (sent sent' : List MemberLetter) → SentMore sent sent'
+  stands_more : (m : ℕ) (second : Bool) (stand : Stand) (p : HostPlace) (sent sent' : List MemberMessage) → SentMore sent sent'
       → StandsAt m second stand p sent → StandsAt m second stand p sent'
   stands_more m second Down p sent sent' more x = tt
   stands_more m second (Doing node deeds) p sent sent' more x = (x.0, x.1, x.2, x.3, (λ l h. more l (x.4 l h)), x.5)
   stands_more m second (Hearing node old answer bytes) p sent sent' more x = x
 
-  pub shows_more : (m : ℕ) (second : Bool) (stand : Stand) (may : List Record) (now now' : ℕ) (p : HostPlace) (sent sent' : List MemberLetter)
+  pub shows_more : (m : ℕ) (second : Bool) (stand : Stand) (may : List Record) (now now' : ℕ) (p : HostPlace) (sent sent' : List MemberMessage)
       → now ≤ now' → SentMore sent sent' → Shows m second stand may now p sent → Shows m second stand may now' p sent'
   shows_more m second stand may now now' p sent sent' later more x = record {
     same_second = x.same_second;
@@ -141,13 +141,13 @@ module _ (w : World) (place : ℕ) (ticket : TicketConf) (setting : Setting w pl
   }
 
   -- the host's next keep is that of the node's deeds
-  keeps_next : (m : ℕ) (second : Bool) (moment : ℕ) (deeds : Deeds Ask State) (tree : TurnTree) (sent : List MemberLetter) (kept : Record) (go : Bool → TurnTree)
+  keeps_next : (m : ℕ) (second : Bool) (moment : ℕ) (deeds : Deeds Ask State) (tree : TurnTree) (sent : List MemberMessage) (kept : Record) (go : Bool → TurnTree)
       → Doings m second moment sent deeds tree → skip tree ≡ Does (Keeps kept) go → KeepsNext ticket.name deeds kept
   keeps_next m second moment (Ends state) tree sent kept go over is = absurd (no_end over.view kept go (sym over.ended ∙ is))
     where
       no_end : (view : View) (kept : Record) (go : Bool → TurnTree) → Ends view ≡ Does (Keeps kept) go → ⊥
       no_end view kept go e = cc
-  keeps_next m second moment (Does (Send peer letter) more) tree sent kept go over is =
+  keeps_next m second moment (Does (Send peer message) more) tree sent kept go over is =
       (true, keeps_next m second moment (more true) tree sent kept go (over.1 true) is)
   keeps_next m second moment (Does (Keep name tried) more) tree sent kept go (inl other) is =
       inr (other.0, true, keeps_next m second moment (more true) tree sent kept go (other.1 true) is)
@@ -163,7 +163,7 @@ module _ (w : World) (place : ℕ) (ticket : TicketConf) (setting : Setting w pl
       no_ask : (kept : Record) (go rest : Bool → TurnTree) → Does (Keeps kept) go ≡ Does AsksElse rest → ⊥
       no_ask kept go rest e = cc
 
-  pub next_at : (m : ℕ) (second : Bool) (stand : Stand) (p : HostPlace) (sent : List MemberLetter) (kept : Record) (go : Bool → TurnTree)
+  pub next_at : (m : ℕ) (second : Bool) (stand : Stand) (p : HostPlace) (sent : List MemberMessage) (kept : Record) (go : Bool → TurnTree)
       → StandsAt m second stand p sent → p.tree ≡ Some (Does (Keeps kept) go) → IsNextAt ticket.name stand kept ⊎ (stand ≡ Down)
   next_at m second Down p sent kept go x is = inr refl
   next_at m second (Doing node deeds) p sent kept go x is =
@@ -230,7 +230,7 @@ module _ (w : World) (place : ℕ) (ticket : TicketConf) (setting : Setting w pl
           entries = entry ∷ says cluster cast m below tree;
           hosted_all = (may_do, said.hosted_all);
           own = of_both cluster cast m hosts after last own said.own;
-          here = subst (λ (sent : List MemberLetter). Shows m second stand may hosts.now (last.place m) sent) (sym said.all_sent)
+          here = subst (λ (sent : List MemberMessage). Shows m second stand may hosts.now (last.place m) sent) (sym said.all_sent)
               (shows (last.place m) said.tree_now said.same_reading said.same_may said.same_second);
           at_cut = cut (last.place m);
           released = λ z r. ⊎_elim (λ (x : IsHostReleaseAt cluster hosts entry z). rel z x)
@@ -241,13 +241,13 @@ module _ (w : World) (place : ℕ) (ticket : TicketConf) (setting : Setting w pl
               (λ (x : StartsIn (says cluster cast m below tree) b). absurd (said.unstarted b x)) r;
         }
 
-    pub moved_one : (hosts : Hosts) (p : HostPlace) (sent : List MemberLetter) → SentMore hosts.sent sent
+    pub moved_one : (hosts : Hosts) (p : HostPlace) (sent : List MemberMessage) → SentMore hosts.sent sent
         → IsOf cluster cast m hosts (record { now = hosts.now; place = put hosts.place m p; sent = sent })
     moved_one hosts p sent more = record { same_now = refl; others = λ k ne. put_other hosts.place m k p ne; still_sent = more }
 
     -- a keep of this ticket is answered
     pub keeps_own : (hosts : Hosts) (second : Bool) (node : NodeConfig) (before stand : Stand) (may : List Record) (R : Trace → Type 0) (tried : Record) (ok : Bool)
-        (go : Bool → Deeds Ask State) (tree : TurnTree) (known : List MemberLetter) (rest : Bool → TurnTree)
+        (go : Bool → Deeds Ask State) (tree : TurnTree) (known : List MemberMessage) (rest : Bool → TurnTree)
         → node ≡ node_at w m second → stand ≡ Doing node (go ok)
         → Shows m second before may hosts.now (hosts.place m) hosts.sent
         → (hosts.place m).tree ≡ Some (skip tree) → SentMore (sent_by tree known) hosts.sent
@@ -330,7 +330,7 @@ module _ (w : World) (place : ℕ) (ticket : TicketConf) (setting : Setting w pl
             → Steps hosts m second stand may R
         by_tree (Ends view) is shows_then on_more = asked_once ok hosts go second stand may R (Ends view) there is shows_then cut
         by_tree (Does (Keeps kept) on) is shows_then on_more = asked_once ok hosts go second stand may R (Does (Keeps kept) on) there is shows_then cut
-        by_tree (Does (Sends letter) on) is shows_then on_more = asked_once ok hosts go second stand may R (Does (Sends letter) on) there is shows_then cut
+        by_tree (Does (Sends message) on) is shows_then on_more = asked_once ok hosts go second stand may R (Does (Sends message) on) there is shows_then cut
         by_tree (Does AsksElse on) is shows_then on_more =
             let rest : Steps (asked_hosts ok hosts) m second stand may R =
             on_more on (asked_tree ok hosts go (Does AsksElse on) there is) (asked_shows ok hosts second stand may (later more (on b)) shows_then) in
@@ -348,7 +348,7 @@ module _ (w : World) (place : ℕ) (ticket : TicketConf) (setting : Setting w pl
 
     -- a start of this ticket's handler is answered
     pub starts_own : (hosts : Hosts) (second : Bool) (node : NodeConfig) (before stand : Stand) (may : List Record) (R : Trace → Type 0) (ok : Bool)
-        (answers : List Bool) (go : Bool → Deeds Ask State) (tree : TurnTree) (known : List MemberLetter) (rest : Bool → TurnTree)
+        (answers : List Bool) (go : Bool → Deeds Ask State) (tree : TurnTree) (known : List MemberMessage) (rest : Bool → TurnTree)
         → node ≡ node_at w m second → stand ≡ Doing node (go ok)
         → Shows m second before may hosts.now (hosts.place m) hosts.sent
         → (hosts.place m).tree ≡ Some (skip tree) → SentMore (sent_by tree known) hosts.sent

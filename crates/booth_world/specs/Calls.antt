@@ -18,7 +18,7 @@ use Rattle.booth_world.specs.MemberRuns.{IsMemberRun, member_after_all, facts_af
 use Rattle.booth_world.specs.Agreement.{AreIds, IsSeated, records_in, Agrees}
 use Rattle.booth_world.specs.Messages.{IsFact}
 use Rattle.booth_world.specs.Gives.{may_answered, Mark, mark_of, releases_answered, Given, given_by, LeadsTo}
-use Rattle.booth_world.specs.Rules.{MemberLetter, CoreCall, Asks, Hears, RenewsLease, GivesBack, Rules}
+use Rattle.booth_world.specs.Rules.{MemberMessage, CoreCall, Asks, Hears, RenewsLease, GivesBack, Rules}
 
 -- ---- may answer
 
@@ -99,17 +99,17 @@ given_by_start rules w m setup kept = record {
 -- ---- the calls
 
 -- a message is heard at the true time of the reading, from a member, and is a fact of it
-pub record IsHeard (c : Cluster) (w : WorldState) (member : Caller) (letter : MemberLetter)
+pub record IsHeard (c : Cluster) (w : WorldState) (member : Caller) (message : MemberMessage)
     : Type 0 where
   pub timely : (state_of w member).at ≡ w.now
-  pub below : letter.sender < c.members
-  pub from : letter.head.from ≡ member.id_of letter.sender
-  pub fact : IsFact member.id_of w.facts letter.sender letter.head letter.part letter.head.cmd
+  pub below : message.sender < c.members
+  pub from : message.head.from ≡ member.id_of message.sender
+  pub fact : IsFact member.id_of w.facts message.sender message.head message.part message.head.cmd
 
 -- what a call needs, beside that no keep waits
 abbrev pub MayCall : Cluster → WorldState → Caller → CoreCall → Type 0
 MayCall c w member (Asks reason) = IsTrue member.setup.site
-MayCall c w member (Hears letter) = IsHeard c w member letter
+MayCall c w member (Hears message) = IsHeard c w member message
 MayCall c w member RenewsLease = IsTrue (is_leader member.view.role)
 MayCall c w member (GivesBack reason) = IsTrue member.setup.site
 MayCall c w member call = Unit {0}

@@ -16,13 +16,13 @@ use Rattle.booth_node.specs.Clock.{Cluster, reads}
 use Rattle.booth_world.specs.Facts.{Has, Release}
 use Rattle.booth_world.specs.States.{put}
 use Rattle.booth_world.specs.Agreement.{AreIds, IsSeated}
-use Rattle.booth_world.specs.Rules.{MemberLetter, CoreCall, Asks, Hears, MakesNote, RenewsLease, GivesBack, lease_rules}
+use Rattle.booth_world.specs.Rules.{MemberMessage, CoreCall, Asks, Hears, MakesNote, RenewsLease, GivesBack, lease_rules}
 use Rattle.booth_world.specs.Gives.{Mark, Given, given_by, may_answered, releases_answered}
 
 -- ---- entries
 
--- What happens: true time passes; or, at one member, it reads its clock, calls its core, or has the answer of a keep; it
--- stops, or starts with a record, in a session of version 2 (`second`) or of version 1.
+-- What happens: true time passes; or, at one member, it reads its clock, calls its core, or has the answer of a
+-- keep; it stops, or starts with a record, in a session of version 2 (`second`) or of version 1.
 pub data CoreEntry : Type 0 where
   TimePasses : (time : ℕ) → CoreEntry
   ReadsTime : (m time : ℕ) → CoreEntry
@@ -33,8 +33,8 @@ pub data CoreEntry : Type 0 where
 
 -- ---- where entries leave the members
 
--- A member: its view while it is up; whether its last session is of version 2; its last reading and the true time of it;
--- and the records that may be kept.
+-- A member: its view while it is up; whether its last session is of version 2; its last reading and the true time
+-- of it; and the records that may be kept.
 pub record CorePlace : Type 0 where
   pub view : Option View
   pub second : Bool
@@ -46,7 +46,7 @@ pub record CorePlace : Type 0 where
 pub record Cores : Type 0 where
   pub now : ℕ
   pub place : ℕ → CorePlace
-  pub said : List MemberLetter
+  pub said : List MemberMessage
   pub releases : List Release
   pub marks : List Mark
 
@@ -75,7 +75,7 @@ pub record IsCast (c : Cluster) (cast : Cast) : Type 0 where
 -- what a call needs that hears nothing, beside that no keep waits
 abbrev pub MayCallAlone : Setup → View → CoreCall → Type 0
 MayCallAlone setup view (Asks reason) = IsTrue setup.site
-MayCallAlone setup view (Hears letter) = ⊥
+MayCallAlone setup view (Hears message) = ⊥
 MayCallAlone setup view (MakesNote note) = MayNote view note
 MayCallAlone setup view RenewsLease = IsTrue (is_leader view.role)
 MayCallAlone setup view (GivesBack reason) = IsTrue setup.site
@@ -87,8 +87,8 @@ setup_in cast cores m = cast.setup m (cores.place m).second
 
 -- a message is heard that was said, with its sender's id, at the true time of the reading
 abbrev pub MayCallCore : Cast → Cores → ℕ → View → CoreCall → Type 0
-MayCallCore cast cores m view (Hears letter) =
-    (Has cores.said letter) × (letter.head.from ≡ cast.id_of letter.sender)
+MayCallCore cast cores m view (Hears message) =
+    (Has cores.said message) × (message.head.from ≡ cast.id_of message.sender)
     × ((cores.place m).at ≡ cores.now)
 MayCallCore cast cores m view call = MayCallAlone (setup_in cast cores m) view call
 
@@ -116,7 +116,7 @@ MayEnter c cast cores (StartsWith m second kept) =
 -- ---- what it changes
 
 -- what is said once more
-abbrev pub said_more : ℕ → Say → List MemberLetter → List MemberLetter
+abbrev pub said_more : ℕ → Say → List MemberMessage → List MemberMessage
 said_more m says.Nothing said = said
 said_more m (says.All head part) said = record { sender = m; head = head; part = part } ∷ said
 said_more m (says.Unanswered head part members) said =

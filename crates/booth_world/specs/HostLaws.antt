@@ -9,19 +9,19 @@ use Rattle.booth_node.specs.Clock.{Cluster, HasClocks, reads}
 use Rattle.booth_world.specs.Facts.{Has, Release}
 use Rattle.booth_world.specs.Held.{AreApart, GivesBackLease}
 use Rattle.booth_world.specs.Cores.{Cast, IsCast}
-use Rattle.booth_world.specs.Rules.{MemberLetter}
+use Rattle.booth_world.specs.Rules.{MemberMessage}
 use Rattle.booth_world.specs.Turns.{Keeps, Sends, TurnTree}
 use Rattle.booth_world.specs.Hosts.{HostEntry, DoesAsk, Boots, Hosts, opening_hosts, pending, hosted, AreHosted, hosts_after}
 
 -- ---- releases, by the entries
 
--- what comes first is a send of the letter that says that this term was given back
+-- what comes first is a send of the message that says that this term was given back
 pub record Revokes (term : ℕ) (tree : TurnTree) : Type 0 where
-  pub letter : MemberLetter
+  pub message : MemberMessage
   pub go : Bool → TurnTree
-  pub next_is : tree ≡ Does (Sends letter) go
-  pub revokes : letter.head.cmd ≡ Revk
-  pub same_term : letter.part.term ≡ term
+  pub next_is : tree ≡ Does (Sends message) go
+  pub revokes : message.head.cmd ≡ Revk
+  pub same_term : message.part.term ≡ term
 
 -- after the keep that comes next, where it is done, others are told that the term was given back, where there are any
 abbrev pub RevokesAfter : ℕ → ℕ → TurnTree → Type 0

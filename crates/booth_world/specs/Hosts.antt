@@ -10,26 +10,26 @@ use Rattle.booth_raft.specs.declared.view.View.{View}
 use Rattle.booth_node.specs.Clock.{Cluster, reads}
 use Rattle.booth_world.specs.Facts.{Has}
 use Rattle.booth_world.specs.States.{put}
-use Rattle.booth_world.specs.Rules.{MemberLetter, lease_rules}
+use Rattle.booth_world.specs.Rules.{MemberMessage, lease_rules}
 use Rattle.booth_world.specs.Cores.{Cast}
 use Rattle.booth_world.specs.Turns.{TicketAsk, Keeps, Sends, TurnTree, Plan, turn_tree, MayTurn}
 
 -- ---- entries
 
 -- What happens: true time passes; or, at one member, a turn begins at a reading, at whose head a message may have come;
--- the next ask of its turn is answered; it stops, wherever it is; or it starts, at a reading, with a record, in a session
--- of version 2 (`second`) or of version 1.
+-- the next ask of its turn is answered; it stops, wherever it is; or it starts, at a reading, with a record, in a
+-- session of version 2 (`second`) or of version 1.
 pub data HostEntry : Type 0 where
   LetsPass : (time : ℕ) → HostEntry
-  BeginsTurn : (m time : ℕ) (came : Option MemberLetter) (plan : View → Plan) → HostEntry
+  BeginsTurn : (m time : ℕ) (came : Option MemberMessage) (plan : View → Plan) → HostEntry
   DoesAsk : (m : ℕ) (ask : TicketAsk) (ok : Bool) → HostEntry
   Halts : (m : ℕ) → HostEntry
   Boots : (m time : ℕ) (second : Bool) (kept : Record) → HostEntry
 
 -- ---- where entries leave the members
 
--- A member: what is still to be done while it is up; whether its last session is of version 2; its last reading; and the
--- records that its keeps may have left.
+-- A member: what is still to be done while it is up; whether its last session is of version 2; its last reading;
+-- and the records that its keeps may have left.
 pub record HostPlace : Type 0 where
   pub tree : Option TurnTree
   pub second : Bool
@@ -39,7 +39,7 @@ pub record HostPlace : Type 0 where
 pub record Hosts : Type 0 where
   pub now : ℕ
   pub place : ℕ → HostPlace
-  pub sent : List MemberLetter
+  pub sent : List MemberMessage
 
 -- nobody has started, and nothing is kept
 abbrev pub opening_hosts : Cluster → Hosts
@@ -61,7 +61,7 @@ pending (Some tree) may = pending_in tree may
 -- ---- what may come next
 
 -- the last turn is over, and the next may be this one
-abbrev pub MayBegin : Setup → ℕ → Option MemberLetter → (View → Plan) → TurnTree → Type 0
+abbrev pub MayBegin : Setup → ℕ → Option MemberMessage → (View → Plan) → TurnTree → Type 0
 MayBegin s now came plan (Ends view) = MayTurn s now view came plan
 MayBegin s now came plan (Does ask go) = ⊥
 
@@ -70,12 +70,12 @@ IsNextAsk ask (Ends view) = ⊥
 IsNextAsk ask (Does first go) = first ≡ ask
 
 -- a message that comes was sent, with its sender's id
-abbrev pub MayCome : Cast → Hosts → MemberLetter → Type 0
-MayCome cast hosts letter =
-    (Has hosts.sent letter) × (letter.head.from ≡ cast.id_of letter.sender)
+abbrev pub MayCome : Cast → Hosts → MemberMessage → Type 0
+MayCome cast hosts message =
+    (Has hosts.sent message) × (message.head.from ≡ cast.id_of message.sender)
 
--- A start reads a record that a keep left that was done, or one that failed or was cut since; and it is not of version 1
--- after one of version 2.
+-- A start reads a record that a keep left that was done, or one that failed or was cut since; and it is not of
+-- version 1 after one of version 2.
 abbrev pub MayHost : Cluster → Cast → Hosts → HostEntry → Type 0
 MayHost c cast hosts (LetsPass time) = (hosts.now ≤ time) × (time < c.span)
 MayHost c cast hosts (BeginsTurn m time came plan) =
@@ -93,7 +93,7 @@ MayHost c cast hosts (Boots m time second kept) =
 
 -- ---- what it changes
 
-abbrev pub begun : Setup → ℕ → Option MemberLetter → (View → Plan) → Option TurnTree
+abbrev pub begun : Setup → ℕ → Option MemberMessage → (View → Plan) → Option TurnTree
     → Option TurnTree
 begun s now came plan (Some (Ends view)) = Some (turn_tree s now view came plan)
 begun s now came plan tree = tree
@@ -107,8 +107,8 @@ may_left (Keeps kept) true may = kept ∷ []
 may_left (Keeps kept) false may = kept ∷ may
 may_left ask ok may = may
 
-abbrev pub sent_more : TicketAsk → List MemberLetter → List MemberLetter
-sent_more (Sends letter) sent = letter ∷ sent
+abbrev pub sent_more : TicketAsk → List MemberMessage → List MemberMessage
+sent_more (Sends message) sent = message ∷ sent
 sent_more ask sent = sent
 
 abbrev pub hosted : Cluster → Cast → Hosts → HostEntry → Hosts

@@ -16,18 +16,18 @@ abbrev pub others_of : World → ℕ → List ℕ
 others_of w m = filter (λ place. not (place == m)) (range_with_len 0 (members_of w))
 
 -- a message says that this term of the ticket was given back
-pub record IsRevocation (name : List ℕ) (term : ℕ) (letter : PlainMessage) : Type 0 where
+pub record IsRevocation (name : List ℕ) (term : ℕ) (message : PlainMessage) : Type 0 where
   pub part : TicketPart
-  pub revokes : letter.head.cmd ≡ Revk
-  pub about : letter.content ≡ Ticket part
+  pub revokes : message.head.cmd ≡ Revk
+  pub about : message.content ≡ Ticket part
   pub named : part.ticket ≡ name
   pub same_term : part.term ≡ term
 
 -- whatever is answered, these deeds begin with sends, one to each of these members, of messages of which this is so
 abbrev pub SendsEach : {S : Type 0} → ConfigSays → List ℕ → (PlainMessage → Type 0) → Deeds Ask S → Type 0
 SendsEach config [] P deeds = Unit {0}
-SendsEach config (place ∷ places) P (Does (Send peer letter) go) =
-    (peer_of config (Member place) ≡ Some peer) × P letter × ((ok : Bool) → SendsEach config places P (go ok))
+SendsEach config (place ∷ places) P (Does (Send peer message) go) =
+    (peer_of config (Member place) ≡ Some peer) × P message × ((ok : Bool) → SendsEach config places P (go ok))
 SendsEach config (place ∷ places) P deeds = ⊥
 
 -- a member that stands so goes on to tell each other one that the term was given back

@@ -31,7 +31,7 @@ use Rattle.booth_world.specs.Steps.{WorldStep, IsRun, world_of}
 -- of these deeds, the first keep of the ticket that some answers lead to is of this record
 abbrev pub KeepsNext : List ℕ → Deeds Ask State → Record → Type 0
 KeepsNext name (Ends state) kept = ⊥
-KeepsNext name (Does (Send peer letter) go) kept = (ok : Bool) × KeepsNext name (go ok) kept
+KeepsNext name (Does (Send peer message) go) kept = (ok : Bool) × KeepsNext name (go ok) kept
 KeepsNext name (Does (Keep ticket tried) go) kept =
     ((ticket ≡ name) × (tried ≡ kept)) ⊎ ((ticket ≢ name) × (ok : Bool) × KeepsNext name (go ok) kept)
 KeepsNext name (Does (Start job) go) kept = (ok : Bool) × KeepsNext name (go ok) kept
@@ -80,15 +80,16 @@ pub record IsReadIn (before : List WorldEntry) (m reading time : ℕ) : Type 0 w
   pub taken : TakesReading entry.what reading
 
 -- an entry sent this message of a member about the ticket; the send may have failed, or been cut
-pub record IsSentIn (name : List ℕ) (before : List WorldEntry) (m : ℕ) (letter : PlainMessage) (part : TicketPart) : Type 0 where
+pub record IsSentIn (name : List ℕ) (before : List WorldEntry) (m : ℕ) (message : PlainMessage) (part : TicketPart)
+    : Type 0 where
   pub entry : WorldEntry
   pub one : Has before entry
   pub own : entry.member ≡ m
   pub bytes : List ℕ
   pub sent : IsSend entry.what bytes
-  pub read : decoded bytes ≡ Ok letter
-  pub members : direction_of letter.head.cmd ≡ BetweenMembers
-  pub about : letter.content ≡ Ticket part
+  pub read : decoded bytes ≡ Ok message
+  pub members : direction_of message.head.cmd ≡ BetweenMembers
+  pub about : message.content ≡ Ticket part
   pub named : part.ticket ≡ name
 
 -- ---- versions
@@ -114,7 +115,8 @@ records_of w state m = records_in (id_at w) (state.member m).may
 
 -- What a node in this state knows of the ticket is what the steps' member is: its rules are of the member's version,
 -- its view agrees with the member, no keep waits for its answer, and the last reading is the member's.
-pub record Knows (w : World) (place : ℕ) (ticket : TicketConf) (m : ℕ) (resting : State) (state : WorldState) : Type 0 where
+pub record Knows (w : World) (place : ℕ) (ticket : TicketConf) (m : ℕ) (resting : State) (state : WorldState)
+    : Type 0 where
   pub view : View
   pub known : slice_get resting.tickets place
       ≡ Some (record { setup = setup_of (node_at w m (state.member m).second) place ticket; known = Automatic view })
@@ -144,13 +146,14 @@ pub record HasShadow (w : World) (place : ℕ) (ticket : TicketConf) (moment : M
   pub releases : (release : Release) → HasFact (world_of (cluster_of w ticket.times) steps).facts.releases release
       → AtSome [] moment.before
       (λ before entry.
-      GivesTermBack w ticket.name entry.member entry.time (stand_after entry.member (before ++ entry ∷ [])) entry.what release)
+      GivesTermBack w ticket.name entry.member entry.time (stand_after entry.member (before ++ entry ∷ [])) entry.what
+      release)
   pub rounds : (round : Round) → HasFact (world_of (cluster_of w ticket.times) steps).facts.rounds round
       → IsReadIn moment.before round.site round.opened round.at
   pub answers : (answer : Answer) → HasFact (world_of (cluster_of w ticket.times) steps).facts.answers answer
       → IsReadIn moment.before answer.member answer.reading answer.at
-  pub said : (m : ℕ) (letter : PlainMessage) (part : TicketPart) → IsSentIn ticket.name moment.before m letter part
-      → IsFact (id_at w) (world_of (cluster_of w ticket.times) steps).facts m letter.head part letter.head.cmd
+  pub said : (m : ℕ) (message : PlainMessage) (part : TicketPart) → IsSentIn ticket.name moment.before m message part
+      → IsFact (id_at w) (world_of (cluster_of w ticket.times) steps).facts m message.head part message.head.cmd
   pub held : (m : ℕ) → Holds w place ticket m moment
       → Held (cluster_of w ticket.times) (world_of (cluster_of w ticket.times) steps) m
 

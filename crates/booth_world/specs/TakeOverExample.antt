@@ -39,8 +39,8 @@ its_holder_crashes =
     ∷ at 9000 0 (starts three_members site_one 9000 (Some (lease 1 13000)))
     ∷ []
 
--- When the lease and what site two promised are over, site two is asked for it. The arbitrator votes for it. Site two has
--- the lease, and crashes while it tells site one, which hears of it all the same.
+-- When the lease and what site two promised are over, site two is asked for it. The arbitrator votes for it. Site
+-- two has the lease, and crashes while it tells site one, which hears of it all the same.
 abbrev pub another_takes_it_over : List WorldEntry
 another_takes_it_over =
     at 20000 1 (hears client grant_it)

@@ -92,7 +92,7 @@ starts members member reading kept =
 
 -- a turn begins with a datagram, and then the clock is read
 abbrev pub hears : Peer → PlainMessage → SessionEntry
-hears from letter = Makes (calls.Next 100 (Ok (arrivals.Datagram from)) (sealed None letter))
+hears from message = Makes (calls.Next 100 (Ok (arrivals.Datagram from)) (sealed None message))
 
 abbrev pub reads : ℕ → SessionEntry
 reads reading = Makes (calls.Now reading)
@@ -101,7 +101,7 @@ abbrev pub keeps : Record → SessionEntry
 keeps kept = Makes (calls.Keep (codes "web") kept (Ok tt))
 
 abbrev pub sends : Peer → PlainMessage → SessionEntry
-sends to letter = Makes (calls.Send to (sealed None letter) (Ok tt))
+sends to message = Makes (calls.Send to (sealed None message) (Ok tt))
 
 -- it is cut while it keeps
 abbrev pub is_cut_keeping : Record → SessionEntry
@@ -109,7 +109,7 @@ is_cut_keeping tried = IsCut (CutKeep (codes "web") tried)
 
 -- it is cut while it sends: the datagram may be on its way
 abbrev pub is_cut_sending : Peer → PlainMessage → SessionEntry
-is_cut_sending to letter = IsCut (CutSend to (sealed None letter))
+is_cut_sending to message = IsCut (CutSend to (sealed None message))
 
 -- the record of a term without a lease, and that of a lease
 abbrev pub term : ℕ → Record

@@ -1,16 +1,20 @@
 use Rattle.std.proofs.Common.{◌≡◌, ◌<◌, ◌+◌, ℕ, List, ◌∷◌, drop, get_or, refl, sym, subst, ap, ◌∙◌}
-use native.Mathlib.Nat.{le_refl, le_trans}
 use Rattle.std.proofs.lemmas.List.{drop_more}
 use Rattle.std.proofs.Math.ListN.{drop_of_length-le}
-use Rattle.booth_host.proofs.PastLemmas.{no_entry, some_of}
 use Rattle.booth_chain.specs.Wheel.{Timer}
-use Rattle.booth_node.proofs.DueLemmas.{Each, Once, DueAt, TimedBut, all_of_each, all_due, all_once, still_due, timed_all, same_length, place_in, place_after, timed_next, slots_next, due_next}
+use Rattle.booth_node.proofs.DueLemmas.{Each, Once, DueAt, TimedBut, all_of_each, all_due, all_once, still_due, timed_all, same_length, place_in, place_after, timed_next, slots_next}
+use Rattle.booth_node.specs.declared.event.Event.TheVariants.{Due}
+use Rattle.booth_node.specs.declared.node_config.NodeConfig.{NodeConfig}
+use Rattle.booth_node.specs.Led.{Led}
+use Rattle.booth_node.specs.Reaction.{IsDone, acts}
+use Rattle.booth_node.specs.State.{state_of_parts}
+use Rattle.booth_node.specs.View.{state_with}
+use Rattle.booth_node.proofs.LedLemmas.{led_all, led_end, led_taken}
 use Rattle.booth_node.proofs.deadlines.expire_each.Goals as goal
 
 pub loop-place-init : goal.loop-place-init
 loop-place-init g c = record {
-  past = some_of _ no_entry refl;
-  later = le_refl _;
+  led = led_end;
   node = refl;
   due = subst (λ (places : List ℕ). Each (DueAt c.args.now c.args.table.now.tickets.items) places)
       (sym c.requires.due)
@@ -40,10 +44,14 @@ loop-place-preserved g c =
     let once : Once (place ∷ more) = subst (λ (places : List ℕ). Once places) left
     c.loop-place.invariant.once in
     record {
-      past = due_next c.args.table.now.node c.loop-place.table.node c.args.now place more _ _ _ _ _ _ _ left
-          c.loop-place.invariant.node
-          c.loop-place.invariant.past c.expire.ensures.past;
-      later = le_trans c.loop-place.invariant.later c.expire.ensures.later;
+      led = led_taken (λ place state. acts c.args.table.now.node c.args.now state place Due) c.args.due.now
+          c.loop-place.place-index 0
+          (state_of_parts c.args.table.now.tickets.items c.args.table.now.waiters c.args.table.now.attrs c.args.table.now.common c.args.now)
+          c.loop-place-test.true c.loop-place.invariant.led
+          (subst (λ (n : NodeConfig). Led g.H.Host.past g.H.Host.faults (IsDone n.key) (acts n c.args.now
+          (state_of_parts c.loop-place.table.tickets.items c.loop-place.table.waiters c.loop-place.table.attrs
+          c.loop-place.table.common c.args.now) place Due) (state_with c.expire.new.self c.args.now) c.loop-place.host c.expire.new.host)
+          c.loop-place.invariant.node c.expire.ensures.led);
       node = c.expire.ensures.node ∙ c.loop-place.invariant.node;
       due = still_due c.args.now place _ _ more c.expire.ensures.others once.0
           (subst (λ (places : List ℕ). Each (DueAt c.args.now c.loop-place.table.tickets.items) places) left
@@ -57,6 +65,12 @@ loop-place-preserved g c =
       last = ap (λ (t : Timer). t.last) c.set_deadline.ensures ∙ c.loop-place.invariant.last;
       tickets = same_length _ _ _ c.expire.ensures.others ∙ c.loop-place.invariant.tickets;
     }
+
+pub returns-clause-led : goal.returns-clause-led
+returns-clause-led g c =
+    led_all (λ place state. acts c.args.table.now.node c.args.now state place Due) c.args.due.now c.loop-place.place-index
+    (state_of_parts c.args.table.now.tickets.items c.args.table.now.waiters c.args.table.now.attrs c.args.table.now.common c.args.now)
+    c.loop-place-test.false c.loop-place.invariant.led
 
 pub returns-clause-timed : goal.returns-clause-timed
 returns-clause-timed g c =

@@ -1,32 +1,34 @@
-use Rattle.std.proofs.Common.{sym, ap, ◌∙◌, set}
-use Rattle.booth_ticket.specs.Waiting.{waiting_at, spare_in}
-use Rattle.booth_ticket.proofs.CallLemmas.{followed}
-use Rattle.booth_ticket.proofs.KeepLemmas.{outcome_of}
+use Rattle.std.proofs.Common.{ℕ, List, refl, sym, ap, ◌∙◌, set, subst}
+use Rattle.booth_ticket.specs.declared.waiters.Waiter.{Waiter}
+use Rattle.booth_ticket.specs.Acts.{Did}
+use Rattle.booth_ticket.specs.Answers.{answered}
+use Rattle.booth_ticket.specs.Requests.{do_for, follow_request}
+use Rattle.booth_ticket.specs.Waiting.{Left}
+use Rattle.booth_ticket.proofs.DidLemmas.{did_as, did_end, did_then}
 use Rattle.booth_ticket.proofs.TellLemmas.{waiting_set, exists_set, set_again}
 use Rattle.booth_ticket.proofs.requests.follow_request.Goals as goal
 
 pub returns-clause-did : goal.returns-clause-did
+unfolding follow_request
 returns-clause-did g c =
-    let lists = c.args.waiters.now in
     let list = c.args.list in
-    let last = outcome_of c.do_for-done.new.core.view c.do_for-done.result.last in
-    followed c.args.core.now.setup c.do_for-done.new.core.setup c.args.core.now.view
-    (waiting_at lists list) (waiting_at c.tell.new.waiters list) (waiting_at c.join.new.waiters list)
-    (spare_in lists) c.spare.result c.args.ready c.args.job c.args.request.now c.args.request.now.wish c.args.now
-    c.do_for-done.result.answer last c.do_for-done.ensures.setup c.spare.ensures
-    c.do_for-done.ensures.did c.tell.ensures.did c.reply.ensures.did
-    (waiting_set lists list _ c.tell.new.waiters c.requires.exists c.tell.ensures.left)
-    (waiting_set c.tell.new.waiters list _ c.join.new.waiters
-    (exists_set lists list _ c.tell.new.waiters c.requires.exists c.tell.ensures.left)
-    c.join.ensures)
+    let request = c.args.request.now in
+    let core = c.do_for-done.new.core in
+    let joins = waiting_set c.tell.new.waiters list _ c.join.new.waiters
+    (exists_set c.args.waiters.now list _ c.tell.new.waiters c.requires.exists c.tell.ensures.others) c.join.ensures in
+    did_as refl
+    (ap (λ (ws : List Waiter). let left : Left = record { core = core; waiters = ws } in left) (sym joins))
+    (did_then _
+    (subst (λ (n : ℕ). Did g.W.Hands.did (do_for c.args.core.now n c.args.given request.options request.wish)
+    (answered c.do_for-done.result core) c.args.hands.now c.do_for-done.new.hands) c.spare.ensures c.do_for-done.ensures.did)
+    (did_then _ c.tell.ensures.did (did_then _ c.reply.ensures.did did_end)))
 
 pub returns-clause-others : goal.returns-clause-others
 returns-clause-others g c =
     let lists = c.args.waiters.now in
     let list = c.args.list in
-    set_again lists list _ _ c.tell.new.waiters c.join.new.waiters c.tell.ensures.left
+    set_again lists list _ _ c.tell.new.waiters c.join.new.waiters c.tell.ensures.others
     (c.join.ensures
     ∙ ap (set c.tell.new.waiters list)
     (sym (waiting_set c.tell.new.waiters list _ c.join.new.waiters
-    (exists_set lists list _ c.tell.new.waiters c.requires.exists c.tell.ensures.left)
-    c.join.ensures)))
+    (exists_set lists list _ c.tell.new.waiters c.requires.exists c.tell.ensures.others) c.join.ensures)))

@@ -11,18 +11,19 @@ loop-place-preserved g c = record {
         c.say_written.ensures.host,
         c.say_written.ensures.counts,
         c.say_written.ensures.buffer,
-        c.say_written.ensures.acts,
+        c.say_written.ensures.same,
+        c.say_written.ensures.led,
       );
   written = still_written _ _ _ _ c.args.head.now c.args.part.now _ _ c.say_written.ensures.frame
-      c.say_written.ensures.acts.node c.say_written.ensures.acts.moment c.loop-place.invariant.written;
-  fits = still_fits _ _ _ _ c.args.head.now c.args.part.now c.say_written.ensures.acts.node
-      c.say_written.ensures.acts.moment c.loop-place.invariant.fits;
+      c.say_written.ensures.same.0 c.say_written.ensures.same.1 c.loop-place.invariant.written;
+  fits = still_fits _ _ _ _ c.args.head.now c.args.part.now c.say_written.ensures.same.0
+      c.say_written.ensures.same.1 c.loop-place.invariant.fits;
 }
 
 pub returns : goal.returns
 returns g c = record {
   did = all_said _ c.args.places.now _ c.loop-place.place-index _ c.args.head.now c.args.part.now _
       c.say_anew.new.self _ c.in-len1-up.len_at_least (omega arith)
-      (c.say_anew.ensures.host, c.say_anew.ensures.counts, c.say_anew.ensures.buffer, c.say_anew.ensures.acts)
+      (c.say_anew.ensures.host, c.say_anew.ensures.counts, c.say_anew.ensures.buffer, c.say_anew.ensures.same, c.say_anew.ensures.led)
       c.loop-place.invariant.chain c.loop-place-test.false;
 }

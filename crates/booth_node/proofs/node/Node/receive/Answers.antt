@@ -1,7 +1,10 @@
 use Rattle.std.proofs.Common.{◌≤◌, ℕ, sym, subst}
 use Rattle.std.specs.Prelude.{vec_capacity}
-use Rattle.booth_node.proofs.DueLemmas.{timed_again, last_again, length_again}
+use Rattle.booth_node.proofs.DueLemmas.{timed_again, last_again, length_again, placed_again}
 use Rattle.booth_node.proofs.node.Node.receive.Goals as goal
+
+pub look_again-requires-clause-there : goal.look_again-requires-clause-there
+look_again-requires-clause-there g c = placed_again c.receive-place.result _ _ c.receive-place.ensures.others
 
 pub invariant_of-self-clause-timed : goal.invariant_of-self-clause-timed
 invariant_of-self-clause-timed g c =

@@ -9,9 +9,9 @@ returns-in-Went-clause-past g c =
     c.next-answer.result c.next-answer.new.into c.clamp.new.self.datagram c.now-reading.result
     c.end_of-turn.result c.end_of-turn.ensures
     c.clamp.ensures.state c.clamp.ensures.node c.clamp.ensures.datagram c.next-answer.ensures.past
-    c.now-reading.ensures.past c.arrive.ensures.past
+    c.now-reading.ensures.past c.arrive.ensures.led.grew
     (node_config c.arrive.new.self) (state_of c.expire.new.self) c.in-Went.is c.arrive.ensures.node
-    c.arrive.ensures.reading c.expire.ensures.past
+    c.arrive.ensures.reading c.expire.ensures.led.grew
 
 pub returns-in-Stopped-clause-past : goal.returns-in-Stopped-clause-past
 returns-in-Stopped-clause-past g c =
@@ -20,5 +20,5 @@ returns-in-Stopped-clause-past g c =
     c.next-answer.result c.next-answer.new.into c.clamp.new.self.datagram c.now-reading.result
     c.end_of-turn.result c.end_of-turn.ensures
     c.clamp.ensures.state c.clamp.ensures.node c.clamp.ensures.datagram c.next-answer.ensures.past
-    c.now-reading.ensures.past c.arrive.ensures.past
+    c.now-reading.ensures.past c.arrive.ensures.led.grew
     c.in-Stopped.is

@@ -3,7 +3,8 @@ use Rattle.std.specs.List.{All}
 use Rattle.booth_ticket.specs.Ticket.{TicketState}
 use Rattle.booth_node.specs.Ours.{IsOurs}
 use Rattle.booth_node.specs.declared.event.Event.TheVariants.{Heard}
-use Rattle.booth_node.proofs.ActLemmas.{heard_so, same_state, state_of}
+use Rattle.booth_node.specs.State.{state_of_parts}
+use Rattle.booth_node.proofs.ActLemmas.{heard_so, same_state}
 use Rattle.booth_node.proofs.PlaceLemmas.{may_hear}
 use Rattle.booth_node.proofs.tickets.TicketTable.hear.Goals as goal
 
@@ -18,14 +19,13 @@ act-requires-clause-may g c =
     c.requires.there)
     c.requires.member c.requires.other
 
-pub returns-clause-past : goal.returns-clause-past
-returns-clause-past g c =
+pub returns-clause-led : goal.returns-clause-led
+returns-clause-led g c =
     let old = c.args.self.now in
     let new = c.accept.new.self in
     heard_so old.node new.node c.args.now c.args.from c.args.ticket
     (Heard c.args.from c.args.head c.args.part)
-    (state_of old.tickets.items old.waiters old.attrs old.common c.args.now)
-    (state_of new.tickets.items new.waiters new.attrs new.common c.args.now)
-    new.common _ _ _ c.accept.ensures.node
+    (state_of_parts old.tickets.items old.waiters old.attrs old.common c.args.now)
+    (state_of_parts new.tickets.items new.waiters new.attrs new.common c.args.now) _ new.common c.accept.ensures.node
     (same_state c.args.now c.accept.ensures.tickets c.accept.ensures.waiters c.accept.ensures.attributes refl)
-    c.accept.ensures.common c.act.ensures.past
+    c.accept.ensures.common c.act.ensures.led

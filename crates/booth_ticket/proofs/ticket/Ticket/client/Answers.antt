@@ -1,44 +1,35 @@
 use Rattle.std.proofs.Common.{sym, ap, ◌∙◌}
 use Rattle.booth_ticket.specs.declared.ticket.Kind.TheVariants as kinds
 use Rattle.booth_ticket.specs.Kinds.{state_of}
-use Rattle.booth_ticket.specs.ManualRequests.{manual_asked}
-use Rattle.booth_ticket.specs.Requests.{wish}
 use Rattle.booth_ticket.specs.Ticket.{TicketState, ticket_asked}
 use Rattle.booth_ticket.specs.Waiting.{spare_in, waiting_at}
-use Rattle.booth_ticket.proofs.CallLemmas.{by_rules_did}
-use Rattle.booth_ticket.proofs.ManualLemmas.{by_hand_did, did_by_kind}
+use Rattle.booth_ticket.proofs.DidLemmas.{did_end, did_then}
+use Rattle.booth_ticket.proofs.KindLemmas.{did_by_kind}
+use Rattle.booth_ticket.proofs.SetupLemmas.{left_keeps, ticket_asked_keeps}
 use Rattle.booth_ticket.proofs.ticket.Ticket.client.Goals.{in-Automatic, in-Manual}
 use Rattle.booth_ticket.proofs.ticket.Ticket.client.Goals as goal
 
 pub returns-clause-did : goal.returns-clause-did
 returns-clause-did g c =
-    let lists = c.args.waiters.now in
-    let waiting = waiting_at lists c.args.list in
-    let spare = spare_in lists in
-    let request = c.args.request.now in
-    let ready = c.args.ready in
-    let job = c.args.job in
+    let waiting = waiting_at c.args.waiters.now c.args.list in
+    let deeds = λ (s : TicketState). ticket_asked s.setup s.known waiting (spare_in c.args.waiters.now) (record { now = c.args.now; ready = c.args.ready; job = c.args.job }) c.args.request.now in
     elim c.match-self.branch [
       | in-Automatic w ↦
-          let core = w.in-Automatic.core in
-          let after = w.follow_request.new.core in
-          did_by_kind (λ (s : TicketState). ticket_asked s.setup s.known waiting spare ready job request c.args.now)
-          c.args.list (state_of (kinds.Automatic core)) c.args.self.now (record { kind = kinds.Automatic after })
-          c.match-self.self-inside w.follow_request.new.waiters c.match-self.waiters
+          did_by_kind deeds c.args.list (state_of (kinds.Automatic w.in-Automatic.core)) c.args.self.now
+          (record { kind = kinds.Automatic w.follow_request.new.core }) c.match-self.self-inside w.follow_request.new.waiters c.match-self.waiters
           (sym c.self.view_is ∙ ap state_of w.in-Automatic.is) w.self-inside-is w.waiters-is w.hands-is
-          (by_rules_did core.setup after.setup
-          (wish core.setup core.view waiting spare ready job request request.wish c.args.now)
-          (record { view = after.view; waiters = waiting_at w.follow_request.new.waiters c.args.list })
-          w.follow_request.ensures.setup w.follow_request.ensures.did)
+          (did_then _ w.follow_request.ensures.did did_end)
       | in-Manual w ↦
-          let ticket = w.in-Manual.ticket in
-          let after = w.client.new.self in
-          did_by_kind (λ (s : TicketState). ticket_asked s.setup s.known waiting spare ready job request c.args.now)
-          c.args.list (state_of (kinds.Manual ticket)) c.args.self.now (record { kind = kinds.Manual after })
-          c.match-self.self-inside w.client.new.waiters c.match-self.waiters
+          did_by_kind deeds c.args.list (state_of (kinds.Manual w.in-Manual.ticket)) c.args.self.now
+          (record { kind = kinds.Manual w.client.new.self }) c.match-self.self-inside w.client.new.waiters c.match-self.waiters
           (sym c.self.view_is ∙ ap state_of w.in-Manual.is) w.self-inside-is w.waiters-is w.hands-is
-          (by_hand_did ticket.setup after.setup
-          (manual_asked ticket.setup ticket.known waiting spare ready job request c.args.now)
-          (record { known = after.known; waiters = waiting_at w.client.new.waiters c.args.list })
-          w.client.ensures.setup w.client.ensures.did)
+          (did_then _ w.client.ensures.did did_end)
     ]
+
+pub returns-clause-setup : goal.returns-clause-setup
+returns-clause-setup g c =
+    let self = c.args.self.now in
+    left_keeps self.setup
+    (λ acts left. ticket_asked_keeps self.setup self.known (waiting_at c.args.waiters.now c.args.list) acts left
+    (spare_in c.args.waiters.now) (record { now = c.args.now; ready = c.args.ready; job = c.args.job }) c.args.request.now)
+    (returns-clause-did g c)

@@ -1,38 +1,35 @@
 use Rattle.std.proofs.Common.{sym, ap, ◌∙◌}
 use Rattle.booth_ticket.specs.declared.ticket.Kind.TheVariants as kinds
-use Rattle.booth_ticket.specs.Automatic.{tick}
 use Rattle.booth_ticket.specs.Kinds.{state_of}
-use Rattle.booth_ticket.specs.ManualHandling.{manual_due}
 use Rattle.booth_ticket.specs.Ticket.{TicketState, ticket_due}
 use Rattle.booth_ticket.specs.Waiting.{waiting_at}
-use Rattle.booth_ticket.proofs.CallLemmas.{by_rules_did}
-use Rattle.booth_ticket.proofs.ManualLemmas.{by_hand_did, did_by_kind}
+use Rattle.booth_ticket.proofs.DidLemmas.{did_end, did_then}
+use Rattle.booth_ticket.proofs.KindLemmas.{did_by_kind}
+use Rattle.booth_ticket.proofs.SetupLemmas.{left_keeps, ticket_due_keeps}
 use Rattle.booth_ticket.proofs.ticket.Ticket.tick.Goals.{in-Automatic, in-Manual}
 use Rattle.booth_ticket.proofs.ticket.Ticket.tick.Goals as goal
 
 pub returns-clause-did : goal.returns-clause-did
 returns-clause-did g c =
-    let lists = c.args.waiters.now in
-    let waiting = waiting_at lists c.args.list in
+    let waiting = waiting_at c.args.waiters.now c.args.list in
+    let deeds = λ (s : TicketState). ticket_due s.setup s.known waiting (record { now = c.args.now; ready = c.args.ready; job = c.args.job }) in
     elim c.match-self.branch [
       | in-Automatic w ↦
-          let core = w.in-Automatic.core in
-          let after = w.come_due.new.core in
-          did_by_kind (λ (s : TicketState). ticket_due s.setup s.known waiting c.args.ready c.args.job c.args.now)
-          c.args.list (state_of (kinds.Automatic core)) c.args.self.now (record { kind = kinds.Automatic after })
-          c.match-self.self-inside w.come_due.new.waiters c.match-self.waiters
+          did_by_kind deeds c.args.list (state_of (kinds.Automatic w.in-Automatic.core)) c.args.self.now
+          (record { kind = kinds.Automatic w.come_due.new.core }) c.match-self.self-inside w.come_due.new.waiters c.match-self.waiters
           (sym c.self.view_is ∙ ap state_of w.in-Automatic.is) w.self-inside-is w.waiters-is w.hands-is
-          (by_rules_did core.setup after.setup (tick core.setup core.view waiting c.args.ready c.args.job c.args.now)
-          (record { view = after.view; waiters = waiting_at w.come_due.new.waiters c.args.list })
-          w.come_due.ensures.setup w.come_due.ensures.did)
+          (did_then _ w.come_due.ensures.did did_end)
       | in-Manual w ↦
-          let ticket = w.in-Manual.ticket in
-          let after = w.tick.new.self in
-          did_by_kind (λ (s : TicketState). ticket_due s.setup s.known waiting c.args.ready c.args.job c.args.now)
-          c.args.list (state_of (kinds.Manual ticket)) c.args.self.now (record { kind = kinds.Manual after })
-          c.match-self.self-inside w.tick.new.waiters c.match-self.waiters
+          did_by_kind deeds c.args.list (state_of (kinds.Manual w.in-Manual.ticket)) c.args.self.now
+          (record { kind = kinds.Manual w.tick.new.self }) c.match-self.self-inside w.tick.new.waiters c.match-self.waiters
           (sym c.self.view_is ∙ ap state_of w.in-Manual.is) w.self-inside-is w.waiters-is w.hands-is
-          (by_hand_did ticket.setup after.setup (manual_due ticket.setup ticket.known waiting c.args.now)
-          (record { known = after.known; waiters = waiting_at w.tick.new.waiters c.args.list })
-          w.tick.ensures.setup w.tick.ensures.did)
+          (did_then _ w.tick.ensures.did did_end)
     ]
+
+pub returns-clause-setup : goal.returns-clause-setup
+returns-clause-setup g c =
+    let self = c.args.self.now in
+    left_keeps self.setup
+    (λ acts left. ticket_due_keeps self.setup self.known (waiting_at c.args.waiters.now c.args.list) acts left
+    (record { now = c.args.now; ready = c.args.ready; job = c.args.job }))
+    (returns-clause-did g c)

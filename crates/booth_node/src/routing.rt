@@ -1,0 +1,103 @@
+//! Where a message goes that was let in.
+ghost use Rattle.booth_wire.specs.PlainMessage.{plain_of, content_of};
+ghost use Rattle.booth_node.specs.Reaction.{said};
+ghost use Rattle.booth_node.specs.Routing.{Attends, IsPlaced, Names, Requests, Routes};
+
+use crate::NodeConfig;
+use crate::attributes::{AttrRequest, attended_place, attr_request_in};
+use crate::replies::request_in;
+use booth_base::Peer;
+use booth_ticket::Request;
+use booth_wire::{Body, Direction, Head, Message, TicketPart};
+
+/// What a message that was let in demands of the node.
+#[derive(Drop)]
+pub(crate) enum Action {
+    /// The member at the place `from` says something about the ticket at a place.
+    Hear {
+        from: u32,
+        ticket: usize,
+        head: Head,
+        part: TicketPart,
+    },
+    /// A client asks something of the ticket at a place.
+    Ask {
+        ticket: usize,
+        request: Request,
+    },
+    /// A client asks something of the attributes of the ticket at a place.
+    Attend {
+        ticket: usize,
+        request: AttrRequest,
+    },
+    /// A client's request is answered at once.
+    Answer,
+    /// Nothing.
+    Rest,
+}
+
+// What a member says goes to the ticket that it is about.
+fn said(node: &NodeConfig, message: &Message<'_>) -> Action
+    ensures names { Names result (said node.now message.now.head (content_of message.now.body)) }
+    ensures placed { IsPlaced node.now message.now.head.from result }
+{
+    let Body::Ticket(part) = &message.body else {
+        return Action::Rest;
+    };
+    let Some(from) = node.config.member(message.head.from) else {
+        return Action::Rest;
+    };
+    let Some(ticket) = node.config.ticket(&part.ticket) else {
+        return Action::Rest;
+    };
+    Action::Hear {
+        from: from as u32,
+        ticket,
+        head: message.head,
+        part: part.copy(),
+    }
+}
+
+// A request about attributes goes to those of its ticket, at a site, and each other one is answered at once.
+fn attended(node: &NodeConfig, message: &Message<'_>) -> Action
+    ensures names { Attends node.now (plain_of message.now) result }
+    ensures placed { IsPlaced node.now message.now.head.from result }
+{
+    let Some(request) = attr_request_in(message) else {
+        return Action::Answer;
+    };
+    match attended_place(node, &request.ticket) {
+        Some(ticket) => Action::Attend { ticket, request },
+        None => Action::Answer,
+    }
+}
+
+// A request about a ticket of the configuration goes to it, and each other one to its attributes or to be answered.
+fn requested(
+    node: &NodeConfig,
+    found: Option<(TicketPart, Request)>,
+    message: &Message<'_>,
+) -> Action
+    ensures names { Requests node.now (plain_of message.now) found result }
+    ensures placed { IsPlaced node.now message.now.head.from result }
+{
+    let Some((part, request)) = found else {
+        return attended(node, message);
+    };
+    match node.config.ticket(&part.ticket) {
+        Some(ticket) => Action::Ask { ticket, request },
+        None => Action::Answer,
+    }
+}
+
+/// What a message of this peer demands.
+pub(crate) fn route(node: &NodeConfig, from: Peer, message: &Message<'_>) -> Action
+    ensures names { Routes node.now from (plain_of message.now) result }
+    ensures placed { IsPlaced node.now message.now.head.from result }
+{
+    match message.head.cmd.direction() {
+        Direction::ToDaemon => requested(node, request_in(from, message), message),
+        Direction::BetweenMembers => said(node, message),
+        Direction::ToClient => Action::Rest,
+    }
+}
