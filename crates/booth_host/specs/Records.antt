@@ -1,5 +1,5 @@
 -- The records that a host in memory keeps.
-use Rattle.std.specs.Prelude.{ℕ, List, [], ◌∷◌, ◌++◌, nat_eq, position, option_map, Option, None, Some, Result, Ok, Err, slice_get, slice_set}
+use Rattle.std.specs.Prelude.{◌≡◌, ◌≤◌, ◌⊎◌, ℕ, List, [], ◌∷◌, ◌++◌, nat_eq, position, option_map, Option, None, Some, Result, Ok, Err, slice_get, slice_set, vec_len, vec_capacity}
 use Rattle.std.specs.Cmp.Lexicographic.{pointwise}
 use Rattle.booth_rec.specs.declared.record.Record.{Record}
 use Rattle.booth_host.specs.declared.host.Failed.{Failed}
@@ -34,3 +34,14 @@ stored records ticket rec = stored_at records ticket rec (place_of records ticke
 abbrev pub kept_after : Result (Unit {0}) Failed → List (List ℕ × Record) → List ℕ → Record → List (List ℕ × Record)
 kept_after (Ok done) records ticket rec = stored records ticket rec
 kept_after (Err fault) records ticket rec = records
+
+-- A ticket of which no record is kept finds no place for one, since only more memory has a place, and the records stay.
+pub record FindsNoPlace (old new : MemoryHost) (ticket : List ℕ) : Type 0 where
+  pub unkept : place_of (records_of old) ticket ≡ None
+  pub full : vec_capacity old.records ≤ vec_len old.records
+  pub same : records_of new ≡ records_of old
+
+-- whether calls are told or not: the records are those after a keep with this answer, or it found no place
+abbrev pub KeepsOrIsFull : Result (Unit {0}) Failed → MemoryHost → MemoryHost → List ℕ → Record → Type 0
+KeepsOrIsFull answer old new ticket rec =
+    (records_of new ≡ kept_after answer (records_of old) ticket rec) ⊎ FindsNoPlace old new ticket

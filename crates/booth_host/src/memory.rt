@@ -61,7 +61,7 @@ pub struct MemoryHost {
 
 impl MemoryHost {
     ghost use Rattle.booth_host.specs.Memory.{memory_past, running, coming, to_come, file_of, IsBrought, IsNew, Stays, StaysButRecords, Begins, SaysTheSame, taken_in};
-    ghost use Rattle.booth_host.specs.Records.{records_of, place_of, record_of, stored, kept_after};
+    ghost use Rattle.booth_host.specs.Records.{records_of, place_of, record_of, stored, kept_after, FindsNoPlace, KeepsOrIsFull};
 
     /// A host that runs this script, has these files and records, and tells at most `room` calls.
     pub fn new(
@@ -204,7 +204,7 @@ impl MemoryHost {
     // Keeps a record, in the place of the one before.
     pub(crate) fn store(&mut self, ticket: &Name, rec: &Record) -> Result<(), AllocError>
         ensures ok { OnOk result (records_of self.new ≡ stored (records_of self.old) ticket.now rec.now) }
-        ensures err { OnErr result (records_of self.new ≡ records_of self.old) }
+        ensures err { OnErr result (FindsNoPlace self.old self.new ticket.now) }
         ensures past { memory_past self.new ≡ memory_past self.old }
         ensures faults { self.new.faults ≡ self.old.faults }
         ensures stays { StaysButRecords self.old self.new }
@@ -224,6 +224,7 @@ impl MemoryHost {
         ensures faults { self.new.faults ≡ self.old.faults }
         ensures records { IsSome (memory_past self.new) →
             records_of self.new ≡ stored (records_of self.old) ticket.now rec.now }
+        ensures untold { KeepsOrIsFull (Ok tt) self.old self.new ticket.now rec.now }
         ensures stays { StaysButRecords self.old self.new }
     {
         if self.store(ticket, rec).is_err() {
@@ -237,6 +238,7 @@ impl MemoryHost {
         ensures faults { self.new.faults ≡ self.old.faults }
         ensures records { IsSome (memory_past self.new) →
             records_of self.new ≡ kept_after answer (records_of self.old) ticket.now rec.now }
+        ensures untold { KeepsOrIsFull answer self.old self.new ticket.now rec.now }
         ensures stays { StaysButRecords self.old self.new }
     {
         match answer {
@@ -263,7 +265,7 @@ impl MemoryHost {
 
 impl Host for MemoryHost {
     ghost use Rattle.booth_host.specs.Memory.{memory_past, reading_of, sends_fail, keeps_fail, starts_fail, outs_fail, coming, file_of, IsBrought, Stays, StaysButRecords, Begins, ReadsFile, taken_in};
-    ghost use Rattle.booth_host.specs.Records.{records_of, record_of, kept_after};
+    ghost use Rattle.booth_host.specs.Records.{records_of, record_of, kept_after, KeepsOrIsFull};
 
     ghost past = { memory_past };
 
@@ -348,6 +350,7 @@ impl Host for MemoryHost {
         ensures fails { is_err result ≡ keeps_fail self.old }
         ensures records { IsSome (memory_past self.new) →
             records_of self.new ≡ kept_after result (records_of self.old) ticket.now rec.now }
+        ensures untold { KeepsOrIsFull result self.old self.new ticket.now rec.now }
         ensures stays { StaysButRecords self.old self.new }
     {
         let fails = match self.step() {

@@ -86,7 +86,7 @@ impl QuietHost {
 
 impl Host for QuietHost {
     ghost use Rattle.booth_host.specs.Memory.{quiet_past, reading_of, coming, file_of, IsQuietlyBrought, Stays, StaysButRecords, Begins, ReadsQuietly, taken_in};
-    ghost use Rattle.booth_host.specs.Records.{records_of, record_of, stored};
+    ghost use Rattle.booth_host.specs.Records.{records_of, record_of, stored, KeepsOrIsFull};
 
     ghost past = { quiet_past };
 

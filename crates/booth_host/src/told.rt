@@ -1,5 +1,5 @@
 //! What a host tells of its calls, while its room of entries and the memory hold.
-ghost use Rattle.std.specs.Prelude.{◌≡◌, ◌≤◌, [], ◌∷◌, ◌++◌, Some, None, IfOk, OnErr, OnOk, length, option_map};
+ghost use Rattle.std.specs.Prelude.{◌≡◌, ◌≤◌, [], ◌∷◌, ◌++◌, Some, None, IfOk, OnErr, OnOk, length, option_map, vec_capacity, vec_len};
 ghost use Rattle.booth_host.specs.Past.{GrewBy};
 ghost use Rattle.booth_host.specs.declared.entry.Entry.{Entry};
 
@@ -27,6 +27,7 @@ pub struct Told {
 pub(crate) fn push<T: Drop>(list: &mut Vec<T>, last: T) -> Result<(), AllocError>
     ensures ok { OnOk result (list.new.items ≡ list.old.items ++ last ∷ []) }
     ensures err { OnErr result (list.new.items ≡ list.old.items) }
+    ensures full { OnErr result (vec_capacity list.old ≤ vec_len list.old) }
 {
     match list.push(last) {
         Ok(()) => Ok(()),
