@@ -5,6 +5,7 @@ mod addresses;
 mod line;
 mod queue;
 mod real_links;
+mod reports;
 mod seats;
 mod turn;
 

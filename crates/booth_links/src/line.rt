@@ -9,11 +9,20 @@ use std::alloc::{AllocError, Global};
 use std::io;
 use std::io::{ErrorKind, Read, Write};
 
+/// What the system watches a line for.
+#[derive(Clone, Copy)]
+enum Watch {
+    Bytes,
+    /// Room for what is queued.
+    Room,
+}
+
 /// The stream at a seat, where there is one.
 #[derive(Drop)]
 pub(crate) struct Line {
     stream: Option<TcpStream>,
     queue: Queue,
+    watch: Watch,
 }
 
 /// What a line brought.
@@ -71,12 +80,14 @@ impl Line {
         Ok(Line {
             stream: None,
             queue: Queue::new(alloc)?,
+            watch: Watch::Bytes,
         })
     }
 
-    /// Begins with this stream.
+    /// Begins with this stream, which the system watches for bytes.
     pub(crate) fn begin(&mut self, stream: TcpStream) {
         self.queue.clear();
+        self.watch = Watch::Bytes;
         self.stream = Some(stream);
     }
 
@@ -153,12 +164,24 @@ impl Line {
         self.add(bytes)
     }
 
+    /// Whether the system reports this line by itself when it has more: it is watched for bytes, and a read that had room
+    /// for more took all that were there (epoll(7), "Do I need to continuously read").
+    pub(crate) fn is_read_out(&self, heard: Heard, room: usize) -> bool {
+        match (heard, self.watch) {
+            (Heard::Bytes(count), Watch::Bytes) => count < room,
+            (Heard::Bytes(_), Watch::Room) | (Heard::Took | Heard::Nothing | Heard::End, _) =>
+                false,
+        }
+    }
+
     /// Has the system report this line: when there is room for what is queued, or else when bytes came. What is so already
     /// is reported at once.
     pub(crate) fn watch(&mut self, registry: &Registry, seat: usize) -> io::Result<()> {
         let wanted = if self.queue.is_empty() {
+            self.watch = Watch::Bytes;
             Interest::READABLE
         } else {
+            self.watch = Watch::Room;
             Interest::WRITABLE
         };
         match &mut self.stream {

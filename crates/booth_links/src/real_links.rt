@@ -1,5 +1,5 @@
 //! Links over a TCP listener. They tell nothing of their calls, and no call waits.
-ghost use Rattle.std.specs.Prelude.{◌≡◌, ◌≤◌, [], ◌∷◌, IfOk, None, length};
+ghost use Rattle.std.specs.Prelude.{◌≡◌, ◌≤◌, [], ◌∷◌, IfOk, None, is_some, length, negsuc, true};
 ghost use Rattle.booth_host.specs.Causes.{HasCause, IsCounted, raised};
 ghost use Rattle.booth_links.specs.Turn.{TakesTurn};
 ghost use Rattle.booth_stream.specs.Calls.{CallsGrewBy};
@@ -7,18 +7,21 @@ ghost use Rattle.booth_stream.specs.declared.link_call.LinkCall.{LinkCall};
 
 use crate::addresses::{listen, peer_at};
 use crate::line::{Heard, Line};
+use crate::reports::{Report, Reports};
 use crate::seats::{IDLE_MS, Seats, WANTED_MS};
 use crate::turn::{Turn, turn_after};
 use booth_host::{Failed, Place};
 use booth_stream::{LINKS, LinkEvent, Links, PIECE_BYTES, Piece};
 use mio::net::{TcpListener, TcpStream};
-use mio::{Events, Interest, Poll, Token};
+use mio::{Interest, Poll, Token};
 use std::alloc::{AllocError, Global};
+use std::cell::Cell;
 use std::io;
 use std::io::ErrorKind;
 use std::net::SocketAddr;
 use std::os::fd::{AsRawFd, RawFd};
-use std::time::{Duration, Instant};
+use std::rc::Rc;
+use std::time::Instant;
 
 /// The token of the listener. The lines have those of their seats.
 const DOOR: usize = LINKS;
@@ -41,7 +44,7 @@ enum Door {
 pub struct RealLinks {
     rt: HostRuntime,
     poll: Option<Poll>,
-    events: Events,
+    reports: Reports,
     listener: Option<TcpListener>,
     door: Door,
     /// The port of the place, which is that of all daemons.
@@ -51,8 +54,10 @@ pub struct RealLinks {
     buffer: Vec<u8>,
     /// When the first place was opened, by a clock that is never set.
     start: Option<Instant>,
-    /// The milliseconds from then to the last poll.
+    /// The milliseconds from then to the last reading.
     moment: u64,
+    /// Whether a link may have to leave, or a peer is asked for again after a rest.
+    is_timed: bool,
     turn: Turn,
     faults: u64,
 }
@@ -88,7 +93,7 @@ impl RealLinks {
     {
         Ok(RealLinks {
             poll: Poll::new(&rt).ok(),
-            events: Events::with_capacity(alloc, 1)?,
+            reports: Reports::new(alloc)?,
             listener: None,
             door: Door::Open,
             port: 0,
@@ -97,6 +102,7 @@ impl RealLinks {
             buffer: vec![in alloc; 0; PIECE_BYTES]?,
             start: Instant::now(&rt).ok(),
             moment: 0,
+            is_timed: false,
             turn: Turn::Links,
             faults: 0,
             rt,
@@ -105,11 +111,23 @@ impl RealLinks {
 
     /// The file that can be read while these links have something, or a number below 0 where there is none. A host waits
     /// for it beside its own.
-    pub fn ready_file(&self) -> RawFd {
+    pub fn ready_file(&self) -> RawFd
+        ensures none { self.now.poll ≡ None → result ≡ negsuc 0 }
+    {
         match &self.poll {
             Some(poll) => poll.as_raw_fd(),
             None => -1,
         }
+    }
+
+    /// What a host sets that waits for this file, once it can be read. From now on a poll asks the system where it is set,
+    /// and unsets it; it is set, too, while more is left of what the system said, so that the host does not wait then.
+    pub fn ready_mark(&mut self, alloc: Global) -> Result<Rc<Cell<bool>>, AllocError>
+        ensures shared { IfOk result (λ _. is_some self.new.reports.known ≡ true) }
+        ensures faults { self.new.faults ≡ self.old.faults }
+        ensures turn { self.new.turn ≡ self.old.turn }
+    {
+        self.reports.share(alloc)
     }
 
     // Counts a failure, once.
@@ -208,15 +226,17 @@ impl RealLinks {
         Ok(LinkEvent::Ended(number_of(seat)))
     }
 
-    // What is ready first, where something is.
-    fn ready(&mut self) -> io::Result<Option<usize>>
+    // Asks the system for all that is ready, where something may be.
+    fn fetch(&mut self) -> io::Result<()>
         ensures { self.new.faults ≡ self.old.faults }
     {
-        let Some(poll) = &mut self.poll else {
-            return Err(unopened());
-        };
-        poll.poll(&mut self.events, Some(Duration::ZERO))?;
-        Ok(self.events.iter().next().map(|event| event.token().0))
+        if !self.reports.may_come() {
+            return Ok(());
+        }
+        match &mut self.poll {
+            Some(poll) => self.reports.fetch(poll),
+            None => Err(unopened()),
+        }
     }
 }
 
@@ -251,6 +271,7 @@ impl RealLinks {
             line.begin(stream);
         }
         self.seats.set(seat, Some(self.moment));
+        self.is_timed = true;
         Ok(LinkEvent::Opened {
             link: number_of(seat),
             peer,
@@ -269,6 +290,7 @@ impl RealLinks {
             }
             _ => {
                 self.door = Door::Rests(self.moment.saturating_add(REST_MS));
+                self.is_timed = true;
                 Err(error)
             }
         }
@@ -295,14 +317,16 @@ impl RealLinks {
     }
 
     // What the line of this seat has. One that the system does not watch any longer is over.
-    fn hear(&mut self, seat: usize, into: &mut Piece) -> io::Result<LinkEvent>
+    fn hear(&mut self, report: Report, into: &mut Piece) -> io::Result<LinkEvent>
         ensures { self.new.faults ≡ self.old.faults }
     {
+        let seat = report.place;
         let Some(line) = self.lines.get_mut(seat) else {
             return Ok(LinkEvent::Quiet);
         };
         let heard = line.hear(&mut self.buffer);
-        if self.watch(seat).is_err() {
+        let is_watched = line.is_read_out(heard, self.buffer.len()) && !report.is_last;
+        if !is_watched && self.watch(seat).is_err() {
             return self.end(seat);
         }
         match heard {
@@ -326,11 +350,11 @@ impl RealLinks {
     fn leaving(&mut self) -> Option<usize>
         ensures { self.new.faults ≡ self.old.faults }
     {
-        if !self.seats.has_links() {
-            return None;
+        if self.seats.has_links() {
+            return self.over();
         }
-        self.read_clock();
-        self.over()
+        self.is_timed = matches!(self.door, Door::Rests(_));
+        None
     }
 
     // Asks again for a peer that could not be taken, once the rest is over.
@@ -340,7 +364,6 @@ impl RealLinks {
         let Door::Rests(until) = self.door else {
             return Ok(());
         };
-        self.read_clock();
         if until <= self.moment {
             self.open_door()
         } else {
@@ -348,23 +371,35 @@ impl RealLinks {
         }
     }
 
-    // One thing that happened: a link that has to leave, a peer that knocks, or what a link has.
+    // The next thing that was reported: a peer that knocks, or what a link has.
+    fn next_report(&mut self, into: &mut Piece) -> io::Result<LinkEvent>
+        ensures { self.new.faults ≡ self.old.faults }
+    {
+        match self.reports.take() {
+            Some(report) if report.place == DOOR => self.accept(),
+            Some(report) => self.hear(report, into),
+            None => Ok(LinkEvent::Quiet),
+        }
+    }
+
+    // One thing that happened: a link that has to leave, or what was reported. Where there is no link and the host knows of
+    // nothing, neither the clock nor the system is asked. One reading of the clock serves all that is reported at once.
     fn look(&mut self, into: &mut Piece) -> io::Result<LinkEvent>
         ensures { self.new.faults ≡ self.old.faults }
     {
+        if self.reports.has_more() {
+            return self.next_report(into);
+        }
+        if !self.is_timed && !self.reports.may_come() {
+            return Ok(LinkEvent::Quiet);
+        }
+        self.read_clock();
         if let Some(seat) = self.leaving() {
             return self.end(seat);
         }
         self.end_rest()?;
-        let Some(ready) = self.ready()? else {
-            return Ok(LinkEvent::Quiet);
-        };
-        self.read_clock();
-        if ready == DOOR {
-            self.accept()
-        } else {
-            self.hear(ready, into)
-        }
+        self.fetch()?;
+        self.next_report(into)
     }
 
     // Gives bytes to the line of this seat, and says how many it took. It takes none where it cannot be watched for room.

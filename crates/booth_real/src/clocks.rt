@@ -17,6 +17,9 @@ const TRIES: u32 = 100;
 /// How often a reading that was reached is kept, in milliseconds.
 const KEEP_EVERY_MS: u64 = 60_000;
 
+/// How often a step of the wall clock is looked for, in milliseconds.
+const LOOK_EVERY_MS: u64 = 100;
+
 /// What a host tells time by.
 #[derive(Clone, Copy)]
 enum Source {
@@ -36,6 +39,8 @@ pub(crate) struct Clocks {
     source: Source,
     /// The reading at which the clock was to be kept last.
     kept_at: u64,
+    /// The time since the boot at which a step of the wall clock was looked for last.
+    looked_at: u64,
 }
 
 /// A reading that is told, and the step of the wall clock that is seen with it.
@@ -131,6 +136,7 @@ impl Clocks {
         Clocks {
             source: Source::Wall(None),
             kept_at: 0,
+            looked_at: 0,
         }
     }
 
@@ -150,15 +156,25 @@ impl Clocks {
             }
             Source::Open(clock) => {
                 let mut clock = clock;
-                let reading = clock.read(since_boot()?);
-                // (where the two are not read at one moment, a later reading tells of a step)
-                let step = match read_both() {
-                    Ok(Some(readings)) => clock.step(readings),
-                    Ok(None) | Err(_) => None,
-                };
+                let boot = since_boot()?;
+                let reading = clock.read(boot);
+                let step = self.look_for_step(boot, &mut clock);
                 self.source = Source::Open(clock);
                 Ok(Told { reading, step })
             }
+        }
+    }
+
+    // A step of the wall clock against this one, where it is time to look for one.
+    fn look_for_step(&mut self, boot: u64, clock: &mut OwnClock) -> Option<Step> {
+        if boot < self.looked_at.saturating_add(LOOK_EVERY_MS) {
+            return None;
+        }
+        self.looked_at = boot;
+        // (where the two are not read at one moment, a later look tells of a step)
+        match read_both() {
+            Ok(Some(readings)) => clock.step(readings),
+            Ok(None) | Err(_) => None,
         }
     }
 

@@ -14,6 +14,7 @@ mod records;
 mod socket;
 mod streams;
 mod telling;
+mod wake;
 
 pub use real_host::RealHost;
 pub use streams::write_at_once;

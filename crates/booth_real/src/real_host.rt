@@ -13,13 +13,16 @@ use crate::records::Records;
 use crate::socket::Socket;
 use crate::streams::{Standing, error_stream, hold_streams, write_to};
 use crate::telling::Telling;
+use crate::wake::Wake;
 use booth_base::{ByteText, Name, PathText, Peer};
 use booth_host::{Arrival, DATAGRAM_BYTES, Datagram, Failed, Host, Job, Place, ReadFault};
 use booth_rec::Record;
 use std::alloc::{AllocError, Global};
+use std::cell::Cell;
 use std::fs::File;
 use std::io::ErrorKind;
 use std::os::fd::RawFd;
+use std::rc::Rc;
 use std::time::Duration;
 use std::{io, thread};
 
@@ -28,8 +31,8 @@ use std::{io, thread};
 pub struct RealHost {
     rt: HostRuntime,
     socket: Option<Socket>,
-    /// The other file that ends the wait of a `next`, or a number below 0.
-    wake: RawFd,
+    /// The other file that ends the wait of a `next`.
+    wake: Wake,
     /// The directory of the kept records, once a place with one was opened.
     records: Option<Records>,
     clocks: Clocks,
@@ -63,7 +66,7 @@ impl RealHost {
         Ok(RealHost {
             rt,
             socket: None,
-            wake: -1,
+            wake: Wake::nothing(),
             records: None,
             clocks: Clocks::new(),
             telling: Telling::new(alloc),
@@ -76,13 +79,14 @@ impl RealHost {
         })
     }
 
-    /// From now on the wait of a `next` ends early, with `Quiet`, when this open file can be read; where it is below 0,
-    /// when a datagram is there alone. It opens nothing, and no fault comes of it.
-    pub fn wake_on(&mut self, fd: RawFd)
-        ensures wake { self.new.wake ≡ fd }
+    /// From now on the wait of a `next` ends early, with `Quiet`, when this open file can be read, and then sets the mark;
+    /// where it is below 0, when a datagram is there alone. While the mark is set a `next` waits for nothing: who reads the
+    /// file unsets it. It opens nothing, and no fault comes of it.
+    pub fn wake_on(&mut self, fd: RawFd, mark: Rc<Cell<bool>>)
+        ensures wake { self.new.wake.file ≡ fd }
         ensures faults { self.new.faults ≡ self.old.faults }
     {
-        self.wake = fd;
+        self.wake = Wake::on(fd, mark);
     }
 
     /// Has `now` tell the clock that this directory of records keeps, also before it is opened. Where that cannot be had a
@@ -234,14 +238,16 @@ impl RealHost {
     {
         into.set(&[]);
         match &self.socket {
-            Some(socket) => socket.receive(wait_ms, self.wake, &mut self.buffer, into),
+            Some(socket) => socket.receive(wait_ms, &self.wake, &mut self.buffer, into),
             None => Err(unopened()),
         }
     }
 
-    fn post(&self, to: &Peer, bytes: &[u8]) -> io::Result<()> {
-        match &self.socket {
-            Some(socket) => socket.send(to, bytes),
+    fn post(&mut self, to: &Peer, bytes: &[u8]) -> io::Result<()>
+        ensures { self.new.faults ≡ self.old.faults }
+    {
+        match &mut self.socket {
+            Some(socket) => socket.send(&self.rt, to, bytes),
             None => Err(unopened()),
         }
     }
@@ -272,7 +278,8 @@ impl Host for RealHost {
 
     /// The directory of the records is made where it is missing, for its owner alone, in one that has to be there, and is
     /// locked for this host until it opens another place or ends. It fails where another host holds the directory. A place
-    /// without a directory keeps no records.
+    /// without a directory keeps no records. A place that has no address and no port either is that of a client: datagrams
+    /// come to it from the peer alone that it sent to last.
     fn open(&mut self, place: &Place) -> Result<(), Failed> {
         let answer = self.open_place(place);
         self.checked(answer)
@@ -312,7 +319,8 @@ impl Host for RealHost {
         }
     }
 
-    /// It waits for no room: where the system has none, the send has failed.
+    /// It waits for no room: where the system has none, the send has failed. To a peer whose family is not that of this host's
+    /// address it goes by another socket, from another address of this machine, and fails where the machine has none.
     fn send(&mut self, to: &Peer, bytes: &[u8]) -> Result<(), Failed> {
         let answer = self.post(to, bytes);
         if let Err(error) = &answer {

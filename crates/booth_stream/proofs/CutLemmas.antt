@@ -77,7 +77,7 @@ lt_or_not (suc a) zero = inr (omega arith)
 lt_or_not (suc a) (suc b) = elim (lt_or_not a b) [ inl lt ↦ inl (omega arith) | inr le ↦ inr (omega arith) ]
 
 -- no whole frame stands at the front: what is there is a tail
-no_front : (bytes : List ℕ) → begins_whole bytes ≡ false → IsTail bytes
+pub no_front : (bytes : List ℕ) → begins_whole bytes ≡ false → IsTail bytes
 no_front bytes none = elim (lt_or_not (length bytes) 28) [
   | inl few ↦ Waits (inl few)
   | inr named ↦ elim (lt_or_not (length_said bytes) 48) [

@@ -4,6 +4,7 @@ pub mod FeedLemmas
 pub mod CallLemmas
 pub mod SlotLemmas
 pub mod SlotsLemmas
+pub mod TableLemmas
 pub mod StepLemmas
 pub mod RunLemmas
 pub mod AnswerLemmas

@@ -8,8 +8,8 @@ use Rattle.booth_stream.specs.declared.slot.Caller.{Caller}
 use Rattle.booth_stream.specs.Cut.{IsRest, IsBroken, IsTail, Waits, Breaks}
 use Rattle.booth_stream.specs.Feeding.{Held, IsHeld, FeedsAs}
 use Rattle.booth_stream.specs.Places.{OpenLink, NoFrame, GivesFrame, is_broken, unless_broken, closing}
-use Rattle.booth_stream.specs.Slot.{PlainSlot, called, link_in, IsFed, IsDry}
-use Rattle.booth_stream.proofs.CutLemmas.{broken_stays}
+use Rattle.booth_stream.specs.Slot.{PlainSlot, called, link_in, IsFed, IsDry, IsWaiting}
+use Rattle.booth_stream.proofs.CutLemmas.{broken_stays, no_front}
 use Rattle.booth_stream.proofs.FeedLemmas.{one_more, not_both}
 
 -- ---- what a slot gives
@@ -111,4 +111,17 @@ is_closed slot caller is held fed whole =
           (ap (λ (b : Bool). if b then None else Some link) (sym broken)),
       subst (λ (c : Option Caller). Close caller.number ∷ [] ≡ closing (called c rest)) (sym is)
           (ap (λ (b : Bool). if b then Close caller.number ∷ [] else []) (sym broken)),
+    )
+
+-- ---- at rest
+
+-- no frame can be given at rest, and no link leaves
+pub at_rest : (place : Option OpenLink) → ((link : OpenLink) → place ≡ Some link → IsWaiting link.rest)
+    → NoFrame place × (place ≡ unless_broken place) × ([] ≡ closing place)
+at_rest None waits = (tt, refl, refl)
+at_rest (Some link) waits =
+    let is = waits link refl in (
+      no_front link.rest is.0,
+      ap (λ (b : Bool). if b then None else Some link) (sym is.1),
+      ap (λ (b : Bool). if b then Close link.number ∷ [] else []) (sym is.1),
     )

@@ -5,6 +5,7 @@ pub mod MemoryLinks
 pub mod Places
 pub mod Slot
 pub mod Slots
+pub mod Known
 pub mod Table
 pub mod Steps
 pub mod Runs

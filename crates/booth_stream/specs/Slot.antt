@@ -1,8 +1,9 @@
 -- A place of a host over streams, with its cutter.
 use Rattle.std.specs.Prelude.{◌≡◌, ◌++◌, ℕ, false, List, [], ◌∷◌, Option, None, Some}
 use Rattle.booth_base.specs.declared.address.Peer.{Peer}
+use Rattle.booth_stream.specs.Cut.{begins_whole}
 use Rattle.booth_stream.specs.Feeding.{Held}
-use Rattle.booth_stream.specs.Places.{OpenLink, NoFrame, GivesFrame}
+use Rattle.booth_stream.specs.Places.{OpenLink, NoFrame, GivesFrame, is_broken}
 use Rattle.booth_stream.specs.declared.slot.Caller.{Caller}
 use Rattle.booth_stream.specs.declared.link_call.LinkCall.{LinkCall}
 use Rattle.booth_stream.specs.declared.link_call.LinkCall.TheVariants.{Close}
@@ -33,6 +34,14 @@ IsIdle slot = slot.later ≡ []
 pub record IsDry (slot : PlainSlot) : Type 0 where
   pub fed : IsFed slot
   pub none : NoFrame (link_in slot)
+
+-- no whole frame stands at the front, and one may follow
+abbrev pub IsWaiting : List ℕ → Type 0
+IsWaiting rest = (begins_whole rest ≡ false) × (is_broken rest ≡ false)
+
+-- all was taken, no frame can be given, and the link is not broken
+abbrev pub IsAtRest : PlainSlot → Type 0
+IsAtRest slot = IsIdle slot × ((link : OpenLink) → link_in slot ≡ Some link → IsWaiting link.rest)
 
 -- a frame is given, or none can be
 abbrev pub GivesFrom : PlainSlot → Option Peer → List ℕ → PlainSlot → Type 0

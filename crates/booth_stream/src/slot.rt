@@ -1,7 +1,7 @@
 //! A place of a host over streams: the cutter of one link, and the piece that is being cut.
 ghost use Rattle.std.specs.Prelude.{◌≡◌, ◌≤◌, [], IfOk, IsSome, IsTrue, Some, None, length};
 ghost use Rattle.booth_stream.specs.Places.{closing, has_number, is_free, unless_broken, unless_number, with_more};
-ghost use Rattle.booth_stream.specs.Slot.{GivesFrom, IsFed, IsIdle, closes, link_in};
+ghost use Rattle.booth_stream.specs.Slot.{GivesFrom, IsAtRest, IsFed, IsIdle, closes, link_in};
 
 use crate::{Cutter, Got, Piece};
 use booth_base::Peer;
@@ -110,7 +110,7 @@ impl Slot {
 
     /// Adds bytes to the link that is here, where it has this number. The cutter took all that came before.
     pub(crate) fn add(&mut self, number: u32, piece: &Piece)
-        requires { IsIdle self.old }
+        requires { IsAtRest self.old }
         ensures { link_in self.new ≡ with_more number piece.now (link_in self.old) }
     {
         if self.has(number) {
@@ -141,7 +141,7 @@ impl Slot {
         requires { IsFed self.old }
         ensures link { link_in self.new ≡ unless_broken (link_in self.old) }
         ensures number { closes result ≡ closing (link_in self.old) }
-        ensures idle { IsIdle self.new }
+        ensures rests { IsAtRest self.new }
     {
         let Some(caller) = self.caller else {
             return None;

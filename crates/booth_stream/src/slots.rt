@@ -1,9 +1,9 @@
 //! The slots of a host over streams, one after the other.
 ghost use Rattle.std.specs.Prelude.{◌≡◌, ◌≤◌, IfOk, IsFalse, IsTrue, None, replicate};
-ghost use Rattle.std.specs.List.{All, list_any, position};
+ghost use Rattle.std.specs.List.{All, list_all, list_any, position};
 ghost use Rattle.booth_stream.specs.Calls.{CallsGrewBy};
 ghost use Rattle.booth_stream.specs.Places.{added, closing, closings, ended, has_number, is_free, opened, unbroken, unless_broken, without};
-ghost use Rattle.booth_stream.specs.Slot.{IsFed, IsIdle, link_in};
+ghost use Rattle.booth_stream.specs.Slot.{IsAtRest, IsFed, link_in};
 ghost use Rattle.booth_stream.specs.Slots.{GivesOne, Reaches, links_in};
 
 use crate::memory_links::push;
@@ -32,7 +32,7 @@ pub(crate) fn give_first(slots: &mut [Slot], into: &mut Datagram) -> Option<Peer
 fn close_if_broken<L: Links>(slot: &mut Slot, links: &mut L)
     requires { IsFed slot.old }
     ensures link { link_in slot.new ≡ unless_broken (link_in slot.old) }
-    ensures idle { IsIdle slot.new }
+    ensures rests { IsAtRest slot.new }
     ensures calls { CallsGrewBy (L.past links.old) (L.past links.new) (closing (link_in slot.old)) }
     ensures later { L.faults links.old ≤ L.faults links.new }
 {
@@ -45,7 +45,7 @@ fn close_if_broken<L: Links>(slot: &mut Slot, links: &mut L)
 pub(crate) fn close_broken<L: Links>(slots: &mut [Slot], links: &mut L)
     requires { All IsFed slots.old }
     ensures places { links_in slots.new ≡ unbroken (links_in slots.old) }
-    ensures idle { All IsIdle slots.new }
+    ensures rests { All IsAtRest slots.new }
     ensures calls { CallsGrewBy (L.past links.old) (L.past links.new) (closings (links_in slots.old)) }
     ensures later { L.faults links.old ≤ L.faults links.new }
 {
@@ -70,12 +70,19 @@ pub(crate) fn leave(slots: &mut [Slot], number: u32) -> bool
 
 /// Adds bytes to the link of this number.
 pub(crate) fn add(slots: &mut [Slot], number: u32, piece: &Piece)
-    requires { All IsIdle slots.old }
+    requires { All IsAtRest slots.old }
     ensures { links_in slots.new ≡ added number piece.now (links_in slots.old) }
 {
     for place in 0..slots.len() {
         slots[place].add(number, piece);
     }
+}
+
+/// Whether no link is open.
+pub(crate) fn are_free(slots: &[Slot]) -> bool
+    ensures { result ≡ list_all (λ slot. is_free (link_in slot)) slots.now }
+{
+    slots.iter().all(|slot| slot.is_free())
 }
 
 // The first free place.

@@ -3,32 +3,48 @@ ghost use Rattle.std.specs.Prelude.{◌≡◌, ◌≤◌, List, IfOk, None, ◌�
 ghost use Rattle.std.specs.List.{All};
 ghost use Rattle.booth_host.specs.Causes.{HasCause};
 ghost use Rattle.booth_stream.specs.Calls.{CallsGrewBy};
+ghost use Rattle.booth_stream.specs.Known.{KnowsEmpty, KnowsRest};
 ghost use Rattle.booth_stream.specs.Places.{Polls, after_event, after_poll, closings, unbroken, without};
-ghost use Rattle.booth_stream.specs.Slot.{IsDry, IsIdle};
+ghost use Rattle.booth_stream.specs.Slot.{IsAtRest, IsDry};
 ghost use Rattle.booth_stream.specs.Slots.{GivesOne, Reaches};
-ghost use Rattle.booth_stream.specs.Table.{places_of};
 ghost use Rattle.booth_stream.specs.declared.link_call.LinkCall.{LinkCall};
 
 use crate::slot::{Caller, Slot};
-use crate::slots::{add, close_broken, end, free_slots, give_first, leave, open, reach};
+use crate::slots::{add, are_free, close_broken, end, free_slots, give_first, leave, open, reach};
 use crate::{LinkEvent, Links, Piece};
 use booth_base::Peer;
 use booth_host::{Datagram, Failed};
 use std::alloc::{AllocError, Global};
 
+/// What is known of all places at once, so that a turn to which no link brings anything looks at none of them.
+#[derive(Clone, Copy)]
+pub(crate) enum Known {
+    /// No link is open.
+    Empty,
+    /// No link has a frame, and none is broken.
+    AtRest,
+    Nothing,
+}
+
 /// The places of all links.
 #[derive(Drop)]
 pub(crate) struct Table {
     slots: Vec<Slot>,
+    known: Known,
+    ghost rest: { KnowsRest known slots.items },
+    ghost empty: { KnowsEmpty known slots.items },
 }
 
 impl Table {
+    ghost use Rattle.booth_stream.specs.Table.{places_of};
+
     /// Free places, with the memory of all links.
     pub(crate) fn new(alloc: Global) -> Result<Table, AllocError>
         ensures { IfOk result (λ table. places_of table ≡ replicate 16 None) }
     {
         Ok(Table {
             slots: free_slots(alloc)?,
+            known: Known::Nothing,
         })
     }
 
@@ -36,23 +52,36 @@ impl Table {
     pub(crate) fn give(&mut self, into: &mut Datagram) -> Option<Peer>
         ensures { GivesOne self.old.slots.items result into.new self.new.slots.items }
     {
-        give_first(&mut self.slots, into)
+        match self.known {
+            Known::Empty | Known::AtRest => None,
+            Known::Nothing => give_first(&mut self.slots, into),
+        }
     }
 
     /// Closes each link in which no frame follows.
     pub(crate) fn close_broken<L: Links>(&mut self, links: &mut L)
         requires { All IsDry self.old.slots.items }
         ensures places { places_of self.new ≡ unbroken (places_of self.old) }
-        ensures idle { All IsIdle self.new.slots.items }
+        ensures rests { All IsAtRest self.new.slots.items }
         ensures calls { CallsGrewBy (L.past links.old) (L.past links.new) (closings (places_of self.old)) }
         ensures later { L.faults links.old ≤ L.faults links.new }
     {
-        close_broken(&mut self.slots, links);
+        match self.known {
+            Known::Empty | Known::AtRest => {}
+            Known::Nothing => {
+                close_broken(&mut self.slots, links);
+                self.known = if are_free(&self.slots) {
+                    Known::Empty
+                } else {
+                    Known::AtRest
+                };
+            }
+        }
     }
 
     // Does what an event demands. All that came before was taken.
     fn take<L: Links>(&mut self, event: LinkEvent, piece: &Piece, links: &mut L)
-        requires { All IsIdle self.old.slots.items }
+        requires { All IsAtRest self.old.slots.items }
         ensures places { places_of self.new ≡ (after_event event piece.now (places_of self.old)).places }
         ensures calls { CallsGrewBy (L.past links.old) (L.past links.new)
             (after_event event piece.now (places_of self.old)).calls }
@@ -60,10 +89,17 @@ impl Table {
     {
         match event {
             LinkEvent::Opened { link, peer } => {
-                open(&mut self.slots, Caller { number: link, peer }, links)
+                self.known = Known::Nothing;
+                open(&mut self.slots, Caller { number: link, peer }, links);
             }
-            LinkEvent::Bytes(link) => add(&mut self.slots, link, piece),
-            LinkEvent::Ended(link) => end(&mut self.slots, link, links),
+            LinkEvent::Bytes(link) => {
+                self.known = Known::Nothing;
+                add(&mut self.slots, link, piece);
+            }
+            LinkEvent::Ended(link) => {
+                self.known = Known::Nothing;
+                end(&mut self.slots, link, links);
+            }
             LinkEvent::Quiet => {}
         }
     }
@@ -74,7 +110,7 @@ impl Table {
         piece: &mut Piece,
         links: &mut L,
     ) -> Result<LinkEvent, Failed>
-        requires { All IsIdle self.old.slots.items }
+        requires { All IsAtRest self.old.slots.items }
         ensures places { places_of self.new ≡ (after_poll result piece.new (places_of self.old)).places }
         ensures calls { CallsGrewBy (L.past links.old) (L.past links.new)
             (LinkCall.Poll result piece.new ∷ (after_poll result piece.new (places_of self.old)).calls) }
@@ -107,7 +143,10 @@ impl Table {
     pub(crate) fn reach(&self, peer: &Peer) -> Option<u32>
         ensures { Reaches (places_of self.now) peer.now result }
     {
-        reach(&self.slots, peer)
+        match self.known {
+            Known::Empty => None,
+            Known::AtRest | Known::Nothing => reach(&self.slots, peer),
+        }
     }
 
     /// Closes the link of this number.
@@ -116,6 +155,7 @@ impl Table {
         ensures calls { CallsGrewBy (L.past links.old) (L.past links.new) (LinkCall.Close number ∷ []) }
         ensures later { L.faults links.old ≤ L.faults links.new }
     {
+        self.known = Known::Nothing;
         leave(&mut self.slots, number);
         links.close(number);
     }

@@ -36,8 +36,9 @@ fn run(rt: HostRuntime, alloc: Global) -> Result<Outcome, AllocError> {
     // (the host comes first: it fills the places of standard streams that were closed, so that no file of the links has one)
     let mut host = RealHost::new(rt, alloc)?;
     await_clock(alloc, &words, &mut host);
-    let links = RealLinks::new(rt, alloc)?;
-    host.wake_on(links.ready_file());
+    let mut links = RealLinks::new(rt, alloc)?;
+    let mark = links.ready_mark(alloc)?;
+    host.wake_on(links.ready_file(), mark);
     let host = StreamHost::new(alloc, host, links, 0)?;
     let mut host = LogHost::new(alloc, host, ErrorLines::new(rt))?;
     Ok(boothd(alloc, &words, &mut host))

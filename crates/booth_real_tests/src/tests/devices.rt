@@ -7,18 +7,22 @@ use booth_host::{Arrival, Datagram, Failed, Host, Place, ReadFault};
 use booth_real::RealHost;
 use booth_rec::{Lease, Record};
 use std::alloc::Global;
+use std::cell::Cell;
 use std::fs::File;
 use std::io::Write;
 use std::os::fd::AsRawFd;
 use std::os::unix::fs::MetadataExt;
 use std::process::{Abort, Command};
+use std::rc::Rc;
 use std::rt::{Clock, Files, Processes};
 use std::time::{Duration, Instant, SystemTime};
 use std::{fs, io, mem, thread};
 
-const LOOPBACK: Address = Address::V4([127, 0, 0, 1]);
+pub(super) const LOOPBACK: Address = Address::V4([127, 0, 0, 1]);
 
-const LOOPBACK_6: Address = Address::V6([0, 0, 0, 0, 0, 0, 0, 0, 0, 0, 0, 0, 0, 0, 0, 1]);
+pub(super) const LOOPBACK_6: Address = Address::V6([
+    0, 0, 0, 0, 0, 0, 0, 0, 0, 0, 0, 0, 0, 0, 0, 1,
+]);
 
 pub(super) fn place(rt: &impl Abort, local: Option<Address>, port: u16, records: &str) -> Place {
     Place {
@@ -37,7 +41,7 @@ pub(super) fn keeper(rt: &impl Abort, own: &HostRuntime, directory: &str) -> Rea
 }
 
 // Opens the first of a hundred ports that is free, and says where it is.
-fn open_somewhere(rt: &impl Abort, host: &mut RealHost, address: Address) -> Peer {
+pub(super) fn open_somewhere(rt: &impl Abort, host: &mut RealHost, address: Address) -> Peer {
     for port in 19_929..20_029 {
         if host.open(&place(rt, Some(address), port, "")).is_ok() {
             return Peer { address, port };
@@ -47,7 +51,7 @@ fn open_somewhere(rt: &impl Abort, host: &mut RealHost, address: Address) -> Pee
 }
 
 // From whom the bytes came that one host sent to another.
-fn carried(
+pub(super) fn carried(
     rt: &impl Abort,
     alloc: Global,
     from: &mut RealHost,
@@ -468,11 +472,17 @@ fn another_file_that_can_be_read_ends_a_wait(rt: HostRuntime) {
     let mut datagram = Datagram::new(rt.alloc()).expect(&rt, "memory");
     let (reader, mut writer) = io::pipe(&rt).expect(&rt, "a pipe");
     let start = Instant::now(&rt).expect(&rt, "a clock");
-    host.wake_on(reader.as_raw_fd());
+    let Ok(mark) = Rc::new(rt.alloc(), Cell::new(false)) else {
+        panic!(rt; "no memory");
+    };
+    host.wake_on(reader.as_raw_fd(), mark.clone().expect(&rt, "memory"));
     assert!(rt; host.next(100, &mut datagram) == Ok(Arrival::Quiet));
+    assert!(rt; !mark.get(), "nothing can be read");
     let empty = start.elapsed(&rt).expect(&rt, "a clock").as_millis();
     assert!(rt; empty >= 80, "it waited {empty} ms");
     writer.write_all(b"x").expect(&rt, "a byte");
+    assert!(rt; host.next(60_000, &mut datagram) == Ok(Arrival::Quiet));
+    assert!(rt; mark.get(), "a byte can be read");
     assert!(rt; host.next(60_000, &mut datagram) == Ok(Arrival::Quiet));
     let filled = start.elapsed(&rt).expect(&rt, "a clock").as_millis();
     assert!(rt; filled < 30_000, "it waited {filled} ms");

@@ -2,7 +2,7 @@ use Rattle.std.specs.List.{AllWithin}
 use Rattle.std.proofs.Common.{ℕ, ◌+◌, ◌<◌, ◌∙◌, length, set, subst, sym, arith, get_or, ap}
 use Rattle.std.proofs.lemmas.List.{length-set}
 use Rattle.booth_stream.specs.Places.{with_more}
-use Rattle.booth_stream.specs.Slot.{IsIdle, PlainSlot}
+use Rattle.booth_stream.specs.Slot.{IsAtRest, PlainSlot}
 use Rattle.booth_stream.proofs.SlotsLemmas.{over_more, within_later}
 use Rattle.booth_stream.proofs.slots.add.Goals as goal
 
@@ -17,7 +17,7 @@ loop-place-preserved c =
     record {
       links = over_more (with_more c.args.number c.args.piece.now) c.args.slots.now slots i old new
           c.loop-place.invariant.long within c.loop-place.invariant.links is c.add.ensures;
-      idle = subst (λ (n : ℕ). AllWithin IsIdle (set slots i new) (i + 1) n) (sym (length-set slots i new))
-          (within_later IsIdle slots i new (length slots) c.loop-place.invariant.idle);
+      rests = subst (λ (n : ℕ). AllWithin IsAtRest (set slots i new) (i + 1) n) (sym (length-set slots i new))
+          (within_later IsAtRest slots i new (length slots) c.loop-place.invariant.rests);
       long = length-set slots i new ∙ c.loop-place.invariant.long;
     }

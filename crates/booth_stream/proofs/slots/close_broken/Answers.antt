@@ -6,7 +6,7 @@ use Rattle.std.proofs.lemmas.List.Elements.{AllWithin-more_set}
 use Rattle.booth_stream.specs.declared.link_call.LinkCall.{LinkCall}
 use Rattle.booth_stream.specs.Calls.{CallsGrewBy}
 use Rattle.booth_stream.specs.Places.{OpenLink, closing, unless_broken}
-use Rattle.booth_stream.specs.Slot.{link_in, IsFed, IsIdle, PlainSlot}
+use Rattle.booth_stream.specs.Slot.{link_in, IsFed, IsAtRest, PlainSlot}
 use Rattle.booth_stream.specs.Slots.{links_in}
 use Rattle.booth_stream.proofs.CallLemmas.{calls_joined}
 use Rattle.booth_stream.proofs.SlotsLemmas.{over_more, still_there, flat_more, within_later}
@@ -35,6 +35,6 @@ loop-place-preserved g c =
       later = let a = inv.later in let b = c.close_if_broken.ensures.later in omega (arith, a, b);
       fed = subst (λ (n : ℕ). AllWithin IsFed (set slots i new) (i + 1) n) (sym (length-set slots i new))
           (within_later IsFed slots i new (length slots) inv.fed);
-      idle = AllWithin-more_set slots i new within IsIdle inv.idle c.close_if_broken.ensures.idle;
+      rests = AllWithin-more_set slots i new within IsAtRest inv.rests c.close_if_broken.ensures.rests;
       long = length-set slots i new ∙ inv.long;
     }

@@ -2,7 +2,7 @@ use Rattle.std.specs.Prelude.{◌≡◌, ◌≤◌, ◌++◌, map, take, drop, l
 use Rattle.std.specs.List.{AllWithin, flat_map}
 use Rattle.booth_stream.specs.Calls.{CallsGrewBy}
 use Rattle.booth_stream.specs.Places.{closing, unless_broken}
-use Rattle.booth_stream.specs.Slot.{IsFed, IsIdle}
+use Rattle.booth_stream.specs.Slot.{IsFed, IsAtRest}
 use Rattle.booth_stream.specs.Slots.{links_in}
 use Rattle.booth_stream.proofs.slots.close_broken.Given as goal
 
@@ -13,6 +13,6 @@ invariant-loop-place g l = record {
       (flat_map closing (take l.place (links_in l.fn.slots)));
   later : g.L.Links.faults l.fn.links ≤ g.L.Links.faults l.links;
   fed : AllWithin IsFed l.slots l.place (length l.slots);
-  idle : AllWithin IsIdle l.slots 0 l.place;
+  rests : AllWithin IsAtRest l.slots 0 l.place;
   long : length l.slots ≡ length l.fn.slots;
 }

@@ -1,0 +1,58 @@
+//! The other file that ends a wait, and what is known of it.
+
+ghost use Rattle.std.specs.Prelude.{◌≡◌};
+
+use std::cell::Cell;
+use std::os::fd::RawFd;
+use std::rc::Rc;
+
+/// A file that ends a wait when it can be read.
+#[derive(Drop)]
+pub(crate) struct Wake {
+    /// A number below 0 where there is none.
+    file: RawFd,
+    /// Whether it has something, as far as is known.
+    known: Option<Rc<Cell<bool>>>,
+}
+
+impl Wake {
+    /// No file.
+    pub(crate) fn nothing() -> Wake {
+        Wake {
+            file: -1,
+            known: None,
+        }
+    }
+
+    /// This file, of which it is noted here that it can be read.
+    pub(crate) fn on(file: RawFd, known: Rc<Cell<bool>>) -> Wake
+        ensures { result.file ≡ file }
+    {
+        Wake {
+            file,
+            known: Some(known),
+        }
+    }
+
+    /// The file's number.
+    pub(crate) fn file(&self) -> RawFd
+        ensures { result ≡ self.now.file }
+    {
+        self.file
+    }
+
+    /// Whether it has something, so that nobody has to wait.
+    pub(crate) fn is_known(&self) -> bool {
+        match &self.known {
+            Some(known) => known.get(),
+            None => false,
+        }
+    }
+
+    /// Notes that it can be read.
+    pub(crate) fn note(&self) {
+        if let Some(known) = &self.known {
+            known.set(true);
+        }
+    }
+}
