@@ -1,0 +1,4 @@
+pub mod KnownLemmas
+pub mod TimeLemmas
+pub mod HeardLemmas
+pub mod PlainLemmas

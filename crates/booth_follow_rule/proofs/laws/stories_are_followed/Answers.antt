@@ -1,0 +1,11 @@
+use Rattle.std.proofs.Common.{refl}
+use Rattle.booth_follow_rule.specs.Examples.{StoriesAreFollowed}
+use Rattle.booth_follow_rule.specs.Rule.{deeds_from}
+use Rattle.booth_follow_rule.proofs.laws.stories_are_followed.Goals as goal
+
+followed : StoriesAreFollowed
+unfolding deeds_from
+followed = record { a_whole_life_is = refl; what_fails_is = refl; no_start_is = refl; a_stop_has_longer_is = refl }
+
+pub returns : goal.returns
+returns c = followed

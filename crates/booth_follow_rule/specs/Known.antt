@@ -1,0 +1,111 @@
+-- What is known after some moments and the deeds that followed them, whoever did them: no stage is in it.
+use Rattle.std.specs.Prelude.{ℕ, Bool, true, false, ◌==◌, max, List, [], ◌∷◌, Option, Some, None, if◌then◌else◌}
+use Rattle.booth_follow_rule.specs.declared.margins.Margins.{Margins}
+use Rattle.booth_follow_rule.specs.declared.news.News.{News}
+use Rattle.booth_follow_rule.specs.declared.news.News.TheVariants as news
+use Rattle.booth_follow_rule.specs.declared.news.RunEnd.TheVariants.{Done, Failed}
+use Rattle.booth_follow_rule.specs.declared.news.Shown.TheVariants.{Here, Elsewhere}
+use Rattle.booth_follow_rule.specs.declared.state.FollowDeed.{FollowDeed}
+use Rattle.booth_follow_rule.specs.declared.state.FollowDeed.TheVariants as deeds
+use Rattle.booth_follow_rule.specs.declared.state.State.{State}
+use Rattle.booth_follow_rule.specs.declared.state.Word.{Word}
+use Rattle.booth_follow_rule.specs.declared.state.Word.TheVariants.{Start, Stop, Kill}
+use Rattle.booth_follow_rule.specs.Rule.{Moment, follow_step, opening, state_after}
+
+-- a moment, and the deed that followed it
+pub record Row : Type 0 where
+  pub at : Moment
+  pub deed : FollowDeed
+
+-- The service was started, and no stop or kill was done since; or one was, and no start was made since.
+pub data Service : Type 0 where
+  Unknown : Service
+  Started : Service
+  Over : Service
+
+-- What the last list shows, with the end that the last list of this site told and the latest end that one told; whether
+-- the end was asked for; what the program was run for last, and that run's number; the service, and the reading at which
+-- it was over; the reading of the first of the kills that were made last; the last reading; whether the follower left.
+pub record Known : Type 0 where
+  pub here : Bool
+  pub end : ℕ
+  pub latest : ℕ
+  pub asked : Bool
+  pub last : Option Word
+  pub number : ℕ
+  pub service : Service
+  pub over_at : ℕ
+  pub killed_at : ℕ
+  pub seen : ℕ
+  pub left : Bool
+
+abbrev pub nothing_known : Known
+nothing_known = record {
+  here = false;
+  end = 0;
+  latest = 0;
+  asked = false;
+  last = None;
+  number = 0;
+  service = Unknown;
+  over_at = 0;
+  killed_at = 0;
+  seen = 0;
+  left = false;
+}
+
+-- ---- what news tell
+
+-- the last run was done: where it was a stop or a kill, the service is over
+abbrev pub told_done : Known → ℕ → Service → Option Word → Known
+told_done k reading Over last = k
+told_done k reading service (Some Stop) = record k { service = Over; over_at = reading }
+told_done k reading service (Some Kill) = record k { service = Over; over_at = reading }
+told_done k reading service last = k
+
+abbrev pub told : Known → ℕ → News → Known
+told k reading (news.List (Here until)) = record k { here = true; end = until; latest = max k.latest until }
+told k reading (news.List Elsewhere) = record k { here = false }
+told k reading (news.End run Done) = if run == k.number then told_done k reading k.service k.last else k
+told k reading (news.End run Failed) = k
+told k reading news.Stop = record k { asked = true }
+told k reading news.Nothing = k
+
+-- ---- what deeds do
+
+-- a kill after a kill that did not help is of the same kills
+abbrev pub killed_from : Option Word → ℕ → ℕ → ℕ
+killed_from (Some Kill) before reading = before
+killed_from last before reading = reading
+
+abbrev pub done_at : Known → ℕ → FollowDeed → Known
+done_at k reading (deeds.Run Start number until) =
+    record k { last = Some Start; number = number; service = Started; seen = reading }
+done_at k reading (deeds.Run Stop number until) = record k { last = Some Stop; number = number; seen = reading }
+done_at k reading (deeds.Run Kill number until) =
+    record k { last = Some Kill; number = number; killed_at = killed_from k.last k.killed_at reading; seen = reading }
+done_at k reading deeds.Leave = record k { left = true; seen = reading }
+done_at k reading deeds.Nothing = record k { seen = reading }
+
+-- ---- rows
+
+-- what is known at a row before its deed, and after it
+abbrev pub known_at : Known → Row → Known
+known_at k row = told k row.at.reading row.at.heard
+
+abbrev pub known_after : Known → Row → Known
+known_after k row = done_at (known_at k row) row.at.reading row.deed
+
+-- P holds of each row, with what is known before it
+abbrev pub AllRows : (Known → Row → Type 0) → Known → List Row → Type 0
+AllRows P k [] = Unit {0}
+AllRows P k (row ∷ rows) = P k row × AllRows P (known_after k row) rows
+
+-- the rows of a follower that stands so
+unfoldable pub rows_from : Margins → State → List Moment → List Row
+rows_from m s [] = []
+rows_from m s (p ∷ ps) = record { at = p; deed = (follow_step m s p).deed } ∷ rows_from m (state_after m s p) ps
+
+-- all rows of a follower
+abbrev pub rows_of : Margins → List Moment → List Row
+rows_of m moments = rows_from m opening moments

@@ -1,0 +1,5 @@
+pub mod Margins
+pub mod Rule
+pub mod Known
+pub mod Laws
+pub mod Examples

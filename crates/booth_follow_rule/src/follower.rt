@@ -1,0 +1,59 @@
+//! A follower as its caller sees it: begun once, and then told each moment.
+ghost use Rattle.std.specs.Prelude.{◌≡◌};
+ghost use Rattle.booth_follow_rule.specs.Rule.{follow_step, opening, state_after};
+
+use crate::margins::Margins;
+use crate::news::News;
+use crate::state::{FollowDeed, Stage, State};
+use crate::steps::{end_of, hears, run_after, step_at};
+
+/// A follower of one ticket. No call takes memory.
+#[derive(Clone, Copy, Debug, PartialEq, Eq)]
+pub struct Follower {
+    margins: Margins,
+    state: State,
+}
+
+impl Follower {
+    /// A follower that has heard nothing.
+    pub fn new(margins: Margins) -> Follower
+        ensures { result ≡ (record { margins = margins; state = opening }) }
+    {
+        Follower {
+            margins,
+            state: State {
+                here: false,
+                until: 0,
+                asked: false,
+                run: 0,
+                stage: Stage::Opening,
+            },
+        }
+    }
+
+    /// What it knows, and where it stands.
+    pub fn state(&self) -> State
+        ensures { result ≡ self.now.state }
+    {
+        self.state
+    }
+
+    /// What is to be done at this reading, before which this was heard.
+    ///
+    /// What is to be run is run at once. Where it cannot be, that is told as an end of that run which failed.
+    pub fn step(&mut self, reading: u64, news: News) -> FollowDeed
+        ensures deed { result ≡ (follow_step self.old.margins self.old.state (record { reading = reading; heard = news })).deed }
+        ensures state { self.new.state ≡ state_after self.old.margins self.old.state (record { reading = reading; heard = news }) }
+        ensures margins { self.new.margins ≡ self.old.margins }
+    {
+        let how = end_of(self.state.run, news);
+        let heard = hears(self.state, news);
+        let step = step_at(&self.margins, reading, how, heard);
+        self.state = State {
+            run: run_after(heard.run, step.deed),
+            stage: step.stage,
+            ..heard
+        };
+        step.deed
+    }
+}

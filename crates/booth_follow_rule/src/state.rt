@@ -1,0 +1,52 @@
+//! Where a follower stands, and what it does.
+
+/// What the program is run for.
+#[derive(Clone, Copy, Debug, PartialEq, Eq)]
+pub enum Word {
+    /// The service is to run. The run may end as soon as it does, with 0.
+    Start,
+    /// The service is to stop. The run ends with 0 once it has.
+    Stop,
+    /// The same at once, whatever it costs.
+    Kill,
+}
+
+/// What is to be done.
+#[derive(Clone, Copy, Debug, PartialEq, Eq)]
+pub enum FollowDeed {
+    Nothing,
+    /// The program is run: for this, under this number, and with the end that the last list of this site told, or 0.
+    Run { word: Word, number: u64, until: u64 },
+    /// The follower is at its end, and the service is stopped.
+    Leave,
+}
+
+/// What is known of the service, and what is waited for.
+#[derive(Clone, Copy, Debug, PartialEq, Eq)]
+pub enum Stage {
+    /// Nothing was done yet. An earlier follower may have left the service running.
+    Opening,
+    /// It is stopped, since this reading.
+    Down { since: u64 },
+    /// It was started.
+    Up,
+    /// It is to have stopped by this reading, less the time of a kill.
+    Stopping { by: u64 },
+    /// It is being killed; where the last run for that failed, since this reading.
+    Killing { failed: Option<u64> },
+    Ended,
+}
+
+/// What a follower knows.
+#[derive(Clone, Copy, Debug, PartialEq, Eq)]
+pub struct State {
+    /// Whether the last list shows this site as the holder.
+    pub here: bool,
+    /// The end that the last such list told, or 0.
+    pub until: u64,
+    /// Whether the end was asked for.
+    pub asked: bool,
+    /// The number of the last run, or 0.
+    pub run: u64,
+    pub stage: Stage,
+}

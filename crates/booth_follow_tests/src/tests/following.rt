@@ -1,0 +1,131 @@
+//! A service that follows its ticket over a host in memory: what is asked, heard and run, up to the end.
+use booth_base::{Address, Name, Peer};
+use booth_follow_rule::Margins;
+use booth_following::{FollowEnd, Following, Programs, Room, follow};
+use booth_scripts::{host_of, transcript};
+use std::alloc::Global;
+use std::process::Abort;
+
+/// Stopped 20 seconds before the end, killed 5 seconds before it, and left so for 5 seconds.
+const TIMES: Margins = Margins {
+    margin: 20_000,
+    kill: 5_000,
+    pause: 5_000,
+};
+
+// The program of ticket-db8 at the first site.
+fn at_first_site(rt: &impl Abort, alloc: Global) -> Following {
+    let to = Peer {
+        address: Address::V4([192, 168, 201, 100]),
+        port: 9929,
+    };
+    let ticket = Name::read(b"ticket-db8").expect(rt, "a name");
+    let programs = Programs::read("/etc/booth/db8 fast").expect(rt, "a program");
+    Following::new(alloc, None, ticket, to, programs, TIMES).expect(rt, "memory")
+}
+
+fn check_calls(rt: &impl Abort, alloc: Global, given: &str, calls: &str) {
+    let following = at_first_site(rt, alloc);
+    let mut room = Room::new(alloc).expect(rt, "memory");
+    let mut host = host_of(alloc, given).expect(rt, given);
+    let end = follow(&following, &mut room, &mut host);
+    let told = transcript(alloc, &host).expect(rt, "the calls");
+    assert!(rt; told.as_str() == calls, "{told}");
+    assert!(rt; end == FollowEnd::Left);
+}
+
+// What an earlier follower left is stopped. A list of another member, one by an older number and one that is refused are
+// passed over. The service is started for this site, and stopped where another one is listed.
+#[test]
+fn a_service_runs_while_its_ticket_is_held(rt: HostRuntime) {
+    let given = "\
+first 900
+1000 nothing
+1100 S1 RLst 1000 0 0 = ticket-db8 192.168.201.100 60$
+1200 ends 1 0
+2000 nothing
+2050 S2 RLst 2000 0 0 = ticket-db8 192.168.202.100 90$
+2060 S1 RLst 1000 0 0 = ticket-db8 none 0$
+2070 S1 RLst 2000 0 Fail = ticket-db8 none 0$
+6199 nothing
+6200 nothing
+6300 ends 2 0
+7300 S1 RLst 6199 0 0 = other 192.168.201.100 99$ticket-db8 192.168.202.100 90$
+7400 ends 2 1
+7500 ends 3 0";
+    let calls = "\
+next 100 quiet
+now 1000
+start 1 at S1 until 0 ticket-db8 /etc/booth/db8 fast stop
+send S1:9929: CLst of - at 1000 1000 0 0 0
+next 100 S1:9929: RLst of S1 at 0 1000 0 0 0 ticket-db8 192.168.201.100 60$
+now 1100
+next 100 job 1 over: 0
+now 1200
+next 100 quiet
+now 2000
+send S1:9929: CLst of - at 2000 2000 0 0 0
+next 100 S2:9929: RLst of S2 at 0 2000 0 0 0 ticket-db8 192.168.202.100 90$
+now 2050
+next 100 S1:9929: RLst of S1 at 0 1000 0 0 0 ticket-db8 none 0$
+now 2060
+next 100 S1:9929: RLst of S1 at 0 2000 0 0 Fail ticket-db8 none 0$
+now 2070
+next 100 quiet
+now 6199
+send S1:9929: CLst of - at 6199 6199 0 0 0
+next 100 quiet
+now 6200
+start 2 at S1 until 60 ticket-db8 /etc/booth/db8 fast start
+next 100 job 2 over: 0
+now 6300
+next 100 S1:9929: RLst of S1 at 0 6199 0 0 0 other 192.168.201.100 99$ticket-db8 192.168.202.100 90$
+now 7300
+start 3 at S1 until 60 ticket-db8 /etc/booth/db8 fast stop
+send S1:9929: CLst of - at 7300 7300 0 0 0
+next 100 job 2 over: 1
+now 7400
+next 100 job 3 over: 0
+now 7500
+next 100 stop
+now 7500
+";
+    check_calls(&rt, rt.alloc(), given, calls);
+}
+
+// A line tells an end only where it is this site's whole line, with a number of seconds.
+#[test]
+fn a_line_has_its_form(rt: HostRuntime) {
+    let given = "\
+first 900
+1000 ends 7 0
+1001 ends 1 0
+7000 S1 RLst 1000 0 0 = ticket-db8 192.168.201.100 $xticket-db8 192.168.201.100 99$
+7100 S1 RLst 7000 0 0 = ticket-db8 192.168.201.100 099$
+8100 S1 RLst 7000 0 0 = ticket-db8 192.168.201.1000 99$ticket-db8x 192.168.201.100 99$
+8200 S1 RLst 8100 0 0 = ticket-db8 192.168.201.100 18446744073709551615$
+8201 S1 RLst 8100 0 0 = ticket-db8 192.168.201.100 99 $";
+    let calls = "\
+next 100 job 7 over: 0
+now 1000
+start 1 at S1 until 0 ticket-db8 /etc/booth/db8 fast stop
+send S1:9929: CLst of - at 1000 1000 0 0 0
+next 100 job 1 over: 0
+now 1001
+next 100 S1:9929: RLst of S1 at 0 1000 0 0 0 ticket-db8 192.168.201.100 $xticket-db8 192.168.201.100 99$
+now 7000
+send S1:9929: CLst of - at 7000 7000 0 0 0
+next 100 S1:9929: RLst of S1 at 0 7000 0 0 0 ticket-db8 192.168.201.100 099$
+now 7100
+next 100 S1:9929: RLst of S1 at 0 7000 0 0 0 ticket-db8 192.168.201.1000 99$ticket-db8x 192.168.201.100 99$
+now 8100
+send S1:9929: CLst of - at 8100 8100 0 0 0
+next 100 S1:9929: RLst of S1 at 0 8100 0 0 0 ticket-db8 192.168.201.100 18446744073709551615$
+now 8200
+next 100 S1:9929: RLst of S1 at 0 8100 0 0 0 ticket-db8 192.168.201.100 99 $
+now 8201
+next 100 stop
+now 8201
+";
+    check_calls(&rt, rt.alloc(), given, calls);
+}

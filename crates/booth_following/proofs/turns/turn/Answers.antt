@@ -1,0 +1,9 @@
+use Rattle.booth_following.proofs.TurnLemmas.{one_turn}
+use Rattle.booth_following.proofs.turns.turn.Goals as goal
+
+pub returns-clause-past : goal.returns-clause-past
+returns-clause-past g c =
+    one_turn c.args.f.now c.args.seat.now c.step-deed.new.self c.step-deed.result c.news_of-heard.result c.failed_left-left.result c.asked_after-seat.result
+    c.failed_after-seat.result c.asks-is_asking.result c.run-started.result c.ask-sent.result c.next-answer.ensures.past c.now-reading.ensures.past c.run-started.ensures.past c.ask-sent.ensures.past
+    c.news_of-heard.ensures c.step-deed.ensures.deed c.step-deed.ensures.margins c.step-deed.ensures.state c.failed_left-left.ensures c.failed_after-seat.ensures
+    c.asks-is_asking.ensures c.asked_after-seat.ensures

@@ -1,0 +1,19 @@
+-- What is followed.
+use Rattle.std.specs.Prelude.{◌≡◌, ℕ, List, Option}
+use Rattle.booth_base.specs.declared.address.Peer.{Peer}
+use Rattle.booth_base.specs.Address.{id_of}
+use Rattle.booth_follow_rule.specs.declared.margins.Margins.{Margins}
+use Rattle.booth_following.specs.declared.following.Following.{Following}
+use Rattle.booth_following.specs.declared.programs.Programs.{Programs}
+use Rattle.booth_following.specs.Lists.{line_start}
+
+-- made of these, for the site at the address at which its daemon listens
+pub record IsFollowing (key : Option (List ℕ)) (ticket : List ℕ) (to : Peer) (programs : Programs) (margins : Margins)
+    (f : Following) : Type 0 where
+  pub key_is : f.key ≡ key
+  pub ticket_is : f.ticket ≡ ticket
+  pub to_is : f.to ≡ to
+  pub me_is : f.me ≡ record { 0 = id_of to.address }
+  pub line_is : f.line ≡ line_start ticket to.address
+  pub programs_are : f.programs ≡ programs
+  pub margins_are : f.margins ≡ margins

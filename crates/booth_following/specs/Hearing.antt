@@ -1,0 +1,71 @@
+-- What an arrival tells a follower.
+use Rattle.std.specs.Prelude.{◌≡◌, ◌==◌, ◌&&◌, ℕ, zero, pos, ℤ, Bool, List, Option, Some, None, Result, Ok, Err, if◌then◌else◌}
+use Rattle.booth_wire.specs.declared.codes.results.TheConstants.{SUCCESS}
+use Rattle.booth_wire.specs.declared.command.Cmd.TheVariants.{RLst}
+use Rattle.booth_wire.specs.declared.message.FrameFault.{FrameFault}
+use Rattle.booth_wire.specs.Command.{code_of}
+use Rattle.booth_wire.specs.PlainMessage.{PlainMessage, Content, Text}
+use Rattle.booth_wire.specs.Reading.{decoded}
+use Rattle.booth_auth.specs.Verdict.{is_signed}
+use Rattle.booth_host.specs.declared.host.Arrival.{Arrival}
+use Rattle.booth_host.specs.declared.host.Arrival.TheVariants.{Datagram, Handler, Stop}
+use Rattle.booth_host.specs.declared.host.Failed.{Failed as DeviceFailed}
+use Rattle.booth_follow_rule.specs.declared.news.News.{News}
+use Rattle.booth_follow_rule.specs.declared.news.News.TheVariants as news
+use Rattle.booth_follow_rule.specs.declared.news.RunEnd.{RunEnd}
+use Rattle.booth_follow_rule.specs.declared.news.RunEnd.TheVariants.{Done, Failed}
+use Rattle.booth_follow_rule.specs.declared.news.Shown.{Shown}
+use Rattle.booth_following.specs.declared.following.Following.{Following}
+use Rattle.booth_following.specs.Asking.{number_of}
+use Rattle.booth_following.specs.Lists.{IsShownIn}
+
+-- ---- lists
+
+-- this site's answer to the request for a list that was sent at a reading
+abbrev pub is_answer : Following → ℕ → PlainMessage → Bool
+is_answer f asked m =
+    (code_of m.head.cmd == code_of RLst)
+    && ((m.head.request == number_of asked) && ((m.head.from.0 == f.me.0) && (m.head.result == SUCCESS)))
+
+abbrev pub list_text : Content → Option (List ℕ)
+list_text (Text text) = Some text
+list_text content = None
+
+abbrev pub text_read : Following → ℕ → List ℕ → Result PlainMessage FrameFault → Option (List ℕ)
+text_read f asked bytes (Ok m) =
+    if is_signed f.key m.head bytes then (if is_answer f asked m then list_text m.content else None) else None
+text_read f asked bytes (Err fault) = None
+
+-- The text of the list that these bytes are: they spell a message, it has the MAC where there is a key, and it is this
+-- site's answer.
+unfoldable pub text_in : Following → ℕ → List ℕ → Option (List ℕ)
+text_in f asked bytes = text_read f asked bytes (decoded bytes)
+
+-- what a text shows of the ticket, where there is one
+abbrev pub IsTold : Following → Option (List ℕ) → News → Type 0
+IsTold f (Some text) heard = (shown : Shown) × (heard ≡ news.List shown) × IsShownIn f.line text shown
+IsTold f None heard = heard ≡ news.Nothing
+
+-- what a datagram's bytes tell who asked at this reading
+abbrev pub IsHeard : Following → Option ℕ → List ℕ → News → Type 0
+IsHeard f (Some asked) bytes heard = IsTold f (text_in f asked bytes) heard
+IsHeard f None bytes heard = heard ≡ news.Nothing
+
+-- ---- arrivals
+
+abbrev pub how_of : ℤ → RunEnd
+how_of (pos zero) = Done
+how_of status = Failed
+
+-- What an arrival tells. A run that could not be begun is told in its place as one that failed, but not in that of the end.
+abbrev pub IsNews : Following → Option ℕ → Option ℕ → Result Arrival DeviceFailed → List ℕ → News → Type 0
+IsNews f asked failed (Ok Stop) bytes heard = heard ≡ news.Stop
+IsNews f asked (Some run) answer bytes heard = heard ≡ news.End run Failed
+IsNews f asked None (Ok (Datagram peer)) bytes heard = IsHeard f asked bytes heard
+IsNews f asked None (Ok (Handler job status)) bytes heard = heard ≡ news.End job (how_of status)
+IsNews f asked None answer bytes heard = heard ≡ news.Nothing
+
+-- the run that is still to be told
+abbrev pub failed_left : Option ℕ → Result Arrival DeviceFailed → Option ℕ
+failed_left failed (Ok Stop) = failed
+failed_left failed answer = None

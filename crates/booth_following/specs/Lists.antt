@@ -1,0 +1,38 @@
+-- What a daemon's list shows of a ticket.
+use Rattle.std.specs.Prelude.{◌≡◌, ◌<◌, ◌*◌, ◌^◌, ◌++◌, ◌==◌, ℕ, List, [], codes, decimal, length, get_or, Option, Some, None}
+use Rattle.std.specs.List.{slice_split}
+use Rattle.booth_base.specs.declared.address.Address.{Address}
+use Rattle.booth_base.specs.Address.{printed}
+use Rattle.booth_follow_rule.specs.declared.news.Shown.{Shown}
+use Rattle.booth_follow_rule.specs.declared.news.Shown.TheVariants.{Here, Elsewhere}
+
+-- what the line of a ticket begins with while the site at this address holds it
+abbrev pub line_start : List ℕ → Address → List ℕ
+line_start ticket local = ticket ++ (codes " " ++ (printed local ++ codes " "))
+
+-- The line that begins so tells an end in whole seconds, which are left out below a second: so it is no later than that.
+pub record IsLine (start line : List ℕ) (until : ℕ) : Type 0 where
+  pub seconds : ℕ
+  pub spelled : line ≡ start ++ decimal seconds
+  pub millis : until ≡ seconds * 1000
+  pub small : until < 2 ^ 64
+
+-- the lines between line feeds
+abbrev pub lines_of : List ℕ → List (List ℕ)
+lines_of text = slice_split (λ b. b == 0x0A) text
+
+-- The text shows this site until an end, where one of its lines tells it; and where none does, another or nobody.
+abbrev pub IsShownIn : List ℕ → List ℕ → Shown → Type 0
+IsShownIn start text (Here until) = (place : ℕ) × (place < length (lines_of text)) × IsLine start (get_or (lines_of text) place []) until
+IsShownIn start text Elsewhere =
+    (place until : ℕ) → place < length (lines_of text) → IsLine start (get_or (lines_of text) place []) until → ⊥
+
+-- ---- in the code
+
+abbrev pub BeginsLine : List ℕ → List ℕ → Option (List ℕ) → Type 0
+BeginsLine start line (Some rest) = line ≡ start ++ rest
+BeginsLine start line None = (rest : List ℕ) → line ≡ start ++ rest → ⊥
+
+abbrev pub IsUntil : List ℕ → List ℕ → Option ℕ → Type 0
+IsUntil start line (Some until) = IsLine start line until
+IsUntil start line None = (until : ℕ) → IsLine start line until → ⊥

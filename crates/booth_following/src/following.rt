@@ -1,0 +1,94 @@
+//! What is followed, and what is taken along from turn to turn.
+ghost use Rattle.std.specs.Prelude.{◌≡◌, [], IfOk, None};
+ghost use Rattle.booth_base.specs.Address.{id_of};
+ghost use Rattle.booth_following.specs.Lists.{line_start};
+ghost use Rattle.booth_following.specs.Turns.{first_seat};
+ghost use Rattle.booth_following.specs.Following.{IsFollowing};
+
+use crate::lines::TicketLine;
+use crate::programs::Programs;
+use booth_auth::Key;
+use booth_base::{MemberId, Name, Peer};
+use booth_follow_rule::{Follower, Margins};
+use booth_host::Datagram;
+use booth_wire::Frame;
+use std::alloc::{AllocError, Global};
+
+/// A ticket, the daemon of this site, and the service that follows the ticket here.
+#[derive(Drop)]
+pub struct Following {
+    pub(crate) key: Option<Key>,
+    pub(crate) ticket: Name,
+    /// Where the daemon of this site listens.
+    pub(crate) to: Peer,
+    /// The id of this site.
+    pub(crate) me: MemberId,
+    /// What the ticket's line begins with while this site holds it.
+    pub(crate) line: TicketLine,
+    pub(crate) programs: Programs,
+    pub(crate) margins: Margins,
+}
+
+impl Following {
+    /// The service of these programs follows the ticket at the site whose daemon listens there.
+    pub fn new(
+        alloc: Global,
+        key: Option<Key>,
+        ticket: Name,
+        to: Peer,
+        programs: Programs,
+        margins: Margins,
+    ) -> Result<Following, AllocError>
+        ensures { IfOk result (IsFollowing key ticket to programs margins) }
+    {
+        let line = TicketLine::new(alloc, &ticket, &to.address)?;
+        Ok(Following {
+            key,
+            ticket,
+            me: to.address.id(),
+            to,
+            line,
+            programs,
+            margins,
+        })
+    }
+}
+
+/// The memory of a following: a frame to send, and a datagram that arrives.
+#[derive(Drop)]
+pub struct Room {
+    pub(crate) frame: Frame,
+    pub(crate) datagram: Datagram,
+}
+
+impl Room {
+    /// All memory that it takes but for what it is about.
+    pub fn new(alloc: Global) -> Result<Room, AllocError>
+        ensures { IfOk result (λ room. room.datagram ≡ []) }
+    {
+        let frame = Frame::new(alloc)?;
+        let datagram = Datagram::new(alloc)?;
+        Ok(Room { frame, datagram })
+    }
+}
+
+/// What is taken along from turn to turn.
+#[derive(Clone, Copy)]
+pub(crate) struct Seat {
+    pub follower: Follower,
+    /// The reading at which the list was asked for last.
+    pub asked: Option<u64>,
+    /// The number of a run that could not be begun, until the follower is told.
+    pub failed: Option<u64>,
+}
+
+/// Where a following begins.
+pub(crate) fn first_seat(f: &Following) -> Seat
+    ensures { result ≡ first_seat f.now }
+{
+    Seat {
+        follower: Follower::new(f.margins),
+        asked: None,
+        failed: None,
+    }
+}

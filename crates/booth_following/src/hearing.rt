@@ -1,0 +1,130 @@
+//! What an arrival tells a follower.
+ghost use Rattle.std.specs.Prelude.{◌≡◌, option_map};
+ghost use Rattle.booth_wire.specs.PlainMessage.{content_of, plain_of};
+ghost use Rattle.booth_follow_rule.specs.declared.news.News.{News};
+ghost use Rattle.booth_following.specs.Hearing.{IsHeard, IsNews, is_answer, failed_left, how_of, list_text, text_in};
+
+use crate::asking::number_of;
+use crate::following::{Following, Seat};
+use booth_auth::is_signed;
+use booth_follow_rule::{News, RunEnd};
+use booth_host::{Arrival, Datagram, Failed};
+use booth_wire::{Body, Cmd, Message, decode, results};
+
+// Whether a message is this site's answer to the request that was sent at a reading.
+fn is_answer(f: &Following, asked: u64, message: &Message<'_>) -> bool
+    ensures { result ≡ is_answer f.now asked (plain_of message.now) }
+{
+    let head = &message.head;
+    head.cmd.code() == Cmd::RLst.code()
+        && head.request == number_of(asked)
+        && head.from.0 == f.me.0
+        && head.result == results::SUCCESS
+}
+
+fn list_text<'a>(body: &Body<'a>) -> Option<&'a [u8]>
+    ensures { option_map (λ text. text.now) result ≡ list_text (content_of body.now) }
+{
+    match body {
+        Body::Text(text) => Some(text),
+        Body::Bare | Body::Ticket(_) | Body::Attr(_) => None,
+    }
+}
+
+// The text of the list that these bytes are, if they are this site's answer.
+#[tactic(auto, unfolding(crate::specs::Hearing::text_in))]
+fn text_in<'a>(f: &Following, asked: u64, bytes: &'a [u8]) -> Option<&'a [u8]>
+    ensures { option_map (λ text. text.now) result ≡ text_in f.now asked bytes.now }
+{
+    match decode(bytes) {
+        Ok(message) => {
+            if !is_signed(f.key.as_ref(), &message.head, bytes) {
+                return None;
+            }
+            if !is_answer(f, asked, &message) {
+                return None;
+            }
+            list_text(&message.body)
+        }
+        Err(_) => None,
+    }
+}
+
+// What a datagram tells.
+fn heard_in(f: &Following, asked: Option<u64>, bytes: &[u8]) -> News
+    ensures { IsHeard f.now asked bytes.now result }
+{
+    let Some(asked) = asked else {
+        return News::Nothing;
+    };
+    match text_in(f, asked, bytes) {
+        Some(text) => News::List(f.line.shown_in(text)),
+        None => News::Nothing,
+    }
+}
+
+fn how_of(status: i32) -> RunEnd
+    ensures { result ≡ how_of status }
+{
+    if status == 0 {
+        RunEnd::Done
+    } else {
+        RunEnd::Failed
+    }
+}
+
+// What an arrival tells, where every run was begun.
+fn arrived(
+    f: &Following,
+    asked: Option<u64>,
+    answer: &Result<Arrival, Failed>,
+    datagram: &Datagram,
+) -> News
+    ensures { IsNews f.now asked None answer.now datagram.now result }
+{
+    match answer {
+        Ok(Arrival::Datagram(_)) => heard_in(f, asked, datagram.bytes()),
+        Ok(Arrival::Handler { job, status }) => News::End {
+            run: *job,
+            how: how_of(*status),
+        },
+        Ok(Arrival::Quiet) => News::Nothing,
+        Ok(Arrival::Stop) => News::Stop,
+        Err(_) => News::Nothing,
+    }
+}
+
+/// What an arrival tells. A run that could not be begun is told in its place, but not in that of the end.
+pub(crate) fn news_of(
+    f: &Following,
+    seat: &Seat,
+    answer: &Result<Arrival, Failed>,
+    datagram: &Datagram,
+) -> News
+    ensures { IsNews f.now seat.now.asked seat.now.failed answer.now datagram.now result }
+{
+    match seat.failed {
+        None => arrived(f, seat.asked, answer, datagram),
+        Some(run) => match answer {
+            Ok(Arrival::Stop) => News::Stop,
+            Ok(Arrival::Datagram(_)) | Ok(Arrival::Handler { .. }) | Ok(Arrival::Quiet) | Err(_) =>
+                News::End {
+                    run,
+                    how: RunEnd::Failed,
+                },
+        },
+    }
+}
+
+/// The run that is still to be told.
+pub(crate) fn failed_left(failed: Option<u64>, answer: &Result<Arrival, Failed>) -> Option<u64>
+    ensures { result ≡ failed_left failed answer.now }
+{
+    match answer {
+        Ok(Arrival::Stop) => failed,
+        Ok(Arrival::Datagram(_)) => None,
+        Ok(Arrival::Handler { .. }) => None,
+        Ok(Arrival::Quiet) => None,
+        Err(_) => None,
+    }
+}

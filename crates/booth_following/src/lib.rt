@@ -1,0 +1,17 @@
+//! A service that follows its ticket, over any host: what is asked, what is heard, what is run.
+#![tactic(auto)]
+
+mod asking;
+mod choosing;
+mod following;
+mod hearing;
+pub mod laws;
+mod lines;
+mod programs;
+mod turns;
+
+pub use choosing::{FollowFault, margins_for};
+pub use following::{Following, Room};
+pub use lines::TicketLine;
+pub use programs::Programs;
+pub use turns::{FollowEnd, follow};

@@ -1,0 +1,101 @@
+//! The line of a ticket in a daemon's list, while one site holds it.
+ghost use Rattle.std.specs.Prelude.{◌≡◌, ◌<◌, ◌≤◌, ◌++◌, ◌*◌, ◌^◌, ℕ, decimal, option_map, IfOk, MatchOption};
+ghost use Rattle.booth_base.specs.Address.{printed};
+ghost use Rattle.booth_following.specs.Lists.{BeginsLine, IsLine, IsShownIn, IsUntil, line_start};
+
+use booth_base::{Address, Name};
+use booth_follow_rule::Shown;
+use itoa::Buffer;
+use std::alloc::{AllocError, Global};
+use std::marker::Model;
+
+/// What the line of a ticket begins with while one site holds it. Contracts see these bytes.
+#[derive(Drop)]
+pub struct TicketLine {
+    start: Vec<u8>,
+}
+
+impl Model for TicketLine {
+    ghost use Rattle.std.specs.Prelude.{List, ℕ};
+
+    ghost Value = { List ℕ };
+
+    ghost view = { λ line. line.start.items };
+}
+
+// The number that is printed so, if this is one.
+fn number(text: &[u8]) -> Option<u64>
+    ensures { MatchOption result ((n : ℕ) → n < 2 ^ 64 → text.now ≡ decimal n → ⊥)
+        (λ n. text.now ≡ decimal n) }
+{
+    let Ok(word) = std::str::from_utf8(text) else {
+        return None;
+    };
+    let Ok(number) = word.parse::<u64>() else {
+        return None;
+    };
+    let mut digits = Buffer::new();
+    if digits.format(number) == word {
+        Some(number)
+    } else {
+        None
+    }
+}
+
+// The bytes behind these, where the line begins with them.
+fn behind<'a>(start: &[u8], line: &'a [u8]) -> Option<&'a [u8]>
+    ensures { BeginsLine start.now line.now (option_map (λ rest. rest.now) result) }
+{
+    if line.len() < start.len() {
+        return None;
+    }
+    let (first, rest) = line.split_at(start.len());
+    if first == start { Some(rest) } else { None }
+}
+
+// The end that a line tells, in milliseconds, where it is the ticket's and this site holds it.
+fn until_in(start: &[u8], line: &[u8]) -> Option<u64>
+    ensures { IsUntil start.now line.now result }
+{
+    let Some(rest) = behind(start, line) else {
+        return None;
+    };
+    let Some(seconds) = number(rest) else {
+        return None;
+    };
+    seconds.checked_mul(1000)
+}
+
+// What a text shows, by the first line that begins so and tells an end.
+fn shown_in(start: &[u8], text: &[u8]) -> Shown
+    ensures { IsShownIn start.now text.now result }
+{
+    for line in text.split(|b| *b == b'\n') {
+        match until_in(start, line) {
+            Some(until) => return Shown::Here { until },
+            None => {}
+        }
+    }
+    Shown::Elsewhere
+}
+
+impl TicketLine {
+    /// The line of this ticket while the site at this address holds it.
+    pub fn new(alloc: Global, ticket: &Name, local: &Address) -> Result<TicketLine, AllocError>
+        ensures { IfOk result (λ line. line ≡ line_start ticket.now local.now) }
+    {
+        let mut start = Vec::new(alloc);
+        start.extend_from_slice(ticket.bytes())?;
+        start.extend_from_slice(b" ")?;
+        start.extend_from_slice(local.print().as_bytes())?;
+        start.extend_from_slice(b" ")?;
+        Ok(TicketLine { start })
+    }
+
+    /// What a list shows of the ticket.
+    pub(crate) fn shown_in(&self, text: &[u8]) -> Shown
+        ensures { IsShownIn self.now text.now result }
+    {
+        shown_in(&self.start, text)
+    }
+}

@@ -1,0 +1,153 @@
+//! The turns of a following: what comes, what is done for it, and what is asked.
+ghost use Rattle.std.specs.Prelude.{◌≡◌, ◌≤◌, ◌/◌};
+ghost use Rattle.booth_following.specs.Programs.{program_for};
+ghost use Rattle.booth_host.specs.Past.{GrewBy, GrewSome};
+ghost use Rattle.booth_following.specs.Turns.{IsFollowed, IsTurn, ask_calls, asked_after, asks, failed_after, is_due, run_calls};
+
+use crate::asking::put_request;
+use crate::following::{Following, Room, Seat, first_seat};
+use crate::hearing::{failed_left, news_of};
+use booth_follow_rule::{FollowDeed, Word};
+use booth_host::{Failed, Host, Job};
+
+/// How long a list is not asked for again, in milliseconds.
+const ASK_EVERY: u64 = 1_000;
+
+/// How many turns a following makes at most.
+const TURNS: u64 = 1 << 62;
+
+// The program is run for a word, where that is to be done.
+fn run<H: Host>(f: &Following, deed: FollowDeed, host: &mut H) -> Result<(), Failed>
+    ensures past { GrewBy (H.past host.old) (H.past host.new) (run_calls f.now deed result) }
+    ensures later { H.faults host.old ≤ H.faults host.new }
+{
+    match deed {
+        FollowDeed::Run {
+            word,
+            number,
+            until,
+        } => host.start(&job_of(f, word, number, until)),
+        FollowDeed::Nothing | FollowDeed::Leave => Ok(()),
+    }
+}
+
+fn job_of(f: &Following, word: Word, number: u64, until: u64) -> Job
+    ensures number { result.number ≡ number }
+    ensures ticket { result.ticket ≡ f.now.ticket }
+    ensures handler { result.handler ≡ program_for f.now.programs word }
+    ensures local { result.local ≡ f.now.to.address }
+    ensures expires { result.expires ≡ until / 1000 }
+{
+    Job {
+        number,
+        ticket: f.ticket.copy(),
+        handler: f.programs.program_for(word).copy(),
+        local: f.to.address,
+        expires: until / 1000,
+    }
+}
+
+fn failed_after(left: Option<u64>, deed: FollowDeed, answer: &Result<(), Failed>) -> Option<u64>
+    ensures { result ≡ failed_after left deed answer.now }
+{
+    match deed {
+        FollowDeed::Run { number, .. } => match answer {
+            Ok(()) => None,
+            Err(_) => Some(number),
+        },
+        FollowDeed::Nothing | FollowDeed::Leave => left,
+    }
+}
+
+fn is_due(asked: Option<u64>, reading: u64) -> bool
+    ensures { result ≡ is_due asked reading }
+{
+    match asked {
+        None => true,
+        Some(asked) => match asked.checked_add(ASK_EVERY) {
+            Some(next) => next <= reading || reading < asked,
+            None => reading < asked,
+        },
+    }
+}
+
+fn asks(deed: FollowDeed, asked: Option<u64>, reading: u64) -> bool
+    ensures { result ≡ asks deed asked reading }
+{
+    match deed {
+        FollowDeed::Leave => false,
+        FollowDeed::Nothing | FollowDeed::Run { .. } => is_due(asked, reading),
+    }
+}
+
+fn asked_after(asks: bool, reading: u64, asked: Option<u64>) -> Option<u64>
+    ensures { result ≡ asked_after asks reading asked }
+{
+    if asks { Some(reading) } else { asked }
+}
+
+// Asks for a list at this reading, where that is to be done.
+fn ask<H: Host>(
+    f: &Following,
+    asks: bool,
+    reading: u64,
+    room: &mut Room,
+    host: &mut H,
+) -> Result<(), Failed>
+    ensures past { GrewBy (H.past host.old) (H.past host.new) (ask_calls f.now asks reading result) }
+    ensures later { H.faults host.old ≤ H.faults host.new }
+{
+    if !asks {
+        return Ok(());
+    }
+    put_request(f, reading, &mut room.frame);
+    host.send(&f.to, room.frame.bytes())
+}
+
+/// One turn: what comes and a reading, the run of what is to be done, and the request for a list where one is due. A
+/// request that cannot be sent is passed over, and a run that cannot be begun is told at the next turn.
+pub(crate) fn turn<H: Host>(
+    f: &Following,
+    seat: &mut Seat,
+    room: &mut Room,
+    host: &mut H,
+) -> FollowDeed
+    ensures past { GrewSome (IsTurn f.now seat.old seat.new result) (H.past host.old) (H.past host.new) }
+    ensures later { H.faults host.old ≤ H.faults host.new }
+{
+    let answer = host.next(100, &mut room.datagram);
+    let reading = host.now();
+    let heard = news_of(f, seat, &answer, &room.datagram);
+    let left = failed_left(seat.failed, &answer);
+    let deed = seat.follower.step(reading, heard);
+    let started = run(f, deed, host);
+    let is_asking = asks(deed, seat.asked, reading);
+    let _sent = ask(f, is_asking, reading, room, host);
+    seat.failed = failed_after(left, deed, &started);
+    seat.asked = asked_after(is_asking, reading, seat.asked);
+    deed
+}
+
+/// How a following ended.
+#[derive(Clone, Copy, Debug, PartialEq, Eq)]
+pub enum FollowEnd {
+    /// The end was asked for, and the service is stopped.
+    Left,
+    /// All its turns were made.
+    Spent,
+}
+
+/// Has the service follow its ticket, until the end is asked for.
+pub fn follow<H: Host>(f: &Following, room: &mut Room, host: &mut H) -> FollowEnd
+    ensures past { GrewSome (IsFollowed f.now result) (H.past host.old) (H.past host.new) }
+    ensures later { H.faults host.old ≤ H.faults host.new }
+{
+    let mut seat = first_seat(f);
+    for _turn in 0..TURNS {
+        match turn(f, &mut seat, room, host) {
+            FollowDeed::Leave => return FollowEnd::Left,
+            FollowDeed::Nothing | FollowDeed::Run { .. } => {}
+        }
+    }
+    FollowEnd::Spent
+}
