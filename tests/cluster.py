@@ -20,6 +20,7 @@ import io
 import multiprocessing
 import os
 import shutil
+import socket
 import sys
 import tempfile
 import time
@@ -256,17 +257,45 @@ def attributes_that_are_waited_for(cluster):
     passed("a restart forgets the attributes")
 
 
+def has_ipv6():
+    """Whether one can listen at ::1 here."""
+    try:
+        with socket.socket(socket.AF_INET6, socket.SOCK_DGRAM) as listener:
+            listener.bind(("::1", 0))
+    except OSError:
+        return False
+    return True
+
+
 @story
 def a_site_by_ipv6(cluster):
-    """a site that listens at an IPv6 address, and no other that runs"""
-    one = cluster.members[0]
+    """a cluster of a site by IPv6, and a site and an arbitrator by IPv4"""
+    if not has_ipv6():
+        wait_for(lambda: cluster.watch.looks, PATIENCE)
+        passed("not checked, since this machine has no IPv6: members of both families")
+        return
+    one, two, _ = cluster.members
+    cluster.remember()
     one.start(cluster.program, cluster.conf)
     says(one, ("list",), 0, f"ticket: {NAME}, leader: none\n")
     ran = one.booth("peers")
     require(ran.status == 0 and ran.printed.count("last: never, received: 0") == 2, f"booth peers left {ran}")
+    cluster.start(1, 2)
+    grants(cluster, 0)
+    lists(cluster, one)
+    for member in cluster.members:
+        counts_as(member)
+    passed("members by IPv4 grant the ticket to a site by IPv6, and each hears the others")
     one.kill()
     says(one, ("list",), 1, "booth: no reply\n")
     passed("booth asks by IPv6, and says where no daemon answers")
+    require(wait_for(lambda: is_held_by(cluster, two), PATIENCE), "nobody took over")
+    one.start(cluster.program, cluster.conf)
+    require(wait_for(lambda: one.shown() == two.address, PATIENCE), "the site by IPv6 hears of no owner")
+    says(one, ("revoke", NAME), 0, f"ticket {NAME} revoked\n")
+    require(wait_for(lambda: cluster.shown_by_all() is None and one.shown() is None, PATIENCE), "an owner is listed")
+    grants(cluster, 0)
+    passed("a site by IPv4 takes over, and booth is sent on to it from the one by IPv6, which is granted the ticket again")
 
 
 PREREQUISITES = """\

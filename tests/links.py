@@ -63,6 +63,7 @@ class Scene:
             file.write(text)
         self.member = Member("site", address, os.path.join(folder, "many"))
         self.member.start(program, self.conf)
+        self.files_at_rest = self.files()
 
     def process(self):
         return self.member.server.process.pid
@@ -159,6 +160,8 @@ def who_is_idle_makes_room(scene):
     with links(LINKS, scene.address) as opened:
         for link in opened:
             link.ask()
+            # (the daemon tells two moments apart that are a millisecond from each other)
+            time.sleep(0.01)
         # (the second is idle for longest from now on)
         opened[0].ask()
         begun = time.monotonic()
@@ -175,7 +178,7 @@ def who_is_idle_makes_room(scene):
 
 def connections_leave_nothing(scene):
     """connections one after another leave the daemon's open files and its memory as before"""
-    before, begun, count = scene.files(), time.monotonic(), 0
+    begun, count = time.monotonic(), 0
     # (from one address alone the system would run out of ports, each of which it keeps for a while)
     sources = itertools.cycle(list(own_addresses())[100:])
     while count < scene.connections if scene.connections else time.monotonic() < begun + SECONDS_OF_FLOOD:
@@ -186,7 +189,8 @@ def connections_leave_nothing(scene):
             elif count % 4 == 1:
                 link.socket.sendall(link.request()[1][:30])
         count += 1
-    require(wait_for(lambda: scene.files() == before, SLACK), f"it has {scene.files()} open files, and had {before}")
+    rest = scene.files_at_rest
+    require(wait_for(lambda: scene.files() == rest, SLACK), f"it has {scene.files()} open files, and had {rest}")
     with Link(scene.address) as link:
         link.ask()
     return f"{count} connections in {time.monotonic() - begun:.1f} s"

@@ -81,12 +81,11 @@ class Counts:
             self.said[address] += 1
 
     def sent_and_failed(self, address, told):
-        """The two counts of a member. From a loopback address in IPv4 the system sends to such alone; in
-        IPv6 that depends on the machine."""
-        here, there = self.station.address, address
-        if ":" in here and ":" in there and sum(map(int, told)) == self.said[address]:
+        """The two counts of a member. A loopback address in IPv4 is reached from each. From one the system sends to no
+        other in IPv4; where either is of IPv6, that depends on the machine."""
+        reaches = address.startswith("127.")
+        if not reaches and ":" in self.station.address + address and sum(map(int, told)) == self.said[address]:
             return " ".join(told)
-        reaches = here.startswith("127.") and there.startswith("127.")
         return f"{self.said[address]} 0" if reaches else f"0 {self.said[address]}"
 
     def peers_due(self, text):

@@ -115,7 +115,7 @@ def defaults(conf):
 
 
 def families(conf):
-    """Members that cannot send to one another, and addresses at which none can listen."""
+    """Members that cannot send to one another, or need what not each machine has, and addresses at which none can listen."""
     addresses = {member.address: ipaddress.ip_address(member.address) for member in conf.members}
     for text, address in addresses.items():
         unfit = (
@@ -127,15 +127,14 @@ def families(conf):
             if holds:
                 yield Problem(CRITICAL, "address", f"{text}: nobody can listen there: it is {what}", text)
     split = (
-        ("of IPv4", "of IPv6", lambda address: address.version == 4),
-        ("of this machine alone", "of others", lambda address: address.is_loopback),
+        (WARNING, "of IPv4 and of IPv6: each of their machines needs both", lambda address: address.version == 4),
+        (CRITICAL, "of this machine alone and of others do not meet", lambda address: address.is_loopback),
     )
-    for one_kind, other_kind, test in split:
+    for level, what, test in split:
         one = [text for text, address in addresses.items() if test(address)]
         other = [text for text in addresses if text not in one]
         if one and other:
-            text = f"members {one_kind} and {other_kind} do not meet: {listed(one)}; {listed(other)}"
-            yield Problem(CRITICAL, "families", text)
+            yield Problem(level, "families", f"members {what}: {listed(one)}; {listed(other)}")
     if conf.port < 1024:
         yield Problem(WARNING, "port", f"port {conf.port} is below 1024, where the service may not listen")
 

@@ -168,7 +168,8 @@ class Member:
     def ask(self, letters, body=b""):
         """What the daemon answers to this request, or None where it does not in time."""
         number = time.time_ns() // 1000 % 2**32
-        with socket.socket(socket.AF_INET, socket.SOCK_DGRAM) as asker:
+        family = socket.AF_INET6 if ":" in self.address else socket.AF_INET
+        with socket.socket(family, socket.SOCK_DGRAM) as asker:
             asker.settimeout(SECONDS_TO_ANSWER)
             asker.connect((self.address, frames.PORT))
             try:
