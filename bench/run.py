@@ -32,7 +32,7 @@ SITE, VOTER, STRANGER = "192.168.202.100", "192.168.203.100", "192.168.204.100"
 SEED = 9929
 NO_MEMBER = "10.0.0.1"
 
-LARGE, SMALL = 1_048_576, 131_072
+LARGE, SMALL = 16_777_216, 1_048_576
 
 # how often the process waited
 WAKES = "voluntary_ctxt_switches"
@@ -357,12 +357,12 @@ def parse_rows(bench):
     large, small = (min(parsed[size]) - min(parsed[0]) for size in (LARGE, SMALL))
     lines = min(counted[LARGE]) - min(counted[0])
     shown = f"{large * 1e3:.2f} ms (C: {lines * 1e3:.2f} ms)"
-    yield Row("parse of 1,048,576 bytes, 64 tickets, CPU", shown)
+    yield Row("parse of 16,777,216 bytes, 4,096 tickets, CPU", shown)
     ratio = large / lines
     yield below("the same as a ratio to counting its lines in C", ratio, f"{ratio:.1f}", 30, "")
     growth = large / small / (LARGE / SMALL)
     mark = "at most 1.3 times linear"
-    yield Row("its growth from 131,072 bytes", f"{growth:.2f} times linear", mark, growth / 1.3)
+    yield Row("its growth from 1,048,576 bytes", f"{growth:.2f} times linear", mark, growth / 1.3)
 
 
 def idle_rows(bench):

@@ -51,8 +51,8 @@ ticket = "ticket-%02d"   # the number %d
 
 
 def long_text(size):
-    """A text of this size. Each 64th of a mebibyte in it has one ticket, and the rest is comments."""
-    piece = 1_048_576 // TICKETS
+    """A text of this size. Each 4,096 bytes of it have one ticket, and the rest is comments."""
+    piece = 4_096
     made = bytearray(TOP + MEMBERS.replace(b"@", b"192.168.201.100"))
     for number in range(size // piece):
         made += ticket(number)

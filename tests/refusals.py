@@ -26,7 +26,7 @@ SITE = b"site = 10.0.0.1\n"
 TICKET = b"ticket = t\n"
 LEAST = SITE + TICKET
 
-MOST_BYTES = 1_048_576
+MOST_BYTES = 16_777_216
 
 USAGE = (
     b"usage: boothd COMMAND [OPTIONS], with the command daemon, status or sim;"
@@ -239,7 +239,7 @@ def faulty_lines(room):
     default_late = b"__default__ must come first"
     prereqs = b"".join(b"attr-prereq = auto a eq %d\n" % number for number in range(9))
     sites = b"".join(b"site = 10.0.0.%d\n" % number for number in range(17))
-    tickets = b"".join(b"ticket = t%d\n" % number for number in range(65))
+    tickets = b"".join(b"ticket = t%d\n" % number for number in range(4_097))
     # one after the file of four lines: its number in that, and what is said
     after = [
         *((line, 5, b"syntax") for line in SYNTAX),
@@ -261,7 +261,7 @@ def faulty_lines(room):
     alone = [
         *((key + b" = 1\n" + FILE, 1, b"misplaced key") for key in TICKETS_ALONE),
         (sites, 17, b"too many"),
-        (SITE + tickets, 66, b"too many"),
+        (SITE + tickets, 4_098, b"too many"),
         (SITE + b"ticket = __default__\n" + prereqs, 11, b"too many"),
         (SITE + b"ticket = __default__\nticket = __default__\n", 3, b"repeated"),
         (SITE + b"ticket = __default__\nexpire = 9\nexpire = 9\n", 4, b"repeated"),
@@ -288,10 +288,10 @@ def faulty_files(room):
 def most_files(room):
     """files at their limits are read: bytes, members, tickets, names, digits, prerequisites"""
     sites = b"".join(b"site = 10.0.0.%d\n" % number for number in range(16))
-    tickets = b"".join(b"ticket = t%d\n" % number for number in range(64))
+    tickets = b"".join(b"ticket = t%d\n" % number for number in range(4_096))
     prereqs = b"".join(b"attr-prereq = auto a eq %s\n" % (b"x" * 127) for _ in range(8))
     many = sites + b"ticket = __default__\n" + prereqs + tickets + b"weights = " + b"1," * 15 + b"1"
-    is_read(room, many.ljust(MOST_BYTES, b"\n"), "of 16 members and 64 tickets")
+    is_read(room, many.ljust(MOST_BYTES, b"\n"), "of 16 members and 4,096 tickets")
     for line in (
         *(b"port = 65535", b"port = 0000000001", b"maxtimeskew = 0010000000"),
         *(b"debug = " + b"x" * 255, b"before-acquire-handler = " + b"x" * 255),

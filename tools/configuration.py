@@ -13,7 +13,7 @@ from typing import List, NamedTuple, Optional
 import frames
 
 FOLDER = "/etc/booth"
-TEXT_BYTES = 1_048_576
+TEXT_BYTES = 16_777_216
 KEY_FILE_BYTES = 1_048_576
 DEFAULTS = "__default__"
 

@@ -1,10 +1,10 @@
 //! The limits of a configuration.
 
 /// The most bytes of a text.
-pub const TEXT_BYTES: usize = 1_048_576;
+pub const TEXT_BYTES: usize = 16_777_216;
 
 /// The most tickets.
-pub const TICKETS: usize = 64;
+pub const TICKETS: usize = 4_096;
 
 /// The most prerequisites of a ticket, those that it inherits counted.
 pub const PREREQS: usize = 8;

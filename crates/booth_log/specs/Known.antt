@@ -1,7 +1,8 @@
 -- What is known of tickets: the lease in the last record that was read or kept, and the last job that was started.
-use Rattle.std.specs.Prelude.{ℕ, ◌==◌, Bool, false, List, [], ◌∷◌, ◌++◌, length, nat_eq, nat_lt, option_map, position, Option, None, Some, slice_get, slice_set, if◌then◌else◌}
-use Rattle.std.specs.Cmp.Lexicographic.{pointwise}
+use Rattle.std.specs.Prelude.{ℕ, ◌==◌, Bool, false, List, [], ◌∷◌, ◌++◌, length, nat_lt, option_map, position, Option, None, Some, unwrap_or, if◌then◌else◌, bytes_eq}
 use Rattle.std.specs.List.{find}
+use Rattle.std.specs.Map.{keys_of, lookup}
+use Rattle.indexmap.specs.Layout.{set_value_at}
 use Rattle.booth_conf.specs.declared.limits.TheConstants.{TICKETS}
 use Rattle.booth_log.specs.declared.known.Known.{Known}
 
@@ -9,25 +10,18 @@ use Rattle.booth_log.specs.declared.known.Known.{Known}
 abbrev pub unknown : Known
 unknown = record { lease = None; job = None }
 
-abbrev pub place_of : List (List ℕ × Known) → List ℕ → Option ℕ
-place_of tickets name = position (λ pair. pointwise nat_eq pair.0 name) tickets
-
-abbrev pub known_in : Option (List ℕ × Known) → Known
-known_in None = unknown
-known_in (Some pair) = pair.1
-
-abbrev pub known_at : List (List ℕ × Known) → Option ℕ → Known
-known_at tickets None = unknown
-known_at tickets (Some place) = known_in (slice_get tickets place)
-
 -- what is known of the ticket with this name
 abbrev pub known_of : List (List ℕ × Known) → List ℕ → Known
-known_of tickets name = known_at tickets (place_of tickets name)
+known_of tickets name = unwrap_or (lookup (bytes_eq name) tickets) unknown
+
+-- where a ticket stands among those that were met
+abbrev pub place_of : List (List ℕ × Known) → List ℕ → Option ℕ
+place_of tickets name = position (bytes_eq name) (keys_of tickets)
 
 abbrev pub stored_at : List (List ℕ × Known) → List ℕ → Known → Option ℕ → List (List ℕ × Known)
 stored_at tickets name known None =
     if nat_lt (length tickets) TICKETS then tickets ++ (name, known) ∷ [] else tickets
-stored_at tickets name known (Some place) = slice_set tickets place (name, known)
+stored_at tickets name known (Some place) = set_value_at tickets place known
 
 -- the tickets, and of this one what is known now; there is room for all that a configuration may have
 abbrev pub stored : List (List ℕ × Known) → List ℕ → Known → List (List ℕ × Known)

@@ -1,10 +1,13 @@
 //! What the log knows of tickets: the lease in the last record, and the last job.
-ghost use Rattle.std.specs.Prelude.{◌≡◌, ◌≤◌, [], IfOk, length, option_map};
+ghost use Rattle.std.specs.Prelude.{◌≡◌, ◌≤◌, ◌<◌, ◌++◌, ◌∷◌, [], false, bytes_eq, is_some, IfOk, IfSome, length, option_map};
+ghost use Rattle.std.specs.Map.{lookup};
+ghost use Rattle.indexmap.specs.Layout.{set_value_at};
 ghost use Rattle.booth_log.specs.Known.{has_job, known_of, place_of, stored, ticket_of};
 
 use booth_base::Name;
 use booth_conf::TICKETS;
 use booth_rec::Lease;
+use indexmap::IndexMap;
 use std::alloc::{AllocError, Global};
 use std::marker::Model;
 
@@ -30,22 +33,23 @@ impl Known {
 }
 
 /// What is known of tickets, by their names. It has the memory of as many as a configuration may have, and takes no more.
-/// Contracts see it as a list.
+/// Contracts see it as a list, in the order in which they were met.
 #[derive(Drop)]
 pub(crate) struct Tickets {
-    known: Vec<(Name, Known)>,
+    known: IndexMap<Name, Known>,
 }
 
 impl Model for Tickets {
-    ghost use Rattle.std.specs.Prelude.{List, ℕ, ◌≤◌, vec_capacity, vec_len};
+    ghost use Rattle.std.specs.Prelude.{List, ℕ, ◌≤◌, ◌+◌};
+    ghost use Rattle.indexmap.specs.IndexMap.{index_map_len, spare};
     ghost use Rattle.booth_conf.specs.declared.limits.TheConstants.{TICKETS};
     ghost use Rattle.booth_log.specs.declared.known.Known.{Known};
 
     ghost Value = { List (List ℕ × Known) };
 
-    ghost view = { λ t. t.known.items };
+    ghost view = { λ t. t.known.entries };
 
-    ghost invariant = { λ t. (TICKETS ≤ vec_capacity t.known) × (vec_len t.known ≤ TICKETS) };
+    ghost invariant = { λ t. (TICKETS ≤ index_map_len t.known + spare t.known) × (index_map_len t.known ≤ TICKETS) };
 }
 
 impl Tickets {
@@ -54,7 +58,7 @@ impl Tickets {
         ensures { IfOk result (λ tickets. tickets ≡ []) }
     {
         Ok(Tickets {
-            known: Vec::with_capacity(alloc, TICKETS)?,
+            known: IndexMap::with_capacity(alloc, TICKETS)?,
         })
     }
 
@@ -66,28 +70,43 @@ impl Tickets {
         self.known.len()
     }
 
-    // Where a ticket stands, if it is known.
+    // Where a ticket stands, if it was met.
     fn place(&self, ticket: &Name) -> Option<usize>
-        ensures { result ≡ place_of self.now ticket.now }
+        ensures place { result ≡ place_of self.now ticket.now }
+        ensures met { is_some result ≡ is_some (lookup (bytes_eq ticket.now) self.now) }
+        ensures within { IfSome result (λ place. place < length self.now) }
     {
-        self.known.iter().position(|(name, _)| name == ticket)
+        self.known.get_index_of(ticket)
     }
 
     /// What is known of a ticket.
     pub(crate) fn known(&self, ticket: &Name) -> Known
         ensures { result ≡ known_of self.now ticket.now }
     {
-        let unknown = Known {
-            lease: None,
-            job: None,
-        };
-        let Some(place) = self.place(ticket) else {
-            return unknown;
-        };
-        match self.known.get(place) {
-            Some((_, known)) => *known,
-            None => unknown,
+        match self.known.get(ticket) {
+            Some(known) => *known,
+            None => Known {
+                lease: None,
+                job: None,
+            },
         }
+    }
+
+    // Has this be known of the ticket at this place.
+    fn replace(&mut self, place: usize, known: Known)
+        requires { place < length self.old }
+        ensures { self.new ≡ set_value_at self.old place known }
+    {
+        *self.known.get_index_mut(place).unwrap() = known;
+    }
+
+    // Has this be known of a ticket that was not met, where there is room.
+    fn add(&mut self, ticket: Name, known: Known)
+        requires unmet { is_some (lookup (bytes_eq ticket) self.old) ≡ false }
+        requires room { length self.old < TICKETS }
+        ensures { self.new ≡ self.old ++ (ticket, known) ∷ [] }
+    {
+        self.known.insert(ticket, known).unwrap();
     }
 
     /// Has this be known of a ticket. Beyond the room nothing is.
@@ -95,10 +114,10 @@ impl Tickets {
         ensures { self.new ≡ stored self.old ticket.now known }
     {
         match self.place(ticket) {
-            Some(place) => self.known[place] = (ticket.copy(), known),
+            Some(place) => self.replace(place, known),
             None => {
-                if self.known.len() < TICKETS {
-                    self.known.push_reserved((ticket.copy(), known));
+                if self.count() < TICKETS {
+                    self.add(ticket.copy(), known);
                 }
             }
         }
@@ -108,7 +127,11 @@ impl Tickets {
     pub(crate) fn ticket_of(&self, number: u64) -> Option<&Name>
         ensures { option_map (λ name. name.now) result ≡ ticket_of self.now number }
     {
-        let (name, _) = self.known.iter().find(|(_, known)| known.has_job(number))?;
-        Some(name)
+        for (name, known) in self.known.iter() {
+            if known.has_job(number) {
+                return Some(name);
+            }
+        }
+        None
     }
 }

@@ -1,8 +1,9 @@
 //! Texts at the limits, and one past them.
 use super::super::number_of;
-use super::{check_fault, check_table, fault, push, text_of};
-use booth_conf::ConfFault;
+use super::{check_fault, check_table, fault, parsed, push, read, text_of};
+use booth_conf::{ConfFault, Config};
 use std::alloc::Global;
+use std::mem;
 use std::process::Abort;
 
 // The lines of this form, `$` in which is a number that counts from 0.
@@ -34,8 +35,9 @@ fn so_many_lines_of_a_kind_may_stand(rt: HostRuntime) {
 site=10.0.0.1 | 15 times arbitrator = 10.0.1.$ |ticket=a => none
 site=10.0.0.1 | 15 times arbitrator = 10.0.1.$ |site=10.0.0.1 => repeated 17
 site=10.0.0.1 | 16 times arbitrator = 10.0.1.$ |ticket=a => many 17
-site=10.0.0.1 | 64 times ticket = ticket-$ |retries=4 => none
-site=10.0.0.1 | 65 times ticket = ticket-$ |retries=4 => many 66
+site=10.0.0.1 | 4096 times ticket = ticket-$ |retries=4 => none
+site=10.0.0.1 | 4097 times ticket = ticket-$ |retries=4 => many 4098
+site=10.0.0.1 | 4096 times ticket = ticket-$ |ticket = ticket-0 => repeated 4098
 site=10.0.0.1 / ticket=a | 8 times attr-prereq = manual load ne $ | => none
 site=10.0.0.1 / ticket=a | 9 times attr-prereq = manual load ne $ | => many 11
 site=10.0.0.1 / ticket=__default__ / attr-prereq=auto a eq 8 / attr-prereq=auto a eq 9 / ticket=a \
@@ -123,19 +125,69 @@ fn check_size(rt: &impl Abort, alloc: Global, text: &str, size: usize, want: Opt
 }
 
 #[test]
-fn a_text_has_up_to_1_048_576_bytes(rt: HostRuntime) {
+fn a_text_has_up_to_16_777_216_bytes(rt: HostRuntime) {
     let alloc = rt.alloc();
     // 25 bytes are before the comment.
     let mut text = text_of(&rt, alloc, "site=10.0.0.1\nticket=a\n\n#", "");
     push(
         &rt,
         &mut text,
-        &"x".repeat(alloc, 1_048_551).expect(&rt, "memory"),
+        &"x".repeat(alloc, 16_777_191).expect(&rt, "memory"),
     );
-    check_size(&rt, alloc, &text, 1_048_576, None);
+    check_size(&rt, alloc, &text, 16_777_216, None);
     let mut longer = text_of(&rt, alloc, &text, "");
     push(&rt, &mut longer, "\n");
-    check_size(&rt, alloc, &longer, 1_048_577, Some(ConfFault::TooLarge));
+    check_size(&rt, alloc, &longer, 16_777_217, Some(ConfFault::TooLarge));
     push(&rt, &mut text, "=\n");
-    check_size(&rt, alloc, &text, 1_048_578, Some(ConfFault::TooLarge));
+    check_size(&rt, alloc, &text, 16_777_218, Some(ConfFault::TooLarge));
+}
+
+// Defaults with each key of a ticket, and with values as long as they may be.
+fn push_full_defaults(rt: &impl Abort, alloc: Global, text: &mut String) {
+    push(
+        rt,
+        text,
+        "site=10.0.0.1\nticket=__default__\nmode=manual\nexpire=10000000\nacquire-after=10000000\n\
+timeout=99009\nretries=100\nrenewal-freq=9999999\nweights=1000000000",
+    );
+    push(
+        rt,
+        text,
+        &",1000000000".repeat(alloc, 15).expect(rt, "memory"),
+    );
+    let handler = "h".repeat(alloc, 255).expect(rt, "memory");
+    push(rt, text, "\nbefore-acquire-handler=");
+    push(rt, text, &handler);
+    push(rt, text, "\n");
+    for number in 0..8u32 {
+        let prereq = format!(in alloc; "attr-prereq=manual {number:063} ne {number:0127}\n");
+        push(rt, text, &prereq.expect(rt, "memory"));
+    }
+}
+
+// A configuration of 4,096 tickets, each with the longest lines that a ticket may have.
+fn full(rt: &impl Abort, alloc: Global) -> Config {
+    let mut text = String::new(alloc);
+    push_full_defaults(rt, alloc, &mut text);
+    for number in 0..4_096u32 {
+        let line = format!(in alloc; "ticket={number:063}\n").expect(rt, "memory");
+        push(rt, &mut text, &line);
+    }
+    parsed(rt, alloc, &text)
+}
+
+// A ticket's lines have 2,412 bytes: 75 for its name, 20, 27, 18, 16 and 25 for its times, 188 for weights, 283 for the
+// handler, 8 times 218 for prerequisites and 16 for the mode. The lines before the tickets have 70.
+#[test]
+fn the_longest_configuration_is_printed_and_read_again(rt: HostRuntime) {
+    let alloc = rt.alloc();
+    let config = full(&rt, alloc);
+    let printed = config.print(alloc).expect(&rt, "memory");
+    assert!(&rt; printed.bytes().len() == 9_879_622);
+    let again = read(alloc, printed.bytes()).expect(&rt, "a configuration");
+    assert!(&rt; again.tickets().len() == 4_096);
+    let printed_again = again.print(alloc).expect(&rt, "memory");
+    assert!(&rt; printed_again.bytes() == printed.bytes());
+    mem::forget(config);
+    mem::forget(again);
 }
