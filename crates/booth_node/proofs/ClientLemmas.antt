@@ -1,5 +1,5 @@
 -- The laws on tickets, drops and clients.
-use Rattle.std.proofs.Common.{◌≡◌, ◌<◌, ◌≤◌, ◌⊎◌, inl, inr, ℕ, List, [], ◌∷◌, ◌++◌, length, slice_get, get_or, refl, sym, ap, ◌∙◌, subst, arith, append_assoc}
+use Rattle.std.proofs.Common.{◌≡◌, ◌<◌, ◌≤◌, ◌⊎◌, inl, inr, ℕ, List, [], ◌∷◌, ◌++◌, length, slice_get, get_or, refl, sym, ap, ◌∙◌, subst, arith}
 use Rattle.std.specs.Prelude.{Option, Some, None, Result, Ok, Err, position}
 use Rattle.std.specs.List.{All}
 use Rattle.std.proofs.lemmas.List.{length-replicate}
@@ -38,7 +38,7 @@ use Rattle.booth_node.specs.declared.node_config.NodeConfig.{NodeConfig}
 use Rattle.booth_node.specs.AttributeRequests.{attr_message, is_ready}
 use Rattle.booth_node.specs.Calls.{IsAmong, ReachesWaiters}
 use Rattle.booth_node.specs.Counting.{accepted, dropped}
-use Rattle.booth_node.specs.Laws.{IsSettled, NobodyIsForgotten, NothingRests, OpensWithItsTickets, KeepsItsTickets, DropsAlone, CountsEachFault, drops_by, drops_after, IsReplyTo, ClientsAreAnswered, asked_by, request_let_in, request_of, OthersAreNotAnswered}
+use Rattle.booth_node.specs.Laws.{IsSettled, NobodyIsForgotten, NothingRests, OpensWithItsTickets, KeepsItsTickets, DropsAlone, CountsEachFault, drops_by, drops_after, IsReplyTo, AreRepliesTo, AreSends, ClientsAreAnswered, asked_by, request_let_in, request_of, OthersAreNotAnswered}
 use Rattle.booth_node.specs.Opening.{AreSetUp, start_reading}
 use Rattle.booth_node.specs.Jobs.{job_at}
 use Rattle.booth_node.specs.Reaction.{Action, Drops, Hears, Asks, Attends, Answers, Rests, Send, IsDone, action, after_attending, acts, acts_as, all_places, arrived, demanded, due_places, dues, each_due, each_over, met, react, sent_as, turn_end}
@@ -46,7 +46,7 @@ use Rattle.booth_node.specs.State.{State}
 use Rattle.booth_node.proofs.RoutingLemmas.{ticket_below}
 use Rattle.booth_node.proofs.ComesLemmas.{Comes, IsAnsweredAtOnce, IsAsked, IsAttended, IsHeard, comes}
 use Rattle.booth_node.proofs.DueLemmas.{Each, all_of_each}
-use Rattle.booth_node.proofs.PathLemmas.{Seen, is_send, seen_parts}
+use Rattle.booth_node.proofs.PathLemmas.{Seen, is_send, seen_parts, sent_back}
 use Rattle.booth_node.proofs.StayLemmas.{AllFewer, AllRemember, Stays, acted_at, acted_remember, acted_set_up, acted_undropped, acts_stay, all_among, as_many, dues_stay, each_fewer, each_over_stays, remember_on, set_up_at, started_set_up, stays_here}
 use Rattle.booth_node.proofs.ReachLemmas.{Replies, each_joined, reply_act}
 use Rattle.booth_node.proofs.TalkLemmas.{asked_replied, heard_among}
@@ -90,9 +90,8 @@ module _ (node : NodeConfig) (now : ℕ) where
   met_set_up state from (Attends ticket request) [] after set_up leads = absurd cc
   met_set_up state from (Attends ticket request) (e ∷ es) after set_up leads =
       (stays_here node (after_attending state ticket request) after es set_up leads.2).set_up
-  met_set_up state from (Answers message) [] after set_up leads = absurd cc
-  met_set_up state from (Answers message) (e ∷ es) after set_up leads =
-      (stays_here node state after es set_up leads.2).set_up
+  met_set_up state from (Answers messages) es after set_up leads =
+      subst (λ (s : State). AreSetUp node s) (sym (sent_back node.key from messages state es after leads).left) set_up
   met_set_up state from Rests es after set_up leads = (stays_here node state after es set_up leads).set_up
 
   arrived_set_up : (state : State) (arrival : Result Arrival Failed) (bytes : List ℕ) (es : List Entry)
@@ -226,16 +225,10 @@ module _ (node : NodeConfig) (now : ℕ) where
       (after : State)
       → Comes node from message a → Leads (IsDone node.key) (met node now state from a) es (Ends after)
       → after.common.drops ≡ state.common.drops
-  let_in_undropped state from message a es after (IsAnsweredAtOnce to reply is replies) leads =
-      sent es (subst (λ (x : Action). Leads (IsDone node.key) (met node now state from x) es
-      (Ends after)) is leads)
-    where
-      sent : (es : List Entry)
-          → Leads (IsDone node.key) (met node now state from (Answers reply)) es (Ends after)
-          → after.common.drops ≡ state.common.drops
-      sent [] leads = absurd cc
-      sent (e ∷ es) leads = ap (λ (s : State). s.common.drops)
-          (at_end (IsDone node.key) state after es leads.2).1
+  let_in_undropped state from message a es after (IsAnsweredAtOnce to replies is answers) leads =
+      ap (λ (s : State). s.common.drops)
+      (sent_back node.key from replies state es after
+      (subst (λ (x : Action). Leads (IsDone node.key) (met node now state from x) es (Ends after)) is leads)).left
   let_in_undropped state from message a es after
       (IsAsked to place request is part named same_from same_number answer) leads =
       acts_undropped state place (Asked request) es after
@@ -300,17 +293,18 @@ counts node old new now arrival bytes entries leads =
 record Answered (node : NodeConfig) (state : State) (from : Peer) (message : PlainMessage)
     (es : List Entry) (after : State) : Type 0 where
   before : List Entry
-  reply : PlainMessage
-  answer : Result (Unit {0}) Failed
-  whole : es ≡ before ++ calls.Send from (sealed node.key reply) answer ∷ []
-  replies : IsReplyTo node message reply
+  replies : List PlainMessage
+  sent : List Entry
+  whole : es ≡ before ++ sent
+  answers : AreRepliesTo node message 0 replies
+  sends : AreSends node.key from replies sent
   among : Each (ReachesWaiters node state.waiters) before
   set_up : AreSetUp node after
 
 module _ (node : NodeConfig) (now : ℕ) (state : State) (from : Peer) (message : PlainMessage)
     (set_up : AreSetUp node state) where
   answered_once : (reply : PlainMessage) (mid : State) (es : List Entry) (after : State)
-      → IsReplyTo node message reply → AreSetUp node mid
+      → IsReplyTo node message 0 reply → AreSetUp node mid
       → Leads (IsDone node.key) (Does (Send from reply) (λ ok. Ends mid)) es (Ends after)
       → Answered node state from message es after
   answered_once reply mid [] after replies mid_set_up leads = absurd cc
@@ -319,10 +313,11 @@ module _ (node : NodeConfig) (now : ℕ) (state : State) (from : Peer) (message 
       let over = at_end (IsDone node.key) mid after es leads.2 in
       record {
         before = [];
-        reply = reply;
-        answer = sent.0;
+        replies = reply ∷ [];
+        sent = calls.Send from (sealed node.key reply) sent.0 ∷ [];
         whole = ap (λ (l : List Entry). e ∷ l) over.0 ∙ ap (λ (x : Entry). x ∷ []) sent.1;
-        replies = replies;
+        answers = replies;
+        sends = (refl, refl, tt);
         among = tt;
         set_up = subst (λ (s : State). AreSetUp node s) (sym over.1) mid_set_up;
       }
@@ -351,20 +346,21 @@ module _ (node : NodeConfig) (now : ℕ) (state : State) (from : Peer) (message 
       let sent = parts.4.1 in
       record {
         before = parts.0;
-        reply = reply;
-        answer = sent.0;
+        replies = reply ∷ [];
+        sent = calls.Send from (sealed node.key reply) sent.0 ∷ [];
         whole = parts.2
             ∙ ap (λ (l : List Entry). parts.0 ++ l)
             (sent.2 ∙ ap (λ (l : List Entry). calls.Send request.from (sealed node.key reply) sent.0 ∷ l)
             sent.3
             ∙ ap (λ (p : Peer). calls.Send p (sealed node.key reply) sent.0 ∷ []) same_from);
-        replies = record {
+        answers = record {
           cmd = answer;
           request = same_number;
           options = refl;
           reason = refl;
           from = ap (λ (s : Setup). s.me) own.2;
         };
+        sends = (refl, refl, tt);
         among = all_among node now ticket.setup.ticket ticket.setup place own state.waiters says.before parts.0
             says.among parts.3;
         set_up = acted_set_up node now state place (Asked request) ticket es after set_up there acted;
@@ -393,10 +389,19 @@ module _ (node : NodeConfig) (now : ℕ) (state : State) (from : Peer) (message 
       → Comes node from message a
       → Leads (IsDone node.key) (met node now state from a) es (Ends after)
       → Answered node state from message es after
-  answered a es after asks (IsAnsweredAtOnce to reply is replies) leads =
-      answered_once reply state es after replies set_up
-      (subst (λ (x : Action). Leads (IsDone node.key) (met node now state from x) es (Ends after)) is
-      leads)
+  answered a es after asks (IsAnsweredAtOnce to replies is answers) leads =
+      let back = sent_back node.key from replies state es after
+      (subst (λ (x : Action). Leads (IsDone node.key) (met node now state from x) es (Ends after)) is leads) in
+      record {
+        before = [];
+        replies = replies;
+        sent = es;
+        whole = refl;
+        answers = answers;
+        sends = back.sends;
+        among = tt;
+        set_up = subst (λ (s : State). AreSetUp node s) (sym back.left) set_up;
+      }
   answered a es after asks (IsAsked to place request is part named same_from same_number answer) leads =
       let it = ticket_there place part.ticket named in
       answered_so place request it.0 es after same_from same_number answer it.1
@@ -421,12 +426,12 @@ clients node old new now from message entries set_up turn asks =
     let due = dues_stay node now Went parts.mid new parts.later it.set_up parts.to_end in
     record {
       before = it.before;
-      reply = it.reply;
-      answer = it.answer;
-      deadlines = parts.later;
-      whole = parts.whole ∙ ap (λ (l : List Entry). l ++ parts.later) it.whole
-          ∙ append_assoc it.before (calls.Send from (sealed node.key it.reply) it.answer ∷ []) parts.later;
       replies = it.replies;
+      sent = it.sent;
+      deadlines = parts.later;
+      whole = parts.whole ∙ ap (λ (l : List Entry). l ++ parts.later) it.whole;
+      answers = it.answers;
+      sends = it.sends;
       waited = all_of_each (ReachesWaiters node old.waiters) it.before it.among;
       after = parts.mid;
       waiting = all_of_each (ReachesWaiters node parts.mid.waiters) parts.later due.among;
@@ -552,10 +557,9 @@ module _ (node : NodeConfig) (now : ℕ) (state : State) (set_up : AreSetUp node
   met_remember from (Attends ticket request) (e ∷ es) after leads = λ place w h.
       inl (subst (λ (s : State). IsAmong w (waiting_at s.waiters place))
       (sym (at_end (IsDone node.key) (after_attending state ticket request) after es leads.2).1) h)
-  met_remember from (Answers message) [] after leads = absurd cc
-  met_remember from (Answers message) (e ∷ es) after leads = λ place w h.
+  met_remember from (Answers messages) es after leads = λ place w h.
       inl (subst (λ (s : State). IsAmong w (waiting_at s.waiters place))
-      (sym (at_end (IsDone node.key) state after es leads.2).1) h)
+      (sym (sent_back node.key from messages state es after leads).left) h)
   met_remember from Rests es after leads = (stays_here node state after es set_up leads).remember
 
   arrived_remember : (arrival : Result Arrival Failed) (bytes : List ℕ) (es : List Entry) (after : State)

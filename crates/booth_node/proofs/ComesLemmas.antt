@@ -1,5 +1,5 @@
 -- What a message that was let in comes to.
-use Rattle.std.proofs.Common.{◌≡◌, ◌<◌, ℕ, true, false, List, length, Option, Some, None, Result, Ok, Err, refl, sym, ap, subst, ◌∙◌}
+use Rattle.std.proofs.Common.{◌≡◌, ◌<◌, ◌+◌, ℕ, true, false, List, [], ◌∷◌, map, length, Option, Some, None, Result, Ok, Err, refl, sym, ap, subst, ◌∙◌}
 use Rattle.std.specs.Prelude.{ok_or, option_map, position, is_some, not}
 use Rattle.booth_base.specs.declared.address.Peer.{Peer as Sender}
 use Rattle.booth_conf.specs.Config.{has_id}
@@ -30,9 +30,13 @@ use Rattle.booth_node.specs.declared.attributes.AttrWish.{AttrWish}
 use Rattle.booth_node.specs.declared.attributes.AttrWish.TheVariants as wishes
 use Rattle.booth_node.specs.AttributeRequests.{attended_place, attr_answer, attr_request_in, attr_request_of, attr_wish, is_at_site}
 use Rattle.booth_node.proofs.RoutingLemmas.{place_at_site}
-use Rattle.booth_node.specs.Replies.{Reply, text_for, no_ticket, no_attribute, no_attribute_of, reply_with, reply_message, reply_to, request_in, request_of, wish_of}
+use Rattle.booth_node.specs.Replies.{Reply, text_for, no_ticket, no_attribute, no_attribute_of, reply_with, reply_message, is_list, list_lines, part_messages, replies_to, request_in, request_of, wish_of}
 use Rattle.booth_node.specs.Reaction.{Action, Hears, Asks, Attends, Answers, answers, asks, attends, attended, hears, requested, routed, said, demanded, action}
-use Rattle.booth_node.specs.Laws.{IsReplyTo}
+use Rattle.booth_node.specs.Laws.{AreRepliesTo}
+use Rattle.booth_node.specs.Lists.{cut_lines}
+use Rattle.booth_node.specs.Telling.{list_messages}
+use Rattle.booth_node.proofs.ListLemmas.{some_part}
+use Rattle.booth_node.proofs.TellLemmas.{list_answers}
 use Rattle.booth_ticket.specs.Requests.{reply_cmd}
 
 -- ---- what was read
@@ -138,8 +142,8 @@ asks_no_attribute head (Text text) none = refl
 -- A client's message is answered at once, or asked of a ticket or of its attributes, and a member's is heard by its
 -- ticket.
 pub data Comes (node : NodeConfig) (from : Sender) (message : PlainMessage) (a : Action) : Type 0 where
-  IsAnsweredAtOnce : direction_of message.head.cmd ≡ ToDaemon → (reply : PlainMessage) → a ≡ Answers reply
-      → IsReplyTo node message reply → Comes node from message a
+  IsAnsweredAtOnce : direction_of message.head.cmd ≡ ToDaemon → (replies : List PlainMessage) → a ≡ Answers replies
+      → AreRepliesTo node message 0 replies → Comes node from message a
   IsAsked : direction_of message.head.cmd ≡ ToDaemon → (place : ℕ) (request : Request) → a ≡ Asks place request
       → (part : TicketPart) → position (is_called part.ticket) node.config.tickets ≡ Some place
       → request.from ≡ from → request.number ≡ message.head.request
@@ -158,42 +162,79 @@ module _ (node : NodeConfig) (now : ℕ) (tickets : List TicketState) (common : 
   Routed = routed node now tickets common from message (direction_of message.head.cmd)
 
   at_once : (cmd out : Cmd) → message.head.cmd ≡ cmd → answer_of cmd ≡ Some out → direction_of cmd ≡ ToDaemon
-      → HasReply (reply_with (text_for node now tickets common cmd) cmd message.content)
-      → Routed ≡ answers node.key now (reply_to node now tickets common message)
+      → is_list cmd ≡ false → HasReply (reply_with (text_for node common cmd) cmd message.content)
+      → Routed ≡ answers node.key now (replies_to node now tickets common message)
       → Comes node from message Routed
-  at_once cmd out is answer to found routes =
+  at_once cmd out is answer to single found routes =
       let reply : PlainMessage = reply_message node.me message.head.request out found.0 in
-      let same : reply_to node now tickets common message ≡ Some reply = rw (is, answer, found.1) refl in
-      IsAnsweredAtOnce (ap direction_of is ∙ to) (stamped node.key now reply)
+      let same : replies_to node now tickets common message ≡ reply ∷ [] = rw (is, single, answer, found.1) refl in
+      IsAnsweredAtOnce (ap direction_of is ∙ to) (stamped node.key now reply ∷ [])
       (routes ∙ ap (λ r. answers node.key now r) same)
       (record { cmd = ap answer_of is ∙ answer; request = refl; options = refl; reason = refl; from = refl })
 
   -- a request that is about no ticket goes to none
-  unasked : (cmd out : Cmd) → message.head.cmd ≡ cmd → answer_of cmd ≡ Some out → direction_of cmd ≡ ToDaemon
-      → wish_of cmd ≡ None
+  unasked_routes : (cmd : Cmd) → message.head.cmd ≡ cmd → direction_of cmd ≡ ToDaemon → wish_of cmd ≡ None
       → ((name : Option (List ℕ)) (value : List ℕ) → attr_wish cmd name value ≡ None)
-      → HasReply (reply_with (text_for node now tickets common cmd) cmd message.content)
-      → Comes node from message Routed
-  unasked cmd out is answer to none no_wish found =
-      at_once cmd out is answer to found
-      (ap (λ d. routed node now tickets common from message d) (ap direction_of is ∙ to)
+      → Routed ≡ answers node.key now (replies_to node now tickets common message)
+  unasked_routes cmd is to none no_wish =
+      ap (λ d. routed node now tickets common from message d) (ap direction_of is ∙ to)
       ∙ ap (λ w. requested node now tickets common message (request_of from message.head w message.content))
       (ap wish_of is ∙ none)
-      ∙ ap (λ r. attended node r (answers node.key now (reply_to node now tickets common message)))
+      ∙ ap (λ r. attended node r (answers node.key now (replies_to node now tickets common message)))
       (asks_no_attribute message.head message.content
-      (λ name value. ap (λ (k : Cmd). attr_wish k name value) is ∙ no_wish name value)))
+      (λ name value. ap (λ (k : Cmd). attr_wish k name value) is ∙ no_wish name value))
+
+  unasked : (cmd out : Cmd) → message.head.cmd ≡ cmd → answer_of cmd ≡ Some out → direction_of cmd ≡ ToDaemon
+      → is_list cmd ≡ false → wish_of cmd ≡ None
+      → ((name : Option (List ℕ)) (value : List ℕ) → attr_wish cmd name value ≡ None)
+      → HasReply (reply_with (text_for node common cmd) cmd message.content)
+      → Comes node from message Routed
+  unasked cmd out is answer to single none no_wish found =
+      at_once cmd out is answer to single found (unasked_routes cmd is to none no_wish)
+
+  -- a list is answered by its parts
+  parts_answer : message.head.cmd ≡ CLst → (number : ℕ) (part : List (List ℕ)) (parts : List (List (List ℕ)))
+      → AreRepliesTo node message number
+      (map (stamped node.key now) (part_messages node.me message.head.request number (part ∷ parts)))
+  parts_answer is number part [] =
+      record { cmd = ap answer_of is; request = refl; options = refl; reason = refl; from = refl }
+  parts_answer is number part (next ∷ []) = (
+    record { cmd = ap answer_of is; request = refl; options = refl; reason = refl; from = refl },
+    is,
+    refl,
+    parts_answer is (number + 1) next [],
+  )
+  parts_answer is number part (next ∷ more ∷ parts) = (
+    record { cmd = ap answer_of is; request = refl; options = refl; reason = refl; from = refl },
+    is,
+    refl,
+    parts_answer is (number + 1) next (more ∷ parts),
+  )
+
+  lists : message.head.cmd ≡ CLst → Comes node from message Routed
+  lists is =
+      let lines = list_lines node now tickets in
+      let some = some_part 0 lines in
+      let same : replies_to node now tickets common message ≡ part_messages node.me message.head.request 0 (cut_lines 0 lines)
+      = rw is refl in
+      IsAnsweredAtOnce (ap direction_of is) (list_messages node now message.head.request lines)
+      (unasked_routes CLst is refl refl (λ name value. refl) ∙ ap (λ r. answers node.key now r) same
+      ∙ list_answers node now message.head.request lines)
+      (subst (λ (ps : List (List (List ℕ))). AreRepliesTo node message 0
+      (map (stamped node.key now) (part_messages node.me message.head.request 0 ps))) (sym some.2)
+      (parts_answer is 0 some.0 some.1))
 
   -- a request about attributes is attended to, or answered at once
   attends_of : (cmd : Cmd) (part : AttrPart) (wish : AttrWish) → message.head.cmd ≡ cmd
-      → direction_of cmd ≡ ToDaemon → wish_of cmd ≡ None → message.content ≡ Attr part
+      → direction_of cmd ≡ ToDaemon → is_list cmd ≡ false → wish_of cmd ≡ None → message.content ≡ Attr part
       → attr_wish cmd part.name part.value ≡ Some wish → answer_of cmd ≡ Some (attr_answer wish)
-      → HasReply (reply_with (text_for node now tickets common cmd) cmd message.content)
+      → HasReply (reply_with (text_for node common cmd) cmd message.content)
       → Comes node from message Routed
-  attends_of cmd part wish is to none content wished answer found =
+  attends_of cmd part wish is to single none content wished answer found =
       by_place (attended_place node part.ticket) refl
     where
       once : Action
-      once = answers node.key now (reply_to node now tickets common message)
+      once = answers node.key now (replies_to node now tickets common message)
 
       with_wish : AttrWish → AttrRequest
       with_wish w = record { ticket = part.ticket; number = message.head.request; wish = w }
@@ -214,21 +255,21 @@ module _ (node : NodeConfig) (now : ℕ) (tickets : List TicketState) (common : 
           ∙ ap (λ o. attends o (with_wish wish) once) e
 
       by_place : (o : Option ℕ) → attended_place node part.ticket ≡ o → Comes node from message Routed
-      by_place None e = at_once cmd (attr_answer wish) is answer to found (routes None e)
+      by_place None e = at_once cmd (attr_answer wish) is answer to single found (routes None e)
       by_place (Some place) e =
           IsAttended (ap direction_of is ∙ to) place (with_wish wish) (routes (Some place) e)
           (place_at_site node part.ticket (is_at_site node) place e) refl (ap answer_of is ∙ answer)
 
-  asks_of : (cmd : Cmd) (request : Request) → message.head.cmd ≡ cmd → direction_of cmd ≡ ToDaemon
+  asks_of : (cmd : Cmd) (request : Request) → message.head.cmd ≡ cmd → direction_of cmd ≡ ToDaemon → is_list cmd ≡ false
       → (part : TicketPart) → request_in from message ≡ Some (part, request)
       → answer_of cmd ≡ Some (reply_cmd request.wish)
-      → HasReply (reply_with (text_for node now tickets common cmd) cmd message.content)
+      → HasReply (reply_with (text_for node common cmd) cmd message.content)
       → request.from ≡ from → request.number ≡ message.head.request → Comes node from message Routed
-  asks_of cmd request is to part asked answer found same_from same_number =
+  asks_of cmd request is to single part asked answer found same_from same_number =
       by_ticket (position (is_called part.ticket) node.config.tickets) refl
     where
       once : Action
-      once = answers node.key now (reply_to node now tickets common message)
+      once = answers node.key now (replies_to node now tickets common message)
 
       routes : (o : Option ℕ) → position (is_called part.ticket) node.config.tickets ≡ o
           → Routed ≡ asks o request once
@@ -239,7 +280,7 @@ module _ (node : NodeConfig) (now : ℕ) (tickets : List TicketState) (common : 
 
       by_ticket : (o : Option ℕ) → position (is_called part.ticket) node.config.tickets ≡ o
           → Comes node from message Routed
-      by_ticket None e = at_once cmd (reply_cmd request.wish) is answer to found (routes None e)
+      by_ticket None e = at_once cmd (reply_cmd request.wish) is answer to single found (routes None e)
       by_ticket (Some place) e =
           IsAsked (ap direction_of is ∙ to) place request (routes (Some place) e) part e same_from same_number
           (ap answer_of is ∙ answer)
@@ -251,8 +292,8 @@ module _ (node : NodeConfig) (now : ℕ) (tickets : List TicketState) (common : 
 
   client_comes : (cmd : Cmd) → message.head.cmd ≡ cmd → direction_of cmd ≡ ToDaemon → IsRead cmd message.content
       → Comes node from message Routed
-  client_comes CLst is to read = unasked CLst RLst is refl refl refl (λ name value. refl) (_, refl)
-  client_comes Peer is to read = unasked Peer RPer is refl refl refl (λ name value. refl) (_, refl)
+  client_comes CLst is to read = lists is
+  client_comes Peer is to read = unasked Peer RPer is refl refl refl refl (λ name value. refl) (_, refl)
   client_comes CGnt is to read =
       let it = ticket_part read.0 message.content read.1 in
       asks_of CGnt
@@ -261,7 +302,7 @@ module _ (node : NodeConfig) (now : ℕ) (tickets : List TicketState) (common : 
         from = from;
         number = message.head.request;
         options = message.head.options;
-      }) is refl it.0
+      }) is refl refl it.0
       (ap (λ w. request_of from message.head w message.content) (ap wish_of is)
       ∙ ap (λ c. request_of from message.head (Some Grant) c) it.1) refl (_, ap no_ticket it.1) refl refl
   client_comes CRvk is to read =
@@ -272,24 +313,24 @@ module _ (node : NodeConfig) (now : ℕ) (tickets : List TicketState) (common : 
         from = from;
         number = message.head.request;
         options = message.head.options;
-      }) is refl it.0
+      }) is refl refl it.0
       (ap (λ w. request_of from message.head w message.content) (ap wish_of is)
       ∙ ap (λ c. request_of from message.head (Some Revoke) c) it.1) refl (_, ap no_ticket it.1) refl refl
   client_comes ASet is to read =
       let it = named_part read.0 message.content read.1 in
-      attends_of ASet it.0 (wishes.Set (record { name = it.1; value = it.0.value })) is refl refl it.2
+      attends_of ASet it.0 (wishes.Set (record { name = it.1; value = it.0.value })) is refl refl refl it.2
       (ap (λ name. attr_wish ASet name it.0.value) it.3) refl (repeats it.0 it.1 it.2 it.3)
   client_comes AGet is to read =
       let it = named_part read.0 message.content read.1 in
-      attends_of AGet it.0 (wishes.Get (record { name = it.1; value = it.0.value })) is refl refl it.2
+      attends_of AGet it.0 (wishes.Get (record { name = it.1; value = it.0.value })) is refl refl refl it.2
       (ap (λ name. attr_wish AGet name it.0.value) it.3) refl (repeats it.0 it.1 it.2 it.3)
   client_comes ADel is to read =
       let it = named_part read.0 message.content read.1 in
-      attends_of ADel it.0 (wishes.Delete (record { name = it.1; value = it.0.value })) is refl refl it.2
+      attends_of ADel it.0 (wishes.Delete (record { name = it.1; value = it.0.value })) is refl refl refl it.2
       (ap (λ name. attr_wish ADel name it.0.value) it.3) refl (repeats it.0 it.1 it.2 it.3)
   client_comes ALst is to read =
       let it = attr_part _ _ _ message.content read.1 in
-      attends_of ALst it.0 wishes.List is refl refl it.1 refl refl (_, refl)
+      attends_of ALst it.0 wishes.List is refl refl refl it.1 refl refl (_, refl)
   client_comes RLst is to read = absurd cc
   client_comes RPer is to read = absurd cc
   client_comes RALs is to read = absurd cc

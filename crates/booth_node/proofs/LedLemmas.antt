@@ -5,8 +5,8 @@ use Rattle.std.proofs.Math.ListN.{drop_of_length-le}
 use Rattle.std.specs.Prelude.{Option}
 use Rattle.std.specs.List.{range_with_len}
 use native.Mathlib.Nat.{le_refl, le_trans}
-use Rattle.booth_base.specs.Tree.{Deeds, Ends, Does, Leads, ◌>>=◌, through}
-use Rattle.booth_base.proofs.TreeLemmas.{leads_then, through_on, through_one}
+use Rattle.booth_base.specs.Tree.{Deeds, Ends, Does, Leads, ◌>>=◌, each, through}
+use Rattle.booth_base.proofs.TreeLemmas.{leads_then, each_on, each_one, through_on, through_one}
 use Rattle.booth_host.specs.declared.entry.Entry.{Entry}
 use Rattle.booth_host.specs.Past.{GrewBy}
 use Rattle.booth_host.proofs.PastLemmas.{no_entry, some_joined, some_of}
@@ -68,6 +68,16 @@ module _ {A H : Type 0} {past : H → Option (List Entry)} {faults : H → ℕ} 
       led_as (ap (λ ys. through f ys s)
       (sym (append-nil (take i xs)) ∙ ap (λ ys. take i xs ++ ys) (sym (drop_of_length-le xs over)) ∙ take-append-drop i xs))
       refl led
+
+module _ {A B H : Type 0} {past : H → Option (List Entry)} {faults : H → ℕ} {Done : A → Bool → Entry → Type 0} where
+  -- a loop that leaves nothing: one more, and all
+  pub led_each_taken : (f : B → Deeds A (Unit {0})) (xs : List B) (i : ℕ) (d : B) {a b c : H} → i < length xs
+      → Led past faults Done (each f (take i xs)) tt a b → Led past faults Done (f (get_or xs i d)) tt b c
+      → Led past faults Done (each f (take (i + 1) xs)) tt a c
+  led_each_taken f xs i d below first later =
+      led_as (sym (ap (λ ys. each f ys) (take_more xs i d below) ∙ each_on f (take i xs) (get_or xs i d ∷ [])
+      ∙ ap (λ t. each f (take i xs) >>= (λ done. t)) (each_one f (get_or xs i d)))) refl
+      (led_then (λ (done : Unit {0}). f (get_or xs i d)) first later)
 
 -- one place more
 place_more : (from n : ℕ) → range_with_len from (n + 1) ≡ range_with_len from n ++ (from + n) ∷ []

@@ -1,7 +1,10 @@
 pub mod PlaceLemmas
 pub mod EachLemmas
+pub mod ListLemmas
+pub mod CutLemmas
 pub mod RoutingLemmas
 pub mod LedLemmas
+pub mod TellLemmas
 pub mod ActLemmas
 pub mod LogLemmas
 pub mod PeerLemmas

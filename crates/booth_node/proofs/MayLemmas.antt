@@ -49,7 +49,7 @@ use Rattle.booth_conf.specs.declared.tickets.GrantKind.TheVariants.{Manual}
 use Rattle.booth_node.specs.AttributeRequests.{is_ready}
 use Rattle.booth_node.specs.Jobs.{job_at}
 use Rattle.booth_node.specs.Reaction.{Action, Hears, Asks, IsDone, action, acts, answers as answers_with, asks, befalls, demanded, dues, met, peer_at, peer_of, requested, routed}
-use Rattle.booth_node.specs.Replies.{reply_to, request_of, wish_of}
+use Rattle.booth_node.specs.Replies.{replies_to, request_of, wish_of}
 use Rattle.booth_node.specs.State.{State}
 use Rattle.booth_node.proofs.RoutingLemmas.{place_below}
 use Rattle.booth_node.proofs.ClientLemmas.{Parts, at_moment, parts_of}
@@ -415,7 +415,7 @@ grants node old new now from message entries place part setup view set_up turn a
     (record { now = now; ready = ready; job = job }) request Grant in
     let parts : Parts node old now (Ok (arrivals.Datagram from)) turn.bytes entries new =
     parts_of node old new now (Ok (arrivals.Datagram from)) turn.bytes entries turn.deeds in
-    let once : Action = answers_with node.key now (reply_to node now old.tickets old.common message) in
+    let once : Action = answers_with node.key now (replies_to node now old.tickets old.common message) in
     let to : action node now old.tickets old.common from turn.bytes ≡ Asks place request =
     ap (λ (v : Result PlainMessage DropFault). demanded node now old.tickets old.common from v) turn.let_in
     ∙ ap (λ (d : Direction). routed node now old.tickets old.common from message d) (ap direction_of cmd)

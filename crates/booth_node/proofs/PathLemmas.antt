@@ -2,7 +2,8 @@
 use Rattle.std.proofs.Common.{◌≡◌, ℕ, Bool, true, List, [], ◌∷◌, ◌++◌, refl, sym, ap, ◌∙◌, subst}
 use Rattle.std.specs.Prelude.{Option, Some, None, IsSome, Result, is_ok}
 use Rattle.booth_base.specs.declared.address.Peer.{Peer}
-use Rattle.booth_base.specs.Tree.{Deeds, Ends, Does, Leads, ◌>>=◌}
+use Rattle.booth_base.specs.Tree.{Deeds, Ends, Does, Leads, ◌>>=◌, ◌>>◌, each}
+use Rattle.booth_base.proofs.TreeLemmas.{at_end}
 use Rattle.booth_rec.specs.declared.record.Record.{Record}
 use Rattle.booth_wire.specs.declared.message.Head.{Head}
 use Rattle.booth_wire.specs.declared.message.TicketPart.{TicketPart}
@@ -21,7 +22,9 @@ use Rattle.booth_node.specs.declared.state.Common.{Common}
 use Rattle.booth_node.specs.Calls.{AreCallsOf, IsCallOf}
 use Rattle.booth_node.specs.Counting.{count_send}
 use Rattle.booth_node.specs.Jobs.{job_of, start_call, count_start}
-use Rattle.booth_node.specs.Reaction.{Ask, Send, Keep, Start, IsDone, Lifted, lifted, peer_of, sends, sent_as}
+use Rattle.booth_node.specs.Reaction.{Ask, Send, Keep, Start, IsDone, Lifted, lifted, peer_of, sends, sends_back, sent_as}
+use Rattle.booth_node.specs.Laws.{AreSends}
+use Rattle.booth_node.specs.State.{State}
 
 -- ---- calls
 
@@ -78,6 +81,27 @@ is_send key peer message ok (calls.Kept ticket answer) done = absurd done
 is_send key peer message ok (calls.Start number ticket handler local expires answer) done = absurd done
 is_send key peer message ok (calls.Out bytes answer) done = absurd done
 is_send key peer message ok (calls.Err bytes answer) done = absurd done
+
+-- messages that were sent back to who asked
+pub record SentBack (key : Option (List ℕ)) (from : Peer) (messages : List PlainMessage) (state : State) (es : List Entry)
+    (after : State) : Type 0 where
+  pub sends : AreSends key from messages es
+  pub left : after ≡ state
+
+pub sent_back : (key : Option (List ℕ)) (from : Peer) (messages : List PlainMessage) (state : State) (es : List Entry)
+    (after : State) → Leads (IsDone key) (each (sends_back from) messages >> Ends state) es (Ends after)
+    → SentBack key from messages state es after
+sent_back key from [] state es after leads =
+    let over = at_end (IsDone key) state after es leads in
+    record { sends = subst (λ (l : List Entry). AreSends key from [] l) (sym over.0) tt; left = over.1 }
+sent_back key from (message ∷ messages) state [] after leads = absurd cc
+sent_back key from (message ∷ messages) state (e ∷ es) after leads =
+    let sent = is_send key from message leads.0 e leads.1 in
+    let more = sent_back key from messages state es after leads.2 in
+    record {
+      sends = subst (λ (entry : Entry). AreSends key from (message ∷ messages) (entry ∷ es)) (sym sent.1) (refl, refl, more.sends);
+      left = more.left;
+    }
 
 -- ---- acts that are seen
 

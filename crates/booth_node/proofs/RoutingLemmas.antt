@@ -1,5 +1,5 @@
 -- Where a message goes that was let in, and what was done of it.
-use Rattle.std.proofs.Common.{◌≡◌, ◌≢◌, ◌<◌, ℕ, Bool, true, false, List, [], ◌∷◌, length, get_or, sym, subst, arith}
+use Rattle.std.proofs.Common.{◌≡◌, ◌≢◌, ◌<◌, ℕ, Bool, true, false, List, [], ◌∷◌, length, get_or, ap, sym, subst, arith}
 use Rattle.std.specs.Prelude.{Option, Some, None, Result, ◌==◌, position, if◌then◌else◌}
 use Rattle.std.proofs.lemmas.List.Quantifiers.{position-Some}
 use Rattle.std.proofs.lemmas.Bool.Decides.{nat_tests}
@@ -10,7 +10,7 @@ use Rattle.booth_conf.specs.Lookups.{is_called}
 use Rattle.booth_conf.specs.declared.members.Member.{Member}
 use Rattle.booth_conf.specs.declared.tickets.TicketConf.{TicketConf}
 use Rattle.booth_wire.specs.declared.command.Direction.TheVariants.{BetweenMembers}
-use Rattle.booth_wire.specs.Command.{direction_of}
+use Rattle.booth_wire.specs.Command.{answer_of, direction_of}
 use Rattle.booth_wire.specs.PlainMessage.{PlainMessage}
 use Rattle.booth_wire.specs.Spelling.{Fits}
 use Rattle.booth_auth.specs.declared.admission.DropFault.{DropFault}
@@ -24,9 +24,13 @@ use Rattle.booth_node.specs.declared.routing.Action.{Action as Made}
 use Rattle.booth_node.specs.AttributeRequests.{attr_answer}
 use Rattle.booth_node.specs.Led.{Led}
 use Rattle.booth_node.specs.Reaction.{Action, Answers, Rests, IsDone, answers, demanded, met, routed, action}
+use Rattle.booth_node.specs.Lists.{cut_lines}
+use Rattle.booth_node.specs.Replies.{answered as answered_so, is_list, list_lines, part_messages, replies_to, reply_with, text_for}
 use Rattle.booth_node.specs.ReplyForms.{IsWritten}
 use Rattle.booth_node.specs.Routing.{Routes, at_once, named}
 use Rattle.booth_node.specs.State.{State}
+use Rattle.booth_node.specs.declared.state.Common.{Common}
+use Rattle.booth_ticket.specs.Ticket.{TicketState}
 
 -- ---- places
 
@@ -99,18 +103,39 @@ module _ {H : Type 0} {past : H → Option (List Entry)} {faults : H → ℕ} {l
 
   -- ---- a message that is answered at once
 
-  pub unanswered : (reply : Option PlainMessage) (frame : List ℕ) → IsWritten node.key now reply false frame
+  pub unanswered : (replies : List PlainMessage) (frame : List ℕ) → IsWritten node.key now replies false frame
       → Led past faults (IsDone node.key) (met node now state from Rests) left a b
-      → Led past faults (IsDone node.key) (met node now state from (answers node.key now reply)) left a b
-  unanswered None frame written led = led
-  unanswered (Some reply) frame written led = absurd (untrue written.0)
+      → Led past faults (IsDone node.key) (met node now state from (answers node.key now replies)) left a b
+  unanswered [] frame written led = led
+  unanswered (reply ∷ []) frame written led = absurd (untrue written.0)
+  unanswered (reply ∷ next ∷ replies) frame written led = absurd written
 
-  pub answered : (reply : Option PlainMessage) (frame : List ℕ) → IsWritten node.key now reply true frame
+  pub answered : (replies : List PlainMessage) (frame : List ℕ) → IsWritten node.key now replies true frame
       → ((message : PlainMessage) → frame ≡ sealed node.key message → Fits message
-      → Led past faults (IsDone node.key) (met node now state from (Answers message)) left a b)
-      → Led past faults (IsDone node.key) (met node now state from (answers node.key now reply)) left a b
-  answered None frame written meets = absurd (untrue (sym written))
-  answered (Some reply) frame written meets = meets _ written.1 written.2
+      → Led past faults (IsDone node.key) (met node now state from (Answers (message ∷ []))) left a b)
+      → Led past faults (IsDone node.key) (met node now state from (answers node.key now replies)) left a b
+  answered [] frame written meets = absurd (untrue (sym written))
+  answered (reply ∷ []) frame written meets = meets _ written.1 written.2
+  answered (reply ∷ next ∷ replies) frame written meets = absurd written
+
+-- what is no list is answered by one message at most
+pub one_reply : (node : NodeConfig) (now : ℕ) (tickets : List TicketState) (common : Common) (message : PlainMessage)
+    → is_list message.head.cmd ≡ false → replies_to node now tickets common message
+    ≡ answered_so node.me message.head.request (answer_of message.head.cmd)
+    (reply_with (text_for node common message.head.cmd) message.head.cmd message.content)
+one_reply node now tickets common message single =
+    ap (λ (b : Bool). if b then part_messages node.me message.head.request 0 (cut_lines 0 (list_lines node now tickets))
+    else answered_so node.me message.head.request (answer_of message.head.cmd)
+    (reply_with (text_for node common message.head.cmd) message.head.cmd message.content)) single
+
+-- a list is answered by its parts
+pub parts_reply : (node : NodeConfig) (now : ℕ) (tickets : List TicketState) (common : Common) (message : PlainMessage)
+    → is_list message.head.cmd ≡ true → replies_to node now tickets common message
+    ≡ part_messages node.me message.head.request 0 (cut_lines 0 (list_lines node now tickets))
+parts_reply node now tickets common message is =
+    ap (λ (b : Bool). if b then part_messages node.me message.head.request 0 (cut_lines 0 (list_lines node now tickets))
+    else answered_so node.me message.head.request (answer_of message.head.cmd)
+    (reply_with (text_for node common message.head.cmd) message.head.cmd message.content)) is
 
 -- what answers a request about attributes is no member's command
 pub attr_to_client : (wish : AttrWish) → direction_of (attr_answer wish) ≡ BetweenMembers → ⊥

@@ -1,5 +1,5 @@
 -- Laws of turns, over every state and all bytes.
-use Rattle.std.specs.Prelude.{◌≡◌, ◌⊎◌, ◌<◌, ℕ, List, ◌∷◌, ◌++◌, length, position, Option, Some, None, Result, Ok, Err}
+use Rattle.std.specs.Prelude.{◌≡◌, ◌⊎◌, ◌<◌, ◌+◌, ℕ, List, [], ◌∷◌, ◌++◌, length, position, Option, Some, None, Result, Ok, Err}
 use Rattle.std.specs.List.{All}
 use Rattle.booth_base.specs.declared.address.Peer.{Peer}
 use Rattle.booth_base.specs.Tree.{Ends, Leads}
@@ -8,6 +8,8 @@ use Rattle.booth_conf.specs.Lookups.{is_called}
 use Rattle.booth_rec.specs.declared.record.Record.{Record}
 use Rattle.booth_wire.specs.declared.command.Direction.{Direction}
 use Rattle.booth_wire.specs.declared.command.Direction.TheVariants.{ToDaemon, ToClient, BetweenMembers}
+use Rattle.booth_wire.specs.declared.codes.results.TheConstants.{MORE}
+use Rattle.booth_wire.specs.declared.command.Cmd.TheVariants.{CLst}
 use Rattle.booth_wire.specs.Command.{direction_of, answer_of}
 use Rattle.booth_wire.specs.PlainMessage.{PlainMessage}
 use Rattle.booth_auth.specs.declared.admission.DropFault.{DropFault}
@@ -56,7 +58,7 @@ IsSettled node (Hears from ticket head part) =
     × (position (is_called part.ticket) node.config.tickets ≡ Some ticket)
 IsSettled node (Asks ticket request) = ticket < length node.config.tickets
 IsSettled node (Attends ticket request) = ticket < length node.config.tickets
-IsSettled node (Answers message) = Unit {0}
+IsSettled node (Answers messages) = Unit {0}
 IsSettled node Rests = ⊥
 
 -- No datagram demands nothing: each is dropped, heard by its ticket, asked of its ticket or of that one's
@@ -97,32 +99,49 @@ CountsEachFault =
 
 -- ---- clients
 
--- This reply answers the message: its command's answer, with its number and neither options nor a reason, from
--- this member.
-pub record IsReplyTo (node : NodeConfig) (message reply : PlainMessage) : Type 0 where
+-- This reply answers the message: its command's answer, with its number, as the part of this number, without a reason,
+-- from this member.
+pub record IsReplyTo (node : NodeConfig) (message : PlainMessage) (number : ℕ) (reply : PlainMessage) : Type 0 where
   pub cmd : answer_of message.head.cmd ≡ Some reply.head.cmd
   pub request : reply.head.request ≡ message.head.request
-  pub options : reply.head.options ≡ 0
+  pub options : reply.head.options ≡ number
   pub reason : reply.head.reason ≡ 0
   pub from : reply.head.from ≡ node.me
 
--- The last call of the arrival is the reply, to who asked. Each other call of the turn that reaches a client tells one
--- that waits what became of its grant: before the reply one that waited when the turn began, after it one that waits
+-- These replies answer the message: one, or the parts of a list, numbered from this number on, of which each but the last
+-- says that more follow.
+abbrev pub AreRepliesTo : NodeConfig → PlainMessage → ℕ → List PlainMessage → Type 0
+AreRepliesTo node message number [] = ⊥
+AreRepliesTo node message number (reply ∷ []) = IsReplyTo node message number reply
+AreRepliesTo node message number (reply ∷ next ∷ replies) =
+    IsReplyTo node message number reply × (message.head.cmd ≡ CLst) × (reply.head.result ≡ MORE)
+    × AreRepliesTo node message (number + 1) (next ∷ replies)
+
+-- these calls are the sends of these messages to this peer, in their order
+abbrev pub AreSends : Option (List ℕ) → Peer → List PlainMessage → List Entry → Type 0
+AreSends key to [] [] = Unit {0}
+AreSends key to (message ∷ messages) (calls.Send peer bytes answer ∷ entries) =
+    (peer ≡ to) × (bytes ≡ sealed key message) × AreSends key to messages entries
+AreSends key to messages entries = ⊥
+
+-- The last calls of the arrival are the replies, to who asked. Each other call of the turn that reaches a client tells one
+-- that waits what became of its grant: before the replies one that waited when the turn began, after them one that waits
 -- then.
 pub record IsAnswered (node : NodeConfig) (old : State) (now : ℕ) (from : Peer) (message : PlainMessage)
     (entries : List Entry) (new : State) : Type 0 where
   pub before : List Entry
-  pub reply : PlainMessage
-  pub answer : Result (Unit {0}) Failed
+  pub replies : List PlainMessage
+  pub sent : List Entry
   pub deadlines : List Entry
-  pub whole : entries ≡ before ++ calls.Send from (sealed node.key reply) answer ∷ deadlines
-  pub replies : IsReplyTo node message reply
+  pub whole : entries ≡ before ++ sent ++ deadlines
+  pub answers : AreRepliesTo node message 0 replies
+  pub sends : AreSends node.key from replies sent
   pub waited : All (ReachesWaiters node old.waiters) before
   pub after : State
   pub waiting : All (ReachesWaiters node after.waiters) deadlines
   pub follow : Leads (IsDone node.key) (dues node now Went after) deadlines (Ends new)
 
--- Each client's request that is let in has its one reply in that turn.
+-- Each client's request that is let in has its one reply in that turn, a list its parts.
 abbrev pub ClientsAreAnswered : Type 0
 ClientsAreAnswered =
     (node : NodeConfig) (old new : State) (now : ℕ) (from : Peer) (message : PlainMessage)

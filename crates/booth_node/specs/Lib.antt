@@ -7,12 +7,14 @@ pub mod Ours
 pub mod Counting
 pub mod Opening
 pub mod Jobs
+pub mod Lists
 pub mod Replies
 pub mod AttributeRequests
 pub mod Led
 pub mod Reaction
 pub mod Befalling
 pub mod ReplyForms
+pub mod Telling
 pub mod Routing
 pub mod Acting
 pub mod Calls

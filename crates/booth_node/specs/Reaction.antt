@@ -1,8 +1,8 @@
 -- What a node does with an arrival and with its deadlines: the deeds of one turn, as a tree.
-use Rattle.std.specs.Prelude.{◌≡◌, ◌-◌, ◌^◌, ℕ, min, max, Bool, true, List, ◌∷◌, length, map, position, slice_get, Option, Some, None, Result, Ok, Err, is_ok}
+use Rattle.std.specs.Prelude.{◌≡◌, ◌-◌, ◌^◌, ℕ, min, max, Bool, true, List, ◌∷◌, length, map, position, slice_get, Option, Some, None, Result, Ok, Err, is_ok, []}
 use Rattle.std.specs.List.{range_with_len}
 use Rattle.booth_base.specs.declared.address.Peer.{Peer}
-use Rattle.booth_base.specs.Tree.{Deeds, Ends, Does, Leads, ◌>>=◌, through}
+use Rattle.booth_base.specs.Tree.{Deeds, Ends, Does, Leads, ◌>>=◌, ◌>>◌, each, through}
 use Rattle.booth_conf.specs.Config.{ConfigSays, has_id}
 use Rattle.booth_conf.specs.Lookups.{is_called}
 use Rattle.booth_conf.specs.declared.members.Member.{Member}
@@ -44,7 +44,7 @@ use Rattle.booth_node.specs.declared.node_config.NodeConfig.{NodeConfig}
 use Rattle.booth_node.specs.declared.state.Common.{Common}
 use Rattle.booth_node.specs.Counting.{dropped, accepted, count_send}
 use Rattle.booth_node.specs.Jobs.{job_at, job_of, count_start}
-use Rattle.booth_node.specs.Replies.{reply_to, request_in}
+use Rattle.booth_node.specs.Replies.{replies_to, request_in}
 use Rattle.booth_node.specs.AttributeRequests.{after_wish, attended_place, attr_message, attr_request_in, is_ready}
 use Rattle.booth_node.specs.State.{State, with_ticket}
 
@@ -155,15 +155,15 @@ pub data Action : Type 0 where
   Asks : (ticket : ℕ) → Request → Action
   -- a client asks something of the attributes of the ticket at a place
   Attends : (ticket : ℕ) → AttrRequest → Action
-  -- a client's request is answered with this message
-  Answers : PlainMessage → Action
+  -- a client's request is answered with these messages, in this order
+  Answers : List PlainMessage → Action
   -- nothing
   Rests : Action
 
--- a message is sent with its time, and sealed
-abbrev pub answers : Option (List ℕ) → ℕ → Option PlainMessage → Action
-answers key now (Some message) = Answers (stamped key now message)
-answers key now None = Rests
+-- messages are sent with their time, and sealed
+abbrev pub answers : Option (List ℕ) → ℕ → List PlainMessage → Action
+answers key now [] = Rests
+answers key now (message ∷ messages) = Answers (map (stamped key now) (message ∷ messages))
 
 abbrev pub asks : Option ℕ → Request → Action → Action
 asks None request other = other
@@ -184,10 +184,10 @@ abbrev pub requested : NodeConfig → ℕ → List TicketState → Common → Pl
     → Option (TicketPart × Request) → Action
 requested node now tickets common message None =
     attended node (attr_request_in message)
-    (answers node.key now (reply_to node now tickets common message))
+    (answers node.key now (replies_to node now tickets common message))
 requested node now tickets common message (Some found) =
     asks (position (is_called found.0.ticket) node.config.tickets) found.1
-    (answers node.key now (reply_to node now tickets common message))
+    (answers node.key now (replies_to node now tickets common message))
 
 abbrev pub hears : Option ℕ → Option ℕ → Head → TicketPart → Action
 hears (Some from) (Some ticket) head part = Hears from ticket head part
@@ -223,6 +223,10 @@ abbrev pub after_attending : State → ℕ → AttrRequest → State
 after_attending state ticket request =
     record state { attributes = after_wish state.attributes ticket request.wish }
 
+-- a message goes back to who asked
+abbrev pub sends_back : Peer → PlainMessage → Deeds Ask (Unit {0})
+sends_back from message = Does (Send from message) (λ ok. Ends tt)
+
 -- The deeds of an action. A dropped datagram changes one counter; a member's command is counted for it, and then its
 -- ticket hears it; a request about attributes is done, and answered.
 abbrev pub met : NodeConfig → ℕ → State → Peer → Action → Deeds Ask State
@@ -233,7 +237,7 @@ met node now state from (Asks ticket request) = acts node now state ticket (Aske
 met node now state from (Attends ticket request) =
     Does (Send from (attr_message node now state.attributes ticket request))
     (λ ok. Ends (after_attending state ticket request))
-met node now state from (Answers message) = Does (Send from message) (λ ok. Ends state)
+met node now state from (Answers messages) = each (sends_back from) messages >> Ends state
 met node now state from Rests = Ends state
 
 -- the end of a job is told to the tickets at these places, one after the other

@@ -1,5 +1,5 @@
 -- What a client is answered, and what it asks of a ticket.
-use Rattle.std.specs.Prelude.{ℕ, ◌++◌, false, Bool, List, [], ◌∷◌, Option, Some, None, codes, decimal, position, slice_get, if◌then◌else◌}
+use Rattle.std.specs.Prelude.{ℕ, ◌+◌, ◌++◌, true, false, Bool, List, [], ◌∷◌, map, Option, Some, None, codes, decimal, position, slice_get, if◌then◌else◌}
 use Rattle.std.specs.List.{flat_map, zip}
 use Rattle.booth_base.specs.declared.address.MemberId.{MemberId}
 use Rattle.booth_base.specs.declared.address.Peer.{Peer as Sender}
@@ -7,9 +7,9 @@ use Rattle.booth_base.specs.declared.address.TheConstants.{NO_ONE}
 use Rattle.booth_base.specs.Address.{printed}
 use Rattle.booth_conf.specs.Config.{ConfigSays, has_id}
 use Rattle.booth_conf.specs.declared.members.Member.{Member}
-use Rattle.booth_wire.specs.declared.codes.results.TheConstants.{SUCCESS, IARG}
+use Rattle.booth_wire.specs.declared.codes.results.TheConstants.{SUCCESS, MORE, IARG}
 use Rattle.booth_wire.specs.declared.command.Cmd.{Cmd}
-use Rattle.booth_wire.specs.declared.command.Cmd.TheVariants.{CLst, Peer, CGnt, CRvk, ASet, AGet, ADel, ALst}
+use Rattle.booth_wire.specs.declared.command.Cmd.TheVariants.{CLst, RLst, Peer, CGnt, CRvk, ASet, AGet, ADel, ALst}
 use Rattle.booth_wire.specs.Command.{answer_of}
 use Rattle.booth_wire.specs.declared.message.AttrPart.{AttrPart}
 use Rattle.booth_wire.specs.declared.message.Head.{Head}
@@ -23,6 +23,7 @@ use Rattle.booth_ticket.specs.Ticket.{TicketState, owner}
 use Rattle.booth_node.specs.declared.node_config.NodeConfig.{NodeConfig}
 use Rattle.booth_node.specs.declared.state.Counters.{Counters}
 use Rattle.booth_node.specs.declared.state.Common.{Common}
+use Rattle.booth_node.specs.Lists.{cut_lines, part_text}
 
 -- TEXTS
 
@@ -51,8 +52,8 @@ list_line config now ticket =
     ticket.setup.ticket ++ codes " " ++ owner_text config (owner ticket.setup ticket.known now) ++ codes "\n"
 
 -- a line for each ticket, in the order of the configuration
-abbrev pub list_text : NodeConfig → ℕ → List TicketState → List ℕ
-list_text node now tickets = flat_map (list_line node.config now) tickets
+abbrev pub list_lines : NodeConfig → ℕ → List TicketState → List (List ℕ)
+list_lines node now tickets = map (list_line node.config now) tickets
 
 -- how many datagrams were dropped for each fault, in the gate's order
 abbrev pub drops_line : List ℕ → List ℕ
@@ -77,10 +78,9 @@ peers_text node common =
     drops_line common.drops ++ flat_map (other_line node) (zip node.config.members common.members)
 
 -- the text of the reply to a command: where it has none, it is empty
-abbrev pub text_for : NodeConfig → ℕ → List TicketState → Common → Cmd → List ℕ
-text_for node now tickets common CLst = list_text node now tickets
-text_for node now tickets common Peer = peers_text node common
-text_for node now tickets common cmd = []
+abbrev pub text_for : NodeConfig → Common → Cmd → List ℕ
+text_for node common Peer = peers_text node common
+text_for node common cmd = []
 
 -- REPLIES
 
@@ -110,9 +110,9 @@ no_attribute Bare = None
 no_attribute (Ticket part) = None
 no_attribute (Text text) = None
 
--- the reply to a client's command with this content and this text; none to other commands
+-- the reply to a client's command with this content and this text; none to other commands, and none to a list, which is
+-- answered in parts
 abbrev pub reply_with : List ℕ → Cmd → Content → Option Reply
-reply_with text CLst content = Some (record { result = SUCCESS; content = Text text })
 reply_with text Peer content = Some (record { result = SUCCESS; content = Text text })
 reply_with text CGnt content = no_ticket content
 reply_with text CRvk content = no_ticket content
@@ -139,17 +139,36 @@ reply_message me request cmd reply = record {
 }
 
 -- the message of a reply, where the command has an answer and there is a reply
-abbrev pub answered : MemberId → ℕ → Option Cmd → Option Reply → Option PlainMessage
-answered me request (Some cmd) (Some reply) = Some (reply_message me request cmd reply)
-answered me request (Some cmd) None = None
-answered me request None reply = None
+abbrev pub answered : MemberId → ℕ → Option Cmd → Option Reply → List PlainMessage
+answered me request (Some cmd) (Some reply) = reply_message me request cmd reply ∷ []
+answered me request (Some cmd) None = []
+answered me request None reply = []
 
--- what a client's message is answered with at once, at this moment
-abbrev pub reply_to : NodeConfig → ℕ → List TicketState → Common → PlainMessage → Option PlainMessage
-reply_to node now tickets common message =
-    let cmd : Cmd = message.head.cmd in
-    answered node.me message.head.request (answer_of cmd)
-    (reply_with (text_for node now tickets common cmd) cmd message.content)
+-- a part of a list with this text, as the reply of this number
+abbrev pub part_message : MemberId → ℕ → ℕ → ℕ → List ℕ → PlainMessage
+part_message me request number result text =
+    let whole : PlainMessage = reply_message me request RLst (record { result = result; content = Text text }) in
+    record whole { head = record whole.head { options = number } }
+
+-- the parts of a list as messages, numbered from this one on: each but the last says that more follow
+abbrev pub part_messages : MemberId → ℕ → ℕ → List (List (List ℕ)) → List PlainMessage
+part_messages me request number [] = []
+part_messages me request number (part ∷ []) = part_message me request number SUCCESS (part_text part) ∷ []
+part_messages me request number (part ∷ next ∷ parts) =
+    part_message me request number MORE (part_text part) ∷ part_messages me request (number + 1) (next ∷ parts)
+
+abbrev pub is_list : Cmd → Bool
+is_list CLst = true
+is_list cmd = false
+
+-- what a client's message is answered with at once, at this moment, in this order: a list in parts, all else by one
+-- message at most
+abbrev pub replies_to : NodeConfig → ℕ → List TicketState → Common → PlainMessage → List PlainMessage
+replies_to node now tickets common message =
+    if is_list message.head.cmd
+    then part_messages node.me message.head.request 0 (cut_lines 0 (list_lines node now tickets))
+    else answered node.me message.head.request (answer_of message.head.cmd)
+    (reply_with (text_for node common message.head.cmd) message.head.cmd message.content)
 
 -- ---- requests about a ticket
 

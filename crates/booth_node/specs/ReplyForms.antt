@@ -1,12 +1,15 @@
 -- What the code says of a reply that it makes.
-use Rattle.std.specs.Prelude.{◌≡◌, true, false, Bool, List, ℕ, Option, Some, None}
+use Rattle.std.specs.Prelude.{◌≡◌, true, false, Bool, List, [], ◌∷◌, length, nat_le, ℕ, Option, Some, None, if◌then◌else◌}
 use Rattle.booth_wire.specs.declared.command.Cmd.{Cmd}
+use Rattle.booth_wire.specs.declared.codes.results.TheConstants.{SUCCESS, MORE}
 use Rattle.booth_wire.specs.Command.{kind_of}
 use Rattle.booth_wire.specs.PlainMessage.{PlainMessage, Content, content_of, kind_in, is_named, has_text}
 use Rattle.booth_wire.specs.Spelling.{Fits}
 use Rattle.booth_auth.specs.Sealed.{sealed, stamped}
 use Rattle.booth_node.specs.declared.replies.Reply.{Reply as MadeReply}
-use Rattle.booth_node.specs.Replies.{Reply}
+use Rattle.booth_node.specs.declared.node_config.NodeConfig.{NodeConfig}
+use Rattle.booth_node.specs.Lists.{IsPart}
+use Rattle.booth_node.specs.Replies.{Reply, part_message}
 
 -- a content of the form that its command has
 pub record HasForm (cmd : Cmd) (content : Content) : Type 0 where
@@ -18,7 +21,27 @@ abbrev pub reply_of : MadeReply → Reply
 reply_of reply = record { result = reply.result; content = content_of reply.body }
 
 -- where there is a reply, it stands in this frame with its time, sealed; and this says whether there is one
-abbrev pub IsWritten : Option (List ℕ) → ℕ → Option PlainMessage → Bool → List ℕ → Type 0
-IsWritten key now None written frame = written ≡ false
-IsWritten key now (Some reply) written frame =
+abbrev pub IsWritten : Option (List ℕ) → ℕ → List PlainMessage → Bool → List ℕ → Type 0
+IsWritten key now [] written frame = written ≡ false
+IsWritten key now (reply ∷ []) written frame =
     (written ≡ true) × (frame ≡ sealed key (stamped key now reply)) × Fits (stamped key now reply)
+IsWritten key now (reply ∷ next ∷ replies) written frame = ⊥
+
+-- the result of a part that has so many of these lines
+abbrev pub part_result : List (List ℕ) → ℕ → ℕ
+part_result lines count = if nat_le (length lines) count then SUCCESS else MORE
+
+-- The first part of these lines stands in this frame as the reply of this number, with its time, sealed; it has so many
+-- lines.
+pub record IsPartWritten (node : NodeConfig) (now : ℕ) (lines : List (List ℕ)) (request number count : ℕ)
+    (frame : List ℕ) : Type 0 where
+  pub text : List ℕ
+  pub part : IsPart lines count text
+  pub written : frame
+      ≡ sealed node.key (stamped node.key now (part_message node.me request number (part_result lines count) text))
+  pub fits : Fits (stamped node.key now (part_message node.me request number (part_result lines count) text))
+
+-- one or none as a list
+abbrev pub listed : {A : Type 0} → Option A → List A
+listed None = []
+listed (Some x) = x ∷ []

@@ -13,7 +13,7 @@ use Rattle.booth_node.specs.declared.state.Common.{Common}
 use Rattle.booth_node.specs.declared.routing.Action.{Action as Made}
 use Rattle.booth_node.specs.declared.routing.Action.TheVariants as made
 use Rattle.booth_node.specs.AttributeRequests.{attr_request_in}
-use Rattle.booth_node.specs.Replies.{reply_to}
+use Rattle.booth_node.specs.Replies.{replies_to}
 use Rattle.booth_node.specs.Reaction.{Action, Hears, Asks, Attends as AttendsTo, Rests, answers, attended, requested, routed}
 
 -- the action that the code names, where a request that is answered at once demands this one
@@ -35,7 +35,7 @@ Attends node message made_action =
 
 -- what is demanded where this message is answered at once
 abbrev pub at_once : NodeConfig → ℕ → List TicketState → Common → PlainMessage → Action
-at_once node now tickets common message = answers node.key now (reply_to node now tickets common message)
+at_once node now tickets common message = answers node.key now (replies_to node now tickets common message)
 
 -- the code names where a request goes in which this was found, however the node stands
 abbrev pub Requests : NodeConfig → PlainMessage → Option (TicketPart × Request) → Made → Type 0

@@ -2,12 +2,20 @@
 use Rattle.booth_node.specs.declared.node_config.NodeConfig.{NodeConfig}
 use Rattle.booth_node.specs.declared.node.Node.{Node}
 use Rattle.booth_node.specs.declared.tickets.TicketTable.{TicketTable}
-use Rattle.std.specs.Prelude.{ℕ}
+use Rattle.std.specs.Prelude.{◌≡◌, ℕ}
 use Rattle.booth_node.specs.State.{State, state_of_parts}
 
 abbrev pub state_with : TicketTable → ℕ → State
 state_with table last_reading =
     state_of_parts table.tickets.items table.waiters table.attrs table.common last_reading
+
+-- nothing but what is made to be told is another
+pub record TellsAlone (old new : TicketTable) : Type 0 where
+  pub node : new.node ≡ old.node
+  pub tickets : new.tickets.items ≡ old.tickets.items
+  pub waiters : new.waiters ≡ old.waiters
+  pub attributes : new.attrs ≡ old.attrs
+  pub common : new.common ≡ old.common
 
 abbrev pub node_config : Node → NodeConfig
 node_config node = node.table.node

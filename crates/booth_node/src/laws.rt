@@ -1,5 +1,6 @@
 //! Laws of turns, each the contract of a function that does nothing.
 ghost use Rattle.booth_node.specs.Laws.{OpensWithItsTickets, KeepsItsTickets, NothingRests, DropsAlone, CountsEachFault, ClientsAreAnswered, OthersAreNotAnswered, NobodyIsForgotten};
+ghost use Rattle.booth_node.specs.Lists.{ListsHaveTheseParts};
 ghost use Rattle.booth_node.specs.Completeness.{RoundsAreAnswered, GrantsAskAll, MajoritiesGain};
 
 /// A node opens with the tickets of its configuration, each set up for it.
@@ -27,9 +28,14 @@ pub fn counts_each_fault()
     ensures { CountsEachFault }
 {}
 
-/// Each request of a client that is let in has its one reply in that turn, to its sender.
+/// Each request of a client that is let in has its one reply in that turn, to its sender; a list has its parts.
 pub fn clients_are_answered()
     ensures { ClientsAreAnswered }
+{}
+
+/// The parts of a list are its lines, each as many as fit, and no other parts are that.
+pub fn lists_have_these_parts()
+    ensures { ListsHaveTheseParts }
 {}
 
 /// In a turn without a client's request nothing reaches a client but one that waits.

@@ -1,14 +1,13 @@
-//! The text of the list of tickets.
+//! The text of a list of tickets, part by part.
 ghost use Rattle.std.specs.Prelude.{◌≡◌, ◌≤◌, ◌+◌, ◌++◌, length, codes, option_copied};
-ghost use Rattle.std.specs.List.{flat_map};
 ghost use Rattle.booth_base.specs.declared.buffer.TheConstants.{TEXT_BYTES};
-ghost use Rattle.booth_conf.specs.declared.limits.TheConstants.{TICKETS};
 ghost use Rattle.booth_ticket.specs.Ticket.{owner};
-ghost use Rattle.booth_node.specs.Replies.{owner_at, owner_in, owner_text, list_line, list_text};
+ghost use Rattle.booth_node.specs.Replies.{owner_at, owner_in, owner_text, list_line, list_lines};
+ghost use Rattle.booth_node.specs.Lists.{IsPart};
 
 use crate::NodeConfig;
 use crate::peers::{put_address, put_number};
-use booth_base::{Name, TextBuf};
+use booth_base::{Name, TEXT_BYTES, TextBuf};
 use booth_conf::{Config, Member};
 use booth_ticket::{Owner, Ticket};
 
@@ -75,13 +74,25 @@ fn put_ticket(config: &Config, ticket: &Ticket, now: u64, text: &mut TextBuf)
     text.put(b"\n");
 }
 
-/// Makes the text of a list at this reading in ms.
-pub(crate) fn write_list(node: &NodeConfig, tickets: &[Ticket], now: u64, text: &mut TextBuf)
-    requires { length tickets.now ≤ TICKETS }
-    ensures { text.new ≡ list_text node.now now tickets.now }
+/// Makes the text of the first part of a list of these tickets, at this reading in ms: as many whole lines as it holds. The
+/// number of its lines.
+pub(crate) fn write_part(
+    node: &NodeConfig,
+    tickets: &[Ticket],
+    now: u64,
+    line: &mut TextBuf,
+    text: &mut TextBuf,
+) -> usize
+    ensures part { IsPart (list_lines node.now now tickets.now) result text.new }
 {
     text.clear();
-    for ticket in tickets {
-        put_ticket(&node.config, ticket, now, text);
+    for place in 0..tickets.len() {
+        line.clear();
+        put_ticket(&node.config, &tickets[place], now, line);
+        if text.bytes().len() + line.bytes().len() > TEXT_BYTES {
+            return place;
+        }
+        text.put(line.bytes());
     }
+    tickets.len()
 }

@@ -1,16 +1,15 @@
 //! What a client is answered.
-ghost use Rattle.std.specs.Prelude.{◌≡◌, ◌≤◌, true, Option, option_map, IfSome, length};
-ghost use Rattle.booth_conf.specs.declared.limits.TheConstants.{TICKETS};
+ghost use Rattle.std.specs.Prelude.{◌≡◌, true, Option, option_map, IfSome, if◌then◌else◌};
+ghost use Rattle.booth_wire.specs.declared.codes.results.TheConstants.{SUCCESS, MORE};
 ghost use Rattle.booth_wire.specs.Command.{answer_of};
 ghost use Rattle.booth_wire.specs.PlainMessage.{plain_of, content_of, has_text, Text};
-ghost use Rattle.booth_node.specs.Replies.{text_for, no_ticket, no_attribute, no_attribute_of, reply_with, reply_message, answered, wish_of, request_of, request_in};
-ghost use Rattle.booth_node.specs.ReplyForms.{HasForm, reply_of};
+ghost use Rattle.booth_node.specs.Replies.{text_for, no_ticket, no_attribute, no_attribute_of, reply_with, reply_message, is_list, part_message, answered, wish_of, request_of, request_in};
+ghost use Rattle.booth_node.specs.ReplyForms.{HasForm, listed, reply_of};
 
-use crate::lists::write_list;
 use crate::peers::write_peers;
 use crate::{Common, NodeConfig};
 use booth_base::{MemberId, NO_ONE, Peer, TextBuf};
-use booth_ticket::{Request, Ticket, Wish};
+use booth_ticket::{Request, Wish};
 use booth_wire::{AttrPart, Body, Cmd, Head, Message, TicketPart, results};
 
 /// The result and the body of a reply.
@@ -20,22 +19,14 @@ pub(crate) struct Reply<'a> {
     pub body: Body<'a>,
 }
 
-/// Makes the text of the reply to this command at this reading in ms. Where it has none, it is empty.
-pub(crate) fn write_text(
-    node: &NodeConfig,
-    tickets: &[Ticket],
-    common: &Common,
-    now: u64,
-    cmd: Cmd,
-    text: &mut TextBuf,
-)
-    requires { length tickets.now ≤ TICKETS }
-    ensures { text.new ≡ text_for node.now now tickets.now common.now cmd }
+/// Makes the text of the reply to this command. Where it has none, it is empty.
+pub(crate) fn write_text(node: &NodeConfig, common: &Common, cmd: Cmd, text: &mut TextBuf)
+    ensures { text.new ≡ text_for node.now common.now cmd }
 {
     match cmd {
-        Cmd::CLst => write_list(node, tickets, now, text),
         Cmd::Peer => write_peers(node, common, text),
-        Cmd::CGnt | Cmd::CRvk | Cmd::ASet | Cmd::AGet | Cmd::ADel | Cmd::ALst => text.clear(),
+        Cmd::CLst | Cmd::CGnt | Cmd::CRvk => text.clear(),
+        Cmd::ASet | Cmd::AGet | Cmd::ADel | Cmd::ALst => text.clear(),
         Cmd::RLst | Cmd::RPer | Cmd::RALs | Cmd::RGnt | Cmd::RRvk | Cmd::RAtr => text.clear(),
         Cmd::Stat | Cmd::MIdx | Cmd::RVot | Cmd::VtFr | Cmd::HrtB => text.clear(),
         Cmd::Ack | Cmd::UpdE | Cmd::Revk | Cmd::Rjc => text.clear(),
@@ -91,7 +82,8 @@ fn body_for<'a>(cmd: Cmd, body: &Body<'_>, text: &'a [u8]) -> Option<Reply<'a>>
     ensures reply { option_map reply_of result ≡ reply_with text.now cmd (content_of body.now) }
 {
     match cmd {
-        Cmd::CLst | Cmd::Peer => Some(Reply {
+        Cmd::CLst => None,
+        Cmd::Peer => Some(Reply {
             result: results::SUCCESS,
             body: Body::Text(text),
         }),
@@ -132,11 +124,58 @@ pub(crate) fn reply_message<'a>(
     }
 }
 
+/// Whether a command asks for the list of tickets, which is answered in parts.
+pub(crate) fn is_list(cmd: Cmd) -> bool
+    ensures { result ≡ is_list cmd }
+{
+    match cmd {
+        Cmd::CLst => true,
+        Cmd::Peer | Cmd::CGnt | Cmd::CRvk | Cmd::ASet | Cmd::AGet | Cmd::ADel | Cmd::ALst => false,
+        Cmd::RLst | Cmd::RPer | Cmd::RALs | Cmd::RGnt | Cmd::RRvk | Cmd::RAtr => false,
+        Cmd::Stat | Cmd::MIdx | Cmd::RVot | Cmd::VtFr | Cmd::HrtB => false,
+        Cmd::Ack | Cmd::UpdE | Cmd::Revk | Cmd::Rjc => false,
+    }
+}
+
+/// Which reply a part of a list is: that of this number to the request with this number.
+#[derive(Clone, Copy)]
+pub(crate) struct Part {
+    pub request: u32,
+    pub number: u32,
+}
+
+/// The message of a part of a list, of which this is the text; others follow, or it is the last.
+pub(crate) fn part_message<'a>(
+    me: MemberId,
+    part: Part,
+    is_last: bool,
+    text: &'a [u8],
+) -> Message<'a>
+    ensures { plain_of result ≡ part_message me part.request part.number (if is_last then SUCCESS else MORE) text.now }
+{
+    let result = if is_last {
+        results::SUCCESS
+    } else {
+        results::MORE
+    };
+    let mut message = reply_message(
+        me,
+        part.request,
+        Cmd::RLst,
+        Reply {
+            result,
+            body: Body::Text(text),
+        },
+    );
+    message.head.options = part.number;
+    message
+}
+
 /// What a message is answered with, where this text was made for it.
 pub(crate) fn answer<'a>(me: MemberId, message: &Message<'_>, text: &'a [u8]) -> Option<Message<'a>>
     requires { has_text (Text text.now) ≡ true }
     ensures form { IfSome result (λ m. HasForm m.head.cmd (content_of m.body)) }
-    ensures reply { option_map plain_of result ≡ answered me message.now.head.request
+    ensures reply { listed (option_map plain_of result) ≡ answered me message.now.head.request
         (answer_of message.now.head.cmd)
         (reply_with text.now message.now.head.cmd (content_of message.now.body)) }
 {

@@ -1,15 +1,16 @@
 //! Where messages are made: a text and a frame, whose memory is taken once.
 ghost use Rattle.std.specs.Prelude.{◌≡◌, ◌≤◌, ◌<◌, [], IfOk, length};
-ghost use Rattle.booth_conf.specs.declared.limits.TheConstants.{TICKETS};
-ghost use Rattle.booth_wire.specs.PlainMessage.{plain_of};
+ghost use Rattle.booth_wire.specs.Command.{answer_of};
+ghost use Rattle.booth_wire.specs.PlainMessage.{content_of};
 ghost use Rattle.booth_wire.specs.Spelling.{Fits};
 ghost use Rattle.booth_auth.specs.Sealed.{sealed};
 ghost use Rattle.booth_node.specs.AttributeRequests.{after_wish, attr_message};
-ghost use Rattle.booth_node.specs.Replies.{reply_to};
-ghost use Rattle.booth_node.specs.ReplyForms.{IsWritten};
+ghost use Rattle.booth_node.specs.Replies.{answered, list_lines, reply_with, text_for};
+ghost use Rattle.booth_node.specs.ReplyForms.{IsPartWritten, IsWritten};
 
 use crate::attributes::{AttrRequest, answer_cmd, attend, write_pairs};
-use crate::replies::{answer, reply_message, write_text};
+use crate::lists::write_part;
+use crate::replies::{Part, answer, part_message, reply_message, write_text};
 use crate::{Common, NodeConfig};
 use booth_attr::Attrs;
 use booth_auth::seal;
@@ -18,10 +19,11 @@ use booth_ticket::Ticket;
 use booth_wire::{Frame, Message};
 use std::alloc::{AllocError, Global};
 
-/// The text of a reply, and the frame that is sent.
+/// The text of a reply, a line of it, and the frame that is sent.
 #[derive(Drop)]
 pub(crate) struct ReplyBuffer {
     text: TextBuf,
+    line: TextBuf,
     pub frame: Frame,
 }
 
@@ -32,24 +34,24 @@ impl ReplyBuffer {
     {
         Ok(ReplyBuffer {
             text: TextBuf::new(alloc)?,
+            line: TextBuf::new(alloc)?,
             frame: Frame::new(alloc)?,
         })
     }
 
-    /// Puts the answer to a message that was let in at this reading in ms into the frame, where it has one.
+    /// Puts the one reply to a message that was let in at this reading in ms into the frame, where it has one.
     pub fn answer(
         &mut self,
         node: &NodeConfig,
-        tickets: &[Ticket],
         common: &Common,
         message: &Message<'_>,
         now: u64,
     ) -> bool
-        requires { length tickets.now ≤ TICKETS }
-        ensures { IsWritten node.now.key now
-            (reply_to node.now now tickets.now common.now (plain_of message.now)) result self.new.frame }
+        ensures { IsWritten node.now.key now (answered node.now.me message.now.head.request
+            (answer_of message.now.head.cmd) (reply_with (text_for node.now common.now message.now.head.cmd)
+            message.now.head.cmd (content_of message.now.body))) result self.new.frame }
     {
-        write_text(node, tickets, common, now, message.head.cmd, &mut self.text);
+        write_text(node, common, message.head.cmd, &mut self.text);
         match answer(node.me, message, self.text.bytes()) {
             Some(reply) => {
                 seal(&reply, node.key.as_ref(), now, &mut self.frame);
@@ -57,6 +59,18 @@ impl ReplyBuffer {
             }
             None => false,
         }
+    }
+
+    /// Puts the first part of a list of these tickets into the frame, as the reply of this number to a request, at this
+    /// reading in ms. The number of its lines.
+    pub fn part(&mut self, node: &NodeConfig, tickets: &[Ticket], part: Part, now: u64) -> usize
+        ensures { IsPartWritten node.now now (list_lines node.now now tickets.now) part.request part.number result
+            self.new.frame }
+    {
+        let count = write_part(node, tickets, now, &mut self.line, &mut self.text);
+        let message = part_message(node.me, part, count >= tickets.len(), self.text.bytes());
+        seal(&message, node.key.as_ref(), now, &mut self.frame);
+        count
     }
 
     /// Does what a client wishes of the attributes of the ticket at a place, and puts the answer into the frame.

@@ -1,5 +1,5 @@
 //! The tickets of a node, and what their deeds change beside them.
-ghost use Rattle.std.specs.Prelude.{◌≡◌, ◌≢◌, ◌≤◌, ◌<◌, ◌^◌, ◌==◌, false, Some, length, position, slice_get, IfOk, IsSomeAnd, MatchOption};
+ghost use Rattle.std.specs.Prelude.{◌≡◌, ◌≢◌, ◌≤◌, ◌<◌, ◌^◌, ◌==◌, false, Some, drop, length, position, slice_get, IfOk, IsSomeAnd, MatchOption};
 ghost use Rattle.std.specs.List.{All};
 ghost use Rattle.booth_conf.specs.Config.{has_id};
 ghost use Rattle.booth_conf.specs.declared.limits.TheConstants.{TICKETS};
@@ -9,13 +9,17 @@ ghost use Rattle.booth_wire.specs.Command.{direction_of};
 ghost use Rattle.booth_wire.specs.PlainMessage.{plain_of};
 ghost use Rattle.booth_node.specs.Counting.{accepted, counted, counters_at, with_counters, count_drop};
 ghost use Rattle.booth_node.specs.Led.{Led};
-ghost use Rattle.booth_node.specs.Reaction.{Attends, IsDone, action, acts, met, routed, deadline_of};
+ghost use Rattle.booth_base.specs.Tree.{each};
+ghost use Rattle.booth_node.specs.Reaction.{Attends, IsDone, action, acts, met, routed, deadline_of, sends_back};
+ghost use Rattle.booth_node.specs.Replies.{is_list, list_lines};
 ghost use Rattle.booth_node.specs.Routing.{at_once};
+ghost use Rattle.booth_node.specs.Telling.{SendsPart, list_messages};
 ghost use Rattle.booth_node.specs.Ours.{IsOurs};
 
 use crate::attributes::AttrRequest;
 use crate::event::Event;
 use crate::hands::{NodeHands, act_at};
+use crate::replies::{Part, is_list};
 use crate::reply_buffer::ReplyBuffer;
 use crate::routing::{Action, route};
 use crate::{Common, NodeConfig};
@@ -44,7 +48,7 @@ pub(crate) struct TicketTable {
 }
 
 impl TicketTable {
-    ghost use Rattle.booth_node.specs.View.{state_with};
+    ghost use Rattle.booth_node.specs.View.{TellsAlone, state_with};
 
     // What befalls the ticket at a place.
     fn act<H: Host>(&mut self, place: usize, event: &Event, now: u64, host: &mut H)
@@ -155,19 +159,68 @@ impl TicketTable {
         let _ = host.send(&from, self.buffer.frame.bytes());
     }
 
-    // Answers a client's message at once, where it has an answer.
-    fn answer<H: Host>(&mut self, from: Peer, message: &Message<'_>, now: u64, host: &mut H)
-        ensures led { Led H.past H.faults (IsDone self.old.node.key) (met self.old.node now (state_with
-            self.old now) from (at_once self.old.node now self.old.tickets.items self.old.common
-            (plain_of message.now))) (state_with self.new now) host.old host.new }
-        ensures node { self.new.node ≡ self.old.node }
-        ensures tickets { self.new.tickets.items ≡ self.old.tickets.items }
+    // Sends the part of a list that begins with the ticket at the place `first`, and says how many lines it has.
+    fn send_part<H: Host>(
+        &mut self,
+        to: Peer,
+        part: Part,
+        first: usize,
+        now: u64,
+        host: &mut H,
+    ) -> usize
+        requires { first ≤ length self.old.tickets.items }
+        ensures sent { SendsPart H.past H.faults self.old.node now
+            (drop first (list_lines self.old.node now self.old.tickets.items)) to part.request part.number result
+            host.old host.new }
+        ensures same { TellsAlone self.old self.new }
     {
-        let written = self
+        let count = self
             .buffer
-            .answer(&self.node, &self.tickets, &self.common, message, now);
+            .part(&self.node, &self.tickets[first..], part, now);
+        let _ = host.send(&to, self.buffer.frame.bytes());
+        count
+    }
+
+    // Tells a list, part by part, to the request with this number.
+    fn tell_list<H: Host>(&mut self, to: Peer, request: u32, now: u64, host: &mut H)
+        ensures led { Led H.past H.faults (IsDone self.old.node.key) (each (sends_back to)
+            (list_messages self.old.node now request (list_lines self.old.node now self.old.tickets.items))) tt
+            host.old host.new }
+        ensures same { TellsAlone self.old self.new }
+    {
+        let mut number = 0;
+        let mut next = self.send_part(to, Part { request, number }, 0, now, host);
+        'parts: while next < self.tickets.len() {
+            number += 1;
+            next += self.send_part(to, Part { request, number }, next, now, host);
+        }
+    }
+
+    // Tells the one reply to a client's message, where it has one.
+    fn tell_reply<H: Host>(&mut self, to: Peer, message: &Message<'_>, now: u64, host: &mut H)
+        requires { is_list message.now.head.cmd ≡ false }
+        ensures led { Led H.past H.faults (IsDone self.old.node.key) (met self.old.node now (state_with
+            self.old now) to (at_once self.old.node now self.old.tickets.items self.old.common
+            (plain_of message.now))) (state_with self.new now) host.old host.new }
+        ensures same { TellsAlone self.old self.new }
+    {
+        let written = self.buffer.answer(&self.node, &self.common, message, now);
         if written {
-            let _ = host.send(&from, self.buffer.frame.bytes());
+            let _ = host.send(&to, self.buffer.frame.bytes());
+        }
+    }
+
+    // Answers a client's message at once, where it has an answer.
+    fn answer<H: Host>(&mut self, to: Peer, message: &Message<'_>, now: u64, host: &mut H)
+        ensures led { Led H.past H.faults (IsDone self.old.node.key) (met self.old.node now (state_with
+            self.old now) to (at_once self.old.node now self.old.tickets.items self.old.common
+            (plain_of message.now))) (state_with self.new now) host.old host.new }
+        ensures same { TellsAlone self.old self.new }
+    {
+        if is_list(message.head.cmd) {
+            self.tell_list(to, message.head.request, now, host);
+        } else {
+            self.tell_reply(to, message, now, host);
         }
     }
 

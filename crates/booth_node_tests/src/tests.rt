@@ -8,6 +8,7 @@ mod flood;
 mod frames;
 mod handlers;
 mod lines;
+mod long_lists;
 mod manual;
 mod manual_handlers;
 mod many_tickets;

@@ -1,6 +1,7 @@
 -- What a member sends in a turn bears its own id.
-use Rattle.std.proofs.Common.{◌≡◌, ◌⊎◌, ⊎_elim, ℕ, suc, ◌^◌, ◌<◌, List, [], ◌∷◌, ◌++◌, refl, sym, ap, ◌∙◌, subst, inl, inr, arith}
-use Rattle.std.specs.Prelude.{None, Result, Ok, Err}
+use Rattle.booth_host.specs.declared.host.Failed.{Failed}
+use Rattle.std.proofs.Common.{◌≡◌, ◌⊎◌, ⊎_elim, ℕ, suc, ◌^◌, ◌<◌, List, [], ◌∷◌, ◌++◌, refl, sym, ap, ◌∙◌, subst, inl, inr, arith, ◌+◌}
+use Rattle.std.specs.Prelude.{None, Result, Ok, Err, Option}
 use Rattle.std.specs.List.{All}
 use Rattle.booth_base.specs.declared.address.MemberId.{MemberId}
 use Rattle.booth_base.specs.declared.address.Peer.{Peer}
@@ -20,7 +21,7 @@ use Rattle.booth_host.specs.declared.entry.Entry.{Entry}
 use Rattle.booth_host.specs.declared.entry.Entry.TheVariants as calls
 use Rattle.booth_ticket.specs.declared.waiters.Waiter.{Waiter}
 use Rattle.booth_node.specs.Calls.{ReachesWaiters}
-use Rattle.booth_node.specs.Laws.{ClientsAreAnswered, OthersAreNotAnswered, IsAnswered, asked_by, request_let_in, request_of}
+use Rattle.booth_node.specs.Laws.{AreRepliesTo, AreSends, ClientsAreAnswered, IsReplyTo, OthersAreNotAnswered, IsAnswered, asked_by, request_let_in, request_of}
 use Rattle.booth_node.specs.Opening.{AreSetUp}
 use Rattle.booth_node.specs.Reaction.{IsDone, react}
 use Rattle.booth_node.specs.Records.{Has}
@@ -35,11 +36,22 @@ all_has P [] x all h = absurd h
 all_has {X} P (y ∷ ys) x all (inl e) = subst P e (all 0 y (omega arith))
 all_has P (y ∷ ys) x all (inr h) = all_has P ys x (λ k d below. all (suc k) d (omega (arith, below))) h
 
-has_parts : (xs : List Entry) (y : Entry) (ys : List Entry) (x : Entry) → Has (xs ++ y ∷ ys) x → Has xs x ⊎ ((y ≡ x) ⊎ Has ys x)
-has_parts [] y ys x h = inr h
-has_parts (z ∷ zs) y ys x (inl e) = inl (inl e)
-has_parts (z ∷ zs) y ys x (inr h) =
-    ⊎_elim (λ (a : Has zs x). inl (inr a)) (λ (b : (y ≡ x) ⊎ Has ys x). inr b) (has_parts zs y ys x h)
+has_either : (xs ys : List Entry) (x : Entry) → Has (xs ++ ys) x → Has xs x ⊎ Has ys x
+has_either [] ys x h = inr h
+has_either (z ∷ zs) ys x (inl e) = inl (inl e)
+has_either (z ∷ zs) ys x (inr h) =
+    ⊎_elim (λ (a : Has zs x). inl (inr a)) (λ (b : Has ys x). inr b) (has_either zs ys x h)
+
+-- the call that is the send of a message
+sends_first : (key : Option (List ℕ)) (to : Peer) (message : PlainMessage) (messages : List PlainMessage) (e : Entry)
+    (es : List Entry) → AreSends key to (message ∷ messages) (e ∷ es)
+    → (answer : Result (Unit {0}) Failed) × (e ≡ calls.Send to (sealed key message) answer) × AreSends key to messages es
+sends_first key to message messages (calls.Send peer bytes answer) es sends = (
+  answer,
+  ap (λ (p : Peer). calls.Send p bytes answer) sends.0 ∙ ap (λ (b : List ℕ). calls.Send to b answer) sends.1,
+  sends.2,
+)
+sends_first key to message messages call es sends = absurd sends
 
 -- the bytes of a message of this member bear its id
 bears : (me : MemberId) (message : PlainMessage) (bytes sent : List ℕ) → me.0 < 2 ^ 32 → message.head.from ≡ me → bytes ≡ sealed None message
@@ -76,16 +88,39 @@ module _ (config : ConfigSays) (place : ℕ) (small : (node_in config place).me.
 
     asked : (from : Peer) (message : PlainMessage) → IsAnswered (node_in config place) old moment from message deeds new
         → (call : Entry) → Has deeds call → IsOwn call
-    asked from message is call h = by_part (has_parts is.before _ is.deadlines call (subst (λ (xs : List Entry). Has xs call) is.whole h))
+    asked from message is call h =
+        by_part (has_either (is.before ++ is.sent) is.deadlines call (subst (λ (xs : List Entry). Has xs call) is.whole h))
       where
-        reply_own : (calls.Send from (sealed None is.reply) is.answer ≡ call) → IsOwn call
-        reply_own e = subst IsOwn e (λ sent s.
-            bears (node_in config place).me is.reply (sealed None is.reply) sent small is.replies.from refl s)
+        reply_own : (number : ℕ) (reply : PlainMessage) (answer : Result (Unit {0}) Failed)
+            → IsReplyTo (node_in config place) message number reply → calls.Send from (sealed None reply) answer ≡ call
+            → IsOwn call
+        reply_own number reply answer replies e = subst IsOwn e (λ sent s.
+            bears (node_in config place).me reply (sealed None reply) sent small replies.from refl s)
 
-        by_part : Has is.before call ⊎ ((calls.Send from (sealed None is.reply) is.answer ≡ call) ⊎ Has is.deadlines call) → IsOwn call
-        by_part (inl a) = own_call old.waiters call (all_has (ReachesWaiters (node_in config place) old.waiters) is.before call is.waited a)
-        by_part (inr (inl e)) = reply_own e
-        by_part (inr (inr b)) = own_call is.after.waiters call (all_has (ReachesWaiters (node_in config place) is.after.waiters) is.deadlines call is.waiting b)
+        sent_own : (number : ℕ) (replies : List PlainMessage) (es : List Entry)
+            → AreRepliesTo (node_in config place) message number replies → AreSends None from replies es → Has es call
+            → IsOwn call
+        sent_own number [] es are sends h = absurd are
+        sent_own number (reply ∷ replies) [] are sends h = absurd h
+        sent_own number (reply ∷ []) (e ∷ []) are sends (inl here) =
+            let first = sends_first None from reply [] e [] sends in
+            reply_own number reply first.0 are (sym first.1 ∙ here)
+        sent_own number (reply ∷ []) (e ∷ []) are sends (inr h) = absurd h
+        sent_own number (reply ∷ []) (e ∷ f ∷ es) are sends h =
+            absurd (sends_first None from reply [] e (f ∷ es) sends).2
+        sent_own number (reply ∷ next ∷ replies) (e ∷ es) are sends (inl here) =
+            let first = sends_first None from reply (next ∷ replies) e es sends in
+            reply_own number reply first.0 are.0 (sym first.1 ∙ here)
+        sent_own number (reply ∷ next ∷ replies) (e ∷ es) are sends (inr h) =
+            sent_own (number + 1) (next ∷ replies) es are.3 (sends_first None from reply (next ∷ replies) e es sends).2 h
+
+        by_early : Has is.before call ⊎ Has is.sent call → IsOwn call
+        by_early (inl a) = own_call old.waiters call (all_has (ReachesWaiters (node_in config place) old.waiters) is.before call is.waited a)
+        by_early (inr b) = sent_own 0 is.replies is.sent is.answers is.sends b
+
+        by_part : Has (is.before ++ is.sent) call ⊎ Has is.deadlines call → IsOwn call
+        by_part (inl a) = by_early (has_either is.before is.sent call a)
+        by_part (inr b) = own_call is.after.waiters call (all_has (ReachesWaiters (node_in config place) is.after.waiters) is.deadlines call is.waiting b)
 
     pub turn_own : (arrival : Arrival) (bytes : List ℕ) → DoneIn arrival bytes → (call : Entry) → Has deeds call → IsOwn call
     turn_own (arrivals.Datagram from) bytes done call h = by_verdict (verdict config None (node_in config place).me moment bytes) refl

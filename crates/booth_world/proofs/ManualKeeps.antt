@@ -1,10 +1,11 @@
 -- What a turn keeps of a manual ticket: each record's term is at least that of the record in force.
+use Rattle.booth_wire.specs.PlainMessage.{PlainMessage}
 use Rattle.std.proofs.Common.{◌≡◌, ◌≢◌, ◌⊎◌, inl, inr, ℕ, ◌≤◌, Bool, true, false, List, [], ◌∷◌, set, slice_get, refl, sym, ap, ◌∙◌, subst, arith}
 use Rattle.std.specs.Prelude.{Option, Some, None, Result, Ok, Err, ◌&&◌, not, is_none, is_some, if◌then◌else◌}
 use Rattle.std.proofs.lemmas.Option.{slice_get_within}
 use Rattle.booth_base.specs.declared.address.Peer.{Peer}
 use Rattle.booth_base.specs.declared.address.TheConstants.{NO_ONE}
-use Rattle.booth_base.specs.Tree.{Deeds, Ends, Does, ◌>>=◌, each, Always}
+use Rattle.booth_base.specs.Tree.{Deeds, Ends, Does, ◌>>=◌, each, Always, ◌>>◌}
 use Rattle.booth_base.proofs.TreeLemmas.{always_then}
 use Rattle.booth_chain.proofs.NodesLemmas.{same_or_not, slice_get-set_other, slice_get-set_same}
 use Rattle.booth_conf.specs.declared.tickets.GrantKind.{GrantKind}
@@ -53,7 +54,7 @@ use Rattle.booth_node.specs.Befalling.{Befalling, comes_due, ends_job, is_told, 
 use Rattle.booth_node.specs.AttributeRequests.{is_ready}
 use Rattle.booth_node.specs.Counting.{accepted, count_send}
 use Rattle.booth_node.specs.Jobs.{job_at, count_start}
-use Rattle.booth_node.specs.Reaction.{Action, Drops, Hears, Asks, Attends, Answers, Rests, Ask, Send, Keep, Start, action, acts, acts_as, all_places, arrived, befalls, due_places, dues, each_due, each_over, met, peer_of, react, sent_as, turn_end}
+use Rattle.booth_node.specs.Reaction.{Action, Drops, Hears, Asks, Attends, Answers, Rests, Ask, Send, Keep, Start, action, acts, acts_as, all_places, arrived, befalls, due_places, dues, each_due, each_over, met, peer_of, react, sent_as, turn_end, sends_back}
 use Rattle.booth_node.specs.State.{State, with_ticket}
 use Rattle.booth_ticket.proofs.WalkLemmas.{Any}
 use Rattle.booth_world.proofs.Lists.{some_same}
@@ -508,7 +509,11 @@ module _ (name : List ℕ) (place : ℕ) where
         acts_keep state ticket term (is_asked request) (asked_high moment request)
         (λ t waiters spare ready job. minds_asked t.setup moment t.known waiters spare (ready kinds.Manual) job request) at
     met_keeps state from (Attends ticket request) term at = λ ok. at
-    met_keeps state from (Answers message) term at = λ ok. at
+    met_keeps state from (Answers messages) term at = told messages
+      where
+        told : (messages : List PlainMessage) → KeepsHigh term (each (sends_back from) messages >> Ends state)
+        told [] = at
+        told (message ∷ messages) = λ ok. told messages
     met_keeps state from Rests term at = at
 
     -- a job is over, and each ticket is told

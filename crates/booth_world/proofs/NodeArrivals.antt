@@ -1,11 +1,11 @@
 -- What an arrival is for one ticket: a member's message that is heard, a client's request, or nothing; and so the whole turn.
-use Rattle.std.proofs.Common.{◌≡◌, ◌≢◌, ◌⊎◌, inl, inr, ℕ, zero, suc, ◌+◌, ◌^◌, ◌<◌, ◌≤◌, Bool, List, length, refl, sym, subst, arith}
-use Rattle.std.specs.Prelude.{Option, Some, None, is_some, position, Result, Ok, Err}
+use Rattle.std.proofs.Common.{◌≡◌, ◌≢◌, ◌⊎◌, inl, inr, ℕ, zero, suc, ◌+◌, ◌^◌, ◌<◌, ◌≤◌, Bool, true, false, List, length, refl, sym, subst, arith, map, [], ◌∷◌}
+use Rattle.std.specs.Prelude.{Option, Some, None, is_some, position, Result, Ok, Err, if◌then◌else◌}
 use Rattle.std.specs.List.{range_with_len}
 use Rattle.std.specs.Option.{ForSome}
 use Rattle.std.proofs.lemmas.Option.{slice_get_within}
 use Rattle.booth_base.specs.declared.address.Peer.{Peer}
-use Rattle.booth_base.specs.Tree.{Deeds, ◌>>=◌}
+use Rattle.booth_base.specs.Tree.{Deeds, Ends, ◌>>=◌, each, ◌>>◌}
 use Rattle.booth_chain.proofs.NodesLemmas.{same_or_not}
 use Rattle.booth_conf.specs.Config.{has_id}
 use Rattle.booth_conf.specs.Lookups.{is_called}
@@ -19,7 +19,7 @@ use Rattle.booth_wire.specs.declared.message.Setup.{Setup}
 use Rattle.booth_wire.specs.Command.{direction_of, answer_of}
 use Rattle.booth_wire.specs.PlainMessage.{PlainMessage, Content, Bare, Ticket, Attr, Text}
 use Rattle.booth_auth.specs.declared.admission.DropFault.{DropFault}
-use Rattle.booth_auth.specs.Sealed.{stamped_head}
+use Rattle.booth_auth.specs.Sealed.{stamped_head, stamped}
 use Rattle.booth_host.specs.declared.host.Failed.{Failed}
 use Rattle.booth_host.specs.declared.host.Arrival.{Arrival}
 use Rattle.booth_host.specs.declared.host.Arrival.TheVariants as arrivals
@@ -42,8 +42,9 @@ use Rattle.booth_conf.specs.declared.tickets.GrantKind.TheVariants.{Manual}
 use Rattle.booth_node.specs.AttributeRequests.{attr_request_in, is_ready}
 use Rattle.booth_node.proofs.RoutingLemmas.{attr_to_client}
 use Rattle.booth_node.specs.Jobs.{handler_at, job_at}
-use Rattle.booth_node.specs.Reaction.{Ask, Action, Drops, Hears, Asks, Attends, Answers, Rests, answers, asks, attends, attended, requested, hears, said, routed, demanded, action, after_attending, met, turn_end, dues, acts, all_places, each_over, react}
-use Rattle.booth_node.specs.Replies.{Reply, answered, reply_to, request_in}
+use Rattle.booth_node.specs.Reaction.{Ask, Action, Drops, Hears, Asks, Attends, Answers, Rests, answers, asks, attends, attended, requested, hears, said, routed, demanded, action, after_attending, met, sends_back, turn_end, dues, acts, all_places, each_over, react}
+use Rattle.booth_node.specs.Replies.{Reply, answered, is_list, list_lines, part_messages, replies_to, reply_with, request_in, text_for}
+use Rattle.booth_node.specs.Lists.{cut_lines}
 use Rattle.booth_node.specs.State.{State, with_ticket}
 use Rattle.booth_world.specs.Rules.{MemberMessage, Hears as HearsMessage}
 use Rattle.booth_world.specs.Turns.{TurnTree, Plan, plan_tree, call_tree, turn_tree, MayPlan, MayTurn}
@@ -70,10 +71,14 @@ pub record IsLetIn (node : NodeConfig) (r : Result PlainMessage DropFault) (memb
 abbrev pub IsReply : NodeConfig → PlainMessage → Type 0
 IsReply node message = (message.head.auth ≡ is_some node.key) × (direction_of message.head.cmd ≡ BetweenMembers → ⊥)
 
+abbrev pub AreReplies : NodeConfig → List PlainMessage → Type 0
+AreReplies node [] = Unit {0}
+AreReplies node (message ∷ messages) = IsReply node message × AreReplies node messages
+
 -- what an action that hears or answers comes from
 abbrev Comes : NodeConfig → Result PlainMessage DropFault → Action → Type 0
 Comes node r (Hears member place head part) = IsLetIn node r member place head part
-Comes node r (Answers message) = IsReply node message
+Comes node r (Answers messages) = AreReplies node messages
 Comes node r act = Unit {0}
 
 abbrev IsToClient : Option Cmd → Type 0
@@ -95,27 +100,46 @@ not_between : (d : Direction) → d ≡ ToClient → d ≡ BetweenMembers → �
 not_between d is e = cc
 
 module _ (node : NodeConfig) (now : ℕ) (tickets : List TicketState) (common : Common) (r : Result PlainMessage DropFault) where
-  from_answer : (request : ℕ) (cmd : Option Cmd) (made : Option Reply) → IsToClient cmd
-      → Comes node r (answers node.key now (answered node.me request cmd made))
-  from_answer request None made client = tt
-  from_answer request (Some cmd) None client = tt
-  from_answer request (Some cmd) (Some made) client = (refl, not_between (direction_of cmd) client)
+  from_messages : (messages : List PlainMessage) → AreReplies node (map (stamped node.key now) messages)
+      → Comes node r (answers node.key now messages)
+  from_messages [] all = tt
+  from_messages (message ∷ messages) all = all
 
-  from_reply : (message : PlainMessage) → Comes node r (answers node.key now (reply_to node now tickets common message))
-  from_reply message = from_answer message.head.request (answer_of message.head.cmd) _ (to_client message.head.cmd)
+  of_answer : (request : ℕ) (cmd : Option Cmd) (made : Option Reply) → IsToClient cmd
+      → AreReplies node (map (stamped node.key now) (answered node.me request cmd made))
+  of_answer request None made client = tt
+  of_answer request (Some cmd) None client = tt
+  of_answer request (Some cmd) (Some made) client = ((refl, not_between (direction_of cmd) client), tt)
+
+  of_parts : (request number : ℕ) (parts : List (List (List ℕ)))
+      → AreReplies node (map (stamped node.key now) (part_messages node.me request number parts))
+  of_parts request number [] = tt
+  of_parts request number (part ∷ []) = ((refl, not_between (direction_of cmds.RLst) refl), tt)
+  of_parts request number (part ∷ next ∷ parts) =
+      ((refl, not_between (direction_of cmds.RLst) refl), of_parts request (number + 1) (next ∷ parts))
+
+  from_reply : (message : PlainMessage) → Comes node r (answers node.key now (replies_to node now tickets common message))
+  from_reply message = from_messages (replies_to node now tickets common message) (by_list (is_list message.head.cmd))
+    where
+      by_list : (b : Bool) → AreReplies node (map (stamped node.key now)
+          (if b then part_messages node.me message.head.request 0 (cut_lines 0 (list_lines node now tickets))
+          else answered node.me message.head.request (answer_of message.head.cmd)
+          (reply_with (text_for node common message.head.cmd) message.head.cmd message.content)))
+      by_list true = of_parts message.head.request 0 (cut_lines 0 (list_lines node now tickets))
+      by_list false = of_answer message.head.request (answer_of message.head.cmd) _ (to_client message.head.cmd)
 
   from_ask : (place : Option ℕ) (request : Request) (message : PlainMessage)
-      → Comes node r (asks place request (answers node.key now (reply_to node now tickets common message)))
+      → Comes node r (asks place request (answers node.key now (replies_to node now tickets common message)))
   from_ask None request message = from_reply message
   from_ask (Some place) request message = tt
 
   from_attend : (place : Option ℕ) (request : AttributeAsking) (message : PlainMessage)
-      → Comes node r (attends place request (answers node.key now (reply_to node now tickets common message)))
+      → Comes node r (attends place request (answers node.key now (replies_to node now tickets common message)))
   from_attend None request message = from_reply message
   from_attend (Some place) request message = tt
 
   from_attended : (message : PlainMessage) (found : Option AttributeAsking)
-      → Comes node r (attended node found (answers node.key now (reply_to node now tickets common message)))
+      → Comes node r (attended node found (answers node.key now (replies_to node now tickets common message)))
   from_attended message None = from_reply message
   from_attended message (Some request) = from_attend _ request message
 
@@ -336,16 +360,22 @@ module _ (s : Setup) (place : ℕ) (node : NodeConfig) (now : ℕ) (all : s.memb
             λ ok. then_dues after view sent at last_is few,
           );
         }
-    meets r state view from (Answers message) at last_is few c unstamp = record {
+    meets r state view from (Answers messages) at last_is few c unstamp = record {
       came = None;
       plan = then_plan state;
       may = after_may s place node now all own most enough (ready_at state) turn view;
       good = no_message Good;
-      over = λ sent. (
-        record { truly = c.0; spoken = λ part between is named. absurd (c.1 between) },
-        λ ok. then_dues state view sent at last_is few,
-      );
+      over = λ sent. told messages c sent;
     }
+      where
+        told : (messages : List PlainMessage) → AreReplies node messages → (sent : List MemberMessage)
+            → Over s place node now all sent ((each (sends_back from) messages >> Ends state) >>= dues node now turn)
+            (plan_tree s now view (then_plan state view))
+        told [] all sent = then_dues state view sent at last_is few
+        told (message ∷ messages) all sent = (
+          record { truly = all.0.0; spoken = λ part between is named. absurd (all.0.1 between) },
+          λ ok. told messages all.1 sent,
+        )
     meets r state view from Rests at last_is few c unstamp = nothing state view at last_is few
 
     -- ---- a job is over
