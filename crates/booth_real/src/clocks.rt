@@ -227,6 +227,18 @@ impl Clocks {
         begun.map(|_| ())
     }
 
+    /// Has `now` tell the clock that this directory keeps of this boot. It fails where none was kept since the boot.
+    pub(crate) fn share_clock(&mut self, rt: &HostRuntime, directory: &PathText) -> io::Result<()> {
+        let boot = boot_id(rt)?;
+        match read_clock(rt, directory)? {
+            Some(kept) if kept.boot == boot => self.await_clock(rt, directory),
+            Some(_) | None => Err(Error::new(
+                ErrorKind::NotFound,
+                "no daemon kept its clock there since the boot",
+            )),
+        }
+    }
+
     // The clock of this directory, and the readings at which it begins.
     fn clock_in(&self, rt: &HostRuntime, directory: &PathText) -> io::Result<(OwnClock, Readings)> {
         let readings = self.begin_at()?;

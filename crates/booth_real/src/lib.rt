@@ -1,6 +1,7 @@
 //! The real host: a UDP socket, the system clock, files, child programs and the standard streams.
 #![tactic(auto)]
 
+mod backlog;
 mod clock_file;
 mod clocks;
 mod files;

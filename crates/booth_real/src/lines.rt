@@ -9,10 +9,9 @@ const LINE_BYTES: usize = 400;
 /// A line for standard error.
 pub(crate) type Line = ArrayVec<u8, LINE_BYTES>;
 
-/// A line of the daemon that begins with these texts. The program's name is there, since no other has a line to say.
+/// A line that begins with these texts, but for the program's name.
 pub(crate) fn line_of(parts: &[&[u8]]) -> Line {
     let mut line = Line::new();
-    let _ = line.write_all(b"boothd: ");
     for part in parts {
         let _ = line.write_all(part);
     }
@@ -24,10 +23,10 @@ pub(crate) fn put_number(line: &mut Line, number: u64) {
     let _ = write!(line, "{number}");
 }
 
-/// The line with its end, which stands in the place of its last byte where there is no room.
-pub(crate) fn ended(line: Line) -> Line {
-    let mut line = line;
-    line.truncate(LINE_BYTES - 1);
-    line.push(b'\n');
-    line
+/// The line behind the program's name, with its end, which stands in the place of its last byte where there is no room.
+pub(crate) fn said_by(name: &str, line: &Line) -> Line {
+    let mut whole = line_of(&[name.as_bytes(), b": ", line]);
+    whole.truncate(LINE_BYTES - 1);
+    whole.push(b'\n');
+    whole
 }

@@ -5,6 +5,7 @@ ghost use Rattle.std.specs.Prelude.{◌≡◌, ◌≤◌, None, IfOk, vec_len};
 ghost use Rattle.booth_host.specs.Causes.{raised, HasCause, IsCounted};
 ghost use Rattle.booth_host.specs.declared.datagram.TheConstants.{DATAGRAM_BYTES};
 
+use crate::backlog::Backlog;
 use crate::clocks::Clocks;
 use crate::files::contents;
 use crate::jobs::{Ended, Jobs, SIGNALLED};
@@ -26,6 +27,9 @@ use std::rc::Rc;
 use std::time::Duration;
 use std::{io, thread};
 
+/// How many sends are made before what came meanwhile is taken.
+const SENDS: u32 = 32;
+
 /// The devices of the system.
 #[derive(Drop)]
 pub struct RealHost {
@@ -38,6 +42,12 @@ pub struct RealHost {
     clocks: Clocks,
     telling: Telling,
     buffer: Vec<u8>,
+    /// What came while records were kept and messages were sent, at a place with records.
+    backlog: Backlog,
+    /// What a receive failed with meanwhile.
+    unreceived: Option<io::Error>,
+    /// How many sends were made since what came was taken.
+    sends: u32,
     /// The path of the configuration, once a place was opened.
     conf_path: Option<PathText>,
     jobs: Jobs,
@@ -71,6 +81,9 @@ impl RealHost {
             clocks: Clocks::new(),
             telling: Telling::new(alloc),
             buffer: vec![in alloc; 0; DATAGRAM_BYTES]?,
+            backlog: Backlog::new(alloc)?,
+            unreceived: None,
+            sends: 0,
             conf_path: None,
             jobs,
             locked: None,
@@ -98,6 +111,29 @@ impl RealHost {
         if let Err(error) = self.clocks.await_clock(&self.rt, directory) {
             self.tell_no_clock(&error);
         }
+    }
+
+    /// Has `now` tell the clock that a daemon keeps in this directory of records. Where none kept it since the boot, or it
+    /// cannot be read, the answer is false, and a line on standard error says why. It is no fault.
+    pub fn share_clock(&mut self, directory: &PathText) -> bool
+        ensures faults { self.new.faults ≡ self.old.faults }
+        ensures socket { self.new.socket ≡ self.old.socket }
+    {
+        match self.clocks.share_clock(&self.rt, directory) {
+            Ok(()) => true,
+            Err(error) => {
+                self.tell_no_clock(&error);
+                false
+            }
+        }
+    }
+
+    /// Has each line on standard error begin with this name of a program, in place of that of the daemon.
+    pub fn speak_as(&mut self, name: &'static str)
+        ensures faults { self.new.faults ≡ self.old.faults }
+        ensures socket { self.new.socket ≡ self.old.socket }
+    {
+        self.telling.speak_as(name);
     }
 
     fn tell_no_clock(&mut self, error: &io::Error)
@@ -133,6 +169,8 @@ impl RealHost {
         ensures { self.new.faults ≡ self.old.faults }
     {
         self.socket = None;
+        self.backlog.clear();
+        self.unreceived = None;
         self.records = None;
         self.conf_path = None;
         self.clocks.leave();
@@ -233,13 +271,53 @@ impl RealHost {
         }
     }
 
+    // The first that waits, and what a receive failed with behind them.
+    fn waiting(&mut self, into: &mut Datagram) -> Option<io::Result<Arrival>>
+        ensures { self.new.faults ≡ self.old.faults }
+    {
+        match self.backlog.give(into) {
+            Some(from) => Some(Ok(Arrival::Datagram(from))),
+            None => self.unreceived.take().map(Err),
+        }
+    }
+
     fn receive(&mut self, wait_ms: u64, into: &mut Datagram) -> io::Result<Arrival>
         ensures { self.new.faults ≡ self.old.faults }
     {
         into.set(&[]);
+        if let Some(answer) = self.waiting(into) {
+            if let Some(socket) = &self.socket {
+                socket.look_at(&self.wake);
+            }
+            return answer;
+        }
         match &self.socket {
             Some(socket) => socket.receive(wait_ms, &self.wake, &mut self.buffer, into),
             None => Err(unopened()),
+        }
+    }
+
+    // Takes what came meanwhile, at a place with records: the system holds a few hundred datagrams, and what is lost is sent
+    // again only a time-out later.
+    fn take_in(&mut self)
+        ensures { self.new.faults ≡ self.old.faults }
+    {
+        self.sends = 0;
+        if self.records.is_none() || self.unreceived.is_some() {
+            return;
+        }
+        if let Some(socket) = &self.socket {
+            self.unreceived = socket.drain(&mut self.buffer, &mut self.backlog).err();
+        }
+    }
+
+    // The same once in many sends.
+    fn take_in_behind(&mut self)
+        ensures { self.new.faults ≡ self.old.faults }
+    {
+        self.sends = self.sends.saturating_add(1);
+        if self.sends >= SENDS {
+            self.take_in();
         }
     }
 
@@ -323,6 +401,7 @@ impl Host for RealHost {
     /// address it goes by another socket, from another address of this machine, and fails where the machine has none.
     fn send(&mut self, to: &Peer, bytes: &[u8]) -> Result<(), Failed> {
         let answer = self.post(to, bytes);
+        self.take_in_behind();
         if let Err(error) = &answer {
             self.tell_unsent(to, error);
         }
@@ -343,7 +422,9 @@ impl Host for RealHost {
 
     /// Where it ends in another way than the ticket's keep before, a line on standard error says so.
     fn keep(&mut self, ticket: &Name, rec: &Record) -> Result<(), Failed> {
+        self.take_in();
         let answer = self.write_record(ticket, rec);
+        self.take_in();
         self.telling.keep(&self.rt, ticket, &answer);
         self.checked(answer)
     }

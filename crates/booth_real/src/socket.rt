@@ -1,8 +1,10 @@
 //! The UDP socket, and addresses as the system has them.
-ghost use Rattle.std.specs.Prelude.{◌≡◌, ◌⊎◌, Some, None, IfOk, IsTrue, OnErr, OnOk};
+ghost use Rattle.std.specs.Prelude.{◌≡◌, ◌⊎◌, Some, None, IfOk, IsTrue, OnErr, OnOk, length};
+ghost use Rattle.booth_host.specs.declared.datagram.TheConstants.{DATAGRAM_BYTES};
 ghost use Rattle.booth_real.specs.Hearing.{Brings, Hears, IsToAsk, turned};
 ghost use Rattle.booth_real.specs.declared.socket.Takes.{Takes};
 
+use crate::backlog::{BACKLOG_DATAGRAMS, Backlog};
 use crate::wake::Wake;
 use booth_base::{Address, Peer};
 use booth_host::{Arrival, Datagram, Place};
@@ -362,6 +364,34 @@ impl Socket {
             }
             Err(error) => self.unreceived(error),
         }
+    }
+
+    /// Looks at the other file, without a wait, and notes whether it can be read.
+    pub(crate) fn look_at(&self, wake: &Wake) {
+        self.wait(0, wake);
+    }
+
+    /// Takes what the system holds for this socket, as far as there is room, and waits for nothing. It fails where a receive
+    /// does.
+    pub(crate) fn drain(&self, buffer: &mut [u8], backlog: &mut Backlog) -> io::Result<()>
+        requires { length buffer.old ≡ DATAGRAM_BYTES }
+        ensures { length buffer.new ≡ DATAGRAM_BYTES }
+    {
+        for _ in 0..BACKLOG_DATAGRAMS {
+            if !backlog.has_room() {
+                return Ok(());
+            }
+            match self.udp.recv_from(buffer) {
+                Ok((count, from)) => {
+                    let from = self.peer_at(from);
+                    if self.takes.hears(&from) {
+                        backlog.put(&from, &buffer[..count]);
+                    }
+                }
+                Err(error) => return self.unreceived(error).map(|_| ()),
+            }
+        }
+        Ok(())
     }
 
     /// Gives these bytes to the network. It fails where there is no room, and to a peer of the other family where the system

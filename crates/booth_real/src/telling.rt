@@ -1,7 +1,7 @@
 //! What is said on standard error of devices that fail, a few lines a minute. None of it is a call of the log.
 
 use crate::clocks::since_boot;
-use crate::lines::{Line, ended, line_of, put_number};
+use crate::lines::{Line, line_of, put_number, said_by};
 use crate::streams::write_at_once;
 use booth_base::{Name, Peer};
 use booth_clock::Step;
@@ -35,9 +35,11 @@ struct Paced {
     passed: u64,
 }
 
-/// What was said, as far as it tells what is said next.
+/// Who says it, and what was said, as far as it tells what is said next.
 #[derive(Drop)]
 pub(crate) struct Telling {
+    /// The program's name.
+    name: &'static str,
     /// The tickets whose last keep failed, each of which a line told of.
     unkept: Vec<Name>,
     /// Whether the last keep of the clock failed, and a line told of it.
@@ -87,7 +89,7 @@ fn now() -> u64 {
     since_boot().unwrap_or(0)
 }
 
-// What is said of something that failed. The program's name is there, since no other has these devices fail.
+// What is said of something that failed.
 fn failed_line(parts: &[&[u8]], error: &io::Error) -> Line {
     let mut line = line_of(parts);
     let _ = write!(line, ": {error}");
@@ -116,6 +118,7 @@ fn step_line(step: Step) -> Line {
 impl Telling {
     pub(crate) fn new(alloc: Global) -> Telling {
         Telling {
+            name: "boothd",
             unkept: Vec::new(alloc),
             is_clock_unkept: false,
             limit: Limit { since: 0, lines: 0 },
@@ -124,10 +127,15 @@ impl Telling {
         }
     }
 
+    /// Has each line begin with this name of a program.
+    pub(crate) fn speak_as(&mut self, name: &'static str) {
+        self.name = name;
+    }
+
     // Says this line, where one more may be said. One that cannot be written at once is lost.
     fn say(&mut self, rt: &HostRuntime, line: Line) {
         if self.limit.admits(now()) {
-            let _ = write_at_once(&rt.stderr(), &ended(line));
+            let _ = write_at_once(&rt.stderr(), &said_by(self.name, &line));
         }
     }
 
