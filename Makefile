@@ -1,14 +1,15 @@
-# make build   proves boothd, booth and geostore, and leaves the programs below out/
-# make run     builds it, and shows three members on loopback: a grant, a crash, a takeover, a move
+# make build   proves boothd, booth, geostore and booth-follow, and leaves the programs below out/
+# make run     builds it, and shows three members on loopback and a service that follows its ticket: a crash, a takeover, a move
 # make check   the gate
 # make install PREFIX=/usr/local DESTDIR=    programs, manual pages, completion, units, examples; and make uninstall
 # make deb     a Debian package of the same, at out/booth-proved_VERSION_amd64.deb
 
-PROGRAMS := boothd booth geostore
+PROGRAMS := boothd booth geostore booth-follow
 # what is written in Python, and the modules of it
 TOOLS := booth-status booth-record
 TOOL_MODULES := changes checking configuration ending exporting frames judging key_file lists looking problems \
   record_file showing state_file ways wording
+SERVICES := booth@.service booth-follow@.service
 VERSION := 0.2.0
 PREFIX ?= /usr/local
 SBIN := $(PREFIX)/sbin
@@ -40,6 +41,7 @@ check:
 INSTALLED := $(foreach program,$(PROGRAMS),$(SBIN)/$(program):out/$(program):755) \
   $(foreach name,booth-keygen $(TOOLS),$(SBIN)/$(name):packaging/$(name):755) \
   $(foreach name,$(TOOL_MODULES),$(MODULES)/$(name).py:tools/$(name).py:644) \
+  $(MODULES)/follow-unit:packaging/follow-unit:755 \
   $(foreach page,$(wildcard man/*.5 man/*.8),$(MAN)/man$(subst .,,$(suffix $(page)))/$(notdir $(page)):$(page):644) \
   $(foreach program,$(PROGRAMS) $(TOOLS),$(COMPLETIONS)/$(program):packaging/booth.bash:644) \
   $(USERS)/booth.conf:packaging/booth.sysusers:644 \
@@ -47,25 +49,29 @@ INSTALLED := $(foreach program,$(PROGRAMS),$(SBIN)/$(program):out/$(program):755
   $(DOCS)/copyright:packaging/copyright:644 \
   $(DOCS)/changelog:packaging/changelog:644 \
   $(foreach doc,$(wildcard docs/*.md),$(DOCS)/$(notdir $(doc)):$(doc):644) \
-  $(foreach file,$(wildcard examples/*.conf examples/*.py),$(DOCS)/examples/$(notdir $(file)):$(file):644)
+  $(foreach file,$(wildcard examples/*.conf examples/*.py),$(DOCS)/examples/$(notdir $(file)):$(file):644) \
+  $(foreach file,$(wildcard examples/follow-*),$(DOCS)/examples/$(notdir $(file)):$(file):755)
 
 install: build
 	@for each in $(INSTALLED); do \
 	  target=$${each%%:*}; rest=$${each#*:}; \
 	  install -D -m $${rest##*:} $${rest%%:*} "$(DESTDIR)$$target" || exit 1; \
 	  case $$target in \
-	    *.5 | *.8 | *.md) sed -i 's|/usr/share/doc/booth-proved|$(DOCS)|' "$(DESTDIR)$$target" || exit 1 ;; \
+	    *.5 | *.8 | *.md) sed -i 's|/usr/share/doc/booth-proved|$(DOCS)|; s|/usr/share/booth-proved|$(MODULES)|' \
+	      "$(DESTDIR)$$target" || exit 1 ;; \
 	    $(SBIN)/booth-status | $(SBIN)/booth-record) \
 	      sed -i 's|^MODULES = .*|MODULES = "$(TO_MODULES)"|' "$(DESTDIR)$$target" || exit 1 ;; \
 	  esac; \
 	done
 	@install -d -m 755 "$(DESTDIR)$(UNITS)"
-	@sed 's|@SBIN@|$(SBIN)|' packaging/booth@.service > "$(DESTDIR)$(UNITS)/booth@.service"
-	@chmod 644 "$(DESTDIR)$(UNITS)/booth@.service"
+	@for unit in $(SERVICES); do \
+	  sed 's|@SBIN@|$(SBIN)|; s|@SHARE@|$(MODULES)|' packaging/$$unit > "$(DESTDIR)$(UNITS)/$$unit" && \
+	  chmod 644 "$(DESTDIR)$(UNITS)/$$unit" || exit 1; \
+	done
 
 uninstall:
 	@for each in $(INSTALLED); do rm -f "$(DESTDIR)$${each%%:*}"; done
-	@rm -f "$(DESTDIR)$(UNITS)/booth@.service"
+	@for unit in $(SERVICES); do rm -f "$(DESTDIR)$(UNITS)/$$unit"; done
 	@rmdir "$(DESTDIR)$(DOCS)/examples" "$(DESTDIR)$(DOCS)" "$(DESTDIR)$(MODULES)" 2>/dev/null || true
 
 deb: $(PACKAGE)
@@ -86,13 +92,14 @@ $(PACKAGE): build $(wildcard packaging/*)
 out/boothd: crates/boothd/out/boothd
 out/booth: crates/booth/out/booth
 out/geostore: crates/geostore/out/geostore
+out/booth-follow: crates/booth_follow/out/booth_follow
 $(PROGRAMS:%=out/%):
 	@mkdir -p out
 	cp $< $@
 
 # rt run proves, builds and then runs a program, here without words, which is a usage error: so the program that it leaves
 # tells whether it was proved, and not its status. rt ci leaves the programs too.
-crates/boothd/out/boothd crates/booth/out/booth crates/geostore/out/geostore: $(SOURCES)
+crates/boothd/out/boothd crates/booth/out/booth crates/geostore/out/geostore crates/booth_follow/out/booth_follow: $(SOURCES)
 	@$(NEEDS_RT)
 	@mkdir -p out
 	@echo "proving and building $(notdir $@), half an hour or more at first (out/build.log)"
@@ -103,3 +110,4 @@ crates/boothd/out/boothd crates/booth/out/booth crates/geostore/out/geostore: $(
 # one after the other
 crates/booth/out/booth: | crates/boothd/out/boothd
 crates/geostore/out/geostore: | crates/booth/out/booth
+crates/booth_follow/out/booth_follow: | crates/geostore/out/geostore

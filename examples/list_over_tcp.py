@@ -10,7 +10,8 @@ import sys
 import time
 
 HEAD = struct.Struct(">12I")
-MAGIC, VERSION, LIST = 0x5F1BA08C, 0x00010003, int.from_bytes(b"CLst", "big")
+MAGIC, VERSION = 0x5F1BA08C, 0x00010003
+LIST, MORE = int.from_bytes(b"CLst", "big"), int.from_bytes(b"More", "big")
 
 
 def received(link, count):
@@ -29,5 +30,8 @@ millis = time.time_ns() // 1_000_000
 with socket.create_connection((sys.argv[1], port), timeout=5) as link:
     clock = millis // 1000, millis % 1000 * 1000
     link.sendall(HEAD.pack(0, *clock, MAGIC, VERSION, 0, HEAD.size, LIST, 1, 0, 0, 0))
-    length = HEAD.unpack(received(link, HEAD.size))[6]
-    print(received(link, length - HEAD.size).decode(), end="")
+    result = MORE
+    while result == MORE:  # the parts of a list come in their order over a link
+        head = HEAD.unpack(received(link, HEAD.size))
+        length, result = head[6], head[11]
+        print(received(link, length - HEAD.size).decode(), end="")

@@ -1,4 +1,4 @@
-# Completion in bash for boothd, booth, geostore, booth-status and booth-record.
+# Completion in bash for boothd, booth, geostore, booth-follow, booth-status and booth-record.
 
 # the file that -c names on this command line
 _booth_conf() {
@@ -76,6 +76,32 @@ _booth_offer_tool() {
   fi
 }
 
+# What is offered for a word of booth-follow: a ticket, and behind it a program.
+_booth_offer_follow() {
+  local i plain=0 word=${words[cword]} before=${words[cword - 1]}
+  case $before in
+    -c) _booth_configurations "$word"; return ;;
+    -s) _booth_reply "$(_booth_values site)" "$word"; return ;;
+    -d) _booth_files -f -- "$word"; return ;;
+    -m | -k) return ;;
+  esac
+  if [[ $word == -* ]]; then
+    _booth_reply $'-c\n-s\n-d\n-m\n-k\n--help\n--version' "$word"
+    return
+  fi
+  for ((i = 1; i < cword; i++)); do
+    case ${words[i]} in
+      -[csdmk]) ((i++)) ;;
+      -*) ;;
+      *) ((plain++)) ;;
+    esac
+  done
+  case $plain in
+    0) _booth_reply "$(_booth_values ticket)" "$word" ;;
+    1) _booth_files -f -- "$word" ;;
+  esac
+}
+
 # What the next word of a move is, by the words between its command and the cursor.
 _booth_next_of_move() {
   local i plain=0
@@ -140,6 +166,7 @@ _booth_complete() {
   COMPREPLY=()
   case ${1##*/} in
     booth-status | booth-record) _booth_offer_tool "$1" ;;
+    booth-follow) _booth_offer_follow ;;
     *) _booth_offer "$1" ;;
   esac
   # one goes on after a directory
@@ -148,4 +175,4 @@ _booth_complete() {
   return 0
 }
 
-complete -F _booth_complete boothd booth geostore booth-status booth-record
+complete -F _booth_complete boothd booth geostore booth-follow booth-status booth-record

@@ -1,7 +1,8 @@
 #!/usr/bin/env python3
-"""Shows the main job on loopback: three members, a grant, a crash of the holder, a takeover, a restart of all, a move.
+"""Shows the main job on loopback: three members and a service that follows its ticket, through a grant, a crash of the holder,
+a takeover, a restart of all, and a move.
 
-Run it as `python3 tools/demo.py`, or as `make run`, which builds the program first. It takes half a
+Run it as `python3 tools/demo.py`, or as `make run`, which builds the programs first. It takes a
 minute, makes its files in a folder of its own, and needs no rights but the use of port 9929.
 """
 
@@ -9,10 +10,13 @@ import sys
 import tempfile
 import time
 
+from following import Services
 from members import TICKET, Cluster, Times, now, run_booth, wait_for
 from serving import NotServing, built_program, end_by_signals
 
 ADDRESSES = ("127.0.0.1", "127.0.0.2", "127.0.0.3")
+# how long the service is left to run before something happens
+SECONDS_TO_SERVE = 2
 # how long one waits for what has to come, on a machine that does much else
 PATIENCE = 30
 
@@ -60,14 +64,33 @@ def restart_all(cluster, story, holder):
     story.tell(f"{holder.address} holds {TICKET.decode()} on, and renewed its lease")
 
 
-def move_to(cluster, story, target):
-    """The holder gives the ticket back, and the target acquires it, in one command."""
+def runs_at(services, story, site):
+    """The service starts at this site, and has a line there each tenth of a second."""
+    require(services.await_up(site, PATIENCE), f"the service does not start at {site.address}")
+    story.tell(f"the service runs at {site.address}, and writes a line each 0.1 s")
+    time.sleep(SECONDS_TO_SERVE)
+
+
+def tell_spells(services, story):
+    """When the service ran where, by its lines."""
+    for spell in services.spells():
+        first, last = spell.first - story.started, spell.last - story.started
+        print(f"            {spell.site} wrote from {first:.2f} s to {last:.2f} s", flush=True)
+    require(not services.overlaps(), f"two sites' lines overlap: {services.overlaps()}")
+
+
+def move_to(cluster, services, story, holder, target):
+    """The service is stopped, the holder gives the ticket back, and the target acquires it, in one command."""
+    services.kill(holder)
+    require(services.run(holder, "stop") == 0, "the service does not stop")
+    story.tell(f"what follows the ticket at {holder.address} is stopped, and the service with it, as its unit does")
     story.booth(cluster, "move", "-w", TICKET.decode(), target.address)
     require(wait_for(lambda: cluster.shown_by_all() == target.address, PATIENCE), "the move failed")
     list_all(cluster, story)
+    runs_at(services, story, target)
 
 
-def show(cluster, story):
+def show(cluster, services, story):
     one, two, _ = cluster.members
     for member in cluster.members:
         member.start(cluster.program, cluster.conf)
@@ -75,6 +98,9 @@ def show(cluster, story):
     started, name = now(), TICKET.decode()
     abstention = cluster.times.abstention()
     story.tell(f"each has no record yet, and answers no round for {abstention:.3f} s after its first start")
+    for site in (one, two):
+        services.follow(site)
+        story.tell(f"booth-follow has the service of {site.address} follow {name}")
     time.sleep(max(0, started + abstention + 0.05 - now()))
 
     story.booth(cluster, "grant", name)
@@ -82,40 +108,53 @@ def show(cluster, story):
     record = one.record()
     story.tell(f"{one.address} holds {name}, until {record.until - story.started:.2f} s")
     list_all(cluster, story)
+    runs_at(services, story, one)
 
     require(wait_for(lambda: one.record().until != record.until, PATIENCE), "the lease was not renewed")
     until = one.record().until
     story.tell(f"{one.address} renewed its lease, until {until - story.started:.2f} s")
+    # (so long that a list tells it)
+    time.sleep(SECONDS_TO_SERVE)
     one.kill()
     story.tell(f"{one.address} is killed (kill -9)")
     taken = wait_for(lambda: two.record() and two.record().until, until - now() + PATIENCE)
     require(taken, "nobody took over")
+    require(not services.is_up(one), f"the service runs on at {one.address}")
+    ended = until - max(spell.last for spell in services.spells())
+    story.tell(f"the service at {one.address} was stopped {ended:.2f} s before the lease's end")
     story.tell(f"{two.address} took {name} over, {now() - until:.2f} s after the old lease's end")
+    runs_at(services, story, two)
 
     one.start(cluster.program, cluster.conf)
     require(wait_for(lambda: cluster.shown_by_all() == two.address, PATIENCE), "the members differ")
     story.tell(f"{one.address} is back and holds nothing")
     list_all(cluster, story)
     restart_all(cluster, story, two)
-    move_to(cluster, story, one)
+    move_to(cluster, services, story, two, one)
+    services.kill(one)
+    require(services.run(one, "stop") == 0, "the service does not stop")
     story.booth(cluster, "revoke", name)
     require(wait_for(lambda: not any(m.shown() for m in cluster.members), PATIENCE), "an owner is listed")
     wrong = cluster.watch.wrong
     require(not wrong, f"two members held {name} at one moment: {wrong}")
     require(cluster.watch.is_looking(), f"nobody looked on after {cluster.watch.looks} looks")
     story.tell(f"at none of {cluster.watch.looks} moments did two members hold {name}, by their record files")
+    story.tell("no two sites' services ever overlapped, by their lines in one file:")
+    tell_spells(services, story)
 
 
 def main():
     end_by_signals()
     program = built_program() or sys.exit("demo.py: boothd is not built: run make build")
     client = built_program("booth") or sys.exit("demo.py: booth is not built: run make build")
+    follower = built_program("booth-follow") or sys.exit("demo.py: booth-follow is not built: run make build")
     with tempfile.TemporaryDirectory(prefix="booth-demo-") as folder:
-        with Cluster(program, folder, ADDRESSES, times=Times(expire=6), client=client) as cluster:
+        made = Cluster(program, folder, ADDRESSES, times=Times(expire=9), client=client)
+        with made as cluster, Services(follower, cluster) as services:
             with open(cluster.conf, encoding="ascii") as file:
                 print("\n".join("    " + line for line in file.read().splitlines()), flush=True)
             try:
-                show(cluster, Story())
+                show(cluster, services, Story())
             except NotServing as why:
                 sys.exit(f"demo.py: {why}")
 

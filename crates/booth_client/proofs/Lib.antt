@@ -5,3 +5,5 @@ mod CivilLemmas
 mod FieldLemmas
 mod LineLemmas
 mod ReportLemmas
+mod PartLemmas
+mod ListLemmas

@@ -12,7 +12,7 @@ use Rattle.booth_host.proofs.PastLemmas.{no_entry, one_more, some_of, some_joine
 use Rattle.booth_client.specs.Waiting.{Pair, calls_of, all_calls, IsRow, EndsBy, IsSilent, IsLate, most}
 use Rattle.booth_client.specs.declared.order.Asking.{Asking}
 
-calls-push : (ps : List Pair) (p : Pair) → all_calls (ps ++ p ∷ []) ≡ all_calls ps ++ calls_of p
+pub calls-push : (ps : List Pair) (p : Pair) → all_calls (ps ++ p ∷ []) ≡ all_calls ps ++ calls_of p
 unfolding all_calls
 calls-push [] p = append-nil (calls_of p)
 calls-push (q ∷ ps) p = ap (λ es. calls_of q ++ es) (calls-push ps p) ∙ sym (append_assoc (calls_of q) (all_calls ps) (calls_of p))
@@ -23,7 +23,7 @@ unfolding all_calls
 no_pair P = some_of (IsRow P 0) no_entry (record { pairs = []; number = refl; whole = refl; each = All-nil P })
 
 -- the two calls of a pair
-abbrev pair_of : Result Arrival Failed → List ℕ → ℕ → Pair
+abbrev pub pair_of : Result Arrival Failed → List ℕ → ℕ → Pair
 pair_of answer bytes reading = record { answer = answer; bytes = bytes; reading = reading }
 
 -- a row and one more pair

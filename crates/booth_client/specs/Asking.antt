@@ -1,5 +1,5 @@
 -- What a client asks, of whom, and the bytes that ask it.
-use Rattle.std.specs.Prelude.{ℕ, ◌+◌, ◌%◌, ◌^◌, ◌||◌, Bool, false, List, [], Option, Some, None, option_map, if◌then◌else◌}
+use Rattle.std.specs.Prelude.{ℕ, ◌+◌, ◌%◌, ◌^◌, ◌||◌, Bool, true, false, List, [], Option, Some, None, option_map, if◌then◌else◌}
 use Rattle.std.specs.List.{find}
 use Rattle.booth_base.specs.declared.address.MemberId.{MemberId}
 use Rattle.booth_base.specs.declared.address.Peer.{Peer as Place}
@@ -29,6 +29,11 @@ cmd_of (orders.SetAttribute ticket name value) = ASet
 cmd_of (orders.GetAttribute ticket name) = AGet
 cmd_of (orders.DeleteAttribute ticket name) = ADel
 cmd_of (orders.ListAttributes ticket) = ALst
+
+-- it is for the list of tickets, which comes in parts
+abbrev pub is_list : Order → Bool
+is_list orders.List = true
+is_list order = false
 
 abbrev pub no_options : Options
 no_options = record { immediate = false; wait = false; commit = false }

@@ -6,5 +6,7 @@ pub mod Civil
 pub mod Fields
 pub mod Forms
 pub mod Report
+pub mod Parts
+pub mod Listing
 pub use Rattle.booth_host.specs.Past
 pub use Rattle.booth_host.specs.Causes

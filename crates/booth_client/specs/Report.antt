@@ -1,12 +1,13 @@
 -- What is printed of a reply.
 use Rattle.std.specs.Prelude.{◌≡◌, ◌++◌, ◌⊎◌, ◌==◌, ℕ, Bool, true, false, List, [], Ok, codes, if◌then◌else◌}
 use Rattle.booth_wire.specs.declared.codes.results.TheConstants.{ASYN}
-use Rattle.booth_wire.specs.PlainMessage.{PlainMessage, Content, Ticket, Attr, Text}
+use Rattle.booth_wire.specs.PlainMessage.{PlainMessage, Content, Ticket, Attr}
 use Rattle.booth_wire.specs.Reading.{decoded}
 use Rattle.booth_client.specs.declared.lines.Form.{Form}
 use Rattle.booth_client.specs.declared.lines.Form.TheVariants as forms
 use Rattle.booth_client.specs.declared.order.Order.{Order}
 use Rattle.booth_client.specs.declared.order.Order.TheVariants as orders
+use Rattle.booth_client.specs.Replies.{text_in}
 use Rattle.booth_client.specs.Forms.{IsOf, lines_of, shown_from}
 
 -- the text of a form is shown line by line, and another as it is
@@ -15,11 +16,7 @@ IsShown form text shown =
     ((of : IsOf form text) × (shown ≡ shown_from form 0 (lines_of of.body)))
     ⊎ ((IsOf form text → ⊥) × (shown ≡ text))
 
--- a reply's text, its ticket, and its attribute's value
-abbrev pub text_in : Content → List ℕ
-text_in (Text text) = text
-text_in content = []
-
+-- a reply's ticket, and its attribute's value
 abbrev pub ticket_in : Content → List ℕ
 ticket_in (Ticket part) = part.ticket
 ticket_in content = []
@@ -45,9 +42,13 @@ is_silent (orders.SetAttribute ticket name value) = true
 is_silent (orders.DeleteAttribute ticket name) = true
 is_silent order = false
 
+-- what is printed of a list, all of whose text this is
+abbrev pub IsListReport : List ℕ → List ℕ → Type 0
+IsListReport text report = IsShown forms.List text report
+
 -- What is printed of a reply to this order. A value is a line, and attributes are as the daemon lists them.
 abbrev pub IsReport : Order → PlainMessage → List ℕ → Type 0
-IsReport orders.List m report = IsShown forms.List (text_in m.content) report
+IsReport orders.List m report = IsListReport (text_in m.content) report
 IsReport orders.Peers m report = IsShown forms.Peers (text_in m.content) report
 IsReport (orders.Grant ticket options) m report = report ≡ grant_text m.head.result (ticket_in m.content)
 IsReport (orders.Revoke ticket options) m report = report ≡ revoke_text m.head.result (ticket_in m.content)

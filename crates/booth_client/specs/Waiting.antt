@@ -3,6 +3,7 @@ use Rattle.std.specs.Prelude.{◌≡◌, ◌<◌, ◌≤◌, ◌+◌, ◌^◌, �
 use Rattle.std.specs.Prelude.{Option, Some, None, Result, Ok, if◌then◌else◌}
 use Rattle.std.specs.List.{All}
 use Rattle.booth_wire.specs.declared.codes.results.TheConstants.{ASYN}
+use Rattle.booth_wire.specs.PlainMessage.{PlainMessage}
 use Rattle.booth_host.specs.declared.host.Arrival.{Arrival}
 use Rattle.booth_host.specs.declared.host.Arrival.TheVariants.{Datagram}
 use Rattle.booth_host.specs.declared.host.Failed.{Failed}
@@ -14,7 +15,7 @@ use Rattle.booth_client.specs.declared.wait.Heard.{Heard}
 use Rattle.booth_client.specs.declared.wait.Heard.TheVariants as heard
 use Rattle.booth_client.specs.declared.wait.Waited.{Waited}
 use Rattle.booth_client.specs.declared.wait.Waited.TheVariants.{Came, Over}
-use Rattle.booth_client.specs.Replies.{reply_in}
+use Rattle.booth_client.specs.Replies.{message_in, reply_in}
 
 -- ---- pairs
 
@@ -54,6 +55,14 @@ pub record EndsBy (P Q : Pair → Type 0) (limit : ℕ) (entries : List Entry) :
 abbrev pub brought : Asking → ℕ → Result Arrival Failed → List ℕ → Option Reply
 brought asking start (Ok (Datagram peer)) bytes = reply_in asking start bytes
 brought asking start answer bytes = None
+
+-- the authentic message that a datagram's bytes spell
+abbrev pub message_brought : Asking → ℕ → Result Arrival Failed → List ℕ → Option PlainMessage
+message_brought asking start (Ok (Datagram peer)) bytes = message_in asking start bytes
+message_brought asking start answer bytes = None
+
+abbrev pub message_at : Asking → ℕ → Pair → Option PlainMessage
+message_at asking start p = message_brought asking start p.answer p.bytes
 
 abbrev pub reply_at : Asking → ℕ → Pair → Option Reply
 reply_at asking start p = brought asking start p.answer p.bytes

@@ -1,7 +1,13 @@
-//! What holds of every reply.
+//! What holds of every reply, and of every list.
+ghost use Rattle.booth_client.specs.Parts.{ListsAreOne};
 ghost use Rattle.booth_client.specs.Replies.{RepliesAreAuthentic};
 
 /// Just the bytes that meet five conditions are a reply.
 pub fn replies_are_authentic()
     ensures { RepliesAreAuthentic }
+{}
+
+/// A list that is whole has one text, and stays whole with it.
+pub fn lists_are_one()
+    ensures { ListsAreOne }
 {}

@@ -1,6 +1,6 @@
 //! What a client asks for, and of whom.
 ghost use Rattle.std.specs.Prelude.{◌≡◌, ◌≤◌};
-ghost use Rattle.booth_client.specs.Asking.{bit, cmd_of, find_peer, is_waiting, options_of, order_options};
+ghost use Rattle.booth_client.specs.Asking.{bit, cmd_of, find_peer, is_list, is_waiting, options_of, order_options};
 ghost use Rattle.booth_client.specs.Report.{is_silent};
 
 use booth_auth::Key;
@@ -107,6 +107,18 @@ impl Order {
             Order::GetAttribute { .. } => Cmd::AGet,
             Order::DeleteAttribute { .. } => Cmd::ADel,
             Order::ListAttributes(_) => Cmd::ALst,
+        }
+    }
+
+    /// Whether it is for the list of tickets, which comes in parts.
+    pub fn is_list(&self) -> bool
+        ensures { result ≡ is_list self.now }
+    {
+        match self {
+            Order::List => true,
+            Order::Peers | Order::Grant(_, _) | Order::Revoke(_, _) => false,
+            Order::SetAttribute { .. } | Order::GetAttribute { .. } => false,
+            Order::DeleteAttribute { .. } | Order::ListAttributes(_) => false,
         }
     }
 

@@ -1,7 +1,7 @@
 //! Which datagrams are replies to a request.
-ghost use Rattle.std.specs.Prelude.{◌≡◌};
-ghost use Rattle.booth_wire.specs.PlainMessage.{content_of, plain_of};
-ghost use Rattle.booth_client.specs.Replies.{answers, is_answer, leader_in, reply_in};
+ghost use Rattle.std.specs.Prelude.{◌≡◌, true, option_map, IfSome};
+ghost use Rattle.booth_wire.specs.PlainMessage.{content_of, has_text, plain_of};
+ghost use Rattle.booth_client.specs.Replies.{answers, is_answer, leader_in, message_in, reply_in, text_in};
 
 use crate::request::number_of;
 use crate::{Asking, Order};
@@ -43,10 +43,21 @@ fn leader_in(body: &Body<'_>) -> MemberId
     }
 }
 
-/// The reply that these bytes are to the request that was sent at `start`, if they are one.
-#[tactic(auto, unfolding(crate::specs::Replies::reply_in))]
-pub(crate) fn reply_in(asking: &Asking, start: u64, bytes: &[u8]) -> Option<Reply>
-    ensures { result ≡ reply_in asking.now start bytes.now }
+/// The text that is told, or none.
+pub(crate) fn text_in<'a>(body: &Body<'a>) -> &'a [u8]
+    ensures { result.now ≡ text_in (content_of body.now) }
+{
+    match body {
+        Body::Text(text) => *text,
+        Body::Bare | Body::Ticket(_) | Body::Attr(_) => &[],
+    }
+}
+
+/// The authentic message that these bytes spell, to the request that was sent at `start`, if they do.
+#[tactic(auto, unfolding(crate::specs::Replies::message_in))]
+pub(crate) fn message_in<'a>(asking: &Asking, start: u64, bytes: &'a [u8]) -> Option<Message<'a>>
+    ensures same { option_map plain_of result ≡ message_in asking.now start bytes.now }
+    ensures text { IfSome result (λ m. has_text (content_of m.body) ≡ true) }
 {
     match decode(bytes) {
         Ok(message) => {
@@ -56,11 +67,22 @@ pub(crate) fn reply_in(asking: &Asking, start: u64, bytes: &[u8]) -> Option<Repl
             if !is_answer(asking, start, &message) {
                 return None;
             }
-            Some(Reply {
-                result: message.head.result,
-                leader: leader_in(&message.body),
-            })
+            Some(message)
         }
         Err(_) => None,
+    }
+}
+
+/// The reply that these bytes are to the request that was sent at `start`, if they are one.
+#[tactic(auto, unfolding(crate::specs::Replies::reply_in))]
+pub(crate) fn reply_in(asking: &Asking, start: u64, bytes: &[u8]) -> Option<Reply>
+    ensures { result ≡ reply_in asking.now start bytes.now }
+{
+    match message_in(asking, start, bytes) {
+        Some(message) => Some(Reply {
+            result: message.head.result,
+            leader: leader_in(&message.body),
+        }),
+        None => None,
     }
 }

@@ -1,23 +1,16 @@
 //! What is printed of a reply.
 ghost use Rattle.std.specs.Prelude.{◌≡◌, ◌++◌, ℕ, List, codes, IfOk, MatchOption};
 ghost use Rattle.booth_wire.specs.PlainMessage.{content_of, plain_of};
+ghost use Rattle.booth_client.specs.Replies.{text_in};
 ghost use Rattle.booth_client.specs.Talk.{IsReplyIn};
-ghost use Rattle.booth_client.specs.Report.{IsReport, IsReportOf, IsShown, grant_text, revoke_text, text_in, ticket_in, value_in};
+ghost use Rattle.booth_client.specs.Report.{IsListReport, IsReport, IsReportOf, IsShown, grant_text, revoke_text, ticket_in, value_in};
 
 use crate::lines::{Form, shown_lines};
+use crate::reply::text_in;
 use crate::{Asking, Order, Reply};
 use booth_base::ByteText;
 use booth_wire::{Body, Message, decode, results};
 use std::alloc::{AllocError, Global};
-
-fn text_in<'a>(body: &Body<'a>) -> &'a [u8]
-    ensures { result.now ≡ text_in (content_of body.now) }
-{
-    match body {
-        Body::Text(text) => *text,
-        Body::Bare | Body::Ticket(_) | Body::Attr(_) => &[],
-    }
-}
 
 fn ticket_in<'m>(body: &'m Body<'_>) -> &'m [u8]
     ensures { result.now ≡ ticket_in (content_of body.now) }
@@ -91,6 +84,13 @@ fn revoke_text(alloc: Global, code: u32, ticket: &[u8]) -> Result<ByteText, Allo
     }
 }
 
+/// What is printed of a list whose text this is: it is shown line by line, with dates, and a text that is none as it is.
+pub(crate) fn list_report(alloc: Global, text: &[u8]) -> Result<ByteText, AllocError>
+    ensures { IfOk result (λ report. IsListReport text.now report) }
+{
+    shown(alloc, Form::List, text)
+}
+
 /// What is printed of a reply to this order that says that it was done or begun.
 ///
 /// A list of tickets or members is shown line by line, with dates. A text that is none is printed as it is, and so is
@@ -99,7 +99,7 @@ pub fn report(alloc: Global, order: &Order, reply: &Message<'_>) -> Result<ByteT
     ensures { IfOk result (λ report. IsReport order.now (plain_of reply.now) report) }
 {
     match order {
-        Order::List => shown(alloc, Form::List, text_in(&reply.body)),
+        Order::List => list_report(alloc, text_in(&reply.body)),
         Order::Peers => shown(alloc, Form::Peers, text_in(&reply.body)),
         Order::Grant(_, _) => grant_text(alloc, reply.head.result, ticket_in(&reply.body)),
         Order::Revoke(_, _) => revoke_text(alloc, reply.head.result, ticket_in(&reply.body)),

@@ -1,7 +1,8 @@
 //! A request and the wait for its answer, and the one redirection of a revoke.
-ghost use Rattle.std.specs.Prelude.{◌≡◌, ◌≤◌, [], IfOk, Ok};
+ghost use Rattle.std.specs.Prelude.{◌≡◌, ◌≤◌, [], false, IfOk, Ok};
 ghost use Rattle.booth_host.specs.Past.{GrewSome};
 ghost use Rattle.booth_host.specs.Causes.{HasCause};
+ghost use Rattle.booth_client.specs.Asking.{is_list};
 ghost use Rattle.booth_client.specs.Talk.{AsksOn, GoesOn, IsAnswerHeld, IsAsking, IsHeld, IsTalk, IsWait, is_revoke, redirected};
 
 use crate::request::put_request;
@@ -135,7 +136,8 @@ fn ask_on<H: Host>(
 /// Sends the request to this peer, at this reading, and waits for its answer.
 ///
 /// A revoke that is answered by the name of another owner is sent on to that member, once, as a new request. The
-/// bytes of the last answer are then in the room's datagram. It fails only where a request could not be sent.
+/// bytes of the last answer are then in the room's datagram. It fails only where a request could not be sent. A list,
+/// which comes in parts, is asked for by `talk_list`.
 pub fn talk<H: Host>(
     asking: &Asking,
     to: &Peer,
@@ -143,6 +145,7 @@ pub fn talk<H: Host>(
     room: &mut Room,
     host: &mut H,
 ) -> Result<Waited, Failed>
+    requires { is_list asking.now.order ≡ false }
     ensures past { GrewSome (IsTalk asking.now to.now start result room.new.datagram)
         (H.past host.old) (H.past host.new) }
     ensures held { IsAnswerHeld asking.now result room.new.datagram }

@@ -10,7 +10,7 @@ use booth_host::{Arrival, Datagram, Failed, Host};
 use booth_wire::results;
 
 /// The most pairs of a wait.
-const MOST: u64 = 1 << 40;
+pub(crate) const MOST: u64 = 1 << 40;
 
 /// How long a client waits for the first reply, in ms.
 const PATIENCE: u64 = 5_000;
@@ -42,8 +42,8 @@ fn brought(
     }
 }
 
-// Whether a reading is past the wait for the first reply.
-fn is_late(start: u64, reading: u64) -> bool
+/// Whether a reading is past the wait for the first reply.
+pub(crate) fn is_late(start: u64, reading: u64) -> bool
     ensures { result ≡ nat_lt (start + 5000) reading }
 {
     match start.checked_add(PATIENCE) {

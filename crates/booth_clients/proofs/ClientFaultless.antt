@@ -15,8 +15,11 @@ use Rattle.booth_client.specs.declared.order.Order.{Order}
 use Rattle.booth_client.specs.declared.reply.Reply.{Reply}
 use Rattle.booth_client.specs.declared.wait.Waited.{Waited}
 use Rattle.booth_client.specs.declared.wait.Waited.TheVariants.{Came, Over}
-use Rattle.booth_client.specs.Asking.{request_bytes}
-use Rattle.booth_client.specs.Report.{is_silent}
+use Rattle.booth_client.specs.declared.list_wait.Listed.{Listed}
+use Rattle.booth_client.specs.declared.list_wait.Listed.TheVariants as lists
+use Rattle.booth_client.specs.Asking.{is_list, request_bytes}
+use Rattle.booth_client.specs.Listing.{IsListTalk}
+use Rattle.booth_client.specs.Report.{IsListReport, IsReportOf, is_silent}
 use Rattle.booth_client.specs.Talk.{AsksOn, IsAsking, IsTalk, Rests, redirected}
 use Rattle.booth_words.specs.declared.asking.ClientWords.{ClientWords}
 use Rattle.booth_words.specs.declared.command.Verb.{Verb}
@@ -24,7 +27,7 @@ use Rattle.booth_stages.specs.declared.outcome.Outcome.{Outcome}
 use Rattle.booth_stages.specs.declared.outcome.Outcome.TheVariants as outs
 use Rattle.booth_stages.specs.Configuration.{IsUnread}
 use Rattle.booth_stages.specs.Keys.{IsKeyless}
-use Rattle.booth_clients.specs.Client.{EndsWith, Follows, IsClientLog, IsPlainEnd, IsPrinted, IsReported, IsSocketless, IsTold, IsUnkeyedClient, cluster_calls}
+use Rattle.booth_clients.specs.Client.{EndsWith, Follows, IsClientLog, IsListTold, IsPlainEnd, IsPrinted, IsReported, IsSocketless, IsTalkTold, IsUnkeyedClient, ListEndsWith, cluster_calls}
 use Rattle.booth_clients.specs.Client.{Unread, Unkeyed, Asked, Socketless, Conversing}
 use Rattle.booth_clients.specs.Client.{is_good, refused_text}
 use Rattle.booth_clients.specs.ClientRun.{IsTalked, IsUnhindered}
@@ -100,32 +103,49 @@ module _ (verb : Verb) (conf : List ℕ) (entries : List Entry) (free : IsUnhind
 
   -- ---- how it ends
 
-  printed : (order : Order) (bytes : List ℕ) (outcome : Outcome) (said : List ℕ) (part : List Entry) → AreAmong part entries →
-      IsPrinted order bytes outcome said part → IsTalked verb outcome
-  printed order bytes outs.Report said part all r = tt
-  printed order bytes outs.OutOfMemory said part all r = tt
-  printed order bytes outs.PrintFault said part all r = absurd (free.printed r.1 r.3 (only (Out r.1 (Err r.3)) part r.4 all))
-  printed order bytes outcome said part all r = absurd r
+  printed : (Q : List ℕ → Type 0) (outcome : Outcome) (said : List ℕ) (part : List Entry) → AreAmong part entries →
+      IsPrinted Q outcome said part → IsTalked verb outcome
+  printed Q outs.Report said part all r = tt
+  printed Q outs.OutOfMemory said part all r = tt
+  printed Q outs.PrintFault said part all r = absurd (free.printed r.1 r.3 (only (Out r.1 (Err r.3)) part r.4 all))
+  printed Q outcome said part all r = absurd r
 
   reported : (order : Order) (bytes : List ℕ) (outcome : Outcome) (said : List ℕ) (part : List Entry) (silent : Bool) → AreAmong part entries →
-      MatchBool silent (IsPlainEnd outcome outs.Report said [] part) (IsPrinted order bytes outcome said part) → IsTalked verb outcome
+      MatchBool silent (IsPlainEnd outcome outs.Report said [] part) (IsPrinted (IsReportOf order bytes) outcome said part) → IsTalked verb outcome
   reported order bytes outcome said part true all r = subst (IsTalked verb) (sym r.is) tt
-  reported order bytes outcome said part false all r = printed order bytes outcome said part all r
+  reported order bytes outcome said part false all r = printed (IsReportOf order bytes) outcome said part all r
 
   ended : (order : Order) (reply : Reply) (bytes : List ℕ) (outcome : Outcome) (said : List ℕ) (part : List Entry) (good : Bool) → AreAmong part entries →
       MatchBool good (IsReported order bytes outcome said part) (IsPlainEnd outcome (outs.Refused reply.result) said (refused_text reply.result) part) → IsTalked verb outcome
   ended order reply bytes outcome said part true all e = reported order bytes outcome said part (is_silent order) all e
   ended order reply bytes outcome said part false all e = subst (IsTalked verb) (sym e.is) tt
 
-  told : (asking : Asking) (to : Peer) (start : ℕ) (outcome : Outcome) (said : List ℕ) (part : List Entry) → AreAmong part entries →
-      IsTold asking to start outcome said part → IsTalked verb outcome
-  told asking to start outcome said part all t = go t.last t.talk t.end
+  talk_told : (asking : Asking) (to : Peer) (start : ℕ) (outcome : Outcome) (said : List ℕ) (part : List Entry) → AreAmong part entries →
+      IsTalkTold asking to start outcome said part → IsTalked verb outcome
+  talk_told asking to start outcome said part all t = go t.last t.talk t.end
     where
       go : (last : Result Waited Failed) → IsTalk asking to start last t.bytes t.early → EndsWith asking.order last t.bytes outcome said t.late → IsTalked verb outcome
       go (Ok (Came reply reading)) talk end =
           ended asking.order reply t.bytes outcome said t.late (is_good reply) (right_among t.early t.late entries part t.whole all) end
       go (Ok Over) talk end = subst (IsTalked verb) (sym end.is) tt
       go (Err failed) talk end = absurd (untalked asking to start failed t.bytes t.early (left_among t.early t.late entries part t.whole all) talk)
+
+  list_told : (asking : Asking) (to : Peer) (start : ℕ) (outcome : Outcome) (said : List ℕ) (part : List Entry) → AreAmong part entries →
+      IsListTold asking to start outcome said part → IsTalked verb outcome
+  list_told asking to start outcome said part all t = go t.last t.talk t.end
+    where
+      go : (last : Result Listed Failed) → IsListTalk asking to start last t.text t.early → ListEndsWith last t.text outcome said t.late → IsTalked verb outcome
+      go (Ok lists.Whole) talk end = printed (IsListReport t.text) outcome said t.late (right_among t.early t.late entries part t.whole all) end
+      go (Ok (lists.Refused result)) talk end = subst (IsTalked verb) (sym end.is) tt
+      go (Ok lists.Over) talk end = subst (IsTalked verb) (sym end.is) tt
+      go (Err failed) talk end =
+          absurd (free.sent to (request_bytes asking start) failed
+          (only (Send to (request_bytes asking start) (Err failed)) t.early talk (left_among t.early t.late entries part t.whole all)))
+
+  told : (asking : Asking) (to : Peer) (start : ℕ) (outcome : Outcome) (said : List ℕ) (part : List Entry) (list : Bool) → AreAmong part entries →
+      MatchBool list (IsListTold asking to start outcome said part) (IsTalkTold asking to start outcome said part) → IsTalked verb outcome
+  told asking to start outcome said part true all t = list_told asking to start outcome said part all t
+  told asking to start outcome said part false all t = talk_told asking to start outcome said part all t
 
   pub socketless : (outcome : Outcome) (said : List ℕ) (part : List Entry) → AreAmong part entries → IsSocketless outcome said part → IsTalked verb outcome
   socketless outs.OutOfMemory said part all s = tt
@@ -136,7 +156,7 @@ module _ (verb : Verb) (conf : List ℕ) (entries : List Entry) (free : IsUnhind
       Follows asked config key outcome said part → IsTalked verb outcome
   follows asked config key outcome said part all (Socketless s) = socketless outcome said part all s
   follows asked config key outcome said part all (Conversing c) =
-      told _ c.to c.start outcome said c.rest
+      told _ c.to c.start outcome said c.rest (is_list asked.order)
       (right_among (Open None 0 [] [] (Ok tt) ∷ Now c.start ∷ []) c.rest entries part c.whole all) c.told
 
   pub logged : (asked : ClientWords) (outcome : Outcome) (said : List ℕ) (part : List Entry) → asked.conf ≡ conf → AreAmong part entries → IsClientLog asked outcome said part → IsTalked verb outcome

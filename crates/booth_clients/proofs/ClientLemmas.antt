@@ -1,5 +1,5 @@
 -- A client's calls from their parts.
-use Rattle.std.specs.Prelude.{Option, Some, None, Result, Ok, Err, codes}
+use Rattle.std.specs.Prelude.{Option, Some, None, Result, Ok, Err, MatchBool, codes}
 use Rattle.std.specs.List.{find, list_any}
 use Rattle.std.proofs.Common.{◌≡◌, ◌∙◌, ◌++◌, ℕ, Bool, true, false, List, [], ◌∷◌, append-nil, refl, sym, ap, subst, inl, inr}
 use Rattle.booth_base.specs.declared.address.Peer.{Peer}
@@ -13,6 +13,9 @@ use Rattle.booth_host.specs.Past.{GrewBy, GrewSome}
 use Rattle.booth_host.proofs.PastLemmas.{no_entry, one_more, some_joined, some_of, some_weaker, then_some}
 use Rattle.booth_client.specs.declared.order.Asking.{Asking}
 use Rattle.booth_client.specs.declared.wait.Waited.{Waited}
+use Rattle.booth_client.specs.declared.list_wait.Listed.{Listed}
+use Rattle.booth_client.specs.Asking.{is_list}
+use Rattle.booth_client.specs.Listing.{IsListTalk}
 use Rattle.booth_client.specs.Talk.{IsTalk}
 use Rattle.booth_stages.specs.declared.outcome.Ended.{Ended}
 use Rattle.booth_stages.specs.declared.outcome.Outcome.{Outcome}
@@ -21,7 +24,7 @@ use Rattle.booth_words.specs.declared.asking.ClientWords.{ClientWords}
 use Rattle.booth_clients.specs.declared.client.Cluster.{Cluster}
 use Rattle.booth_stages.specs.Configuration.{IsConfigRead, IsUnreadOutcome}
 use Rattle.booth_stages.specs.Keys.{IsKeyRead, HasKey, IsKeylessOutcome, key_calls}
-use Rattle.booth_clients.specs.Client.{IsClusterRead, IsKeyed, IsTold, IsClientLog, EndsWith, Follows, Conversing, Socketless, destination}
+use Rattle.booth_clients.specs.Client.{IsClusterRead, IsKeyed, IsListTold, IsTalkTold, IsTold, IsClientLog, EndsWith, ListEndsWith, Follows, Conversing, Socketless, destination}
 use Rattle.booth_clients.specs.Client.{Unread, Unkeyed, Asked}
 use Rattle.booth_clients.specs.ClientRun.{FitsClientWords, IsAnswered, IsClientMade, IsClientRun, Talked, Unasked}
 use Rattle.booth_words.specs.Asking.{Asks, AsksClient, IsClient, IsUntaken, IsUntakenFor}
@@ -29,7 +32,7 @@ use Rattle.booth_stages.specs.Unasked.{IsTold as IsTold_, IsToldOutcome, IsUnask
 use Rattle.booth_stages.specs.Texts.{IsText, out_of_memory_text}
 use Rattle.booth_words.specs.declared.asking.Asked.TheVariants.{Client}
 use Rattle.booth_words.specs.declared.program.Program.{Program}
-use Rattle.booth_words.specs.declared.program.Program.TheVariants.{Boothd}
+use Rattle.booth_words.specs.declared.program.Program.TheVariants.{Boothd, BoothFollow}
 use Rattle.clap.specs.declared.error.kind.ErrorKind.{ErrorKind}
 use Rattle.booth_stages.proofs.UsageLemmas.{no_memory, unasked_of}
 use Rattle.booth_words.proofs.AskingLemmas.{untaken_of}
@@ -106,9 +109,9 @@ not_read path ended read = some_weaker (IsConfigRead path (Err ended)) (IsCluste
 
 pub told : (asking : Asking) (to : Peer) (start : ℕ) (last : Result Waited Failed) (bytes held : List ℕ) (outcome : Outcome) (said : List ℕ) {a b c : Option (List Entry)} →
     held ≡ bytes → GrewSome (IsTalk asking to start last bytes) a b → GrewSome (EndsWith asking.order last held outcome said) b c →
-    GrewSome (IsTold asking to start outcome said) a c
+    GrewSome (IsTalkTold asking to start outcome said) a c
 told asking to start last bytes held outcome said same talk end =
-    some_joined (IsTalk asking to start last bytes) (EndsWith asking.order last held outcome said) (IsTold asking to start outcome said)
+    some_joined (IsTalk asking to start last bytes) (EndsWith asking.order last held outcome said) (IsTalkTold asking to start outcome said)
     (λ xs ys h k. record {
       last = last;
       bytes = bytes;
@@ -120,9 +123,9 @@ told asking to start last bytes held outcome said same talk end =
     }) talk end
 
 pub untold : (asking : Asking) (to : Peer) (start : ℕ) (failed : Failed) (bytes said : List ℕ) {a b : Option (List Entry)} → said ≡ codes "cannot send" →
-    GrewSome (IsTalk asking to start (Err failed) bytes) a b → GrewSome (IsTold asking to start outs.SendFault said) a b
+    GrewSome (IsTalk asking to start (Err failed) bytes) a b → GrewSome (IsTalkTold asking to start outs.SendFault said) a b
 untold asking to start failed bytes said is talk =
-    some_weaker (IsTalk asking to start (Err failed) bytes) (IsTold asking to start outs.SendFault said)
+    some_weaker (IsTalk asking to start (Err failed) bytes) (IsTalkTold asking to start outs.SendFault said)
     (λ xs h. record {
       last = Err failed;
       bytes = bytes;
@@ -132,6 +135,43 @@ untold asking to start failed bytes said is talk =
       talk = h;
       end = record { is = refl; told = is; none = refl };
     }) talk
+
+-- ---- a list
+
+pub list_told : (asking : Asking) (to : Peer) (start : ℕ) (last : Result Listed Failed) (text : List ℕ) (outcome : Outcome) (said : List ℕ) {a b c : Option (List Entry)} →
+    GrewSome (IsListTalk asking to start last text) a b → GrewSome (ListEndsWith last text outcome said) b c →
+    GrewSome (IsListTold asking to start outcome said) a c
+list_told asking to start last text outcome said talk end =
+    some_joined (IsListTalk asking to start last text) (ListEndsWith last text outcome said) (IsListTold asking to start outcome said)
+    (λ xs ys h k. record { last = last; text = text; early = xs; late = ys; whole = refl; talk = h; end = k }) talk end
+
+pub list_untold : (asking : Asking) (to : Peer) (start : ℕ) (failed : Failed) (text said : List ℕ) {a b : Option (List Entry)} → said ≡ codes "cannot send" →
+    GrewSome (IsListTalk asking to start (Err failed) text) a b → GrewSome (IsListTold asking to start outs.SendFault said) a b
+list_untold asking to start failed text said is talk =
+    some_weaker (IsListTalk asking to start (Err failed) text) (IsListTold asking to start outs.SendFault said)
+    (λ xs h. record {
+      last = Err failed;
+      text = text;
+      early = xs;
+      late = [];
+      whole = sym (append-nil xs);
+      talk = h;
+      end = record { is = refl; told = is; none = refl };
+    }) talk
+
+-- ---- either
+
+module _ (asking : Asking) (to : Peer) (start : ℕ) (outcome : Outcome) (said : List ℕ) where
+  abbrev Told : Bool → List Entry → Type 0
+  Told list entries = MatchBool list (IsListTold asking to start outcome said entries) (IsTalkTold asking to start outcome said entries)
+
+  pub told_list : {a b : Option (List Entry)} → is_list asking.order ≡ true → GrewSome (IsListTold asking to start outcome said) a b →
+      GrewSome (IsTold asking to start outcome said) a b
+  told_list is told = some_weaker (IsListTold asking to start outcome said) (IsTold asking to start outcome said) (λ es h. subst (λ l. Told l es) (sym is) h) told
+
+  pub told_talk : {a b : Option (List Entry)} → is_list asking.order ≡ false → GrewSome (IsTalkTold asking to start outcome said) a b →
+      GrewSome (IsTold asking to start outcome said) a b
+  told_talk is told = some_weaker (IsTalkTold asking to start outcome said) (IsTold asking to start outcome said) (λ es h. subst (λ l. Told l es) (sym is) h) told
 
 -- ---- the socket and the clock
 
@@ -222,3 +262,7 @@ client_run_of program words outcome said body last =
 -- a client's words ask for no daemon, and for no look at a lock
 pub no_daemon_asked : (program : Program) → IsClient program → program ≡ Boothd → ⊥
 no_daemon_asked program client is = subst IsClient is client
+
+-- and for no service that follows its ticket
+pub no_follow_asked : (program : Program) → IsClient program → program ≡ BoothFollow → ⊥
+no_follow_asked program client is = subst IsClient is client

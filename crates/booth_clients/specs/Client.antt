@@ -1,5 +1,5 @@
 -- The calls of a client that was asked for, up to where its outcome is decided, and what it then says.
-use Rattle.std.specs.Prelude.{◌≡◌, ◌++◌, ◌⊎◌, ◌||◌, ◌==◌, ℕ, Bool, List, [], ◌∷◌, Option, Some, None, option_map}
+use Rattle.std.specs.Prelude.{◌≡◌, ◌++◌, ◌⊎◌, ◌||◌, ◌==◌, ℕ, Bool, true, false, List, [], ◌∷◌, Option, Some, None, option_map}
 use Rattle.std.specs.Prelude.{Result, Ok, Err, MatchBool, codes, if◌then◌else◌}
 use Rattle.std.specs.Int.{to_be_bytes, w32}
 use Rattle.std.specs.List.{find}
@@ -17,14 +17,21 @@ use Rattle.booth_client.specs.declared.order.Order.{Order}
 use Rattle.booth_client.specs.declared.reply.Reply.{Reply}
 use Rattle.booth_client.specs.declared.wait.Waited.{Waited}
 use Rattle.booth_client.specs.declared.wait.Waited.TheVariants.{Came, Over}
-use Rattle.booth_client.specs.Asking.{peer_at}
+use Rattle.booth_client.specs.declared.list_wait.Listed.{Listed}
+use Rattle.booth_client.specs.declared.list_wait.Listed.TheVariants as listed
+use Rattle.booth_client.specs.declared.list_wait.Listed.TheVariants.{Whole, Refused}
+use Rattle.booth_client.specs.Asking.{is_list, peer_at}
+use Rattle.booth_client.specs.Listing.{IsListTalk}
+use Rattle.booth_client.specs.Parts.{AreNone}
 use Rattle.booth_client.specs.Waiting.{is_begun}
 use Rattle.booth_client.specs.Talk.{IsTalk}
-use Rattle.booth_client.specs.Report.{IsReportOf, is_silent}
+use Rattle.booth_client.specs.Report.{IsListReport, IsReportOf, is_silent}
 use Rattle.booth_stages.specs.declared.outcome.Outcome.{Outcome}
 use Rattle.booth_stages.specs.declared.outcome.Outcome.TheVariants as outs
 use Rattle.booth_stages.specs.declared.outcome.Ended.{Ended}
 use Rattle.booth_clients.specs.declared.client.Cluster.{Cluster}
+use Rattle.booth_clients.specs.declared.memory.Memory.{Memory}
+use Rattle.booth_clients.specs.declared.memory.Memory.TheVariants as memories
 use Rattle.booth_words.specs.declared.asking.ClientWords.{ClientWords}
 use Rattle.booth_stages.specs.Texts.{unopened_text, unprinted_text, out_of_memory_text}
 use Rattle.booth_stages.specs.Keys.{HasKey, IsKeyless, key_calls}
@@ -81,15 +88,15 @@ refused_text result =
     if result == REDR then codes "ticket is owned by another site" else
     codes "result " ++ encode_lower (to_be_bytes w32 result)
 
--- the one print of a report, where there is memory for it
-abbrev pub IsPrinted : Order → List ℕ → Outcome → List ℕ → List Entry → Type 0
-IsPrinted order bytes outs.Report said entries = (said ≡ [])
-    × (report : List ℕ) × IsReportOf order bytes report × (entries ≡ Out report (Ok tt) ∷ [])
-IsPrinted order bytes outs.PrintFault said entries = (said ≡ unprinted_text)
-    × (report : List ℕ) × IsReportOf order bytes report
+-- the one print of a report of which Q holds, where there is memory for it
+abbrev pub IsPrinted : (List ℕ → Type 0) → Outcome → List ℕ → List Entry → Type 0
+IsPrinted Q outs.Report said entries = (said ≡ [])
+    × (report : List ℕ) × Q report × (entries ≡ Out report (Ok tt) ∷ [])
+IsPrinted Q outs.PrintFault said entries = (said ≡ unprinted_text)
+    × (report : List ℕ) × Q report
     × (failed : Failed) × (entries ≡ Out report (Err failed) ∷ [])
-IsPrinted order bytes outs.OutOfMemory said entries = (said ≡ out_of_memory_text) × (entries ≡ [])
-IsPrinted order bytes outcome said entries = ⊥
+IsPrinted Q outs.OutOfMemory said entries = (said ≡ out_of_memory_text) × (entries ≡ [])
+IsPrinted Q outcome said entries = ⊥
 
 -- an end without a call, of which this is said
 pub record IsPlainEnd (outcome wanted : Outcome) (said text : List ℕ) (entries : List Entry) : Type 0 where
@@ -101,7 +108,7 @@ pub record IsPlainEnd (outcome wanted : Outcome) (said text : List ℕ) (entries
 abbrev pub IsReported : Order → List ℕ → Outcome → List ℕ → List Entry → Type 0
 IsReported order bytes outcome said entries =
     MatchBool (is_silent order) (IsPlainEnd outcome outs.Report said [] entries)
-    (IsPrinted order bytes outcome said entries)
+    (IsPrinted (IsReportOf order bytes) outcome said entries)
 
 -- How a talk ends: with the report of a good reply, with the result of another, or without a reply.
 abbrev pub EndsWith : Order → Result Waited Failed → List ℕ → Outcome → List ℕ → List Entry → Type 0
@@ -113,8 +120,29 @@ EndsWith order (Ok Over) bytes outcome said entries =
 EndsWith order (Err failed) bytes outcome said entries =
     IsPlainEnd outcome outs.SendFault said (codes "cannot send") entries
 
+-- How a list that was asked for ends: with the report of its text, with the result of a refusal, or without a whole list.
+abbrev pub ListEndsWith : Result Listed Failed → List ℕ → Outcome → List ℕ → List Entry → Type 0
+ListEndsWith (Ok Whole) text outcome said entries = IsPrinted (IsListReport text) outcome said entries
+ListEndsWith (Ok (Refused result)) text outcome said entries =
+    IsPlainEnd outcome (outs.Refused result) said (refused_text result) entries
+ListEndsWith (Ok listed.Over) text outcome said entries =
+    IsPlainEnd outcome outs.NoReply said (codes "no reply") entries
+ListEndsWith (Err failed) text outcome said entries =
+    IsPlainEnd outcome outs.SendFault said (codes "cannot send") entries
+
+-- a list that was asked for, and its end
+pub record IsListTold (asking : Asking) (to : Peer) (start : ℕ) (outcome : Outcome) (said : List ℕ)
+    (entries : List Entry) : Type 0 where
+  pub last : Result Listed Failed
+  pub text : List ℕ
+  pub early : List Entry
+  pub late : List Entry
+  pub whole : entries ≡ early ++ late
+  pub talk : IsListTalk asking to start last text early
+  pub end : ListEndsWith last text outcome said late
+
 -- a talk, and its end
-pub record IsTold (asking : Asking) (to : Peer) (start : ℕ) (outcome : Outcome) (said : List ℕ)
+pub record IsTalkTold (asking : Asking) (to : Peer) (start : ℕ) (outcome : Outcome) (said : List ℕ)
     (entries : List Entry) : Type 0 where
   pub last : Result Waited Failed
   pub bytes : List ℕ
@@ -123,6 +151,12 @@ pub record IsTold (asking : Asking) (to : Peer) (start : ℕ) (outcome : Outcome
   pub whole : entries ≡ early ++ late
   pub talk : IsTalk asking to start last bytes early
   pub end : EndsWith asking.order last bytes outcome said late
+
+-- what is asked for, and what comes of it: of a list, or of a talk
+abbrev pub IsTold : Asking → Peer → ℕ → Outcome → List ℕ → List Entry → Type 0
+IsTold asking to start outcome said entries =
+    MatchBool (is_list asking.order) (IsListTold asking to start outcome said entries)
+    (IsTalkTold asking to start outcome said entries)
 
 -- the socket failed, or there was no memory before it
 abbrev pub IsSocketless : Outcome → List ℕ → List Entry → Type 0
@@ -163,6 +197,11 @@ pub data IsClientLog (asked : ClientWords) (outcome : Outcome) (said : List ℕ)
   Asked : IsAsked asked outcome said entries → IsClientLog asked outcome said entries
 
 -- ---- in the code
+
+-- the memory is that of what is asked for, and no part of a list has come
+abbrev pub IsMemoryFor : Order → Memory → Type 0
+IsMemoryFor order (memories.List room) = (is_list order ≡ true) × AreNone room.parts
+IsMemoryFor order (memories.Talk room) = is_list order ≡ false
 
 -- the read of a key file, where one is set, and the configuration with its key
 abbrev pub IsKeyed : ConfigSays → Result Cluster Ended → List Entry → Type 0

@@ -9,10 +9,11 @@ ghost use Rattle.booth_stages.specs.Outcomes.{HasBlame};
 ghost use Rattle.booth_clients.specs.Client.{Follows, IsClientLog, IsClusterRead, IsKeyed, destination};
 ghost use Rattle.booth_clients.specs.ClientRun.{IsAnswered};
 
+use crate::memory::Memory;
 use crate::replies::ask_and_tell;
 use booth_auth::Key;
 use booth_base::{Address, PathText, Peer};
-use booth_client::{Asking, Room};
+use booth_client::Asking;
 use booth_conf::{Config, Member};
 use booth_host::{Failed, Host, Place};
 use booth_stages::{Ended, Outcome, read_config, read_key, texts};
@@ -110,7 +111,7 @@ pub(crate) fn open_socket<H: Host>(host: &mut H) -> Result<(), Failed>
     host.open(&place)
 }
 
-// What follows the reads: the socket, the clock, and the talk. The memory of a talk is taken before them.
+// What follows the reads: the socket, the clock, and what is asked for. Its memory is taken before them.
 fn converse<H: Host>(alloc: Global, asked: ClientWords, cluster: Cluster, host: &mut H) -> Ended
     requires { file_fault cluster.config.members cluster.config.tickets ≡ None }
     ensures past { GrewSome (Follows asked cluster.config cluster.key result.outcome result.said)
@@ -119,7 +120,7 @@ fn converse<H: Host>(alloc: Global, asked: ClientWords, cluster: Cluster, host: 
     ensures blame { HasBlame result.outcome (H.faults host.old) (H.faults host.new) }
     ensures later { H.faults host.old ≤ H.faults host.new }
 {
-    let Ok(mut room) = Room::new(alloc) else {
+    let Ok(mut memory) = Memory::new(alloc, &asked.order) else {
         return Ended::out_of_memory();
     };
     let to = destination(asked.site, &cluster.config);
@@ -138,7 +139,7 @@ fn converse<H: Host>(alloc: Global, asked: ClientWords, cluster: Cluster, host: 
         config: cluster.config,
         key: cluster.key,
     };
-    ask_and_tell(alloc, &asking, &to, start, &mut room, host)
+    ask_and_tell(alloc, &asking, &to, start, &mut memory, host)
 }
 
 /// The calls of the client that was asked for, up to where its outcome is decided.

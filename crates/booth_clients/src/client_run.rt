@@ -40,6 +40,7 @@ fn run_words<H: Host>(alloc: Global, program: Program, words: &[String], host: &
         Ok(Asked::Client(asked)) => ask_daemon(alloc, asked, host),
         Ok(Asked::Move(asked)) => move_ticket(alloc, asked, host),
         Ok(Asked::Daemon(_)) | Ok(Asked::Status(_)) | Ok(Asked::Simulation(_)) => unreachable!(),
+        Ok(Asked::Follow(_)) => unreachable!(),
         Err(Refusal::Untaken(error)) => tell_error(alloc, program, &error, host),
         Err(Refusal::NoCommand) => Ended {
             outcome: Outcome::Usage(None),

@@ -4,6 +4,8 @@
 mod client;
 mod client_run;
 pub mod laws;
+mod lists;
+mod memory;
 mod move_replies;
 mod move_run;
 mod refusals;

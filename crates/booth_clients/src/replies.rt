@@ -1,11 +1,15 @@
 //! How a talk ends: with the report of a good reply, with a refusal, or without a reply.
-ghost use Rattle.std.specs.Prelude.{◌≡◌, ◌≤◌, Ok};
+ghost use Rattle.std.specs.Prelude.{◌≡◌, ◌≤◌, false, Ok};
 ghost use Rattle.booth_host.specs.Past.{GrewSome};
+ghost use Rattle.booth_client.specs.Asking.{is_list};
+ghost use Rattle.booth_client.specs.Report.{IsReportOf};
 ghost use Rattle.booth_client.specs.Talk.{IsHeld, IsReplyIn};
 ghost use Rattle.booth_stages.specs.Outcomes.{HasBlame};
-ghost use Rattle.booth_clients.specs.Client.{EndsWith, IsPrinted, IsReported, IsTold, is_good};
+ghost use Rattle.booth_clients.specs.Client.{EndsWith, IsMemoryFor, IsPrinted, IsReported, IsTalkTold, IsTold, is_good};
 ghost use Rattle.booth_clients.specs.ClientRun.{IsAnswered};
 
+use crate::lists::list_and_tell;
+use crate::memory::Memory;
 use crate::refusals::refused_text;
 use booth_base::Peer;
 use booth_client::{Asking, Reply, Room, Waited, is_begun, report_of, talk};
@@ -28,7 +32,7 @@ fn print<H: Host>(
     host: &mut H,
 ) -> Ended
     requires { IsReplyIn asking.now reply.now bytes.now }
-    ensures past { GrewSome (IsPrinted asking.now.order bytes.now result.outcome result.said)
+    ensures past { GrewSome (IsPrinted (IsReportOf asking.now.order bytes.now) result.outcome result.said)
         (H.past host.old) (H.past host.new) }
     ensures served { IsAnswered result.outcome }
     ensures blame { HasBlame result.outcome (H.faults host.old) (H.faults host.new) }
@@ -100,8 +104,8 @@ fn end<H: Host>(alloc: Global, asking: &Asking, last: &Waited, bytes: &[u8], hos
     }
 }
 
-/// Asks this peer, at this reading, and tells what came of it.
-pub(crate) fn ask_and_tell<H: Host>(
+// Asks this peer for what is no list, at this reading, and tells what came of it.
+fn talk_and_tell<H: Host>(
     alloc: Global,
     asking: &Asking,
     to: &Peer,
@@ -109,7 +113,8 @@ pub(crate) fn ask_and_tell<H: Host>(
     room: &mut Room,
     host: &mut H,
 ) -> Ended
-    ensures past { GrewSome (IsTold asking.now to.now start result.outcome result.said)
+    requires { is_list asking.now.order ≡ false }
+    ensures past { GrewSome (IsTalkTold asking.now to.now start result.outcome result.said)
         (H.past host.old) (H.past host.new) }
     ensures served { IsAnswered result.outcome }
     ensures blame { HasBlame result.outcome (H.faults host.old) (H.faults host.new) }
@@ -121,5 +126,27 @@ pub(crate) fn ask_and_tell<H: Host>(
             outcome: Outcome::SendFault,
             said: texts::line_of(b"cannot send"),
         },
+    }
+}
+
+/// Asks this peer, at this reading, and tells what came of it. The memory is that of the order.
+pub(crate) fn ask_and_tell<H: Host>(
+    alloc: Global,
+    asking: &Asking,
+    to: &Peer,
+    start: u64,
+    memory: &mut Memory,
+    host: &mut H,
+) -> Ended
+    requires { IsMemoryFor asking.now.order memory.old }
+    ensures past { GrewSome (IsTold asking.now to.now start result.outcome result.said)
+        (H.past host.old) (H.past host.new) }
+    ensures served { IsAnswered result.outcome }
+    ensures blame { HasBlame result.outcome (H.faults host.old) (H.faults host.new) }
+    ensures later { H.faults host.old ≤ H.faults host.new }
+{
+    match memory {
+        Memory::List(room) => list_and_tell(alloc, asking, to, start, room, host),
+        Memory::Talk(room) => talk_and_tell(alloc, asking, to, start, room, host),
     }
 }

@@ -6,6 +6,7 @@
 mod client;
 mod failing_hosts;
 mod geostore;
+mod lists;
 mod moves;
 mod usage;
 

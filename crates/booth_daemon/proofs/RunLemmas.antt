@@ -9,7 +9,7 @@ use Rattle.booth_host.proofs.PastLemmas.{no_entry, some_of, some_joined, some_we
 use Rattle.booth_stages.specs.declared.outcome.Outcome.{Outcome}
 use Rattle.booth_stages.specs.declared.outcome.Outcome.TheVariants.{Done, Usage, BadWord, LockFault, NotRunning}
 use Rattle.booth_stages.specs.declared.outcome.Outcome.TheVariants.{PrintFault, OutOfMemory, Report, Refused, NoReply}
-use Rattle.booth_stages.specs.declared.outcome.Outcome.TheVariants.{SendFault, ConfUnread, ConfBad, NotSite, Stranded}
+use Rattle.booth_stages.specs.declared.outcome.Outcome.TheVariants.{SendFault, ConfUnread, ConfBad, NotSite, NotFollowed, Stranded}
 use Rattle.booth_words.specs.declared.program.Program.TheVariants.{Boothd}
 use Rattle.booth_words.specs.declared.asking.DaemonWords.{DaemonWords}
 use Rattle.booth_words.specs.declared.asking.SimulationWords.{SimulationWords}
@@ -81,6 +81,7 @@ fits_served words asked NoReply asks served = absurd served
 fits_served words asked SendFault asks served = absurd served
 fits_served words asked NotSite asks served = absurd served
 fits_served words asked (Stranded result) asks served = absurd served
+fits_served words asked (NotFollowed fault) asks served = absurd served
 fits_served words asked Done asks served = inl (record { asked = asked; asks = asks })
 fits_served words asked LockFault asks served = inl (record { asked = asked; asks = asks })
 fits_served words asked OutOfMemory asks served = tt

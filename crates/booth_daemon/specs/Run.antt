@@ -4,7 +4,7 @@ use Rattle.booth_host.specs.declared.entry.Entry.{Entry}
 use Rattle.booth_stages.specs.declared.outcome.Outcome.{Outcome}
 use Rattle.booth_stages.specs.declared.outcome.Outcome.TheVariants.{Done, Usage, BadWord, LockFault, NotRunning}
 use Rattle.booth_stages.specs.declared.outcome.Outcome.TheVariants.{PrintFault, OutOfMemory, Report, Refused, NoReply}
-use Rattle.booth_stages.specs.declared.outcome.Outcome.TheVariants.{SendFault, ConfUnread, ConfBad, NotSite, Stranded}
+use Rattle.booth_stages.specs.declared.outcome.Outcome.TheVariants.{SendFault, ConfUnread, ConfBad, NotSite, NotFollowed, Stranded}
 use Rattle.booth_words.specs.declared.program.Program.TheVariants.{Boothd}
 use Rattle.booth_words.specs.declared.asking.DaemonWords.{DaemonWords}
 use Rattle.booth_words.specs.declared.asking.SimulationWords.{SimulationWords}
@@ -76,5 +76,6 @@ FitsWords words (Refused result) = ⊥
 FitsWords words NoReply = ⊥
 FitsWords words SendFault = ⊥
 FitsWords words NotSite = ⊥
+FitsWords words (NotFollowed fault) = ⊥
 FitsWords words (Stranded result) = ⊥
 FitsWords words outcome = AskForDaemon words

@@ -27,7 +27,7 @@ fn run_words<H: Host>(alloc: Global, words: &[String], host: &mut H) -> Ended
         Ok(Asked::Daemon(asked)) => serve(alloc, &asked, host),
         Ok(Asked::Status(lock)) => status(&lock, host),
         Ok(Asked::Simulation(asked)) => simulate(alloc, &asked, host),
-        Ok(Asked::Client(_)) | Ok(Asked::Move(_)) => unreachable!(),
+        Ok(Asked::Client(_)) | Ok(Asked::Move(_)) | Ok(Asked::Follow(_)) => unreachable!(),
         Err(Refusal::Untaken(error)) => tell_error(alloc, Program::Boothd, &error, host),
         Err(Refusal::NoCommand) => Ended {
             outcome: Outcome::Usage(None),

@@ -5,7 +5,7 @@ use Rattle.booth_stages.specs.declared.outcome.Outcome.{Outcome}
 use Rattle.booth_stages.specs.declared.outcome.Outcome.TheVariants.{Usage, BadWord, ConfUnread, KeyUnread}
 use Rattle.booth_stages.specs.declared.outcome.Outcome.TheVariants.{LockFault, NotRunning, OpenFault}
 use Rattle.booth_stages.specs.declared.outcome.Outcome.TheVariants.{RecordUnread, PrintFault, Report, Refused as Denied}
-use Rattle.booth_stages.specs.declared.outcome.Outcome.TheVariants.{NoReply, SendFault, NotSite, Stranded}
+use Rattle.booth_stages.specs.declared.outcome.Outcome.TheVariants.{NoReply, SendFault, NotSite, Stranded, NotFollowed}
 
 -- an outcome of a daemon that was asked for
 abbrev pub IsServed : Outcome → Type 0
@@ -18,6 +18,7 @@ IsServed (Denied result) = ⊥
 IsServed NoReply = ⊥
 IsServed SendFault = ⊥
 IsServed NotSite = ⊥
+IsServed (NotFollowed fault) = ⊥
 IsServed (Stranded result) = ⊥
 IsServed outcome = Unit {0}
 

@@ -9,12 +9,14 @@ use Rattle.booth_conf.specs.declared.faults.ConfFault.{ConfFault}
 use Rattle.booth_conf.specs.declared.faults.ConfFault.TheVariants as confs
 use Rattle.booth_auth.specs.declared.key.KeyFault.{KeyFault}
 use Rattle.booth_auth.specs.declared.key.KeyFault.TheVariants as keys
+use Rattle.booth_following.specs.declared.choosing.FollowFault.{FollowFault}
+use Rattle.booth_following.specs.declared.choosing.FollowFault.TheVariants as follows
 use Rattle.booth_host.specs.declared.host.Failed.{Failed}
 use Rattle.booth_host.specs.declared.entry.Entry.{Entry}
 use Rattle.booth_host.specs.declared.entry.Entry.TheVariants as calls
 use Rattle.clap.specs.declared.error.kind.ErrorKind.TheVariants.{DisplayHelp, DisplayVersion}
 use Rattle.booth_words.specs.declared.program.Program.{Program}
-use Rattle.booth_words.specs.declared.program.Program.TheVariants.{Boothd, Booth, Geostore}
+use Rattle.booth_words.specs.declared.program.Program.TheVariants.{Boothd, Booth, Geostore, BoothFollow}
 use Rattle.booth_words.specs.Commands.{name_of, version}
 use Rattle.booth_words.specs.declared.word.Word.{Word}
 use Rattle.booth_words.specs.declared.word.Word.TheVariants as words
@@ -38,6 +40,7 @@ usage_text Booth =
     codes "usage: booth COMMAND [OPTIONS], with the command list, peers, grant, revoke or move; see --help behind it"
 usage_text Geostore =
     codes "usage: geostore COMMAND [OPTIONS], with the command set, get, delete or list; see --help behind it"
+usage_text BoothFollow = codes "usage: booth-follow [OPTIONS] -s ADDRESS TICKET PROGRAM; see --help"
 
 -- what is printed where the version is asked for
 abbrev pub version_text : Program → List ℕ
@@ -50,6 +53,7 @@ bad_word_text words.Value = codes "bad value"
 bad_word_text words.Site = codes "bad site"
 bad_word_text words.Number = codes "bad number"
 bad_word_text words.Path = codes "bad path"
+bad_word_text words.Program = codes "bad program"
 bad_word_text words.Configuration = codes "bad configuration"
 
 abbrev pub unread_text : List ℕ → List ℕ
@@ -60,6 +64,18 @@ not_member_text address = printed address ++ codes " is not a member"
 
 abbrev pub not_site_text : Address → List ℕ
 not_site_text address = printed address ++ codes " is not a site"
+
+abbrev pub why_not_followed : FollowFault → List ℕ
+why_not_followed follows.NoTicket = codes "the configuration has no such ticket"
+why_not_followed follows.NotSite = codes "no site has this address"
+why_not_followed follows.IsManual = codes "it is manual, and has no lease that ends"
+why_not_followed follows.MarginTooLong = codes "the margin is too long for its expire and renewal-freq"
+why_not_followed follows.KillTooLong = codes "the time of a kill is not below the margin"
+why_not_followed follows.KillTooShort = codes "the time of a kill is below 1 second"
+
+-- of the ticket with this name
+abbrev pub not_followed_text : List ℕ → FollowFault → List ℕ
+not_followed_text ticket fault = codes "cannot follow ticket " ++ ticket ++ codes ": " ++ why_not_followed fault
 
 -- the name of a key; those of the table have one
 abbrev pub key_name : KeyNo → List ℕ

@@ -64,7 +64,7 @@ impl ErrorLine {
     }
 
     /// The whole line: the program's name, and then the text.
-    pub(crate) fn spoken(&self, program: Program) -> ArrayVec<u8, 412>
+    pub(crate) fn spoken(&self, program: Program) -> ArrayVec<u8, 415>
         ensures { result.items ≡ spoken program self.now }
     {
         let mut line = ArrayVec::new();

@@ -6,6 +6,7 @@ use crate::error_line::ErrorLine;
 use crate::texts;
 use booth_auth::KeyFault;
 use booth_conf::ConfFault;
+use booth_following::FollowFault;
 use booth_words::Word;
 use clap::error::ErrorKind;
 
@@ -38,6 +39,8 @@ pub enum Outcome {
     NotMember,
     /// No site of the configuration has the address.
     NotSite,
+    /// The ticket cannot be followed at the site, or not with these margins.
+    NotFollowed(FollowFault),
     /// The key file could not be read.
     KeyUnread,
     /// The key file holds no key.
@@ -71,7 +74,7 @@ impl Outcome {
             Outcome::Usage(Some(ErrorKind::DisplayHelp | ErrorKind::DisplayVersion)) => 0,
             Outcome::Usage(_) | Outcome::BadWord(_) => 1,
             Outcome::ConfUnread | Outcome::ConfBad(_) => 1,
-            Outcome::NotMember | Outcome::NotSite => 1,
+            Outcome::NotMember | Outcome::NotSite | Outcome::NotFollowed(_) => 1,
             Outcome::KeyUnread | Outcome::KeyBad(_) => 1,
             Outcome::LockFault | Outcome::Running | Outcome::OpenFault => 1,
             Outcome::RecordUnread => 1,

@@ -4,6 +4,7 @@ ghost use Rattle.std.specs.Prelude.{unwrap_or};
 ghost use Rattle.booth_base.specs.Address.{printed};
 ghost use Rattle.booth_stages.specs.Texts.{usage_text, version_text, bad_word_text, unread_text, unread_record_text};
 ghost use Rattle.booth_stages.specs.Texts.{unlocked_text, unopened_text, unprinted_text};
+ghost use Rattle.booth_stages.specs.Texts.{not_followed_text, why_not_followed};
 ghost use Rattle.booth_stages.specs.Texts.{not_member_text, not_site_text, key_name, key_fault_text, out_of_memory_text};
 ghost use Rattle.booth_stages.specs.Texts.{file_text, at_line, IsTicketText, IsFaultText};
 
@@ -12,6 +13,7 @@ use crate::error_line::ErrorLine;
 use booth_auth::KeyFault;
 use booth_base::{Address, Name, PathText};
 use booth_conf::{ConfFault, KeyNo, ticket_name};
+use booth_following::FollowFault;
 use booth_words::{Program, version};
 
 /// A line of this text.
@@ -41,6 +43,9 @@ pub fn usage_text(program: Program) -> ErrorLine
             b"usage: geostore COMMAND [OPTIONS], with the command set, get, delete or list; \
             see --help behind it",
         ),
+        Program::BoothFollow => line_of(
+            b"usage: booth-follow [OPTIONS] -s ADDRESS TICKET PROGRAM; see --help",
+        ),
     }
 }
 
@@ -67,6 +72,7 @@ pub fn bad_word_text(word: Word) -> ErrorLine
         Word::Site => line_of(b"bad site"),
         Word::Number => line_of(b"bad number"),
         Word::Path => line_of(b"bad path"),
+        Word::Program => line_of(b"bad program"),
         Word::Configuration => line_of(b"bad configuration"),
     }
 }
@@ -147,6 +153,32 @@ pub fn not_site_text(address: &Address) -> ErrorLine
 {
     let mut line = ErrorLine::none();
     put_not_site(address, &mut line);
+    line
+}
+
+fn why_not_followed(fault: FollowFault) -> &'static str
+    ensures reason { result.now ≡ why_not_followed fault }
+    ensures short { length result.now ≤ 80 }
+{
+    match fault {
+        FollowFault::NoTicket => "the configuration has no such ticket",
+        FollowFault::NotSite => "no site has this address",
+        FollowFault::IsManual => "it is manual, and has no lease that ends",
+        FollowFault::MarginTooLong => "the margin is too long for its expire and renewal-freq",
+        FollowFault::KillTooLong => "the time of a kill is not below the margin",
+        FollowFault::KillTooShort => "the time of a kill is below 1 second",
+    }
+}
+
+/// What is said of a ticket that is not followed.
+pub fn not_followed_text(ticket: &Name, fault: FollowFault) -> ErrorLine
+    ensures { result ≡ not_followed_text ticket.now fault }
+{
+    let mut line = ErrorLine::none();
+    line.put(b"cannot follow ticket ");
+    line.put(ticket.bytes());
+    line.put(b": ");
+    line.put(why_not_followed(fault).as_bytes());
     line
 }
 

@@ -7,18 +7,19 @@ use Rattle.clap.specs.declared.error.kind.ErrorKind.{ErrorKind}
 use Rattle.clap.specs.declared.error.kind.ErrorKind.TheVariants as kinds
 use Rattle.booth_base.specs.declared.address.Address.{Address}
 use Rattle.booth_client.specs.declared.order.Order.{Order}
+use Rattle.booth_following.specs.declared.programs.Programs.{Programs}
 use Rattle.booth_words.specs.declared.command.Verb.{Verb}
 use Rattle.booth_words.specs.declared.command.Verb.TheVariants as verbs
 use Rattle.booth_words.specs.declared.reading.Read.{Read}
 use Rattle.booth_words.specs.declared.asking.Asked.{Asked}
-use Rattle.booth_words.specs.declared.asking.Asked.TheVariants.{Daemon, Status, Simulation, Client, Move}
+use Rattle.booth_words.specs.declared.asking.Asked.TheVariants.{Daemon, Status, Simulation, Client, Move, Follow}
 use Rattle.booth_words.specs.declared.asking.ClientWords.{ClientWords}
 use Rattle.booth_words.specs.declared.program.Program.{Program}
-use Rattle.booth_words.specs.declared.program.Program.TheVariants.{Boothd, Booth, Geostore}
+use Rattle.booth_words.specs.declared.program.Program.TheVariants.{Boothd, Booth, Geostore, BoothFollow}
 use Rattle.booth_words.specs.Commands.{app_for, verb_in}
-use Rattle.booth_words.specs.Given.{Texts, HasAttribute, HasNeeded, found_in}
-use Rattle.booth_words.specs.Reading.{HasAddress, HasName, IsRead}
-use Rattle.booth_words.specs.Asking.{Asks, AreTaken, AttributeRead, HasOrder, HasWords, IsAskedBy, IsClient, IsClientOf, IsUntaken, IsUntakenFor, client_of}
+use Rattle.booth_words.specs.Given.{Texts, HasAttribute, HasNeeded, HasService, found_in}
+use Rattle.booth_words.specs.Reading.{HasAddress, HasName, HasProgram, IsRead}
+use Rattle.booth_words.specs.Asking.{Asks, AreTaken, AttributeRead, HasOrder, HasWords, IsAskedBy, IsClient, ServiceRead, IsClientOf, IsUntaken, IsUntakenFor, client_of}
 
 -- where there is a word there is an address
 has_address : (word : Option (List ℕ)) (read : Option Address) → HasAddress word read → is_some word ≡ true → is_some read ≡ true
@@ -35,6 +36,18 @@ has_attribute : (t : Texts) (read : Read) → HasAttribute t → IsRead t read �
 has_attribute t read needed is =
     record { ticket = has_name t.ticket read.ticket is.ticket needed.ticket; name = has_name t.name read.name is.name needed.name }
 
+has_program : (word : Option (List ℕ)) (read : Option Programs) → HasProgram word read → is_some word ≡ true → is_some read ≡ true
+has_program (Some text) (Some programs) has some = refl
+has_program (Some text) None has some = absurd has
+has_program None read has some = cc
+
+has_service : (t : Texts) (read : Read) → HasService t → IsRead t read → ServiceRead read
+has_service t read needed is = record {
+  ticket = has_name t.ticket read.ticket is.ticket needed.ticket;
+  site = has_address t.site read.site is.site needed.site;
+  program = has_program t.program read.program is.program needed.program;
+}
+
 pub has_words : (verb : Verb) (t : Texts) (read : Read) → HasNeeded verb t → IsRead t read → HasWords verb read
 has_words verbs.Daemon t read needed is = has_address t.site read.site is.site needed
 has_words verbs.Grant t read needed is = has_name t.ticket read.ticket is.ticket needed
@@ -44,6 +57,7 @@ has_words verbs.SetAttribute t read needed is = (has_attribute t read needed.0 i
 has_words verbs.GetAttribute t read needed is = has_attribute t read needed is
 has_words verbs.DeleteAttribute t read needed is = has_attribute t read needed is
 has_words verbs.ListAttributes t read needed is = has_name t.ticket read.ticket is.ticket needed
+has_words verbs.Follow t read needed is = has_service t read needed is
 has_words verbs.Status t read needed is = tt
 has_words verbs.Simulate t read needed is = tt
 has_words verbs.List t read needed is = tt
@@ -51,97 +65,76 @@ has_words verbs.Peers t read needed is = tt
 
 -- ---- whose command it is
 
--- a command of boothd
-abbrev IsBoothds : Verb → Type 0
-IsBoothds verbs.Daemon = Unit {0}
-IsBoothds verbs.Status = Unit {0}
-IsBoothds verbs.Simulate = Unit {0}
-IsBoothds verb = ⊥
+abbrev owner : Verb → Program
+owner verbs.Daemon = Boothd
+owner verbs.Status = Boothd
+owner verbs.Simulate = Boothd
+owner verbs.List = Booth
+owner verbs.Peers = Booth
+owner verbs.Grant = Booth
+owner verbs.Revoke = Booth
+owner verbs.Move = Booth
+owner verbs.SetAttribute = Geostore
+owner verbs.GetAttribute = Geostore
+owner verbs.DeleteAttribute = Geostore
+owner verbs.ListAttributes = Geostore
+owner verbs.Follow = BoothFollow
 
-same_owner : (one verb : Verb) → Some one ≡ Some verb → IsBoothds verb → IsBoothds one
-same_owner one verb same own = let e : verb ≡ one = cc in subst IsBoothds e own
+same_owner : (one verb : Verb) → Some one ≡ Some verb → owner one ≡ owner verb
+same_owner one verb same = let e : one ≡ verb = cc in ap owner e
 
-boothds_own : (one verb : Verb) → Some one ≡ Some verb → IsBoothds one → IsBoothds verb
-boothds_own one verb same own = let e : one ≡ verb = cc in subst IsBoothds e own
+daemons : (a b c : Bool) (verb : Verb) → cond a (Some verbs.Daemon) (cond b (Some verbs.Status) (cond c (Some verbs.Simulate) None)) ≡ Some verb → Boothd ≡ owner verb
+daemons true b c verb h = same_owner verbs.Daemon verb h
+daemons false true c verb h = same_owner verbs.Status verb h
+daemons false false true verb h = same_owner verbs.Simulate verb h
+daemons false false false verb h = absurd cc
 
-no_daemon : (a b c d e : Bool) (verb : Verb) →
-    cond a (Some verbs.List) (cond b (Some verbs.Peers) (cond c (Some verbs.Grant) (cond d (Some verbs.Revoke) (cond e (Some verbs.Move) None)))) ≡ Some verb → IsBoothds verb → ⊥
-no_daemon true b c d e verb h own = same_owner verbs.List verb h own
-no_daemon false true c d e verb h own = same_owner verbs.Peers verb h own
-no_daemon false false true d e verb h own = same_owner verbs.Grant verb h own
-no_daemon false false false true e verb h own = same_owner verbs.Revoke verb h own
-no_daemon false false false false true verb h own = same_owner verbs.Move verb h own
-no_daemon false false false false false verb h own = cc
+clients : (a b c d e : Bool) (verb : Verb) →
+    cond a (Some verbs.List) (cond b (Some verbs.Peers) (cond c (Some verbs.Grant) (cond d (Some verbs.Revoke) (cond e (Some verbs.Move) None)))) ≡ Some verb → Booth ≡ owner verb
+clients true b c d e verb h = same_owner verbs.List verb h
+clients false true c d e verb h = same_owner verbs.Peers verb h
+clients false false true d e verb h = same_owner verbs.Grant verb h
+clients false false false true e verb h = same_owner verbs.Revoke verb h
+clients false false false false true verb h = same_owner verbs.Move verb h
+clients false false false false false verb h = absurd cc
 
-no_attributes_daemon : (a b c d : Bool) (verb : Verb) →
+attributes : (a b c d : Bool) (verb : Verb) →
     cond a (Some verbs.SetAttribute) (cond b (Some verbs.GetAttribute) (cond c (Some verbs.DeleteAttribute) (cond d (Some verbs.ListAttributes) None)))
-    ≡ Some verb → IsBoothds verb → ⊥
-no_attributes_daemon true b c d verb h own = same_owner verbs.SetAttribute verb h own
-no_attributes_daemon false true c d verb h own = same_owner verbs.GetAttribute verb h own
-no_attributes_daemon false false true d verb h own = same_owner verbs.DeleteAttribute verb h own
-no_attributes_daemon false false false true verb h own = same_owner verbs.ListAttributes verb h own
-no_attributes_daemon false false false false verb h own = cc
+    ≡ Some verb → Geostore ≡ owner verb
+attributes true b c d verb h = same_owner verbs.SetAttribute verb h
+attributes false true c d verb h = same_owner verbs.GetAttribute verb h
+attributes false false true d verb h = same_owner verbs.DeleteAttribute verb h
+attributes false false false true verb h = same_owner verbs.ListAttributes verb h
+attributes false false false false verb h = absurd cc
 
-no_client : (a b c : Bool) (verb : Verb) → cond a (Some verbs.Daemon) (cond b (Some verbs.Status) (cond c (Some verbs.Simulate) None)) ≡ Some verb → IsBoothds verb
-no_client true b c verb h = boothds_own verbs.Daemon verb h tt
-no_client false true c verb h = boothds_own verbs.Status verb h tt
-no_client false false true verb h = boothds_own verbs.Simulate verb h tt
-no_client false false false verb h = absurd cc
+-- the program is the one that has the command
+owned : (program : Program) (words : List (List ℕ)) (verb : Verb) → verb_in program words ≡ Some verb → program ≡ owner verb
+owned program [] verb named = absurd cc
+owned Boothd (word ∷ words) verb named = daemons _ _ _ verb named
+owned Booth (word ∷ words) verb named = clients _ _ _ _ _ verb named
+owned Geostore (word ∷ words) verb named = attributes _ _ _ _ verb named
+owned BoothFollow (word ∷ words) verb named = same_owner verbs.Follow verb named
 
-daemons_own : (program : Program) (words : List (List ℕ)) (verb : Verb) → verb_in program words ≡ Some verb → IsBoothds verb → program ≡ Boothd
-daemons_own Boothd words verb named own = refl
-daemons_own Booth [] verb named own = absurd cc
-daemons_own Booth (word ∷ words) verb named own = absurd (no_daemon _ _ _ _ _ verb named own)
-daemons_own Geostore [] verb named own = absurd cc
-daemons_own Geostore (word ∷ words) verb named own = absurd (no_attributes_daemon _ _ _ _ verb named own)
-
-clients_own : (program : Program) (words : List (List ℕ)) (verb : Verb) → verb_in program words ≡ Some verb → (IsBoothds verb → ⊥) → IsClient program
-clients_own Booth words verb named other = tt
-clients_own Geostore words verb named other = tt
-clients_own Boothd [] verb named other = absurd cc
-clients_own Boothd (word ∷ words) verb named other = absurd (other (no_client _ _ _ verb named))
-
--- a move is a command of booth alone
-abbrev IsMove : Verb → Type 0
-IsMove verbs.Move = Unit {0}
-IsMove verb = ⊥
-
-same_move : (one verb : Verb) → Some one ≡ Some verb → IsMove verb → IsMove one
-same_move one verb same own = let e : verb ≡ one = cc in subst IsMove e own
-
-no_move : (a b c : Bool) (verb : Verb) → cond a (Some verbs.Daemon) (cond b (Some verbs.Status) (cond c (Some verbs.Simulate) None)) ≡ Some verb → IsMove verb → ⊥
-no_move true b c verb h own = same_move verbs.Daemon verb h own
-no_move false true c verb h own = same_move verbs.Status verb h own
-no_move false false true verb h own = same_move verbs.Simulate verb h own
-no_move false false false verb h own = cc
-
-no_attributes_move : (a b c d : Bool) (verb : Verb) →
-    cond a (Some verbs.SetAttribute) (cond b (Some verbs.GetAttribute) (cond c (Some verbs.DeleteAttribute) (cond d (Some verbs.ListAttributes) None)))
-    ≡ Some verb → IsMove verb → ⊥
-no_attributes_move true b c d verb h own = same_move verbs.SetAttribute verb h own
-no_attributes_move false true c d verb h own = same_move verbs.GetAttribute verb h own
-no_attributes_move false false true d verb h own = same_move verbs.DeleteAttribute verb h own
-no_attributes_move false false false true verb h own = same_move verbs.ListAttributes verb h own
-no_attributes_move false false false false verb h own = cc
-
-moves_own : (program : Program) (words : List (List ℕ)) (verb : Verb) → verb_in program words ≡ Some verb → IsMove verb → program ≡ Booth
-moves_own Booth words verb named own = refl
-moves_own Boothd [] verb named own = absurd cc
-moves_own Boothd (word ∷ words) verb named own = absurd (no_move _ _ _ verb named own)
-moves_own Geostore [] verb named own = absurd cc
-moves_own Geostore (word ∷ words) verb named own = absurd (no_attributes_move _ _ _ _ verb named own)
-
--- a client's command is no daemon's
-is_clients : (verb : Verb) (read : Read) (asked : ClientWords) → IsClientOf verb read asked → IsBoothds verb → ⊥
-is_clients verbs.Daemon read asked is own = is.order
-is_clients verbs.Status read asked is own = is.order
-is_clients verbs.Simulate read asked is own = is.order
-is_clients verb read asked is own = absurd own
+-- a client's command is one of a client
+owns_client : (verb : Verb) (read : Read) (asked : ClientWords) → IsClientOf verb read asked → IsClient (owner verb)
+owns_client verbs.Daemon read asked is = is.order
+owns_client verbs.Status read asked is = is.order
+owns_client verbs.Simulate read asked is = is.order
+owns_client verbs.List read asked is = tt
+owns_client verbs.Peers read asked is = tt
+owns_client verbs.Grant read asked is = tt
+owns_client verbs.Revoke read asked is = tt
+owns_client verbs.Move read asked is = tt
+owns_client verbs.SetAttribute read asked is = tt
+owns_client verbs.GetAttribute read asked is = tt
+owns_client verbs.DeleteAttribute read asked is = tt
+owns_client verbs.ListAttributes read asked is = tt
+owns_client verbs.Follow read asked is = is.order
 
 client_asked : (program : Program) (words : List (List ℕ)) (verb : Verb) (read : Read) (asked : ClientWords) → AreTaken program words verb read →
     IsClientOf verb read asked → Asks program words (Ok (Client asked))
 client_asked program words verb read asked taken is =
-    (clients_own program words verb taken.named (is_clients verb read asked is), record { verb = verb; all = read; asks = taken; same = is })
+    (subst IsClient (sym (owned program words verb taken.named)) (owns_client verb read asked is), record { verb = verb; all = read; asks = taken; same = is })
 
 asked_by : (program : Program) (words : List (List ℕ)) (verb : Verb) (read : Read) (asked : Asked) → AreTaken program words verb read → IsAskedBy verb read asked →
     Asks program words (Ok asked)
@@ -157,18 +150,22 @@ asked_by program words verbs.SetAttribute read (Client asked) taken is = client_
 asked_by program words verbs.GetAttribute read (Client asked) taken is = client_asked program words verbs.GetAttribute read asked taken is
 asked_by program words verbs.DeleteAttribute read (Client asked) taken is = client_asked program words verbs.DeleteAttribute read asked taken is
 asked_by program words verbs.ListAttributes read (Client asked) taken is = client_asked program words verbs.ListAttributes read asked taken is
+asked_by program words verbs.Follow read (Client asked) taken is = client_asked program words verbs.Follow read asked taken is
 asked_by program words verbs.Daemon read (Daemon asked) taken is =
-    let own : program ≡ Boothd = daemons_own program words verbs.Daemon taken.named tt in
+    let own : program ≡ Boothd = owned program words verbs.Daemon taken.named in
     (own, record { all = read; asks = subst (λ p. AreTaken p words verbs.Daemon read) own taken; same = is })
 asked_by program words verbs.Status read (Status lock) taken is =
-    let own : program ≡ Boothd = daemons_own program words verbs.Status taken.named tt in
+    let own : program ≡ Boothd = owned program words verbs.Status taken.named in
     (own, record { all = read; asks = subst (λ p. AreTaken p words verbs.Status read) own taken; same = is })
 asked_by program words verbs.Simulate read (Simulation asked) taken is =
-    let own : program ≡ Boothd = daemons_own program words verbs.Simulate taken.named tt in
+    let own : program ≡ Boothd = owned program words verbs.Simulate taken.named in
     (own, record { all = read; asks = subst (λ p. AreTaken p words verbs.Simulate read) own taken; same = is })
 asked_by program words verbs.Move read (Move asked) taken is =
-    let own : program ≡ Booth = moves_own program words verbs.Move taken.named tt in
+    let own : program ≡ Booth = owned program words verbs.Move taken.named in
     (own, record { all = read; asks = subst (λ p. AreTaken p words verbs.Move read) own taken; same = is })
+asked_by program words verbs.Follow read (Follow asked) taken is =
+    let own : program ≡ BoothFollow = owned program words verbs.Follow taken.named in
+    (own, record { all = read; asks = subst (λ p. AreTaken p words verbs.Follow read) own taken; same = is })
 asked_by program words verb read asked taken is = absurd is
 
 -- words that were taken and read
@@ -212,6 +209,7 @@ is_client verbs.SetAttribute read asked is = is
 is_client verbs.GetAttribute read asked is = is
 is_client verbs.DeleteAttribute read asked is = is
 is_client verbs.ListAttributes read asked is = is
+is_client verbs.Follow read asked is = is
 
 -- a client's command asks for its order
 pub asks_client : (verb arm : Verb) (read : Read) (order : Order) (asked : ClientWords) → verb ≡ arm →

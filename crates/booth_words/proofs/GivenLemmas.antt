@@ -33,6 +33,7 @@ simple verbs.SetAttribute = refl
 simple verbs.GetAttribute = refl
 simple verbs.DeleteAttribute = refl
 simple verbs.ListAttributes = refl
+simple verbs.Follow = refl
 
 pub simple_and_free : (verb : Verb) → is_simple_and_free (app_for verb) ≡ true
 simple_and_free verbs.Daemon = refl
@@ -47,6 +48,7 @@ simple_and_free verbs.SetAttribute = refl
 simple_and_free verbs.GetAttribute = refl
 simple_and_free verbs.DeleteAttribute = refl
 simple_and_free verbs.ListAttributes = refl
+simple_and_free verbs.Follow = refl
 
 -- a getter's value, by the rows
 value_is : (m : ArgMatches) (rows : List Row) (id : List ℕ) → rows_of (found_of m) ≡ rows → first_value (found_of m) id ≡ first_of id rows
@@ -65,9 +67,12 @@ pub texts_are : (m : ArgMatches) (rows : List Row) (g : Given) → rows_of (foun
     option_map (λ (t : Bor (List ℕ)). t.now) g.records ≡ first_value (found_of m) (codes "records") →
     option_map (λ (t : Bor (List ℕ)). t.now) g.conf ≡ first_value (found_of m) (codes "conf") →
     option_map (λ (t : Bor (List ℕ)). t.now) g.target ≡ first_value (found_of m) (codes "target") →
+    option_map (λ (t : Bor (List ℕ)). t.now) g.program ≡ first_value (found_of m) (codes "program") →
+    option_map (λ (t : Bor (List ℕ)). t.now) g.margin ≡ first_value (found_of m) (codes "margin") →
+    option_map (λ (t : Bor (List ℕ)). t.now) g.kill ≡ first_value (found_of m) (codes "kill") →
     g.wait ≡ is_set (first_value (found_of m) (codes "wait")) → g.commit ≡ is_set (first_value (found_of m) (codes "commit")) →
     g.immediate ≡ is_set (first_value (found_of m) (codes "immediate")) → texts_of g ≡ texts_in rows
-texts_are m rows g same ticket name value site turns events number lock records conf target wait commit immediate =
+texts_are m rows g same ticket name value site turns events number lock records conf target program margin kill wait commit immediate =
     rw (
       ticket,
       name,
@@ -80,6 +85,9 @@ texts_are m rows g same ticket name value site turns events number lock records 
       records,
       conf,
       target,
+      program,
+      margin,
+      kill,
       wait,
       commit,
       immediate,
@@ -94,6 +102,9 @@ texts_are m rows g same ticket name value site turns events number lock records 
       value_is m rows (codes "records") same,
       value_is m rows (codes "conf") same,
       value_is m rows (codes "target") same,
+      value_is m rows (codes "program") same,
+      value_is m rows (codes "margin") same,
+      value_is m rows (codes "kill") same,
       value_is m rows (codes "wait") same,
       value_is m rows (codes "commit") same,
       value_is m rows (codes "immediate") same,
@@ -266,25 +277,64 @@ module _ (cmd : Command) (m : ArgMatches) (parsed : IsParsedFrom cmd m) where
     own = refl;
   })
 
+  follow_site : app_of cmd ≡ app_for verbs.Follow → is_some (first_value (found_of m) (codes "site")) ≡ true
+  unfolding is_only_at
+  follow_site is = value_of (app_for verbs.Follow) 1 (codes "site") is refl refl refl (record {
+    there = omega arith;
+    named = λ e. refl;
+    required = λ e. refl;
+    set = λ e. refl;
+    least = λ e. omega arith;
+    only = refl;
+    own = refl;
+  })
+
+  follow_ticket : app_of cmd ≡ app_for verbs.Follow → is_some (first_value (found_of m) (codes "ticket")) ≡ true
+  unfolding is_only_at
+  follow_ticket is = value_of (app_for verbs.Follow) 5 (codes "ticket") is refl refl refl (record {
+    there = omega arith;
+    named = λ e. refl;
+    required = λ e. refl;
+    set = λ e. refl;
+    least = λ e. omega arith;
+    only = refl;
+    own = refl;
+  })
+
+  follow_program : app_of cmd ≡ app_for verbs.Follow → is_some (first_value (found_of m) (codes "program")) ≡ true
+  unfolding is_only_at
+  follow_program is = value_of (app_for verbs.Follow) 6 (codes "program") is refl refl refl (record {
+    there = omega arith;
+    named = λ e. refl;
+    required = λ e. refl;
+    set = λ e. refl;
+    least = λ e. omega arith;
+    only = refl;
+    own = refl;
+  })
+
   -- the words that a command has to have are there
   pub has_needed : (verb : Verb) (g : Given) → app_of cmd ≡ app_for verb →
       option_map (λ (t : Bor (List ℕ)). t.now) g.ticket ≡ first_value (found_of m) (codes "ticket") →
       option_map (λ (t : Bor (List ℕ)). t.now) g.name ≡ first_value (found_of m) (codes "name") →
       option_map (λ (t : Bor (List ℕ)). t.now) g.value ≡ first_value (found_of m) (codes "value") →
       option_map (λ (t : Bor (List ℕ)). t.now) g.site ≡ first_value (found_of m) (codes "site") →
-      option_map (λ (t : Bor (List ℕ)). t.now) g.target ≡ first_value (found_of m) (codes "target") → HasNeeded verb (texts_of g)
-  has_needed verbs.Daemon g is ticket name value site target = ap is_some site ∙ daemon_site is
-  has_needed verbs.Grant g is ticket name value site target = ap is_some ticket ∙ grant_ticket is
-  has_needed verbs.Revoke g is ticket name value site target = ap is_some ticket ∙ revoke_ticket is
-  has_needed verbs.Move g is ticket name value site target = (ap is_some ticket ∙ move_ticket is, ap is_some target ∙ move_target is)
-  has_needed verbs.SetAttribute g is ticket name value site target =
+      option_map (λ (t : Bor (List ℕ)). t.now) g.target ≡ first_value (found_of m) (codes "target") →
+      option_map (λ (t : Bor (List ℕ)). t.now) g.program ≡ first_value (found_of m) (codes "program") → HasNeeded verb (texts_of g)
+  has_needed verbs.Daemon g is ticket name value site target program = ap is_some site ∙ daemon_site is
+  has_needed verbs.Grant g is ticket name value site target program = ap is_some ticket ∙ grant_ticket is
+  has_needed verbs.Revoke g is ticket name value site target program = ap is_some ticket ∙ revoke_ticket is
+  has_needed verbs.Move g is ticket name value site target program = (ap is_some ticket ∙ move_ticket is, ap is_some target ∙ move_target is)
+  has_needed verbs.SetAttribute g is ticket name value site target program =
       (record { ticket = ap is_some ticket ∙ set_ticket is; name = ap is_some name ∙ set_name is }, ap is_some value ∙ set_value is)
-  has_needed verbs.GetAttribute g is ticket name value site target =
+  has_needed verbs.GetAttribute g is ticket name value site target program =
       record { ticket = ap is_some ticket ∙ get_ticket is; name = ap is_some name ∙ get_name is }
-  has_needed verbs.DeleteAttribute g is ticket name value site target =
+  has_needed verbs.DeleteAttribute g is ticket name value site target program =
       record { ticket = ap is_some ticket ∙ delete_ticket is; name = ap is_some name ∙ delete_name is }
-  has_needed verbs.ListAttributes g is ticket name value site target = ap is_some ticket ∙ list_ticket is
-  has_needed verbs.Status g is ticket name value site target = tt
-  has_needed verbs.Simulate g is ticket name value site target = tt
-  has_needed verbs.List g is ticket name value site target = tt
-  has_needed verbs.Peers g is ticket name value site target = tt
+  has_needed verbs.ListAttributes g is ticket name value site target program = ap is_some ticket ∙ list_ticket is
+  has_needed verbs.Status g is ticket name value site target program = tt
+  has_needed verbs.Simulate g is ticket name value site target program = tt
+  has_needed verbs.List g is ticket name value site target program = tt
+  has_needed verbs.Peers g is ticket name value site target program = tt
+  has_needed verbs.Follow g is ticket name value site target program =
+      record { ticket = ap is_some ticket ∙ follow_ticket is; site = ap is_some site ∙ follow_site is; program = ap is_some program ∙ follow_program is }

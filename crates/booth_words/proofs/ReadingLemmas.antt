@@ -7,8 +7,8 @@ use Rattle.booth_words.specs.Reading.{IsFirstRefused, Refuses, place_of}
 
 -- a configuration that is refused, where no other word is
 pub only_conf : (t : Texts) → (Refuses t words.Ticket → ⊥) → (Refuses t words.Name → ⊥) → (Refuses t words.Value → ⊥) → (Refuses t words.Site → ⊥) → (Refuses t words.Number → ⊥) → (Refuses t words.Path → ⊥) →
-    Refuses t words.Configuration → IsFirstRefused t words.Configuration
-only_conf t ticket name value site number path conf = record { refused = conf; first = go }
+    (Refuses t words.Program → ⊥) → Refuses t words.Configuration → IsFirstRefused t words.Configuration
+only_conf t ticket name value site number path program conf = record { refused = conf; first = go }
   where
     go : (other : Word) → place_of other < place_of words.Configuration → Refuses t other → ⊥
     go words.Ticket lt = ticket
@@ -17,15 +17,17 @@ only_conf t ticket name value site number path conf = record { refused = conf; f
     go words.Site lt = site
     go words.Number lt = number
     go words.Path lt = path
+    go words.Program lt = program
     go words.Configuration lt = absurd (omega arith)
 
 -- no word is refused
 pub all_accepted : (t : Texts) → (Refuses t words.Ticket → ⊥) → (Refuses t words.Name → ⊥) → (Refuses t words.Value → ⊥) → (Refuses t words.Site → ⊥) → (Refuses t words.Number → ⊥) → (Refuses t words.Path → ⊥) →
-    (Refuses t words.Configuration → ⊥) → (word : Word) → Refuses t word → ⊥
-all_accepted t ticket name value site number path conf words.Ticket = ticket
-all_accepted t ticket name value site number path conf words.Name = name
-all_accepted t ticket name value site number path conf words.Value = value
-all_accepted t ticket name value site number path conf words.Site = site
-all_accepted t ticket name value site number path conf words.Number = number
-all_accepted t ticket name value site number path conf words.Path = path
-all_accepted t ticket name value site number path conf words.Configuration = conf
+    (Refuses t words.Program → ⊥) → (Refuses t words.Configuration → ⊥) → (word : Word) → Refuses t word → ⊥
+all_accepted t ticket name value site number path program conf words.Ticket = ticket
+all_accepted t ticket name value site number path program conf words.Name = name
+all_accepted t ticket name value site number path program conf words.Value = value
+all_accepted t ticket name value site number path program conf words.Site = site
+all_accepted t ticket name value site number path program conf words.Number = number
+all_accepted t ticket name value site number path program conf words.Path = path
+all_accepted t ticket name value site number path program conf words.Program = program
+all_accepted t ticket name value site number path program conf words.Configuration = conf

@@ -10,11 +10,12 @@ use Rattle.booth_words.specs.declared.reading.Read.{Read}
 use Rattle.booth_words.specs.declared.asking.DaemonWords.{DaemonWords}
 use Rattle.booth_words.specs.declared.asking.SimulationWords.{SimulationWords}
 use Rattle.booth_words.specs.declared.asking.Asked.{Asked}
-use Rattle.booth_words.specs.declared.asking.Asked.TheVariants.{Daemon, Status, Simulation, Client, Move}
+use Rattle.booth_words.specs.declared.asking.Asked.TheVariants.{Daemon, Status, Simulation, Client, Move, Follow}
 use Rattle.booth_words.specs.declared.asking.ClientWords.{ClientWords}
 use Rattle.booth_words.specs.declared.asking.MoveWords.{MoveWords}
+use Rattle.booth_words.specs.declared.asking.FollowWords.{FollowWords}
 use Rattle.booth_words.specs.declared.program.Program.{Program}
-use Rattle.booth_words.specs.declared.program.Program.TheVariants.{Boothd, Booth}
+use Rattle.booth_words.specs.declared.program.Program.TheVariants.{Boothd, Booth, BoothFollow}
 use Rattle.booth_client.specs.declared.order.Order.{Order}
 use Rattle.booth_client.specs.declared.order.Order.TheVariants as orders
 use Rattle.booth_words.specs.declared.asking.Refusal.{Refusal}
@@ -92,6 +93,7 @@ pub record IsClientOf (verb : Verb) (read : Read) (asked : ClientWords) : Type 0
 -- the program asks a daemon
 abbrev pub IsClient : Program → Type 0
 IsClient Boothd = ⊥
+IsClient BoothFollow = ⊥
 IsClient program = Unit {0}
 
 -- the words ask for this client
@@ -114,6 +116,22 @@ pub record AsksMove (words : List (List ℕ)) (asked : MoveWords) : Type 0 where
   pub all : Read
   pub asks : AreTaken Booth words verbs.Move all
   pub same : IsMoveOf all asked
+
+-- what was read says this of a service that follows its ticket
+pub record IsFollowOf (read : Read) (asked : FollowWords) : Type 0 where
+  pub of_ticket : read.ticket ≡ Some asked.ticket
+  pub site : read.site ≡ Some asked.site
+  pub program : read.program ≡ Some asked.program
+  pub margin : asked.margin ≡ read.margin
+  pub kill : asked.kill ≡ read.kill
+  pub records : asked.records ≡ read.records
+  pub conf : asked.conf ≡ read.conf
+
+-- the words ask for this service
+pub record AsksFollow (words : List (List ℕ)) (asked : FollowWords) : Type 0 where
+  pub all : Read
+  pub asks : AreTaken BoothFollow words verbs.Follow all
+  pub same : IsFollowOf all asked
 
 -- the command does not take the words, and this kind of fault is one of theirs
 pub record IsUntaken (program : Program) (words : List (List ℕ)) (kind : ErrorKind) : Type 0 where
@@ -141,6 +159,12 @@ pub record AttributeRead (read : Read) : Type 0 where
   pub ticket : is_some read.ticket ≡ true
   pub name : is_some read.name ≡ true
 
+-- the ticket, this site and the program of a service were read
+pub record ServiceRead (read : Read) : Type 0 where
+  pub ticket : is_some read.ticket ≡ true
+  pub site : is_some read.site ≡ true
+  pub program : is_some read.program ≡ true
+
 -- the words that a command has to have were read
 abbrev pub HasWords : Verb → Read → Type 0
 HasWords verbs.Daemon read = is_some read.site ≡ true
@@ -151,6 +175,7 @@ HasWords verbs.SetAttribute read = AttributeRead read × (is_some read.value ≡
 HasWords verbs.GetAttribute read = AttributeRead read
 HasWords verbs.DeleteAttribute read = AttributeRead read
 HasWords verbs.ListAttributes read = is_some read.ticket ≡ true
+HasWords verbs.Follow read = ServiceRead read
 HasWords verb read = Unit {0}
 
 -- what a client's words say, with its order
@@ -164,6 +189,7 @@ IsAskedBy verbs.Status read (Status lock) = lock ≡ read.lock
 IsAskedBy verbs.Simulate read (Simulation asked) = IsSimulationOf read asked
 IsAskedBy verb read (Client asked) = IsClientOf verb read asked
 IsAskedBy verbs.Move read (Move asked) = IsMoveOf read asked
+IsAskedBy verbs.Follow read (Follow asked) = IsFollowOf read asked
 IsAskedBy verb read asked = ⊥
 
 -- what the reader of words answers
@@ -173,6 +199,7 @@ Asks program words (Ok (Status lock)) = (program ≡ Boothd) × AsksStatus words
 Asks program words (Ok (Simulation asked)) = (program ≡ Boothd) × AsksSimulation words asked
 Asks program words (Ok (Client asked)) = IsClient program × AsksClient program words asked
 Asks program words (Ok (Move asked)) = (program ≡ Booth) × AsksMove words asked
+Asks program words (Ok (Follow asked)) = (program ≡ BoothFollow) × AsksFollow words asked
 Asks program words (Err NoCommand) = verb_in program words ≡ None
 Asks program words (Err (Untaken error)) = IsUntakenFor program words (kind_of error)
 Asks program words (Err (Bad word)) = HasBadWord program words word

@@ -6,7 +6,7 @@ use Rattle.clap.specs.declared.builder.action.ArgAction.TheVariants.{Set, SetTru
 use Rattle.booth_words.specs.declared.command.Verb.{Verb}
 use Rattle.booth_words.specs.declared.command.Verb.TheVariants as verbs
 use Rattle.booth_words.specs.declared.program.Program.{Program}
-use Rattle.booth_words.specs.declared.program.Program.TheVariants.{Boothd, Booth, Geostore}
+use Rattle.booth_words.specs.declared.program.Program.TheVariants.{Boothd, Booth, Geostore, BoothFollow}
 
 -- an option of this letter, with one value
 abbrev pub option : List ℕ → ℕ → Rule
@@ -40,6 +40,11 @@ member_app = with_rule (with_rule (command_app (codes "daemon")) (option (codes 
 abbrev pub client_app : List ℕ → App
 client_app name = with_rule (with_rule (command_app name) (option (codes "conf") 99)) (option (codes "site") 115)
 
+-- the program that has no commands, with its files and its member
+abbrev pub follow_app : App
+follow_app = with_rule (with_rule (with_rule (command_app (codes "booth-follow")) (option (codes "conf") 99))
+    (needed (option (codes "site") 115))) (option (codes "records") 100)
+
 abbrev pub app_for : Verb → App
 app_for verbs.Daemon = with_rule (with_rule (with_rule member_app (option (codes "lock") 108))
     (option (codes "records") 100)) (option (codes "turns") 110)
@@ -61,6 +66,9 @@ app_for verbs.SetAttribute =
 app_for verbs.GetAttribute = with_rule (with_rule (client_app (codes "get")) ticket_option) (word (codes "name"))
 app_for verbs.DeleteAttribute = with_rule (with_rule (client_app (codes "delete")) ticket_option) (word (codes "name"))
 app_for verbs.ListAttributes = with_rule (client_app (codes "list")) ticket_option
+app_for verbs.Follow =
+    with_rule (with_rule (with_rule (with_rule follow_app (option (codes "margin") 109)) (option (codes "kill") 107))
+    (word (codes "ticket"))) (word (codes "program"))
 
 -- the version of the programs
 abbrev pub version : List ℕ
@@ -71,6 +79,7 @@ abbrev pub name_of : Program → List ℕ
 name_of Boothd = codes "boothd"
 name_of Booth = codes "booth"
 name_of Geostore = codes "geostore"
+name_of BoothFollow = codes "booth-follow"
 
 abbrev pub daemon_verb : List ℕ → Option Verb
 daemon_verb word =
@@ -97,8 +106,9 @@ abbrev pub verb_named : Program → List ℕ → Option Verb
 verb_named Boothd word = daemon_verb word
 verb_named Booth word = client_verb word
 verb_named Geostore word = attribute_verb word
+verb_named BoothFollow word = Some verbs.Follow
 
--- the program's command that the first word names
+-- The program's command that the first word names. `booth-follow` has one alone, so its own name stands for it.
 abbrev pub verb_in : Program → List (List ℕ) → Option Verb
 verb_in program [] = None
 verb_in program (word ∷ words) = verb_named program word

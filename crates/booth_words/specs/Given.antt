@@ -21,6 +21,9 @@ pub record Texts : Type 0 where
   pub records : Option (List ℕ)
   pub conf : Option (List ℕ)
   pub target : Option (List ℕ)
+  pub program : Option (List ℕ)
+  pub margin : Option (List ℕ)
+  pub kill : Option (List ℕ)
   pub wait : Bool
   pub commit : Bool
   pub immediate : Bool
@@ -43,6 +46,9 @@ texts_in rows = record {
   records = first_of (codes "records") rows;
   conf = first_of (codes "conf") rows;
   target = first_of (codes "target") rows;
+  program = first_of (codes "program") rows;
+  margin = first_of (codes "margin") rows;
+  kill = first_of (codes "kill") rows;
   wait = is_set (first_of (codes "wait") rows);
   commit = is_set (first_of (codes "commit") rows);
   immediate = is_set (first_of (codes "immediate") rows);
@@ -65,6 +71,9 @@ texts_of g = record {
   records = option_map (λ t. t.now) g.records;
   conf = option_map (λ t. t.now) g.conf;
   target = option_map (λ t. t.now) g.target;
+  program = option_map (λ t. t.now) g.program;
+  margin = option_map (λ t. t.now) g.margin;
+  kill = option_map (λ t. t.now) g.kill;
   wait = g.wait;
   commit = g.commit;
   immediate = g.immediate;
@@ -74,6 +83,12 @@ texts_of g = record {
 pub record HasAttribute (t : Texts) : Type 0 where
   pub ticket : is_some t.ticket ≡ true
   pub name : is_some t.name ≡ true
+
+-- the ticket, this site and the program of a service
+pub record HasService (t : Texts) : Type 0 where
+  pub ticket : is_some t.ticket ≡ true
+  pub site : is_some t.site ≡ true
+  pub program : is_some t.program ≡ true
 
 -- the options that a command has to have are there
 abbrev pub HasNeeded : Verb → Texts → Type 0
@@ -85,4 +100,5 @@ HasNeeded verbs.SetAttribute t = HasAttribute t × (is_some t.value ≡ true)
 HasNeeded verbs.GetAttribute t = HasAttribute t
 HasNeeded verbs.DeleteAttribute t = HasAttribute t
 HasNeeded verbs.ListAttributes t = is_some t.ticket ≡ true
+HasNeeded verbs.Follow t = HasService t
 HasNeeded verb t = Unit {0}

@@ -1,6 +1,6 @@
 -- What the readers make of the options and words, and which is refused first.
 use Rattle.std.specs.Prelude.{◌≡◌, ◌<◌, ◌≤◌, ◌^◌, ◌==◌, ◌&&◌, ◌⊎◌, ◌++◌}
-use Rattle.std.specs.Prelude.{nat_le, decimal, ℕ, Bool, false, List, Option, Some, None, Result, Ok, Err}
+use Rattle.std.specs.Prelude.{◌*◌, nat_le, nat_lt, decimal, ℕ, Bool, false, List, Option, Some, None, Result, Ok, Err}
 use Rattle.std.specs.Prelude.{◌-◌, codes, is_some, length, unwrap_or, if◌then◌else◌}
 use Rattle.std.specs.Prelude.{eqb}
 use Rattle.std.specs.List.{list_any, ends_with}
@@ -8,9 +8,13 @@ use Rattle.booth_base.specs.declared.address.Address.{Address}
 use Rattle.booth_base.specs.Address.{Spells}
 use Rattle.booth_base.specs.Name.{is_name, is_value}
 use Rattle.booth_client.specs.declared.order.Options.{Options}
+use Rattle.booth_following.specs.declared.programs.Programs.{Programs}
+use Rattle.booth_following.specs.Programs.{programs_of}
 use Rattle.booth_words.specs.declared.word.Word.{Word}
 use Rattle.booth_words.specs.declared.word.Word.TheVariants as words
 use Rattle.booth_words.specs.declared.reading.Addresses.{Addresses}
+use Rattle.booth_words.specs.declared.reading.Counts.{Counts}
+use Rattle.booth_words.specs.declared.reading.Times.{Times}
 use Rattle.booth_words.specs.declared.reading.Named.{Named}
 use Rattle.booth_words.specs.declared.reading.Numbers.{Numbers}
 use Rattle.booth_words.specs.declared.reading.Read.{Read}
@@ -67,7 +71,27 @@ abbrev pub IsNoNumber : ℕ → ℕ → Option (List ℕ) → Type 0
 IsNoNumber low high None = ⊥
 IsNoNumber low high (Some text) = (n : ℕ) → IsNumber low high text n → ⊥
 
+-- a program with its arguments: at most 249 bytes, and not blanks alone
+abbrev pub is_program : List ℕ → Bool
+is_program text = list_any (λ b. nat_lt 0x20 b) text && nat_le (length text) 249
+
+abbrev pub IsNoProgram : Option (List ℕ) → Type 0
+IsNoProgram None = ⊥
+IsNoProgram (Some text) = is_program text ≡ false
+
+-- a time in whole seconds, below 2^32
+abbrev pub IsNoTime : Option (List ℕ) → Type 0
+IsNoTime text = IsNoNumber 1 (2 ^ 32 - 1) text
+
 -- ---- refusals
+
+-- a count of turns or of events, or the number of a simulation
+abbrev pub RefusesCount : Texts → Type 0
+RefusesCount t = IsNoNumber 1 (2 ^ 62) t.turns ⊎ (IsNoNumber 0 10000000 t.events ⊎ IsNoNumber 0 (2 ^ 64 - 1) t.number)
+
+-- a margin, or the time of a kill
+abbrev pub RefusesTime : Texts → Type 0
+RefusesTime t = IsNoTime t.margin ⊎ IsNoTime t.kill
 
 -- The reader of this kind of word refuses.
 abbrev pub Refuses : Texts → Word → Type 0
@@ -75,9 +99,9 @@ Refuses t words.Ticket = IsNoName t.ticket
 Refuses t words.Name = IsNoName t.name
 Refuses t words.Value = IsNoValue t.value
 Refuses t words.Site = IsNoAddress t.target ⊎ IsNoAddress t.site
-Refuses t words.Number =
-    IsNoNumber 1 (2 ^ 62) t.turns ⊎ (IsNoNumber 0 10000000 t.events ⊎ IsNoNumber 0 (2 ^ 64 - 1) t.number)
+Refuses t words.Number = RefusesCount t ⊎ RefusesTime t
 Refuses t words.Path = IsNoPath t.lock ⊎ IsNoPath t.records
+Refuses t words.Program = IsNoProgram t.program
 Refuses t words.Configuration = 255 < length (conf_path t.conf)
 
 -- the order in which a refusal is told
@@ -88,7 +112,8 @@ place_of words.Value = 2
 place_of words.Site = 3
 place_of words.Number = 4
 place_of words.Path = 5
-place_of words.Configuration = 6
+place_of words.Program = 6
+place_of words.Configuration = 7
 
 -- this is the first word that is refused
 pub record IsFirstRefused (t : Texts) (word : Word) : Type 0 where
@@ -122,12 +147,41 @@ abbrev pub HasNumberOr : ℕ → ℕ → ℕ → Option (List ℕ) → ℕ → T
 HasNumberOr low high default None n = n ≡ default
 HasNumberOr low high default (Some text) n = IsNumber low high text n
 
--- the numbers that words spell, none of which is refused
-pub record AreNumbers (t : Texts) (n : Numbers) : Type 0 where
-  pub accepted : Refuses t words.Number → ⊥
+-- the programs that a word says, with each word that a service is run with
+abbrev pub HasProgram : Option (List ℕ) → Option Programs → Type 0
+HasProgram None None = Unit {0}
+HasProgram (Some text) (Some programs) = programs ≡ programs_of text
+HasProgram word read = ⊥
+
+-- these milliseconds are a word's seconds
+pub record AreSeconds (text : List ℕ) (millis : ℕ) : Type 0 where
+  pub seconds : ℕ
+  pub is : IsNumber 1 (2 ^ 32 - 1) text seconds
+  pub same : millis ≡ seconds * 1000
+
+abbrev pub HasTime : Option (List ℕ) → Option ℕ → Type 0
+HasTime None None = Unit {0}
+HasTime (Some text) (Some millis) = AreSeconds text millis
+HasTime word read = ⊥
+
+-- the counts that words spell, none of which is refused
+pub record AreCounts (t : Texts) (n : Counts) : Type 0 where
+  pub accepted : RefusesCount t → ⊥
   pub turns : HasNumber 1 (2 ^ 62) t.turns n.turns
   pub events : HasNumberOr 0 10000000 100000 t.events n.events
   pub number : HasNumberOr 0 (2 ^ 64 - 1) 1 t.number n.number
+
+-- the times that words spell, neither of which is refused
+pub record AreTimes (t : Texts) (n : Times) : Type 0 where
+  pub accepted : RefusesTime t → ⊥
+  pub margin : HasTime t.margin n.margin
+  pub kill : HasTime t.kill n.kill
+
+-- the numbers that words spell, none of which is refused
+pub record AreNumbers (t : Texts) (n : Numbers) : Type 0 where
+  pub accepted : Refuses t words.Number → ⊥
+  pub counts : AreCounts t n.counts
+  pub times : AreTimes t n.times
 
 -- the addresses that words spell, neither of which is refused
 pub record AreAddresses (t : Texts) (a : Addresses) : Type 0 where
@@ -147,6 +201,9 @@ pub record IsRead (t : Texts) (r : Read) : Type 0 where
   pub turns : HasNumber 1 (2 ^ 62) t.turns r.turns
   pub events : HasNumberOr 0 10000000 100000 t.events r.events
   pub number : HasNumberOr 0 (2 ^ 64 - 1) 1 t.number r.number
+  pub margin : HasTime t.margin r.margin
+  pub kill : HasTime t.kill r.kill
+  pub program : HasProgram t.program r.program
   pub names_conf : r.names_conf ≡ is_some t.conf
   pub lock : r.lock ≡ unwrap_or t.lock default_lock
   pub records : r.records ≡ unwrap_or t.records default_records

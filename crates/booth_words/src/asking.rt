@@ -1,6 +1,6 @@
 //! What the words ask for, or why they ask for nothing.
 ghost use Rattle.std.specs.Prelude.{◌≡◌, true, Some, is_some, map, string_bytes};
-ghost use Rattle.booth_words.specs.Asking.{Asks, HasOrder, HasWords, IsAskedBy, IsDaemonOf, IsMoveOf, IsSimulationOf, client_of};
+ghost use Rattle.booth_words.specs.Asking.{Asks, HasOrder, HasWords, IsAskedBy, IsDaemonOf, IsFollowOf, IsMoveOf, IsSimulationOf, client_of};
 
 use crate::Word;
 use crate::command::{Verb, verb_in};
@@ -9,6 +9,7 @@ use crate::program::Program;
 use crate::reading::{Read, read_words};
 use booth_base::{Address, AttrValue, Name, PathText};
 use booth_client::Order;
+use booth_following::Programs;
 use clap::Error;
 use std::alloc::Global;
 
@@ -63,6 +64,23 @@ pub struct MoveWords {
     pub conf: PathText,
 }
 
+/// What the words of a service say that follows its ticket.
+#[derive(Drop)]
+pub struct FollowWords {
+    pub ticket: Name,
+    /// This site, whose daemon is asked.
+    pub site: Address,
+    pub program: Programs,
+    /// How long before the end of the lease the service is stopped, in milliseconds, where it is said.
+    pub margin: Option<u64>,
+    /// How long before that end it is killed, in milliseconds, where it is said.
+    pub kill: Option<u64>,
+    /// The directory of the daemon's records, whose clock is the one that its list tells by.
+    pub records: PathText,
+    /// The file of the configuration.
+    pub conf: PathText,
+}
+
 /// What the words ask for.
 #[derive(Drop)]
 pub enum Asked {
@@ -75,6 +93,8 @@ pub enum Asked {
     Client(ClientWords),
     /// That a ticket is moved to another site.
     Move(MoveWords),
+    /// That a service follows its ticket.
+    Follow(FollowWords),
 }
 
 /// Why the words ask for nothing.
@@ -152,6 +172,37 @@ fn move_of(read: Read) -> MoveWords
         target,
         wait: read.options.wait,
         site: read.site,
+        conf: read.conf,
+    }
+}
+
+// The program that words say which have to say one.
+fn said_program(program: Option<Programs>) -> Programs
+    requires { is_some program ≡ true }
+    ensures { Some result ≡ program }
+{
+    match program {
+        Some(program) => program,
+        None => unreachable!(),
+    }
+}
+
+// What follows its ticket.
+fn follow_of(read: Read) -> FollowWords
+    requires { HasWords Verb.Follow read }
+    ensures { IsFollowOf read result }
+{
+    let ticket = named_ticket(&read);
+    let Some(site) = read.site else {
+        unreachable!()
+    };
+    FollowWords {
+        ticket,
+        site,
+        program: said_program(read.program),
+        margin: read.margin,
+        kill: read.kill,
+        records: read.records,
         conf: read.conf,
     }
 }
@@ -237,10 +288,11 @@ fn asked_of(verb: Verb, read: Read) -> Asked
             let ticket = named_ticket(&read);
             Asked::Client(client_of(Order::ListAttributes(ticket), read))
         }
+        Verb::Follow => Asked::Follow(follow_of(read)),
     }
 }
 
-/// What these words ask this program for, or why they ask for nothing.
+/// What these words ask this program for, or why they ask for nothing. Those of `booth-follow` begin with its own name.
 pub fn ask(alloc: Global, program: Program, words: &[String]) -> Result<Asked, Refusal>
     ensures { Asks program (map string_bytes words.now) result }
 {

@@ -8,6 +8,7 @@ ghost use Rattle.booth_words.specs.Commands.{attribute_verb, daemon_verb, verb_i
 
 use crate::attribute_command::{delete, get, list_attributes, set};
 use crate::client_command::{grant, list, move_ticket, peers, revoke};
+use crate::follow_command::follow;
 use crate::program::Program;
 use clap::{Arg, ArgAction, Command};
 use std::alloc::{AllocError, Global};
@@ -53,6 +54,8 @@ pub enum Verb {
     DeleteAttribute,
     /// Lists attributes.
     ListAttributes,
+    /// Has a service follow its ticket.
+    Follow,
 }
 
 fn daemon_verb(word: &str) -> Option<Verb>
@@ -109,7 +112,7 @@ fn attribute_verb(word: &str) -> Option<Verb>
     None
 }
 
-/// The program's command that the first word names.
+/// The program's command that the first word names: of `booth-follow` the one that it has, by whatever name it was run.
 pub(crate) fn verb_in(program: Program, words: &[String]) -> Option<Verb>
     ensures { result ≡ verb_in program (map string_bytes words.now) }
 {
@@ -120,6 +123,7 @@ pub(crate) fn verb_in(program: Program, words: &[String]) -> Option<Verb>
         Program::Boothd => daemon_verb(first.as_str()),
         Program::Booth => client_verb(first.as_str()),
         Program::Geostore => attribute_verb(first.as_str()),
+        Program::BoothFollow => Some(Verb::Follow),
     }
 }
 
@@ -166,7 +170,8 @@ fn lock<'a>(alloc: Global) -> Arg<'a>
     option(alloc, "lock", 'l', "LOCKFILE", help)
 }
 
-fn records<'a>(alloc: Global) -> Arg<'a>
+/// The directory of the daemon's records.
+pub(crate) fn records<'a>(alloc: Global) -> Arg<'a>
     ensures rule { rule_of result ≡ option (codes "records") 100 }
     ensures local { result.global ≡ false }
 {
@@ -284,5 +289,6 @@ pub(crate) fn command<'a>(alloc: Global, verb: Verb) -> Result<Command<'a>, Allo
         Verb::GetAttribute => get(alloc),
         Verb::DeleteAttribute => delete(alloc),
         Verb::ListAttributes => list_attributes(alloc),
+        Verb::Follow => follow(alloc),
     }
 }

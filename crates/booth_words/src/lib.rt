@@ -5,12 +5,15 @@ mod asking;
 mod attribute_command;
 mod client_command;
 mod command;
+mod follow_command;
 mod given;
 mod program;
 mod reading;
 mod word;
 
-pub use asking::{Asked, ClientWords, DaemonWords, MoveWords, Refusal, SimulationWords, ask};
+pub use asking::{
+    Asked, ClientWords, DaemonWords, FollowWords, MoveWords, Refusal, SimulationWords, ask,
+};
 pub use command::{Verb, version};
 pub use program::Program;
 pub use reading::MOST_EVENTS;

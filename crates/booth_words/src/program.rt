@@ -11,18 +11,21 @@ pub enum Program {
     Booth,
     /// The client for attributes.
     Geostore,
+    /// Has a service follow its ticket.
+    BoothFollow,
 }
 
 impl Program {
     /// The name with which each of its lines begins.
     pub fn name(self) -> &'static str
         ensures name { result.now ≡ name_of self }
-        ensures short { length result.now ≤ 8 }
+        ensures short { length result.now ≤ 12 }
     {
         match self {
             Program::Boothd => "boothd",
             Program::Booth => "booth",
             Program::Geostore => "geostore",
+            Program::BoothFollow => "booth-follow",
         }
     }
 }

@@ -1,17 +1,20 @@
 //! The readers of the options, in the order in which a refusal is told.
 ghost use Rattle.std.specs.Prelude.{◌≡◌, ◌<◌, ◌≤◌, ◌^◌, ◌==◌, decimal, ℕ};
 ghost use Rattle.std.specs.Prelude.{is_some, option_map, unwrap_or, MatchOption, MatchResult, codes, length};
-ghost use Rattle.std.specs.Prelude.{eqb};
+ghost use Rattle.std.specs.Prelude.{eqb, nat_lt};
 ghost use Rattle.std.specs.List.{list_any, ends_with};
 ghost use Rattle.booth_words.specs.Given.{texts_of};
 ghost use Rattle.booth_words.specs.Reading.{completed, conf_path, default_lock, default_records, HasAddress, HasName, options_in};
-ghost use Rattle.booth_words.specs.Reading.{AreAddresses, AreNumbers, HasNumber, HasNumberOr, IsNoAddress, IsNoName, IsNoNumber, IsNoPath, IsNoValue, Names, Reads, Refuses};
+ghost use Rattle.booth_words.specs.Reading.{AreAddresses, AreCounts, AreNumbers, AreTimes, HasNumber, HasNumberOr, HasProgram, HasTime};
+ghost use Rattle.booth_words.specs.Reading.{IsNoAddress, IsNoName, IsNoNumber, IsNoPath, IsNoProgram, IsNoTime, IsNoValue, Names, Reads};
+ghost use Rattle.booth_words.specs.Reading.{Refuses, RefusesCount, RefusesTime};
 
 use crate::Word;
 use crate::given::Given;
 use arrayvec::ArrayString;
 use booth_base::{Address, AttrValue, Name, PathText};
 use booth_client::Options;
+use booth_following::Programs;
 use itoa::Buffer;
 
 /// The file that is locked while a daemon runs, where none is named.
@@ -25,6 +28,9 @@ const MOST_TURNS: u64 = 1 << 62;
 
 /// The most events of a simulation that words ask for.
 pub const MOST_EVENTS: u64 = 10_000_000;
+
+/// The most seconds of a margin or of a kill.
+const MOST_SECONDS: u64 = 4_294_967_295;
 
 /// How many events a simulation has, where it is not said.
 const EVENTS: u64 = 100_000;
@@ -44,6 +50,11 @@ pub(crate) struct Read {
     pub turns: Option<u64>,
     pub events: u64,
     pub number: u64,
+    /// In milliseconds.
+    pub margin: Option<u64>,
+    /// In milliseconds.
+    pub kill: Option<u64>,
+    pub program: Option<Programs>,
     pub lock: PathText,
     pub records: PathText,
     /// Whether a configuration is named.
@@ -197,17 +208,30 @@ fn number_or(word: Option<&str>, low: u64, high: u64, default: u64) -> Result<u6
     }
 }
 
-/// The numbers that words spell.
+// The milliseconds of a word's seconds.
+fn time_in(word: Option<&str>) -> Result<Option<u64>, Refused>
+    ensures { MatchResult result (λ n. HasTime (option_map (λ t. t.now) word.entry) n
+        × (IsNoTime (option_map (λ t. t.now) word.entry) → ⊥))
+        (λ _. IsNoTime (option_map (λ t. t.now) word.entry)) }
+{
+    match number_in(word, 1, MOST_SECONDS) {
+        Ok(Some(seconds)) => Ok(Some(seconds * 1000)),
+        Ok(None) => Ok(None),
+        Err(_) => Err(Refused),
+    }
+}
+
+/// The counts that words spell.
 #[derive(Drop)]
-struct Numbers {
+struct Counts {
     turns: Option<u64>,
     events: u64,
     number: u64,
 }
 
-fn numbers_in(given: &Given) -> Result<Numbers, Refused>
-    ensures { MatchResult result (λ n. AreNumbers (texts_of given.now) n)
-        (λ _. Refuses (texts_of given.now) Word.Number) }
+fn counts_in(given: &Given) -> Result<Counts, Refused>
+    ensures { MatchResult result (λ n. AreCounts (texts_of given.now) n)
+        (λ _. RefusesCount (texts_of given.now)) }
 {
     let Ok(turns) = number_in(given.turns, 1, MOST_TURNS) else {
         return Err(Refused);
@@ -216,11 +240,51 @@ fn numbers_in(given: &Given) -> Result<Numbers, Refused>
         return Err(Refused);
     };
     match number_or(given.number, 0, u64::MAX, NUMBER) {
-        Ok(number) => Ok(Numbers {
+        Ok(number) => Ok(Counts {
             turns,
             events,
             number,
         }),
+        Err(_) => Err(Refused),
+    }
+}
+
+/// The times that words spell, in milliseconds.
+#[derive(Drop)]
+struct Times {
+    margin: Option<u64>,
+    kill: Option<u64>,
+}
+
+fn times_in(given: &Given) -> Result<Times, Refused>
+    ensures { MatchResult result (λ n. AreTimes (texts_of given.now) n)
+        (λ _. RefusesTime (texts_of given.now)) }
+{
+    let Ok(margin) = time_in(given.margin) else {
+        return Err(Refused);
+    };
+    match time_in(given.kill) {
+        Ok(kill) => Ok(Times { margin, kill }),
+        Err(_) => Err(Refused),
+    }
+}
+
+/// The numbers that words spell.
+#[derive(Drop)]
+struct Numbers {
+    counts: Counts,
+    times: Times,
+}
+
+fn numbers_in(given: &Given) -> Result<Numbers, Refused>
+    ensures { MatchResult result (λ n. AreNumbers (texts_of given.now) n)
+        (λ _. Refuses (texts_of given.now) Word.Number) }
+{
+    let Ok(counts) = counts_in(given) else {
+        return Err(Refused);
+    };
+    match times_in(given) {
+        Ok(times) => Ok(Numbers { counts, times }),
         Err(_) => Err(Refused),
     }
 }
@@ -265,6 +329,31 @@ fn paths_in(given: &Given) -> Result<Paths, Refused>
     };
     match path_in(given.records, RECORDS) {
         Ok(records) => Ok(Paths { lock, records }),
+        Err(_) => Err(Refused),
+    }
+}
+
+// Whether a program is more than blanks.
+fn has_word(program: &str) -> bool
+    ensures { result ≡ list_any (λ b. nat_lt 0x20 b) program.now }
+{
+    program.as_bytes().iter().any(|b| 0x20 < *b)
+}
+
+// The program in a word.
+fn program_in(word: Option<&str>) -> Result<Option<Programs>, Refused>
+    ensures { MatchResult result (λ programs. HasProgram (option_map (λ t. t.now) word.entry) programs
+        × (IsNoProgram (option_map (λ t. t.now) word.entry) → ⊥))
+        (λ _. IsNoProgram (option_map (λ t. t.now) word.entry)) }
+{
+    let Some(word) = word else {
+        return Ok(None);
+    };
+    if !has_word(word) {
+        return Err(Refused);
+    }
+    match Programs::read(word) {
+        Ok(programs) => Ok(Some(programs)),
         Err(_) => Err(Refused),
     }
 }
@@ -345,6 +434,9 @@ pub(crate) fn read_words(given: &Given) -> Result<Read, Word>
     let Ok(paths) = paths_in(given) else {
         return Err(Word::Path);
     };
+    let Ok(program) = program_in(given.program) else {
+        return Err(Word::Program);
+    };
     let Some(conf) = conf_in(given.conf) else {
         return Err(Word::Configuration);
     };
@@ -355,9 +447,12 @@ pub(crate) fn read_words(given: &Given) -> Result<Read, Word>
         options: options_in(given),
         target: addresses.target,
         site: addresses.site,
-        turns: numbers.turns,
-        events: numbers.events,
-        number: numbers.number,
+        turns: numbers.counts.turns,
+        events: numbers.counts.events,
+        number: numbers.counts.number,
+        margin: numbers.times.margin,
+        kill: numbers.times.kill,
+        program,
         lock: paths.lock,
         records: paths.records,
         names_conf: names_conf(given.conf),

@@ -15,6 +15,8 @@ pub enum Word {
     Number,
     /// The path of the lock or of the records.
     Path,
+    /// The program of a service.
+    Program,
     /// The path of the configuration.
     Configuration,
 }

@@ -7,14 +7,14 @@ use Rattle.booth_client.proofs.reports.report.Goals as goal
 
 pub returns-in-List : goal.returns-in-List
 returns-in-List c =
-    IfOk-weaker c.shown.result _ _
+    IfOk-weaker c.list_report.result _ _
     (λ report is.
     subst (λ o. IsReport o (plain_of c.args.reply.now) report) (sym c.in-List.is)
-    (subst (λ t. IsShown forms.List t report) c.text_in.ensures is)) c.shown.ensures
+    (subst (λ t. IsShown forms.List t report) c.text_in.ensures is)) c.list_report.ensures
 
 pub returns-in-Peers : goal.returns-in-Peers
 returns-in-Peers c =
-    IfOk-weaker c.shown-in-Peers.result _ _
+    IfOk-weaker c.shown.result _ _
     (λ report is.
     subst (λ o. IsReport o (plain_of c.args.reply.now) report) (sym c.in-Peers.is)
-    (subst (λ t. IsShown forms.Peers t report) c.text_in-in-Peers.ensures is)) c.shown-in-Peers.ensures
+    (subst (λ t. IsShown forms.Peers t report) c.text_in-in-Peers.ensures is)) c.shown.ensures

@@ -1,13 +1,14 @@
-use Rattle.std.proofs.Common.{Ok}
-use Rattle.booth_clients.proofs.ClientLemmas.{told, untold}
+use Rattle.std.proofs.Common.{subst}
+use Rattle.booth_clients.specs.Client.{IsMemoryFor}
+use Rattle.booth_clients.proofs.ClientLemmas.{told_list, told_talk}
 use Rattle.booth_clients.proofs.replies.ask_and_tell.Goals as goal
 
-pub returns-in-Ok-clause-past : goal.returns-in-Ok-clause-past
-returns-in-Ok-clause-past g c =
-    told c.args.asking.now c.args.to.now c.args.start (Ok c.in-Ok.last) c.talk.new.room.datagram c.bytes.result.now c.end.result.outcome
-    c.end.result.said c.bytes.ensures.value c.in-Ok.ensures.past c.end.ensures.past
+pub returns-in-List-clause-past : goal.returns-in-List-clause-past
+returns-in-List-clause-past g c =
+    told_list c.args.asking.now c.args.to.now c.args.start c.list_and_tell.result.outcome c.list_and_tell.result.said
+    (subst (λ m. IsMemoryFor c.args.asking.now.order m) c.in-List.is c.requires).0 c.list_and_tell.ensures.past
 
-pub returns-in-Err-clause-past : goal.returns-in-Err-clause-past
-returns-in-Err-clause-past g c =
-    untold c.args.asking.now c.args.to.now c.args.start c.in-Err.field-0 c.talk.new.room.datagram c.line_of.result c.line_of.ensures
-    c.in-Err.ensures.past
+pub returns-in-Talk-clause-past : goal.returns-in-Talk-clause-past
+returns-in-Talk-clause-past g c =
+    told_talk c.args.asking.now c.args.to.now c.args.start c.talk_and_tell.result.outcome c.talk_and_tell.result.said
+    (subst (λ m. IsMemoryFor c.args.asking.now.order m) c.in-Talk.is c.requires) c.talk_and_tell.ensures.past

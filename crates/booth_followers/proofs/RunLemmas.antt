@@ -1,0 +1,61 @@
+-- A run from its parts, and what its words have to do with its outcome.
+use Rattle.std.specs.Prelude.{Option, Some, Ok}
+use Rattle.std.proofs.Common.{◌≡◌, ℕ, List, [], refl, sym, subst}
+use Rattle.clap.specs.declared.error.kind.ErrorKind.{ErrorKind}
+use Rattle.booth_host.specs.declared.entry.Entry.{Entry}
+use Rattle.booth_host.specs.Past.{GrewSome}
+use Rattle.booth_host.proofs.PastLemmas.{no_entry, some_joined, some_of, some_weaker}
+use Rattle.booth_words.specs.declared.asking.Asked.{Asked}
+use Rattle.booth_words.specs.declared.asking.Asked.TheVariants.{Follow}
+use Rattle.booth_words.specs.declared.asking.FollowWords.{FollowWords}
+use Rattle.booth_words.specs.declared.program.Program.TheVariants.{BoothFollow}
+use Rattle.booth_words.specs.Asking.{Asks, AsksFollow, IsUntaken, IsUntakenFor}
+use Rattle.booth_words.proofs.AskingLemmas.{untaken_of}
+use Rattle.booth_stages.specs.declared.outcome.Outcome.{Outcome}
+use Rattle.booth_stages.specs.declared.outcome.Outcome.TheVariants as outs
+use Rattle.booth_stages.specs.Texts.{IsText}
+use Rattle.booth_stages.specs.Unasked.{IsTold, IsToldOutcome, IsUnasked}
+use Rattle.booth_stages.proofs.UsageLemmas.{no_memory, unasked_of}
+use Rattle.booth_followers.specs.Run.{FitsFollowWords, IsFollowMade, IsFollowRun, Followed, Unasked}
+use Rattle.booth_followers.specs.Service.{IsFollowAnswered, IsFollowLog}
+
+pub followed_made : {a b : Option (List Entry)} (words : List (List ℕ)) (asked : FollowWords) (outcome : Outcome) (said : List ℕ) → AsksFollow words asked →
+    GrewSome (IsFollowLog asked outcome said) a b → GrewSome (IsFollowMade words outcome said) a b
+followed_made words asked outcome said asks log =
+    some_weaker (IsFollowLog asked outcome said) (IsFollowMade words outcome said) (λ es is. Followed asked asks is) log
+
+pub told_made : {a b : Option (List Entry)} (words : List (List ℕ)) (kind : ErrorKind) (outcome : Outcome) (said : List ℕ) →
+    IsUntakenFor BoothFollow words kind → IsToldOutcome kind outcome → GrewSome (IsTold BoothFollow kind outcome said) a b → GrewSome (IsFollowMade words outcome said) a b
+told_made words kind outcome said un out told =
+    some_weaker (IsTold BoothFollow kind outcome said) (IsFollowMade words outcome said)
+    (λ es is. Unasked (unasked_of BoothFollow words kind outcome said es un out is)) told
+
+pub unasked_made : {a : Option (List Entry)} (words : List (List ℕ)) (outcome : Outcome) (said : List ℕ) → IsUnasked BoothFollow words outcome said [] →
+    GrewSome (IsFollowMade words outcome said) a a
+unasked_made words outcome said is = some_of (IsFollowMade words outcome said) no_entry (Unasked is)
+
+pub fits_untaken : (words : List (List ℕ)) (kind : ErrorKind) (outcome : Outcome) → IsUntakenFor BoothFollow words kind → IsToldOutcome kind outcome →
+    FitsFollowWords words outcome
+fits_untaken words kind (outs.Usage (Some told)) un out = subst (λ k. IsUntaken BoothFollow words k) (sym out.0) (untaken_of BoothFollow words kind out.1 un)
+fits_untaken words kind outs.PrintFault un out =
+    record { kind = kind; untaken = untaken_of BoothFollow words kind (no_memory kind out) un; is = out }
+fits_untaken words kind outs.OutOfMemory un out = tt
+fits_untaken words kind outcome un out = absurd out
+
+pub asks_follow : (words : List (List ℕ)) (asked : FollowWords) (all : Asked) → Asks BoothFollow words (Ok all) → all ≡ Follow asked → AsksFollow words asked
+asks_follow words asked all asks same =
+    let is : Asks BoothFollow words (Ok (Follow asked)) = subst (λ x. Asks BoothFollow words (Ok x)) same asks in is.1
+
+pub fits_answered : (words : List (List ℕ)) (asked : FollowWords) (outcome : Outcome) → AsksFollow words asked → IsFollowAnswered outcome → FitsFollowWords words outcome
+fits_answered words asked (outs.Usage kind) asks is = absurd is
+fits_answered words asked (outs.BadWord word) asks is = absurd is
+fits_answered words asked outs.PrintFault asks is = absurd is
+fits_answered words asked outs.OutOfMemory asks is = tt
+fits_answered words asked outcome asks is = (record { asked = asked; asks = asks }, is)
+
+-- the calls up to the outcome, and then what is said
+pub follow_run_of : {a b c : Option (List Entry)} (words : List (List ℕ)) (outcome : Outcome) (said : List ℕ) →
+    GrewSome (IsFollowMade words outcome said) a b → GrewSome (IsText BoothFollow said) b c → GrewSome (IsFollowRun words outcome) a c
+follow_run_of words outcome said body last =
+    some_joined (IsFollowMade words outcome said) (IsText BoothFollow said) (IsFollowRun words outcome)
+    (λ xs ys made told. record { said = said; body = xs; last = ys; whole = refl; made = made; told = told }) body last

@@ -1,0 +1,122 @@
+-- A service's calls from their parts.
+use Rattle.std.specs.Prelude.{Option, None, Ok, Err}
+use Rattle.std.proofs.Common.{◌≡◌, ◌++◌, ℕ, List, [], ◌∷◌, refl, sym, ap, subst}
+use Rattle.booth_conf.specs.Config.{ConfigSays}
+use Rattle.booth_follow_rule.specs.declared.margins.Margins.{Margins}
+use Rattle.booth_following.specs.declared.choosing.FollowFault.{FollowFault}
+use Rattle.booth_following.specs.declared.following.Following.{Following}
+use Rattle.booth_following.specs.declared.turns.FollowEnd.{FollowEnd}
+use Rattle.booth_following.specs.Choosing.{HasFault, IsChosen}
+use Rattle.booth_following.specs.Following.{IsFollowing}
+use Rattle.booth_following.specs.Turns.{IsFollowed}
+use Rattle.booth_host.specs.declared.entry.Entry.{Entry}
+use Rattle.booth_host.specs.declared.entry.Entry.TheVariants.{Open}
+use Rattle.booth_host.specs.Past.{GrewBy, GrewSome}
+use Rattle.booth_host.proofs.PastLemmas.{no_entry, some_joined, some_of, some_weaker, then_some}
+use Rattle.booth_words.specs.declared.asking.FollowWords.{FollowWords}
+use Rattle.booth_stages.specs.declared.outcome.Ended.{Ended}
+use Rattle.booth_stages.specs.declared.outcome.Outcome.{Outcome}
+use Rattle.booth_stages.specs.declared.outcome.Outcome.TheVariants as outs
+use Rattle.booth_stages.specs.Configuration.{IsConfigRead, IsUnreadOutcome}
+use Rattle.booth_stages.specs.Keys.{IsKeyRead, IsKeylessOutcome}
+use Rattle.booth_stages.specs.Texts.{not_followed_text, out_of_memory_text}
+use Rattle.booth_followers.specs.Service.{EndsAs, FollowsConfig, FollowsKey, FollowsMargins, IsFollowAnswered, IsFollowLog, IsService, IsStarted, daemon_of}
+use Rattle.booth_followers.specs.Service.{Fitted, Keyed, Keyless, Read, Roomless, Serving, SetOut, Unfollowed, Unread}
+
+-- ---- outcomes
+
+pub unread_answered : (outcome : Outcome) → IsUnreadOutcome outcome → IsFollowAnswered outcome
+unread_answered outs.ConfUnread unread = tt
+unread_answered (outs.ConfBad fault) unread = tt
+unread_answered outs.OutOfMemory unread = tt
+unread_answered outcome unread = absurd unread
+
+pub keyless_answered : (outcome : Outcome) → IsKeylessOutcome outcome → IsFollowAnswered outcome
+keyless_answered outs.KeyUnread keyless = tt
+keyless_answered (outs.KeyBad fault) keyless = tt
+keyless_answered outs.OutOfMemory keyless = tt
+keyless_answered outcome keyless = absurd keyless
+
+-- ---- the service and the socket
+
+pub served : (f : Following) (end : FollowEnd) (outcome : Outcome) (said : List ℕ) {a b : Option (List Entry)} → EndsAs end outcome said →
+    GrewSome (IsFollowed f end) a b → GrewSome (IsService f outcome said) a b
+served f end outcome said ends followed =
+    some_weaker (IsFollowed f end) (IsService f outcome said) (λ es h. record { end = end; followed = h; ends = ends }) followed
+
+pub opened : (conf : List ℕ) (f : Following) (outcome : Outcome) (said : List ℕ) {a b c : Option (List Entry)} →
+    GrewBy a b (Open None 0 [] conf (Ok tt) ∷ []) → GrewSome (IsService f outcome said) b c → GrewSome (IsStarted conf f outcome said) a c
+opened conf f outcome said socket serves =
+    then_some (IsService f outcome said) (IsStarted conf f outcome said) socket
+    (λ ys h. Serving (record { rest = ys; whole = refl; serves = h })) serves
+
+-- ---- the memory
+
+module _ (asked : FollowWords) (config : ConfigSays) (key : Option (List ℕ)) (margins : Margins) where
+  pub no_room : (ended : Ended) {a : Option (List Entry)} → ended.outcome ≡ outs.OutOfMemory → ended.said ≡ out_of_memory_text →
+      GrewSome (FollowsKey asked config key margins ended.outcome ended.said) a a
+  no_room ended out is =
+      some_of (FollowsKey asked config key margins ended.outcome ended.said) no_entry
+      (subst (λ outcome. FollowsKey asked config key margins outcome ended.said []) (sym out) (Roomless (is, refl)))
+
+  pub set_out : (f : Following) (outcome : Outcome) (said : List ℕ) {a b : Option (List Entry)} →
+      IsFollowing key asked.ticket (daemon_of asked config) asked.program margins f →
+      GrewSome (IsStarted asked.conf f outcome said) a b → GrewSome (FollowsKey asked config key margins outcome said) a b
+  set_out f outcome said is starts =
+      some_weaker (IsStarted asked.conf f outcome said) (FollowsKey asked config key margins outcome said)
+      (λ es h. SetOut (record { f = f; is = is; starts = h })) starts
+
+-- ---- the key
+
+module _ (asked : FollowWords) (config : ConfigSays) (margins : Margins) where
+  pub with_key : (key : Option (List ℕ)) (outcome : Outcome) (said : List ℕ) {a b c : Option (List Entry)} →
+      GrewSome (IsKeyRead config.authfile (Ok key)) a b → GrewSome (FollowsKey asked config key margins outcome said) b c →
+      GrewSome (FollowsMargins asked config margins outcome said) a c
+  with_key key outcome said read follows =
+      some_joined (IsKeyRead config.authfile (Ok key)) (FollowsKey asked config key margins outcome said) (FollowsMargins asked config margins outcome said)
+      (λ xs ys h k. Keyed (record {
+        key = key;
+        text = h.0;
+        holds = h.1;
+        rest = ys;
+        whole = ap (λ zs. zs ++ ys) h.2;
+        here = k;
+      })) read follows
+
+  pub without_key : (ended : Ended) {a b : Option (List Entry)} → GrewSome (IsKeyRead config.authfile (Err ended)) a b →
+      GrewSome (FollowsMargins asked config margins ended.outcome ended.said) a b
+  without_key ended read =
+      some_weaker (IsKeyRead config.authfile (Err ended)) (FollowsMargins asked config margins ended.outcome ended.said) (λ es h. Keyless h) read
+
+-- ---- the margins and the configuration
+
+module _ (asked : FollowWords) (config : ConfigSays) where
+  pub fitted : (margins : Margins) (outcome : Outcome) (said : List ℕ) {a b : Option (List Entry)} →
+      IsChosen config asked.ticket asked.site asked.margin asked.kill margins →
+      GrewSome (FollowsMargins asked config margins outcome said) a b → GrewSome (FollowsConfig asked config outcome said) a b
+  fitted margins outcome said chosen follows =
+      some_weaker (FollowsMargins asked config margins outcome said) (FollowsConfig asked config outcome said)
+      (λ es h. Fitted (record { margins = margins; chosen = chosen; here = h })) follows
+
+  pub unfollowed : (fault : FollowFault) (said : List ℕ) {a : Option (List Entry)} →
+      HasFault config asked.ticket asked.site asked.margin asked.kill fault → said ≡ not_followed_text asked.ticket fault →
+      GrewSome (FollowsConfig asked config (outs.NotFollowed fault) said) a a
+  unfollowed fault said has is =
+      some_of (FollowsConfig asked config (outs.NotFollowed fault) said) no_entry (Unfollowed (has, is, refl))
+
+  pub read_all : (outcome : Outcome) (said : List ℕ) {a b c : Option (List Entry)} → GrewSome (IsConfigRead asked.conf (Ok config)) a b →
+      GrewSome (FollowsConfig asked config outcome said) b c → GrewSome (IsFollowLog asked outcome said) a c
+  read_all outcome said read follows =
+      some_joined (IsConfigRead asked.conf (Ok config)) (FollowsConfig asked config outcome said) (IsFollowLog asked outcome said)
+      (λ xs ys h k. Read (record {
+        text = h.0;
+        config = config;
+        says = h.1;
+        rest = ys;
+        whole = ap (λ zs. zs ++ ys) h.2;
+        here = k;
+      })) read follows
+
+pub not_read : (asked : FollowWords) (ended : Ended) {a b : Option (List Entry)} → GrewSome (IsConfigRead asked.conf (Err ended)) a b →
+    GrewSome (IsFollowLog asked ended.outcome ended.said) a b
+not_read asked ended read = some_weaker (IsConfigRead asked.conf (Err ended)) (IsFollowLog asked ended.outcome ended.said) (λ es h. Unread h) read

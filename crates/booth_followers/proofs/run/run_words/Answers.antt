@@ -1,0 +1,13 @@
+use Rattle.std.proofs.Common.{map, rules, string_bytes, subst}
+use Rattle.booth_host.specs.Past.{GrewSome}
+use Rattle.booth_words.specs.declared.asking.FollowWords.{FollowWords}
+use Rattle.booth_followers.specs.Service.{IsFollowLog}
+use Rattle.booth_followers.proofs.RunLemmas.{asks_follow, followed_made}
+use Rattle.booth_followers.proofs.run.run_words.Goals as goal
+
+pub returns-in-Ok-Follow-clause-past : goal.returns-in-Ok-Follow-clause-past
+returns-in-Ok-Follow-clause-past g c =
+    followed_made (map string_bytes c.args.words.now) c.in-Ok-Follow.asked c.follow_ticket.result.outcome c.follow_ticket.result.said
+    (asks_follow (map string_bytes c.args.words.now) c.in-Ok-Follow.asked c.in-Ok-Follow.field-0 c.in-Ok-Follow.ensures (search rules))
+    (subst (λ (a : FollowWords). GrewSome (IsFollowLog a c.follow_ticket.result.outcome c.follow_ticket.result.said) (g.H.Host.past c.args.host.now) (g.H.Host.past c.follow_ticket.new.host))
+    (search rules) c.follow_ticket.ensures.past)

@@ -1,0 +1,5 @@
+pub mod Service
+pub mod Run
+pub use Rattle.booth_host.specs.Past
+pub use Rattle.booth_host.specs.Causes
+pub use Rattle.booth_host.specs.Memory

@@ -1,0 +1,42 @@
+-- The calls of a whole run of booth-follow.
+use Rattle.std.specs.Prelude.{◌≡◌, ◌++◌, ℕ, List, Some, None}
+use Rattle.booth_host.specs.declared.entry.Entry.{Entry}
+use Rattle.booth_words.specs.declared.asking.FollowWords.{FollowWords}
+use Rattle.booth_words.specs.declared.program.Program.TheVariants.{BoothFollow}
+use Rattle.booth_words.specs.Commands.{verb_in}
+use Rattle.booth_words.specs.Asking.{AsksFollow, IsUntaken, HasBadWord}
+use Rattle.booth_stages.specs.declared.outcome.Outcome.{Outcome}
+use Rattle.booth_stages.specs.declared.outcome.Outcome.TheVariants.{Usage, BadWord, PrintFault, OutOfMemory}
+use Rattle.booth_stages.specs.Texts.{IsText}
+use Rattle.booth_stages.specs.Unasked.{IsRequest, IsUnasked}
+use Rattle.booth_followers.specs.Service.{IsFollowAnswered, IsFollowLog}
+
+-- the calls up to where the outcome is decided, by what the words ask for
+pub data IsFollowMade (words : List (List ℕ)) (outcome : Outcome) (said : List ℕ) (entries : List Entry) : Type 0 where
+  Unasked : IsUnasked BoothFollow words outcome said entries → IsFollowMade words outcome said entries
+  Followed : (asked : FollowWords) → AsksFollow words asked → IsFollowLog asked outcome said entries →
+      IsFollowMade words outcome said entries
+
+-- all calls of a run on these words, the last of which says how it ended
+pub record IsFollowRun (words : List (List ℕ)) (outcome : Outcome) (entries : List Entry) : Type 0 where
+  pub said : List ℕ
+  pub body : List Entry
+  pub last : List Entry
+  pub whole : entries ≡ body ++ last
+  pub made : IsFollowMade words outcome said body
+  pub told : IsText BoothFollow said last
+
+-- the words ask for a service that follows its ticket, whatever they say of it
+pub record AskToFollow (words : List (List ℕ)) : Type 0 where
+  pub asked : FollowWords
+  pub asks : AsksFollow words asked
+
+-- Usage comes only for words that are not taken, BadWord exactly where that word is the first refused, and PrintFault only
+-- where help or the version was asked for.
+abbrev pub FitsFollowWords : List (List ℕ) → Outcome → Type 0
+FitsFollowWords words (Usage None) = verb_in BoothFollow words ≡ None
+FitsFollowWords words (Usage (Some kind)) = IsUntaken BoothFollow words kind
+FitsFollowWords words (BadWord word) = HasBadWord BoothFollow words word
+FitsFollowWords words PrintFault = IsRequest BoothFollow words
+FitsFollowWords words OutOfMemory = Unit {0}
+FitsFollowWords words outcome = AskToFollow words × IsFollowAnswered outcome

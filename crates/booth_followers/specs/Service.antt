@@ -1,0 +1,147 @@
+-- The calls of a service that was asked for, up to where its outcome is decided, and what is then said.
+use Rattle.std.specs.Prelude.{◌≡◌, ◌++◌, ℕ, List, [], ◌∷◌, Option, None, Ok, Err, codes}
+use Rattle.booth_base.specs.declared.address.Peer.{Peer}
+use Rattle.booth_conf.specs.Config.{ConfigSays}
+use Rattle.booth_conf.specs.Says.{Says}
+use Rattle.booth_follow_rule.specs.declared.margins.Margins.{Margins}
+use Rattle.booth_following.specs.declared.following.Following.{Following}
+use Rattle.booth_following.specs.declared.turns.FollowEnd.{FollowEnd}
+use Rattle.booth_following.specs.declared.turns.FollowEnd.TheVariants.{Left, Spent}
+use Rattle.booth_following.specs.Choosing.{HasFault, IsChosen}
+use Rattle.booth_following.specs.Following.{IsFollowing}
+use Rattle.booth_following.specs.Turns.{IsFollowed}
+use Rattle.booth_host.specs.declared.host.Failed.{Failed}
+use Rattle.booth_host.specs.declared.entry.Entry.{Entry}
+use Rattle.booth_host.specs.declared.entry.Entry.TheVariants.{Open, ReadFile}
+use Rattle.booth_words.specs.declared.asking.FollowWords.{FollowWords}
+use Rattle.booth_stages.specs.declared.outcome.Outcome.{Outcome}
+use Rattle.booth_stages.specs.declared.outcome.Outcome.TheVariants as outs
+use Rattle.booth_stages.specs.Configuration.{IsUnread}
+use Rattle.booth_stages.specs.Keys.{HasKey, IsKeyless, key_calls}
+use Rattle.booth_stages.specs.Texts.{not_followed_text, out_of_memory_text, unopened_text}
+
+-- ---- how it ends
+
+-- how a following ends is how the run does
+abbrev pub EndsAs : FollowEnd → Outcome → List ℕ → Type 0
+EndsAs Left outs.Done said = said ≡ []
+EndsAs Spent outs.TurnsSpent said = said ≡ codes "turns spent"
+EndsAs end outcome said = ⊥
+
+-- the service follows its ticket up to an end
+pub record IsService (f : Following) (outcome : Outcome) (said : List ℕ) (entries : List Entry) : Type 0 where
+  pub end : FollowEnd
+  pub followed : IsFollowed f end entries
+  pub ends : EndsAs end outcome said
+
+-- ---- the socket
+
+-- the socket failed
+abbrev pub IsSocketless : List ℕ → Outcome → List ℕ → List Entry → Type 0
+IsSocketless conf outs.OpenFault said entries = (said ≡ unopened_text)
+    × (failed : Failed) × (entries ≡ Open None 0 [] conf (Err failed) ∷ [])
+IsSocketless conf outcome said entries = ⊥
+
+-- it was opened at any address and port, under this configuration, and then the service followed its ticket
+pub record IsServing (conf : List ℕ) (f : Following) (outcome : Outcome) (said : List ℕ) (entries : List Entry) : Type 0 where
+  pub rest : List Entry
+  pub whole : entries ≡ Open None 0 [] conf (Ok tt) ∷ rest
+  pub serves : IsService f outcome said rest
+
+pub data IsStarted (conf : List ℕ) (f : Following) (outcome : Outcome) (said : List ℕ) (entries : List Entry) : Type 0 where
+  Socketless : IsSocketless conf outcome said entries → IsStarted conf f outcome said entries
+  Serving : IsServing conf f outcome said entries → IsStarted conf f outcome said entries
+
+-- ---- the key and the memory
+
+-- the daemon of this site
+abbrev pub daemon_of : FollowWords → ConfigSays → Peer
+daemon_of asked config = record { address = asked.site; port = config.port }
+
+-- a following of what was asked for, and its calls
+pub record IsSetOut (asked : FollowWords) (config : ConfigSays) (key : Option (List ℕ)) (margins : Margins)
+    (outcome : Outcome) (said : List ℕ) (entries : List Entry) : Type 0 where
+  pub f : Following
+  pub is : IsFollowing key asked.ticket (daemon_of asked config) asked.program margins f
+  pub starts : IsStarted asked.conf f outcome said entries
+
+-- there was no memory
+abbrev pub IsRoomless : Outcome → List ℕ → List Entry → Type 0
+IsRoomless outs.OutOfMemory said entries = (said ≡ out_of_memory_text) × (entries ≡ [])
+IsRoomless outcome said entries = ⊥
+
+-- what follows the key
+pub data FollowsKey (asked : FollowWords) (config : ConfigSays) (key : Option (List ℕ)) (margins : Margins)
+    (outcome : Outcome) (said : List ℕ) (entries : List Entry) : Type 0 where
+  Roomless : IsRoomless outcome said entries → FollowsKey asked config key margins outcome said entries
+  SetOut : IsSetOut asked config key margins outcome said entries →
+      FollowsKey asked config key margins outcome said entries
+
+-- the key was read, where one is set, and then these calls were made
+pub record IsKeyed (asked : FollowWords) (config : ConfigSays) (margins : Margins) (outcome : Outcome) (said : List ℕ)
+    (entries : List Entry) : Type 0 where
+  pub key : Option (List ℕ)
+  pub text : List ℕ
+  pub holds : HasKey config.authfile text key
+  pub rest : List Entry
+  pub whole : entries ≡ key_calls config.authfile text ++ rest
+  pub here : FollowsKey asked config key margins outcome said rest
+
+-- what follows margins that fit
+pub data FollowsMargins (asked : FollowWords) (config : ConfigSays) (margins : Margins) (outcome : Outcome)
+    (said : List ℕ) (entries : List Entry) : Type 0 where
+  Keyless : IsKeyless config.authfile outcome said entries → FollowsMargins asked config margins outcome said entries
+  Keyed : IsKeyed asked config margins outcome said entries → FollowsMargins asked config margins outcome said entries
+
+-- ---- the margins
+
+-- the ticket is not followed, for this fault, and no call is made
+abbrev pub IsUnfollowed : FollowWords → ConfigSays → Outcome → List ℕ → List Entry → Type 0
+IsUnfollowed asked config (outs.NotFollowed fault) said entries =
+    HasFault config asked.ticket asked.site asked.margin asked.kill fault
+    × (said ≡ not_followed_text asked.ticket fault) × (entries ≡ [])
+IsUnfollowed asked config outcome said entries = ⊥
+
+-- the margins fit, and then these calls were made
+pub record IsFitted (asked : FollowWords) (config : ConfigSays) (outcome : Outcome) (said : List ℕ) (entries : List Entry)
+    : Type 0 where
+  pub margins : Margins
+  pub chosen : IsChosen config asked.ticket asked.site asked.margin asked.kill margins
+  pub here : FollowsMargins asked config margins outcome said entries
+
+-- What follows the configuration: NotFollowed without a call exactly where the ticket has that fault first.
+pub data FollowsConfig (asked : FollowWords) (config : ConfigSays) (outcome : Outcome) (said : List ℕ)
+    (entries : List Entry) : Type 0 where
+  Unfollowed : IsUnfollowed asked config outcome said entries → FollowsConfig asked config outcome said entries
+  Fitted : IsFitted asked config outcome said entries → FollowsConfig asked config outcome said entries
+
+-- ---- all stages
+
+-- the configuration was read, and then these calls were made
+pub record IsRead (asked : FollowWords) (outcome : Outcome) (said : List ℕ) (entries : List Entry) : Type 0 where
+  pub text : List ℕ
+  pub config : ConfigSays
+  pub says : Says text config
+  pub rest : List Entry
+  pub whole : entries ≡ ReadFile asked.conf (Ok text) ∷ rest
+  pub here : FollowsConfig asked config outcome said rest
+
+-- the first stage that did not go on, or the service
+pub data IsFollowLog (asked : FollowWords) (outcome : Outcome) (said : List ℕ) (entries : List Entry) : Type 0 where
+  Unread : IsUnread asked.conf outcome said entries → IsFollowLog asked outcome said entries
+  Read : IsRead asked outcome said entries → IsFollowLog asked outcome said entries
+
+-- ---- over every host
+
+-- an outcome of a service that was asked for
+abbrev pub IsFollowAnswered : Outcome → Type 0
+IsFollowAnswered outs.ConfUnread = Unit {0}
+IsFollowAnswered (outs.ConfBad fault) = Unit {0}
+IsFollowAnswered (outs.NotFollowed fault) = Unit {0}
+IsFollowAnswered outs.KeyUnread = Unit {0}
+IsFollowAnswered (outs.KeyBad fault) = Unit {0}
+IsFollowAnswered outs.OpenFault = Unit {0}
+IsFollowAnswered outs.Done = Unit {0}
+IsFollowAnswered outs.TurnsSpent = Unit {0}
+IsFollowAnswered outs.OutOfMemory = Unit {0}
+IsFollowAnswered outcome = ⊥

@@ -1,0 +1,8 @@
+//! The program `booth-follow` over any host: words in, calls on the host, outcome out.
+#![tactic(auto)]
+
+mod run;
+mod service;
+
+pub use booth_stages::Outcome;
+pub use run::{booth_follow, quiet_booth_follow};

@@ -1,0 +1,66 @@
+//! The program `booth-follow` over any host.
+ghost use Rattle.std.specs.Prelude.{◌≤◌, map, string_bytes};
+ghost use Rattle.booth_host.specs.Past.{GrewSome};
+ghost use Rattle.booth_host.specs.Memory.{quiet_past};
+ghost use Rattle.booth_stages.specs.Outcomes.{HasBlame, IsBlameless};
+ghost use Rattle.booth_followers.specs.Run.{FitsFollowWords, IsFollowMade, IsFollowRun};
+
+use crate::service::follow_ticket;
+use booth_host::{Host, QuietHost};
+use booth_stages::{Ended, Outcome, tell, tell_error, texts};
+use booth_words::{Asked, Program, Refusal, ask};
+use std::alloc::Global;
+
+// The calls of a run up to where its outcome is decided.
+fn run_words<H: Host>(alloc: Global, words: &[String], host: &mut H) -> Ended
+    ensures past { GrewSome (IsFollowMade (map string_bytes words.now) result.outcome result.said)
+        (H.past host.old) (H.past host.new) }
+    ensures words { FitsFollowWords (map string_bytes words.now) result.outcome }
+    ensures blame { HasBlame result.outcome (H.faults host.old) (H.faults host.new) }
+    ensures later { H.faults host.old ≤ H.faults host.new }
+{
+    match ask(alloc, Program::BoothFollow, words) {
+        Ok(Asked::Follow(asked)) => follow_ticket(alloc, asked, host),
+        Ok(Asked::Daemon(_)) | Ok(Asked::Status(_)) | Ok(Asked::Simulation(_)) => unreachable!(),
+        Ok(Asked::Client(_)) | Ok(Asked::Move(_)) => unreachable!(),
+        Err(Refusal::Untaken(error)) => tell_error(alloc, Program::BoothFollow, &error, host),
+        Err(Refusal::NoCommand) => Ended {
+            outcome: Outcome::Usage(None),
+            said: texts::usage_text(Program::BoothFollow),
+        },
+        Err(Refusal::Bad(word)) => Ended {
+            outcome: Outcome::BadWord(word),
+            said: texts::bad_word_text(word),
+        },
+    }
+}
+
+/// Runs `booth-follow` with these words, of which the first is the name that it was run by, over this host.
+///
+/// It reads the configuration, sees that the ticket can be followed at this site with these margins, reads the key where
+/// `authfile` is set, and opens a socket. Then the service follows its ticket: the daemon of this site is asked for the
+/// list once a second, and the program is run with `start`, `stop` or `kill` behind its arguments, until the host says
+/// `Stop`.
+pub fn booth_follow<H: Host>(alloc: Global, words: &[String], host: &mut H) -> Outcome
+    // Where the host tells its calls: exactly these, by how the run ended.
+    ensures past { GrewSome (IsFollowRun (map string_bytes words.now) result) (H.past host.old) (H.past host.new) }
+
+    // Over every host.
+    ensures words { FitsFollowWords (map string_bytes words.now) result }
+    ensures blame { HasBlame result (H.faults host.old) (H.faults host.new) }
+    ensures later { H.faults host.old ≤ H.faults host.new }
+{
+    let ended = run_words(alloc, words, host);
+    tell(Program::BoothFollow, &ended.said, host);
+    ended.outcome
+}
+
+/// Runs `booth-follow` over a host without failures: no failure is ever answered.
+pub fn quiet_booth_follow(alloc: Global, words: &[String], host: &mut QuietHost) -> Outcome
+    ensures past { GrewSome (IsFollowRun (map string_bytes words.now) result) (quiet_past host.old)
+        (quiet_past host.new) }
+    ensures words { FitsFollowWords (map string_bytes words.now) result }
+    ensures blameless { IsBlameless result }
+{
+    booth_follow(alloc, words, host)
+}

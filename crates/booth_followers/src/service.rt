@@ -1,0 +1,168 @@
+//! A service that was asked for: its configuration, its margins and key, its socket, and how it follows its ticket.
+ghost use Rattle.std.specs.Prelude.{◌≡◌, ◌≤◌, ◌∷◌, [], None};
+ghost use Rattle.booth_host.specs.Past.{GrewBy, GrewSome};
+ghost use Rattle.booth_host.specs.Causes.{HasCause};
+ghost use Rattle.booth_host.specs.declared.entry.Entry.{Entry};
+ghost use Rattle.booth_stages.specs.Outcomes.{HasBlame};
+ghost use Rattle.booth_followers.specs.Service.{EndsAs, FollowsConfig, FollowsKey, FollowsMargins, IsFollowAnswered};
+ghost use Rattle.booth_followers.specs.Service.{IsFollowLog, IsService, IsStarted};
+
+use booth_auth::Key;
+use booth_base::{PathText, Peer};
+use booth_conf::Config;
+use booth_follow_rule::Margins;
+use booth_following::{FollowEnd, Following, Room, follow, margins_for};
+use booth_host::{Failed, Host, Place};
+use booth_stages::{Ended, ErrorLine, Outcome, read_config, read_key, texts};
+use booth_words::FollowWords;
+use std::alloc::Global;
+
+fn ended_as(end: FollowEnd) -> Ended
+    ensures ends { EndsAs end result.outcome result.said }
+    ensures served { IsFollowAnswered result.outcome }
+{
+    match end {
+        FollowEnd::Left => Ended {
+            outcome: Outcome::Done,
+            said: ErrorLine::none(),
+        },
+        FollowEnd::Spent => Ended {
+            outcome: Outcome::TurnsSpent,
+            said: texts::line_of(b"turns spent"),
+        },
+    }
+}
+
+// The service follows its ticket, until the end is asked for.
+fn serve<H: Host>(f: &Following, room: &mut Room, host: &mut H) -> Ended
+    ensures past { GrewSome (IsService f.now result.outcome result.said) (H.past host.old) (H.past host.new) }
+    ensures served { IsFollowAnswered result.outcome }
+    ensures blame { HasBlame result.outcome (H.faults host.old) (H.faults host.new) }
+    ensures later { H.faults host.old ≤ H.faults host.new }
+{
+    let end = follow(f, room, host);
+    ended_as(end)
+}
+
+fn no_path() -> PathText
+    ensures { result ≡ [] }
+{
+    let Ok(path) = PathText::read("") else {
+        unreachable!()
+    };
+    path
+}
+
+// Opens a socket at any address and port, and no directory. Programs are told of this configuration.
+fn open_socket<H: Host>(conf: PathText, host: &mut H) -> Result<(), Failed>
+    ensures past { GrewBy (H.past host.old) (H.past host.new) (Entry.Open None 0 [] conf result ∷ []) }
+    ensures cause { HasCause (H.faults host.old) (H.faults host.new) result }
+{
+    let place = Place {
+        local: None,
+        port: 0,
+        records: no_path(),
+        conf_path: conf,
+    };
+    host.open(&place)
+}
+
+// What follows the memory: the socket, and the service.
+fn start<H: Host>(conf: PathText, f: &Following, room: &mut Room, host: &mut H) -> Ended
+    ensures past { GrewSome (IsStarted conf f.now result.outcome result.said) (H.past host.old) (H.past host.new) }
+    ensures served { IsFollowAnswered result.outcome }
+    ensures blame { HasBlame result.outcome (H.faults host.old) (H.faults host.new) }
+    ensures later { H.faults host.old ≤ H.faults host.new }
+{
+    match open_socket(conf, host) {
+        Ok(()) => serve(f, room, host),
+        Err(Failed) => Ended {
+            outcome: Outcome::OpenFault,
+            said: texts::unopened_text(),
+        },
+    }
+}
+
+// What follows the key. All memory is taken before the socket.
+fn set_out<H: Host>(
+    alloc: Global,
+    asked: FollowWords,
+    config: Config,
+    key: Option<Key>,
+    margins: Margins,
+    host: &mut H,
+) -> Ended
+    ensures past { GrewSome (FollowsKey asked config key margins result.outcome result.said)
+        (H.past host.old) (H.past host.new) }
+    ensures served { IsFollowAnswered result.outcome }
+    ensures blame { HasBlame result.outcome (H.faults host.old) (H.faults host.new) }
+    ensures later { H.faults host.old ≤ H.faults host.new }
+{
+    let to = Peer {
+        address: asked.site,
+        port: config.port(),
+    };
+    let Ok(mut room) = Room::new(alloc) else {
+        return Ended::out_of_memory();
+    };
+    let Ok(f) = Following::new(alloc, key, asked.ticket, to, asked.program, margins) else {
+        return Ended::out_of_memory();
+    };
+    start(asked.conf, &f, &mut room, host)
+}
+
+// What follows margins that fit: the key, and all behind it.
+fn follow_with<H: Host>(
+    alloc: Global,
+    asked: FollowWords,
+    config: Config,
+    margins: Margins,
+    host: &mut H,
+) -> Ended
+    ensures past { GrewSome (FollowsMargins asked config margins result.outcome result.said)
+        (H.past host.old) (H.past host.new) }
+    ensures served { IsFollowAnswered result.outcome }
+    ensures blame { HasBlame result.outcome (H.faults host.old) (H.faults host.new) }
+    ensures later { H.faults host.old ≤ H.faults host.new }
+{
+    match read_key(alloc, &config, host) {
+        Ok(key) => set_out(alloc, asked, config, key, margins, host),
+        Err(ended) => ended,
+    }
+}
+
+// What follows the configuration.
+fn follow_within<H: Host>(alloc: Global, asked: FollowWords, config: Config, host: &mut H) -> Ended
+    ensures past { GrewSome (FollowsConfig asked config result.outcome result.said)
+        (H.past host.old) (H.past host.new) }
+    ensures served { IsFollowAnswered result.outcome }
+    ensures blame { HasBlame result.outcome (H.faults host.old) (H.faults host.new) }
+    ensures later { H.faults host.old ≤ H.faults host.new }
+{
+    match margins_for(
+        &config,
+        &asked.ticket,
+        &asked.site,
+        asked.margin,
+        asked.kill,
+    ) {
+        Ok(margins) => follow_with(alloc, asked, config, margins, host),
+        Err(fault) => Ended {
+            outcome: Outcome::NotFollowed(fault),
+            said: texts::not_followed_text(&asked.ticket, fault),
+        },
+    }
+}
+
+/// The calls of the service that was asked for, up to where its outcome is decided.
+pub(crate) fn follow_ticket<H: Host>(alloc: Global, asked: FollowWords, host: &mut H) -> Ended
+    ensures past { GrewSome (IsFollowLog asked result.outcome result.said) (H.past host.old) (H.past host.new) }
+    ensures served { IsFollowAnswered result.outcome }
+    ensures blame { HasBlame result.outcome (H.faults host.old) (H.faults host.new) }
+    ensures later { H.faults host.old ≤ H.faults host.new }
+{
+    match read_config(alloc, &asked.conf, host) {
+        Ok(config) => follow_within(alloc, asked, config, host),
+        Err(ended) => ended,
+    }
+}

@@ -1,0 +1,469 @@
+#!/usr/bin/env python3
+"""Holds services that follow their ticket on three real boothd to it: started where it is held, stopped before it ends.
+
+Run it as `python3 tests/follow.py [BOOTHD BOOTH BOOTH-FOLLOW]`, which are what `make build` leaves where they are left
+out. It takes less than a minute, prints a line for each check, ends all that it started, and has the status 1 where a
+check failed. Where a program is not built it checks nothing, with status 0.
+
+`python3 tests/follow.py --takeovers 200 [SEED]` has the ticket go from site to site so often, each time by a fault that
+is drawn, which takes up to half a minute each.
+
+The services of both sites write a line with its time into one file, ten times a second, and no two sites' lines may
+overlap.
+"""
+
+import contextlib
+import functools
+import io
+import multiprocessing
+import os
+import random
+import re
+import signal
+import stat
+import subprocess
+import sys
+import tempfile
+import time
+
+HERE = os.path.dirname(os.path.abspath(__file__))
+TOP = os.path.dirname(HERE)
+sys.path[:0] = [HERE, f"{TOP}/tools"]
+
+from following import Services
+from members import TICKET, Cluster, Times, now, wait_for
+from serving import built_program, end_by_signals, own_addresses
+from stories import PATIENCE, Wrong, grants, passed, require, slack
+
+TIMES = Times(expire=10)
+# the margin and the time of a kill that follow from these times
+MARGIN, KILL = 2.5, 1.25
+# how long a service that was stopped is left so
+PAUSE = 5
+KEY = b"a-key-of-the-cluster"
+NAME = TICKET.decode()
+
+stories = []
+
+
+def story(function):
+    stories.append(function)
+    return function
+
+
+def begun(cluster, services):
+    """Members that answer at once, a follower at each site, and the ticket at the first, whose service is up."""
+    one, two, _ = cluster.members
+    cluster.remember()
+    cluster.start()
+    for site in (one, two):
+        services.follow(site)
+    grants(cluster, 0)
+    require(services.await_up(one, PAUSE + PATIENCE), "the service does not start where the ticket is held")
+    require(not services.is_up(two), "the service starts where the ticket is not held")
+    return one, two
+
+
+def stops_in_time(services, site, until, margin=MARGIN):
+    """The site's service stops by itself, before its lease is over, and not before the margin of what was listed."""
+    require(services.await_down(site, until - now() + PATIENCE), "the service runs on")
+    last = max(spell.last for spell in services.spells() if spell.site == site.address)
+    _, listed = services.runs(site)[-1]
+    require(last < until, f"the service wrote {last - until:.3f} s after the lease's end")
+    require(listed <= until, f"a list told an end {listed - until:.3f} s after the lease's")
+    # (a line may be as old as the next one would be)
+    require(listed - margin - 0.2 < last, f"the service stopped {listed - last:.3f} s before the end that was listed")
+    return until - last
+
+
+@story
+def key_and_a_holder_that_is_killed(cluster, services):
+    """a holder's daemon that is killed"""
+    one, two = begun(cluster, services)
+    passed("a service is started where its ticket is held, and nowhere else; each list is signed")
+    one.kill()
+    killed, until = now(), one.record().until
+    left = stops_in_time(services, one, until)
+    passed(f"it is stopped {left:.2f} s before the lease's end, though nobody answers")
+    require(services.await_up(two, until - now() + PATIENCE), "the other site's service does not start")
+    died, ended = now() - killed, now() - until
+    passed(f"the other site's service is up {died:.2f} s after the holder's death, {ended:.2f} s after the lease's end")
+    one.start(cluster.program, cluster.conf)
+    time.sleep(2)
+    require(not services.is_up(one), "it is started where the ticket is not held any more")
+    passed("the first site's service stays stopped when its daemon is back")
+
+
+@story
+def a_way_that_is_cut(cluster, services):
+    """a holder that is cut off from the others"""
+    one, two = begun(cluster, services)
+    others = cluster.members[1:]
+    for member in others:
+        member.server.process.send_signal(signal.SIGSTOP)
+    until = one.record().until
+    left = stops_in_time(services, one, until)
+    require(one.shown() == one.address or now() > until, "the holder lists another")
+    passed(f"where no lease is renewed the service is stopped {left:.2f} s before its end, though this site is listed")
+    for member in others:
+        member.server.process.send_signal(signal.SIGCONT)
+    up = wait_for(lambda: services.is_up(one) or services.is_up(two), PATIENCE)
+    require(up, "no service starts once the way is back")
+    passed("a service is started again once the others are back")
+
+
+@story
+def a_daemon_that_stands_still_and_a_slow_stop(cluster, services):
+    """a holder's daemon that stands still, and a service that stops slowly"""
+    one, two = begun(cluster, services)
+    services.set("slow", one, "0.4")
+    one.server.process.send_signal(signal.SIGSTOP)
+    until = one.record().until
+    left = stops_in_time(services, one, until)
+    # (where the machine has no processor for it, no stop is done in time)
+    is_killed = "kill" in services.words(one)
+    require(not is_killed or slack() > KILL, f"it was run with {services.words(one)}")
+    require(services.await_up(two, until - now() + PATIENCE), "the other site's service does not start")
+    passed(f"a stop that takes 0.4 s is waited for, and is over {left:.2f} s before the lease's end")
+    one.server.process.send_signal(signal.SIGCONT)
+    time.sleep(2)
+    require(not services.is_up(one), "the service is started by what the daemon listed before it heard the others")
+    passed("a daemon that goes on after its lease starts no service")
+
+
+@story
+def a_stop_that_hangs(cluster, services):
+    """a service whose stop never ends"""
+    one, two = begun(cluster, services)
+    services.set("hangs", one)
+    one.kill()
+    until = one.record().until
+    left = stops_in_time(services, one, until, KILL)
+    words = services.words(one)
+    require(words[-2:] == ["stop", "kill"], f"it was run with {words}")
+    require(services.await_up(two, until - now() + PATIENCE), "the other site's service does not start")
+    passed(f"where a stop hangs the service is killed {left:.2f} s before the lease's end")
+
+
+@story
+def a_follower_that_is_killed(cluster, services):
+    """a follower that is killed"""
+    one, _ = begun(cluster, services)
+    first = services.process(one)
+    services.kill(one)
+    time.sleep(1)
+    require(services.process(one) == first, "the service ended with its follower")
+    passed("a follower that is killed leaves its service running, which is why the unit stops it then")
+    runs = len(services.words(one))
+    services.follow(one)
+    require(wait_for(lambda: len(services.words(one)) > runs, PATIENCE), "the program is not run")
+    require(services.words(one)[runs] == "stop", f"the next one begins with {services.words(one)[runs]}")
+    is_new = lambda: services.process(one) not in (None, first)
+    require(wait_for(is_new, PAUSE + PATIENCE), "the service is not started anew")
+    at_one = lambda: [spell for spell in services.spells() if spell.site == one.address]
+    require(wait_for(lambda: len(at_one()) > 1, PATIENCE), "the service writes nothing")
+    one_by_one = at_one()
+    require(len(one_by_one) == 2 and one_by_one[1].first - one_by_one[0].last >= PAUSE, f"the service ran {one_by_one}")
+    passed("the next follower finds it running, stops it first, and starts it anew after the pause")
+
+
+@story
+def a_ticket_that_is_moved(cluster, services):
+    """a move, with the service stopped first"""
+    one, two = begun(cluster, services)
+    services.kill(one)
+    require(services.run(one, "stop") == 0 and not services.is_up(one), "the service is not stopped")
+    ran = one.booth("move", "-w", NAME, two.address)
+    require((ran.status, ran.said) == (0, ""), f"the move: {ran}")
+    require(services.await_up(two, PAUSE + PATIENCE), "the service does not start where the ticket is moved to")
+    services.follow(one)
+    ran = two.booth("revoke", NAME)
+    require(ran.status == 0, f"the revoke: {ran}")
+    revoked = now()
+    require(services.await_down(two, PATIENCE), "the service runs on after a revoke")
+    passed(f"the service follows a move, and is stopped {now() - revoked:.2f} s after a revoke")
+
+
+# ---- what is refused, and examples
+
+STAND_INS = {
+    "systemctl": '#!/bin/sh\necho "systemctl $*" >>{notes}\n',
+    "crm_ticket": '#!/bin/sh\necho "crm_ticket $*" >>{notes}\n',
+    "crm_resource": '#!/bin/sh\necho "crm_resource $*" >>{notes}\n',
+    # (a server of which only its files are seen: it runs where postmaster.pid is there)
+    "pg_ctl": """#!/bin/sh
+echo "pg_ctl $*" >>{notes}
+case $3 in
+  status) [ -e "$2/postmaster.pid" ] || exit 3 ;;
+  promote) rm "$2/standby.signal" ;;
+  stop) rm "$2/postmaster.pid" ;;
+esac
+""",
+}
+
+
+class Examples:
+    """Scripts that are run with stand-ins for the programs that they call."""
+
+    def __init__(self, folder):
+        self.folder = folder
+        self.notes = f"{folder}/notes"
+        for name, text in STAND_INS.items():
+            path = f"{folder}/{name}"
+            with open(path, "w", encoding="ascii") as file:
+                file.write(text.format(notes=self.notes))
+            os.chmod(path, stat.S_IRWXU)
+
+    def run(self, script, *words):
+        """The status of a script with these words, and what it called."""
+        with open(self.notes, "w", encoding="ascii"):
+            pass
+        env = {**os.environ, "PATH": f"{self.folder}:{os.environ['PATH']}", "AS_POSTGRES": "", "BOOTH_TICKET": "db8"}
+        status = subprocess.run([f"{TOP}/{script}", *words], env=env, capture_output=True).returncode
+        with open(self.notes, encoding="ascii") as file:
+            return status, file.read().splitlines()
+
+
+def unit_and_pacemaker(examples):
+    """the programs for a unit and for Pacemaker do what they say"""
+    settles = ["crm_ticket --ticket db8 --revoke --force", "crm_resource --wait --timeout=300s"]
+    kills = ["--no-block stop db8.service", "kill --signal=SIGKILL db8.service", "stop db8.service"]
+    rows = [
+        ("packaging/follow-unit", ("db8.service", "start"), ["systemctl start db8.service"]),
+        ("packaging/follow-unit", ("db8.service", "stop"), ["systemctl stop db8.service"]),
+        ("packaging/follow-unit", ("db8.service", "kill"), [f"systemctl {words}" for words in kills]),
+        ("examples/follow-pacemaker", ("start",), ["crm_ticket --ticket db8 --grant --force"]),
+        ("examples/follow-pacemaker", ("stop",), settles),
+        ("examples/follow-pacemaker", ("kill",), settles),
+    ]
+    for script, words, calls in rows:
+        got = examples.run(script, *words)
+        require(got == (0, calls), f"{script} {words}: {got}")
+    for script, words in (("packaging/follow-unit", ("db8.service", "go")), ("examples/follow-pacemaker", ("go",))):
+        require(examples.run(script, *words)[0] == 2, f"{script} takes another word")
+
+
+def postgresql(examples):
+    """a server of PostgreSQL is promoted once, shut down, and not promoted again before it is rewound"""
+    script, data = "examples/follow-postgresql", f"{examples.folder}/data"
+    os.makedirs(data)
+    for name in ("standby.signal", "postmaster.pid"):
+        with open(f"{data}/{name}", "w", encoding="ascii"):
+            pass
+    require(examples.run(script, data, "stop") == (0, []), "a standby is stopped")
+    status, calls = examples.run(script, data, "start")
+    require(status == 0 and calls[-1] == f"pg_ctl -D {data} promote -w -t 3600", f"a start: {status}, {calls}")
+    status, calls = examples.run(script, data, "stop")
+    require(status == 0 and calls[-1] == f"pg_ctl -D {data} stop -m fast -w -t 3600", f"a stop: {status}, {calls}")
+    again = examples.run(script, data, "stop")
+    require(again == (0, [f"pg_ctl -D {data} status"]), f"a server that is down is stopped again: {again}")
+    require(examples.run(script, data, "start") == (1, []), "a server that was the primary is promoted again")
+    with open(f"{data}/postmaster.pid", "w", encoding="ascii"):
+        pass
+    status, calls = examples.run(script, data, "kill")
+    require(status == 0 and calls[-1] == f"pg_ctl -D {data} stop -m immediate -w -t 3600", f"a kill: {status}, {calls}")
+
+
+def unit_stops(folder):
+    """what the unit runs after each end stops the service, and kills it where that fails or hangs"""
+    with open(f"{TOP}/packaging/booth-follow@.service", encoding="utf-8") as file:
+        line = re.search(r"^ExecStopPost=/bin/sh -c '(.*)'$", file.read(), re.M)[1].replace("$$", "$")
+    program, notes = f"{folder}/service", f"{folder}/ran"
+    killed = "fast stop fast kill"
+    for how, words in (("exit 0", "fast stop"), ("exit 1", killed), ("exec sleep 100", killed)):
+        with open(program, "w", encoding="ascii") as file:
+            file.write(f'#!/bin/sh\necho "$*" >>{notes}\n[ "$2" = kill ] || {how}\n')
+        os.chmod(program, stat.S_IRWXU)
+        env = {**os.environ, "PROGRAM": f"{program} fast", "STOP_SECONDS": "1"}
+        status = subprocess.run(["/bin/sh", "-c", line], env=env, timeout=PATIENCE).returncode
+        with open(notes, encoding="ascii") as file:
+            ran = " ".join(file.read().split())
+        require((status, ran) == (0, words), f"a program with {how}: {status}, {ran}")
+        os.remove(notes)
+
+
+# words, and what is said of them
+REFUSALS = [
+    ("none {program}", "cannot follow ticket none: the configuration has no such ticket"),
+    ("-m 4 {name} {program}", f"cannot follow ticket {NAME}: the margin is too long for its expire and renewal-freq"),
+    ("-m 2 -k 2 {name} {program}", f"cannot follow ticket {NAME}: the time of a kill is not below the margin"),
+    ("-m 0 {name} {program}", "bad number"),
+    ("-k 4294967296 {name} {program}", "bad number"),
+    ("a/b\x7f {program}", "bad ticket"),
+]
+
+
+def words_are_refused(program, folder):
+    """words that do not fit, and a clock that no daemon kept in this boot, are refused, each with its cause"""
+    records = f"{folder}/records"
+    os.makedirs(records)
+    with Cluster("", folder, ("127.0.0.1", "127.0.0.2", "127.0.0.3"), times=TIMES) as cluster:
+
+        def is_told(text, *words, site="127.0.0.1"):
+            base = [program, "-c", cluster.conf, "-s", site, "-d", records]
+            done = subprocess.run([*base, *words], capture_output=True, text=True, timeout=PATIENCE)
+            want = (1, "", f"booth-follow: {text}\n")
+            require((done.returncode, done.stdout, done.stderr) == want, f"{words}: {done}")
+
+        keep_clock(records)
+        for words, text in REFUSALS:
+            is_told(text, *words.format(name=NAME, program="/bin/false").split())
+        is_told("bad program", NAME, " ")
+        is_told(f"cannot follow ticket {NAME}: no site has this address", NAME, "/bin/false", site="127.0.0.3")
+        unkept = "cannot tell the time of the records: no daemon kept its clock there since the boot"
+        keep_clock(records, boot=b"0" * 36)
+        is_told(unkept, NAME, "/bin/false")
+        os.remove(f"{records}/booth.clock")
+        is_told(unkept, NAME, "/bin/false")
+
+
+def this_boot():
+    with open("/proc/sys/kernel/random/boot_id", "rb") as file:
+        return file.read(36)
+
+
+def keep_clock(records, boot=None):
+    """Writes the clock that a daemon of a boot would keep: its version, its offset, a reading, and the boot's id."""
+    offset = int((time.time() - time.clock_gettime(time.CLOCK_BOOTTIME)) * 1000)
+    with open(f"{records}/booth.clock", "wb") as file:
+        file.write(b"".join(number.to_bytes(8, "big") for number in (1, offset, 0)) + (boot or this_boot()))
+
+
+# ---- takeovers by drawn faults
+
+
+def fail(draw, cluster, services, holder, others):
+    """A fault of the holder's site, and what mends it."""
+    kind = draw.choice(("killed", "stands still", "cut off", "slow", "hangs"))
+    if kind == "killed":
+        holder.kill()
+        return kind, lambda: holder.start(cluster.program, cluster.conf)
+    stopped = others if kind == "cut off" else [holder]
+    if kind == "slow":
+        services.set("slow", holder, f"{draw.uniform(0, MARGIN - KILL - 0.2):.2f}")
+    if kind == "hangs":
+        services.set("hangs", holder)
+    for member in stopped:
+        member.server.process.send_signal(signal.SIGSTOP)
+
+    def mend():
+        for member in stopped:
+            member.server.process.send_signal(signal.SIGCONT)
+        for name in ("slow", "hangs"):
+            with contextlib.suppress(OSError):
+                os.remove(services.path(name, holder))
+
+    return kind, mend
+
+
+def takes_over(count, seed, programs):
+    """The ticket goes from site to site, each time by a fault that is drawn, and no two services ever overlap."""
+    draw = random.Random(seed)
+    with tempfile.TemporaryDirectory(prefix="booth-follow-") as folder:
+        with Cluster(programs[0], folder, own_addresses(), times=TIMES, client=programs[1]) as cluster:
+            with Services(programs[2], cluster) as services:
+                one, two = begun(cluster, services)
+                sites, waits = {one.address: one, two.address: two}, []
+                for number in range(1, count + 1):
+                    holder = next(site for site in sites.values() if services.is_up(site))
+                    time.sleep(draw.uniform(0, TIMES.renewal))
+                    others = [member for member in cluster.members if member is not holder]
+                    failed = now()
+                    kind, mend = fail(draw, cluster, services, holder, others)
+                    require(services.await_down(holder, TIMES.expire + PATIENCE), "the service runs on")
+                    if kind == "cut off":
+                        # (the others cannot take over while they stand still)
+                        time.sleep(draw.uniform(0, 5))
+                        mend()
+                    up = wait_for(lambda: next((s for s in sites.values() if services.is_up(s)), None), 4 * PATIENCE)
+                    require(up, "no service starts")
+                    waits.append(now() - failed)
+                    if kind != "cut off":
+                        mend()
+                    require(not services.overlaps(), f"two overlapped: {services.overlaps()}")
+                    print(f"{number}: {holder.address} {kind}, up at {up.address} after {waits[-1]:.2f} s", flush=True)
+                    require(services.await_up(up, 1), "it did not stay up")
+                require(not cluster.watch.wrong, f"two held at one moment: {cluster.watch.wrong[:3]}")
+                waits.sort()
+                half = waits[len(waits) // 2]
+                passed(f"no two services overlapped in {count} takeovers; half came within {half:.2f} s of the fault")
+
+
+# ---- the runs
+
+
+def outcome(place, programs):
+    """Whether the story at this place passes, in a cluster of its own, and the lines that it printed."""
+    function, printed, passes = stories[place], io.StringIO(), False
+    with contextlib.redirect_stdout(printed), tempfile.TemporaryDirectory(prefix="booth-follow-") as folder:
+        try:
+            key = KEY if "key" in function.__name__ else None
+            with Cluster(programs[0], folder, own_addresses(), times=TIMES, client=programs[1], key=key) as cluster:
+                with Services(programs[2], cluster) as services:
+                    function(cluster, services)
+                    require(not services.overlaps(), f"two services overlapped: {services.overlaps()}")
+                    require(not cluster.watch.wrong, f"two held at one moment: {cluster.watch.wrong[:3]}")
+                    services.said.seek(0)
+                    require(not (said := services.said.read()), f"a follower said {said}")
+            passed(f"no two services overlapped ({function.__doc__})")
+            passes = True
+        except Exception as why:  # (whatever it is, the other stories are told)
+            print(f"FAILED  {function.__doc__}: {type(why).__name__}: {why}")
+    return passes, printed.getvalue()
+
+
+def checked(check, *arguments):
+    """Whether a check passes."""
+    try:
+        check(*arguments)
+    except Wrong as why:
+        print(f"FAILED  {check.__doc__}: {why}", flush=True)
+        return False
+    passed(check.__doc__)
+    return True
+
+
+def run(programs):
+    """Runs all stories side by side: most of their time they wait. Says how many failed."""
+    failed, started = 0, time.monotonic()
+    with tempfile.TemporaryDirectory(prefix="booth-examples-") as folder:
+        examples = Examples(folder)
+        failed += not checked(unit_and_pacemaker, examples)
+        failed += not checked(postgresql, examples)
+        failed += not checked(unit_stops, folder)
+    with tempfile.TemporaryDirectory(prefix="booth-refused-") as folder:
+        failed += not checked(words_are_refused, programs[2], folder)
+    with multiprocessing.get_context("fork").Pool(len(stories)) as pool:
+        for passes, printed in pool.imap_unordered(functools.partial(outcome, programs=programs), range(len(stories))):
+            print(printed, end="", flush=True)
+            failed += not passes
+        pool.close()
+        pool.join()
+    took, all_checks = time.monotonic() - started, len(stories) + 4
+    print(f"follow: {all_checks - failed} passed, {failed} failed, in {took:.1f} s ({programs[2]})")
+    return failed
+
+
+def main(words):
+    end_by_signals()
+    count, seed = None, 1
+    if words[:1] == ["--takeovers"]:
+        count, words = int(words[1]), words[2:]
+        if words and words[0].isdigit():
+            seed, words = int(words[0]), words[1:]
+    programs = words if len(words) == 3 else [built_program(name) for name in ("boothd", "booth", "booth-follow")]
+    if None in programs:
+        print("follow: skipped, since boothd, booth or booth-follow is not built: run make build")
+        return 0
+    programs = [os.path.abspath(program) for program in programs]
+    for program in programs:
+        if not os.access(program, os.X_OK):
+            sys.exit(f"follow.py: cannot run {program}")
+    if count is not None:
+        takes_over(count, seed, programs)
+        return 0
+    return 1 if run(programs) else 0
+
+
+if __name__ == "__main__":
+    sys.exit(main(sys.argv[1:]))

@@ -1,0 +1,154 @@
+"""Services that follow their ticket on a cluster of real daemons: booth-follow at a site, and what it starts and stops.
+
+It is imported by tools/demo.py, tests/follow.py and bench/follow.py, and not run by itself. What is told of a service
+is read from the one file into which the services of all sites write, and not from what booth-follow says of itself.
+"""
+
+import os
+import signal
+import subprocess
+import tempfile
+from typing import NamedTuple
+
+from members import TICKET, wait_for
+
+# A service: a line with its time, its site and its process, ten times a second, into a file of all sites. What is to go
+# wrong with it a file says: how long a stop takes, or that it never ends.
+SERVICE = """#!/bin/sh
+cd {folder} || exit 1
+site=$BOOTH_LOCAL
+echo "$1 $BOOTH_TICKET $BOOTH_TICKET_EXPIRES" >>"runs.$site"
+# (a process that is over and that nobody has waited for has no words)
+runs() {{ [ -e "pid.$site" ] && grep -q . "/proc/$(cat "pid.$site")/cmdline" 2>/dev/null; }}
+case $1 in
+  start)
+    [ ! -e "fails.$site" ] || exit 1
+    runs && exit 0
+    setsid sh -c 'echo $$ >"pid.$0"; while :; do echo "$(date +%s.%N) $0 $$"; sleep 0.1; done' "$site" \\
+      </dev/null >>lines 2>&1 &
+    n=0; while ! runs; do n=$((n + 1)); [ $n -lt 100 ] || exit 1; sleep 0.02; done
+    ;;
+  stop)
+    [ ! -e "slow.$site" ] || sleep "$(cat "slow.$site")"
+    [ ! -e "hangs.$site" ] || exec sleep 1000
+    runs && kill "$(cat "pid.$site")"
+    ;;
+  kill) runs && kill -9 "$(cat "pid.$site")" ;;
+esac
+[ "$1" = start ] || {{ while runs; do sleep 0.01; done; rm -f "pid.$site"; }}
+"""
+
+
+class Spell(NamedTuple):
+    """One process of the service, by its lines: its site, and when it wrote first and last."""
+
+    site: str
+    first: float
+    last: float
+
+
+class Services:
+    """The services of a cluster's sites, and what starts and stops them, all of which end with the `with` block."""
+
+    def __init__(self, program, cluster, options=()):
+        self.program = program
+        self.cluster = cluster
+        self.options = options
+        self.folder = os.path.join(cluster.folder, "services")
+        os.makedirs(self.folder)
+        self.script = os.path.join(self.folder, "service")
+        with open(self.script, "w", encoding="ascii") as file:
+            file.write(SERVICE.format(folder=self.folder))
+        os.chmod(self.script, 0o755)
+        self.followers = {}
+        self.said = tempfile.TemporaryFile()
+
+    def path(self, name, member):
+        return os.path.join(self.folder, f"{name}.{member.address}")
+
+    def set(self, name, member, text=""):
+        with open(self.path(name, member), "w", encoding="ascii") as file:
+            file.write(text)
+
+    def follow(self, member):
+        """Starts a follower of the ticket at this site."""
+        words = [self.program, "-c", self.cluster.conf, "-s", member.address, "-d", member.records, *self.options]
+        streams = {"stdin": subprocess.DEVNULL, "stdout": self.said, "stderr": self.said}
+        self.followers[member.address] = subprocess.Popen([*words, TICKET.decode(), self.script], **streams)
+
+    def kill(self, member):
+        """Ends a follower, as a crash does. Its service is left as it is."""
+        follower = self.followers.pop(member.address)
+        follower.kill()
+        follower.wait()
+
+    def run(self, member, word):
+        """Runs the service's program by hand, as the unit does once a follower has ended."""
+        told = {"BOOTH_LOCAL": member.address, "BOOTH_TICKET": TICKET.decode(), "BOOTH_TICKET_EXPIRES": "0"}
+        return subprocess.run([self.script, word], env={**os.environ, **told}, stdin=subprocess.DEVNULL).returncode
+
+    def runs(self, member):
+        """The words that the program was run with at a site, in order, and the end of the lease that each was told."""
+        try:
+            with open(self.path("runs", member), encoding="ascii") as file:
+                runs = [line.split() for line in file]
+        except OSError:
+            runs = []
+        return [(word, int(expires)) for word, _, expires in runs]
+
+    def words(self, member):
+        return [word for word, _ in self.runs(member)]
+
+    def lines(self):
+        """The lines of all services, in order: the time, the site and the process of each."""
+        try:
+            with open(os.path.join(self.folder, "lines"), encoding="ascii") as file:
+                # (the last one may be half written)
+                return [line.split() for line in file.read().split("\n")[:-1]]
+        except OSError:
+            return []
+
+    def spells(self):
+        """What each process of the service wrote, the one that wrote first before the others."""
+        found = {}
+        for time, site, process in self.lines():
+            at = float(time)
+            first, last = found.get((site, process), (at, at))
+            found[site, process] = (min(first, at), max(last, at))
+        return sorted((Spell(site, *times) for (site, _), times in found.items()), key=lambda spell: spell.first)
+
+    def overlaps(self):
+        """The pairs of processes of which one wrote before the other's last line."""
+        spells = self.spells()
+        return [(one, other) for one, other in zip(spells, spells[1:]) if other.first <= one.last]
+
+    def process(self, member):
+        """The process of a site's service, where one runs."""
+        try:
+            with open(self.path("pid", member), encoding="ascii") as file:
+                number = int(file.read())
+            with open(f"/proc/{number}/cmdline", "rb") as words:
+                return number if words.read() else None
+        except (OSError, ValueError):
+            return None
+
+    def is_up(self, member):
+        return self.process(member) is not None
+
+    def await_up(self, member, seconds):
+        return wait_for(lambda: self.is_up(member), seconds)
+
+    def await_down(self, member, seconds):
+        return wait_for(lambda: not self.is_up(member), seconds)
+
+    def __enter__(self):
+        return self
+
+    def __exit__(self, *_):
+        for follower in self.followers.values():
+            follower.kill()
+            follower.wait()
+        for member in self.cluster.members:
+            number = self.process(member)
+            if number:
+                os.kill(number, signal.SIGKILL)
