@@ -78,7 +78,7 @@ def faults_are_told_with_their_lines(folder):
     cases += [(text, what.decode()) for text, what in refusals.WHOLE if what in (b"no site", b"no ticket")]
     for text, fault in cases:
         require_same(read(folder, text), fault, f"{text!r}: ")
-    require_same(read(folder, b"#" * 1_048_577), "too large")
+    require_same(read(folder, b"#" * 16_777_217), "too large")
     found = read(folder, refusals.RICH.replace(b"@", b"127.0.0.9"))
     members = [("site", "127.0.0.9"), ("site", "192.168.202.100"), ("arbitrator", "2001:db8::c0a8:cb64")]
     require_same((found.members, found.port, found.skew, found.authfile), (members, 9929, 700, None))

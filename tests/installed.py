@@ -34,7 +34,12 @@ PROGRAMS = {
     "boothd": ["daemon", "status", "sim"],
     "booth": ["list", "peers", "grant", "revoke", "move"],
     "geostore": ["set", "get", "delete", "list"],
+    # (it has no commands)
+    "booth-follow": [],
 }
+SERVICES = ("booth@.service", "booth-follow@.service")
+# what starts and stops a service that is no unit
+EXAMPLES = ("postgresql", "pacemaker")
 # how exposed the service may be at most, as `systemd-analyze security` counts it
 MOST_EXPOSED = 2.0
 # how long the walk through the first cluster may take
@@ -81,9 +86,9 @@ def pages_have_all_options(room):
         if path is None:
             continue
         told = set()
-        for command in commands:
-            done = run(path, command, "--help")
-            need(done.returncode == 0, f"{program} {command} --help: status {done.returncode}")
+        for words in [[command] for command in commands] or [[]]:
+            done = run(path, *words, "--help")
+            need(done.returncode == 0, f"{program} {' '.join(words)} --help: status {done.returncode}")
             told |= set(re.findall(r"^ +(-[A-Za-z])\b", done.stdout, re.M))
         text = page(f"{program}.8")
         items = set(re.findall(r"^\.It Fl ([A-Za-z])", text, re.M))
@@ -100,7 +105,7 @@ def said_in(crate, name):
 
 def pages_have_all_texts(room):
     """each text that a program says of a refusal stands in a page"""
-    daemon, clients = page("boothd.8"), page("booth.8") + page("geostore.8")
+    daemon, clients, follower = page("boothd.8"), page("booth.8") + page("geostore.8"), page("booth-follow.8")
     refusals = said_in("booth_clients", "refusals.rt")
     need("prerequisite not met" in refusals, f"no refusal was found in the program, but {sorted(refusals)}")
     missing = [text for text in refusals if not re.search(rf"^\.It (?:ticket NAME )?{re.escape(text)}", clients, re.M)]
@@ -110,7 +115,12 @@ def pages_have_all_texts(room):
     # (what is wrong with the times of a ticket stands there in other words)
     faults -= {"renewal-freq is not below expire", "timeout and retries do not fit renewal-freq"}
     words = {"bad ticket", "bad name", "bad value", "is not a site"}
-    missing = [text for text in faults - words if text not in daemon] + [text for text in words if text not in clients]
+    follows = {"bad program", "cannot follow ticket"}
+    source = read(f"{TOP}/crates/booth_stages/src/texts.rt")
+    causes = set(re.findall(r'FollowFault::\w+ => "([^"]+)"', source))
+    need(len(causes) == 6, f"the causes for which no ticket is followed: {sorted(causes)}")
+    missing = [text for text in faults - words - follows if text not in daemon] + [text for text in words if text not in clients]
+    missing += [text for text in follows | causes if text not in follower]
     need(not missing, f"not in the pages: {missing}")
 
 
@@ -140,17 +150,21 @@ def installs_and_uninstalls(room):
     named += [f"usr/share/man/man8/{name}.8" for name in (*PROGRAMS, *TOOLS, "booth-keygen")] + ["usr/share/man/man5/booth.conf.5"]
     named += [f"usr/share/bash-completion/completions/{name}" for name in (*PROGRAMS, *TOOLS)]
     named += [f"usr/share/doc/booth-proved/{name}" for name in ("OPERATING.md", "HANDLERS.md", "examples/manual.conf")]
-    for name in (*named, "usr/lib/systemd/system/booth@.service", "usr/lib/sysusers.d/booth.conf"):
+    named += [f"usr/lib/systemd/system/{name}" for name in SERVICES]
+    named += ["usr/share/booth-proved/follow-unit", *(f"usr/share/doc/booth-proved/examples/follow-{name}" for name in EXAMPLES)]
+    for name in (*named, "usr/lib/sysusers.d/booth.conf"):
         need(name in there, f"{name} is missing")
     version = re.search(r"^VERSION := (\S+)$", read(f"{TOP}/Makefile"), re.M)[1]
     for program, commands in PROGRAMS.items():
-        done = run(f"{room}/root/usr/sbin/{program}", commands[0], "--version")
+        done = run(f"{room}/root/usr/sbin/{program}", *commands[:1], "--version")
         told = (done.returncode, done.stdout, done.stderr)
         need(told == (0, f"{program} {version}\n", ""), f"the installed {program}: {told}")
     run_alone(f"{room}/root/usr/sbin")
     need(files_below(f"{room}/root") == there, "to run them left a file")
-    unit = f"{room}/root/usr/lib/systemd/system/booth@.service"
-    need("@" not in read(unit).replace("booth@", "").replace("@system-service", ""), "the unit has a word that is not replaced")
+    for name in SERVICES:
+        unit = read(f"{room}/root/usr/lib/systemd/system/{name}")
+        need(not re.search("@[A-Z]+@", unit), f"{name} has a word that is not replaced")
+    need(os.access(f"{room}/root/usr/share/booth-proved/follow-unit", os.X_OK), "follow-unit is no program")
     shutil.copytree(f"{room}/root", f"{room}/kept")
     make("uninstall", f"DESTDIR={room}/root", "PREFIX=/usr")
     need(not files_below(f"{room}/root"), f"left: {files_below(f'{room}/root')}")
@@ -162,21 +176,23 @@ def texts_name_their_own_place(room):
     found = {}
     for name in files_below(f"{room}/elsewhere"):
         if re.search(r"\.(md|5|8|service)$", name):
-            found[name] = re.findall(r"(/[a-z/]+)/(?:share/doc/booth-proved|sbin/boothd)\b", read(f"{room}/elsewhere/{name}"))
+            found[name] = re.findall(r"(/[a-z/]+)/(?:share/(?:doc/)?booth-proved|sbin/booth(?:d|-follow))\b", read(f"{room}/elsewhere/{name}"))
     wrong = {name: places for name, places in found.items() if set(places) - {"/usr/local"}}
     need(not wrong, f"these name another place: {wrong}")
     for name in ("man/man8/boothd.8", "man/man5/booth.conf.5", "doc/booth-proved/OPERATING.md"):
         need(found[f"usr/local/share/{name}"], f"{name} names no document")
-    need(found["usr/local/lib/systemd/system/booth@.service"], "the unit names no program")
+    for name in SERVICES:
+        need(found[f"usr/local/lib/systemd/system/{name}"], f"{name} names no program")
 
 
 def unit_in(room, name, more=""):
-    """The path of the unit with the installed program, in a directory of this name, and these lines more."""
+    """The path of the daemon's unit with the installed program, in a directory of this name, and these lines more."""
     # (the programs stand below the scratch root)
-    unit = read(f"{room}/kept/usr/lib/systemd/system/booth@.service").replace("/usr/sbin/", f"{room}/kept/usr/sbin/")
     os.makedirs(f"{room}/{name}")
-    with open(f"{room}/{name}/booth@.service", "w", encoding="utf-8") as file:
-        file.write(unit)
+    for service in SERVICES:
+        unit = read(f"{room}/kept/usr/lib/systemd/system/{service}").replace("/usr/s", f"{room}/kept/usr/s")
+        with open(f"{room}/{name}/{service}", "w", encoding="utf-8") as file:
+            file.write(unit)
     if more:
         os.makedirs(f"{room}/{name}/booth@.service.d")
         with open(f"{room}/{name}/booth@.service.d/more.conf", "w", encoding="utf-8") as file:
@@ -199,7 +215,8 @@ def unit_is_sound(room):
     for number, more in enumerate(["", *drop_ins()]):
         unit = unit_in(room, f"units-{number}", more).replace("booth@", "booth@a")
         path = {**os.environ, "SYSTEMD_UNIT_PATH": f"{os.path.dirname(unit)}:"}
-        done = run("systemd-analyze", "verify", "--man=no", unit, env=path)
+        follower = unit.replace("booth@a", "booth-follow@a")
+        done = run("systemd-analyze", "verify", "--man=no", unit, follower, env=path)
         told = [line for line in (done.stdout + done.stderr).splitlines() if "booth" in line]
         need(not told, "; ".join(told))
     return None

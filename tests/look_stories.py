@@ -169,6 +169,33 @@ def without_moments(found, ahead):
     return found
 
 
+def in_parts(answer):
+    """The list of this answer with a part for each line: the second first, and the first twice. Others stay."""
+    head = frames.Head.read(answer)
+    if head.cmd != frames.code("RLst"):
+        return [answer]
+    lines = answer[frames.HEAD_BYTES :].splitlines(keepends=True)
+    fields = {"secs": head.secs, "usecs": head.usecs, "sender": head.sender, "request": head.request}
+    results = [frames.code("More")] * (len(lines) - 1) + [0]
+    first, second = (
+        frames.sealed(None, "RLst", line, options=number, result=result, **fields)
+        for number, (line, result) in enumerate(zip(lines, results))
+    )
+    return [second, first, first]
+
+
+@story
+def a_list_in_parts_is_one(folder):
+    """a list that comes in parts is shown as one that comes in one datagram"""
+    three = Three(folder)
+    one, two, third = three.addresses
+    with all_of([three.fake(one, meddle=in_parts), three.fake(two), three.fake(third)]):
+        ran = status("-c", three.path)
+    require_same((ran.status, ran.said), (0, ""))
+    told = [line.split() for line in ran.printed.splitlines()]
+    require(not any("partly" in line for line in told), ran.printed)
+
+
 @story
 def every_field_of_the_document(folder):
     """the document of JSON has each field as it was arranged"""

@@ -37,14 +37,27 @@ class Refused(Exception):
 
 
 def ask(where, request):
-    """Sends one request, and returns the datagram that came back."""
+    """Sends one request, and gives each datagram that comes back."""
     family, kind, _, _, address = where
     with socket.socket(family, kind) as asker:
         asker.settimeout(SECONDS_TO_ANSWER)
+        asker.setsockopt(socket.SOL_SOCKET, socket.SO_RCVBUF, lists.ROOM)
         # connected: so no other's datagram comes, and a port that nobody reads is told at once
         asker.connect(address)
         asker.send(request)
-        return asker.recv(frames.FRAME_BYTES + 1)
+        while True:
+            yield asker.recv(frames.FRAME_BYTES + 1)
+
+
+def whole(replies, read):
+    """The text of the list whose parts these are, once all have come."""
+    parts = lists.Parts()
+    for reply in replies:
+        parts.take(*read(reply))
+        text = parts.text()
+        if text is not None:
+            return text
+    return b""
 
 
 def tickets(text):
@@ -94,12 +107,16 @@ def told(options):
         letters = "CGnt" if options.grant else "CRvk"
         body = frames.ticket_body(ticket.encode(), frames.NO_ONE, 0, 0)
     where = socket.getaddrinfo(options.host, options.port, type=socket.SOCK_DGRAM)[0]
-    reply = ask(where, frames.request_now(letters, request, body, key))
+    replies = ask(where, frames.request_now(letters, request, body, key))
     result = None if ticket else 0
-    head, body = lists.parts_of(reply, letters, request, where[4][0], key, result=result)
-    if ticket:
-        return [outcome(letters, ticket, head.result)]
-    return list((peers if options.peers else tickets)(body))
+
+    def read(reply):
+        return lists.read_reply(reply, letters, request, where[4][0], key, result=result)
+
+    if not ticket and not options.peers:
+        return list(tickets(whole(replies, read)))
+    head, body = read(next(replies))
+    return [outcome(letters, ticket, head.result)] if ticket else list(peers(body))
 
 
 def main():

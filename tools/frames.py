@@ -151,8 +151,8 @@ def request_now(letters, request, body=b"", key=None, **fields):
     return sealed(key, letters, body, request=request, **{**clock_fields(), **fields})
 
 
-def reply_due(letters, request, address, body=b"", key=None, result=0, *, clock):
+def reply_due(letters, request, address, body=b"", key=None, result=0, *, clock, options=0):
     """The answer of the member at this address to a request of this command, with the clock of
-    another head."""
-    fields = {"secs": clock.secs, "usecs": clock.usecs, "sender": member_id(address)}
+    another head. `options` is the number of a list's part."""
+    fields = {"secs": clock.secs, "usecs": clock.usecs, "sender": member_id(address), "options": options}
     return sealed(key, ANSWER_TO[letters], body, request=request, result=result, **fields)

@@ -16,6 +16,13 @@ PEER = re.compile(rb"(site|arbitrator) ([0-9a-f.:]+)" + rb" (\d{1,20})" * 4)
 FAULTS = ["frame", "nomac", "badmac", "old", "stranger", "self", "ticket", "leader"]
 
 
+# how many parts a list may have, and the result of each but the last
+PARTS = 32
+MORE = frames.code("More")
+# what a socket is asked to hold: a list of so many parts may come at once
+ROOM = 2 * PARTS * frames.FRAME_BYTES
+
+
 class BadReply(Exception):
     """The reply is not of its form, or does not answer this request."""
 
@@ -46,15 +53,42 @@ class Counts(NamedTuple):
     peers: List[Peer]
 
 
-def parts_of(reply, letters, request, address, key, *, result=0):
-    """The head and the body of the reply, where the rest of it is as it has to be. With None as `result` any stands."""
+class Parts:
+    """The parts of a list that have come. Of each number the first counts."""
+
+    def __init__(self):
+        self.came = {}
+
+    def take(self, head, body):
+        if head.options < PARTS:
+            self.came.setdefault(head.options, (head.result != MORE, body))
+
+    def text(self):
+        """The text of the whole list, or None where a part is missing."""
+        texts = []
+        for number in range(PARTS):
+            is_last, body = self.came.get(number, (True, None))
+            if body is None:
+                return None
+            texts.append(body)
+            if is_last:
+                return b"".join(texts)
+        return None
+
+
+def read_reply(reply, letters, request, address, key, *, result=0):
+    """The head and the body of the reply, where the rest of it is as it has to be. With None as `result` any stands.
+    The reply to `CLst` is a part of the list, of any number.
+    """
     least = frames.HEAD_BYTES + (frames.AUTH_BYTES if key else 0)
     if len(reply) < least:
         raise BadReply(f"it has {len(reply)} bytes, fewer than {least}, those without a body")
     head = frames.Head.read(reply)
     body = reply[frames.HEAD_BYTES : len(reply) - least + frames.HEAD_BYTES]
-    wanted = head.result if result is None else result
-    due = frames.reply_due(letters, request, address, body, key, wanted, clock=head)
+    is_list = letters == "CLst"
+    wanted = head.result if result is None or is_list and head.result == MORE else result
+    options = head.options if is_list else 0
+    due = frames.reply_due(letters, request, address, body, key, wanted, clock=head, options=options)
     for name, found, right in zip(head._fields, head, frames.Head.read(due)):
         if found != right:
             name = "from" if name == "sender" else name

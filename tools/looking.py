@@ -5,6 +5,7 @@ It is imported by booth-status and the tests, and not run by itself. What comes 
 
 import errno
 import os
+import secrets
 import selectors
 import socket
 import time
@@ -43,12 +44,13 @@ class Answer(NamedTuple):
 
 
 class Asking:
-    """One member that is being asked."""
+    """One member that is being asked. Each time that it is asked has a number of its own, which nobody can guess."""
 
-    def __init__(self, member, port, key, number):
+    def __init__(self, member, port, key):
         self.member = member
         self.key = key
-        self.number = number
+        # the parts of each list that was asked for, by its number
+        self.lists = {}
         self.wanted = {LIST, PEERS}
         self.came = {}
         self.times = {}
@@ -58,6 +60,7 @@ class Asking:
         family = socket.AF_INET6 if ":" in member.address else socket.AF_INET
         self.socket = socket.socket(family, socket.SOCK_DGRAM)
         self.socket.setblocking(False)
+        self.socket.setsockopt(socket.SOL_SOCKET, socket.SO_RCVBUF, lists.ROOM)
         # (connected: so no other's datagram comes, and that nobody listens is told)
         self.attempt(lambda: self.socket.connect((member.address, port)))
 
@@ -76,8 +79,10 @@ class Asking:
     def send(self):
         """Asks for what has not come."""
         self.sent = time.time()
+        number = secrets.randbits(32)
+        self.lists[number] = lists.Parts()
         for letters in sorted(self.wanted):
-            request = frames.request_now(letters, self.number, key=self.key)
+            request = frames.request_now(letters, number, key=self.key)
             self.attempt(lambda request=request: self.socket.send(request))
 
     def take_all(self):
@@ -93,12 +98,15 @@ class Asking:
         head = frames.Head.read(datagram.ljust(frames.HEAD_BYTES, b"\0"))
         letters = ASKED.get(head.cmd)
         is_short = len(datagram) < frames.HEAD_BYTES
-        if not is_short and (letters not in self.wanted or head.request != self.number):
+        if not is_short and (letters not in self.wanted or head.request not in self.lists):
             return
         try:
             if self.key and not is_short and not head.opts & frames.AUTH:
                 raise lists.BadReply("it has no MAC, so that member has no key")
-            head, body = lists.parts_of(datagram, letters or LIST, self.number, self.member.address, self.key)
+            head, body = lists.read_reply(datagram, letters or LIST, head.request, self.member.address, self.key)
+            body = self.listed(head, body) if letters == LIST else body
+            if body is None:
+                return
             self.came[letters] = (lists.held_in if letters == LIST else lists.counts_in)(body)
         except lists.BadReply as why:
             self.state, self.why = BAD, str(why)
@@ -108,6 +116,12 @@ class Asking:
         # (it read its clock in the middle of that time, as far as this machine knows)
         self.times.setdefault("ahead", head.millis() / 1000 - (now + self.sent) / 2)
         self.wanted.discard(letters)
+
+    def listed(self, head, body):
+        """The text of the list, once this part has made it whole."""
+        parts = self.lists[head.request]
+        parts.take(head, body)
+        return parts.text()
 
     def answer(self):
         """What came in all."""
@@ -127,12 +141,11 @@ def unopened(member, why):
 def look(configuration, key, seconds):
     """An answer for each member, in their order, after so many seconds at most."""
     started = time.monotonic()
-    number = time.time_ns() // 1_000_000 % 2**32
     askings, answers = [], {}
     with selectors.DefaultSelector() as selector:
         for member in configuration.members:
             try:
-                asking = Asking(member, configuration.port, key, number)
+                asking = Asking(member, configuration.port, key)
             except OSError as why:
                 answers[member] = unopened(member, why)
                 continue

@@ -12,6 +12,7 @@ import time
 from typing import NamedTuple, Optional
 
 import frames
+import lists
 import record_file
 from serving import NotServing, boothd
 
@@ -169,19 +170,23 @@ class Member:
         """What the daemon answers to this request, or None where it does not in time."""
         number = time.time_ns() // 1000 % 2**32
         family = socket.AF_INET6 if ":" in self.address else socket.AF_INET
+        parts = lists.Parts()
         with socket.socket(family, socket.SOCK_DGRAM) as asker:
             asker.settimeout(SECONDS_TO_ANSWER)
+            asker.setsockopt(socket.SOL_SOCKET, socket.SO_RCVBUF, lists.ROOM)
             asker.connect((self.address, frames.PORT))
             try:
                 asker.send(frames.request_now(letters, number, body, self.key))
-                came = asker.recv(frames.FRAME_BYTES)
+                while parts.text() is None:
+                    came = asker.recv(frames.FRAME_BYTES)
+                    head = frames.Head.read(came)
+                    end = len(came) - (frames.AUTH_BYTES if self.key else 0)
+                    if (head.request, head.cmd) != (number, frames.code(frames.ANSWER_TO[letters])):
+                        return None
+                    parts.take(head, came[frames.HEAD_BYTES : end])
             except OSError:
                 return None
-        head = frames.Head.read(came)
-        end = len(came) - (frames.AUTH_BYTES if self.key else 0)
-        if (head.request, head.cmd) != (number, frames.code(frames.ANSWER_TO[letters])):
-            return None
-        return Answer(letters_of(head.result), came[frames.HEAD_BYTES : end])
+        return Answer(letters_of(head.result), parts.text())
 
     def about(self, letters, ticket=TICKET):
         """The result of a grant or a revocation that a client asks for."""

@@ -34,7 +34,8 @@ HINTS = {
 def built_program(name="boothd"):
     """The path of this proved program as it was built last, or None where it is not."""
     # where make build leaves a program, and where rt does
-    paths = [f"{TOP}/out/{name}", f"{TOP}/crates/{name}/out/{name}"]
+    crate = name.replace("-", "_")
+    paths = [f"{TOP}/out/{name}", f"{TOP}/crates/{crate}/out/{crate}"]
     built = [path for path in paths if os.access(path, os.X_OK)]
     return max(built, key=os.path.getmtime, default=None)
 
