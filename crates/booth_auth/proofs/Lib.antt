@@ -1,5 +1,3 @@
-pub mod KeyLemmas
-pub mod MacLemmas
 pub mod SealLemmas
 pub mod GateLemmas
 pub mod FaultLemmas

@@ -5,8 +5,8 @@ pub use Rattle.booth_wire.specs.Layout
 pub use Rattle.booth_wire.specs.Reading
 pub use Rattle.booth_wire.specs.Faults
 pub use Rattle.booth_wire.specs.Spelling
-pub mod Key
-pub mod Mac
+pub use Rattle.booth_keys.specs.Key
+pub use Rattle.booth_keys.specs.Mac
 pub mod Verdict
 pub mod Sealed
 pub mod Laws

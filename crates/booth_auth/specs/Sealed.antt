@@ -1,10 +1,13 @@
--- What is sent: a message with the sender's time, and under a key with its MAC.
-use Rattle.std.specs.Prelude.{ℕ, ◌*◌, ◌/◌, ◌%◌, min, Bool, List, [], ◌++◌, replicate, is_some, Option, Some, None}
+-- What is sent: a message with the sender's time, and where there are keys with the MAC by the first.
+use Rattle.std.specs.Prelude.{ℕ, ◌*◌, ◌/◌, ◌%◌, min, Bool, List, [], ◌++◌, take, replicate, is_some, Option, Some, None}
 use Rattle.booth_wire.specs.declared.message.Head.{Head}
 use Rattle.booth_wire.specs.PlainMessage.{PlainMessage}
 use Rattle.booth_wire.specs.Layout.{word}
 use Rattle.booth_wire.specs.Spelling.{header, body, frame_len, frame_with}
-use Rattle.booth_auth.specs.Mac.{mac}
+use Rattle.booth_keys.specs.Mac.{mac, mac256}
+use Rattle.booth_keys.specs.declared.ring.Hash.{Hash}
+use Rattle.booth_keys.specs.declared.ring.Hash.TheVariants.{Sha1, Sha256}
+use Rattle.booth_keys.specs.declared.ring.Ring.{Ring}
 
 -- the head of what is sent at a reading in ms: its whole seconds, as far as the field goes, and the
 -- rest in us
@@ -15,18 +18,28 @@ stamped_head auth now h = record h {
   usecs = now % 1000 * 1000;
 }
 
-abbrev pub stamped : Option (List ℕ) → ℕ → PlainMessage → PlainMessage
-stamped key now l = record { head = stamped_head (is_some key) now l.head; content = l.content }
+abbrev pub stamped : Option Ring → ℕ → PlainMessage → PlainMessage
+stamped ring now l = record { head = stamped_head (is_some ring) now l.head; content = l.content }
 
 -- the bytes that a MAC vouches for
 abbrev pub vouched : PlainMessage → List ℕ
 vouched l = header l.head (frame_len l) ++ body l.content
 
--- the hash: the MAC, and zeros up to the field's 24 bytes
-abbrev pub hash_of : List ℕ → List ℕ
-hash_of code = code ++ replicate 4 0
+-- the number of a hash in an authentication part
+abbrev pub number_of : Hash → ℕ
+number_of Sha1 = 2
+number_of Sha256 = 3
 
--- the message's frame as it is sent: with a key its last 28 bytes are the hash id 2 and the hash
-abbrev pub sealed : Option (List ℕ) → PlainMessage → List ℕ
+-- the 24 bytes of a hash: the MAC and zeros, or the first bytes of a longer one
+abbrev pub hash_of : Hash → List ℕ → List ℕ → List ℕ
+hash_of Sha1 key bytes = mac key bytes ++ replicate 4 0
+hash_of Sha256 key bytes = take 24 (mac256 key bytes)
+
+-- the authentication part of these bytes: the number of the ring's hash, and that hash by the first key
+abbrev pub auth_part : Ring → List ℕ → List ℕ
+auth_part ring bytes = word (number_of ring.hash) ++ hash_of ring.hash ring.first bytes
+
+-- the message's frame as it is sent: where there are keys its last 28 bytes are the authentication part
+abbrev pub sealed : Option Ring → PlainMessage → List ℕ
 sealed None l = frame_with [] l
-sealed (Some key) l = frame_with (word 2 ++ hash_of (mac key (vouched l))) l
+sealed (Some ring) l = frame_with (auth_part ring (vouched l)) l

@@ -1,5 +1,5 @@
 -- The gate: which datagrams get in, and for which fault each of the others is dropped.
-use Rattle.std.specs.Prelude.{◌≡◌, ℕ, ◌+◌, ◌-◌, ◌/◌, Bool, false, not, ◌&&◌, ◌||◌, ◌==◌, nat_lt, if◌then◌else◌, List, [], ◌∷◌, length, position, is_some, Option, Some, None, Result, Ok, Err, bytes_eq}
+use Rattle.std.specs.Prelude.{◌≡◌, ℕ, ◌+◌, ◌-◌, ◌/◌, Bool, false, not, ◌&&◌, ◌||◌, ◌==◌, nat_lt, if◌then◌else◌, List, [], ◌∷◌, length, take, position, is_some, Option, Some, None, Result, Ok, Err, bytes_eq}
 use Rattle.std.specs.List.{list_any}
 use Rattle.booth_base.specs.declared.address.MemberId.{MemberId}
 use Rattle.booth_base.specs.declared.address.TheConstants.{NO_ONE}
@@ -16,39 +16,57 @@ use Rattle.booth_wire.specs.declared.message.Message.{Message}
 use Rattle.booth_wire.specs.declared.message.TicketPart.{TicketPart}
 use Rattle.booth_wire.specs.Command.{code_of, direction_of}
 use Rattle.booth_wire.specs.PlainMessage.{Content, Ticket, PlainMessage, plain_of}
-use Rattle.booth_wire.specs.Layout.{field_at}
+use Rattle.booth_wire.specs.Layout.{field_at, word_at}
 use Rattle.booth_wire.specs.Reading.{decoded}
 use Rattle.booth_wire.specs.Spelling.{before_auth}
-use Rattle.booth_auth.specs.Mac.{mac}
+use Rattle.booth_keys.specs.Mac.{mac, mac256}
+use Rattle.booth_keys.specs.declared.ring.Ring.{Ring}
 use Rattle.booth_auth.specs.declared.admission.DropFault.{DropFault}
 use Rattle.booth_auth.specs.declared.admission.DropFault.TheVariants as faults
 
--- ---- the key
+-- ---- the keys
 
 -- there is a key, and the frame has no authentication part
-abbrev pub lacks_mac : Option (List ℕ) → Head → Bool
+abbrev pub lacks_mac : Option Ring → Head → Bool
 lacks_mac None h = false
-lacks_mac (Some key) h = not h.auth
+lacks_mac (Some ring) h = not h.auth
 
--- The MAC of a frame is the first 20 of its hash bytes, which stand behind the hash id. It is right
--- where it is that of all bytes before the authentication part.
+-- the number of the hash, with which an authentication part begins
+abbrev pub hash_id : List ℕ → ℕ
+hash_id bytes = word_at (length bytes - 28) bytes
+
+-- By SHA-1 the MAC of a frame is the first 20 of its hash bytes. It is right where it is that of all bytes before the
+-- authentication part.
+abbrev pub is_sha1_right : List ℕ → List ℕ → Bool
+is_sha1_right key bytes = bytes_eq (field_at (length bytes - 24) 20 bytes) (mac key (before_auth bytes))
+
+-- By SHA-256 all 24 hash bytes are the first 24 of the MAC.
+abbrev pub is_sha256_right : List ℕ → List ℕ → Bool
+is_sha256_right key bytes =
+    bytes_eq (field_at (length bytes - 24) 24 bytes) (take 24 (mac256 key (before_auth bytes)))
+
+-- Hash id 3 is that of SHA-256. Under any other the MAC is by SHA-1.
 abbrev pub is_mac_right : List ℕ → List ℕ → Bool
-is_mac_right key bytes =
-    bytes_eq (field_at (length bytes - 24) 20 bytes) (mac key (before_auth bytes))
+is_mac_right key bytes = if hash_id bytes == 3 then is_sha256_right key bytes else is_sha1_right key bytes
 
-abbrev pub has_wrong_mac : Option (List ℕ) → List ℕ → Bool
+abbrev pub is_old_right : Option (List ℕ) → List ℕ → Bool
+is_old_right None bytes = false
+is_old_right (Some key) bytes = is_mac_right key bytes
+
+-- neither key of the ring gives the frame's MAC
+abbrev pub has_wrong_mac : Option Ring → List ℕ → Bool
 has_wrong_mac None bytes = false
-has_wrong_mac (Some key) bytes = not (is_mac_right key bytes)
+has_wrong_mac (Some ring) bytes = not (is_mac_right ring.first bytes || is_old_right ring.old bytes)
 
--- the frame has the MAC of the key, where there is one
-abbrev pub is_signed : Option (List ℕ) → Head → List ℕ → Bool
-is_signed key h bytes = not (lacks_mac key h) && not (has_wrong_mac key bytes)
+-- the frame has a MAC of one of the keys, where there are any
+abbrev pub is_signed : Option Ring → Head → List ℕ → Bool
+is_signed ring h bytes = not (lacks_mac ring h) && not (has_wrong_mac ring bytes)
 
 -- there is a key, and the sender's clock is more than `skew` seconds behind this one, which reads
 -- `now` ms
-abbrev pub is_too_old : Option (List ℕ) → ℕ → ℕ → Head → Bool
+abbrev pub is_too_old : Option Ring → ℕ → ℕ → Head → Bool
 is_too_old None skew now h = false
-is_too_old (Some key) skew now h = nat_lt (h.secs + skew) (now / 1000)
+is_too_old (Some ring) skew now h = nat_lt (h.secs + skew) (now / 1000)
 
 -- ---- the sender
 
@@ -105,22 +123,22 @@ admitted config me l =
     if names_no_leader config l.head (part_of_member l) then Err faults.Leader else Ok l
 
 abbrev pub judged :
-    ConfigSays → Option (List ℕ) → MemberId → ℕ → List ℕ → PlainMessage → Result PlainMessage DropFault
-judged config key me now bytes l =
-    if lacks_mac key l.head then Err faults.NoMac else
-    if has_wrong_mac key bytes then Err faults.BadMac else
-    if is_too_old key config.skew now l.head then Err faults.TooOld else admitted config me l
+    ConfigSays → Option Ring → MemberId → ℕ → List ℕ → PlainMessage → Result PlainMessage DropFault
+judged config ring me now bytes l =
+    if lacks_mac ring l.head then Err faults.NoMac else
+    if has_wrong_mac ring bytes then Err faults.BadMac else
+    if is_too_old ring config.skew now l.head then Err faults.TooOld else admitted config me l
 
 abbrev pub judged_if_read :
-    ConfigSays → Option (List ℕ) → MemberId → ℕ → List ℕ → Result PlainMessage FrameFault →
+    ConfigSays → Option Ring → MemberId → ℕ → List ℕ → Result PlainMessage FrameFault →
     Result PlainMessage DropFault
-judged_if_read config key me now bytes (Err fault) = Err (faults.Frame fault)
-judged_if_read config key me now bytes (Ok l) = judged config key me now bytes l
+judged_if_read config ring me now bytes (Err fault) = Err (faults.Frame fault)
+judged_if_read config ring me now bytes (Ok l) = judged config ring me now bytes l
 
 -- what a member that is `me` makes of these bytes, at a reading of its clock in ms: the message, or the
 -- first of eight faults
-abbrev pub verdict : ConfigSays → Option (List ℕ) → MemberId → ℕ → List ℕ → Result PlainMessage DropFault
-verdict config key me now bytes = judged_if_read config key me now bytes (decoded bytes)
+abbrev pub verdict : ConfigSays → Option Ring → MemberId → ℕ → List ℕ → Result PlainMessage DropFault
+verdict config ring me now bytes = judged_if_read config ring me now bytes (decoded bytes)
 
 -- a message or a fault, against a verdict
 abbrev pub Passes : Result Message DropFault → Result PlainMessage DropFault → Type 0

@@ -1,17 +1,21 @@
 //! The gate: it lets a datagram in, or drops it for its first fault.
-ghost use Rattle.std.specs.Prelude.{◌≡◌, ◌≤◌, not, length};
+ghost use Rattle.std.specs.Prelude.{◌≡◌, ◌≤◌, ◌+◌, not, length};
+ghost use Rattle.booth_wire.specs.Layout.{word_at};
 ghost use Rattle.std.specs.List.{list_any};
 ghost use Rattle.std.specs.Option.{option_copied};
 ghost use Rattle.booth_wire.specs.Command.{direction_of};
 ghost use Rattle.booth_wire.specs.PlainMessage.{plain_of, content_of};
-ghost use Rattle.booth_auth.specs.Verdict.{lacks_mac, is_mac_right, has_wrong_mac, is_signed, is_too_old, is_member, is_stranger, member_part, part_of_member, names_no_ticket, is_site_of, may_lead, leads, names_no_leader, admitted, verdict, Passes};
+ghost use Rattle.booth_auth.specs.Verdict.{lacks_mac, hash_id, is_sha1_right, is_sha256_right, is_mac_right, is_old_right, has_wrong_mac, is_signed, is_too_old, is_member, is_stranger, member_part, part_of_member, names_no_ticket, is_site_of, may_lead, leads, names_no_leader, admitted, verdict, Passes};
 
-use crate::key::Key;
-use crate::mac::{ID_BYTES, MAC_BYTES, are_equal, hmac};
+use crate::sealing::{HASH_BYTES, SHA256_ID, long_hash};
 use booth_base::{MemberId, NO_ONE};
 use booth_conf::{Config, Member};
+use booth_keys::{Key, MAC_BYTES, Ring, are_equal, hmac};
 use booth_wire::{AUTH_BYTES, Body, Cmd, Direction, FrameFault, Head, Message, TicketPart, decode};
 use thiserror::Error;
+
+/// The bytes of the number of the hash.
+const ID_BYTES: usize = 4;
 
 /// Why a datagram is dropped. The first that holds is told, in this order.
 #[derive(Clone, Copy, Debug, PartialEq, Eq, Drop, Error)]
@@ -34,15 +38,23 @@ pub enum DropFault {
     Leader,
 }
 
-fn lacks_mac(key: Option<&Key>, head: &Head) -> bool
-    ensures { result ≡ lacks_mac (option_copied key.entry) head.now }
+fn lacks_mac(ring: Option<&Ring>, head: &Head) -> bool
+    ensures { result ≡ lacks_mac (option_copied ring.entry) head.now }
 {
-    key.is_some() && !head.auth
+    ring.is_some() && !head.auth
 }
 
-fn is_mac_right(key: &Key, bytes: &[u8]) -> bool
+fn hash_id(bytes: &[u8]) -> u32
     requires { AUTH_BYTES ≤ length bytes.now }
-    ensures { result ≡ is_mac_right key.now bytes.now }
+    ensures { result ≡ hash_id bytes.now }
+{
+    let at = bytes.len() - AUTH_BYTES;
+    u32::from_be_bytes([bytes[at], bytes[at + 1], bytes[at + 2], bytes[at + 3]])
+}
+
+fn is_sha1_right(key: &Key, bytes: &[u8]) -> bool
+    requires { AUTH_BYTES ≤ length bytes.now }
+    ensures { result ≡ is_sha1_right key.now bytes.now }
 {
     let before = bytes.len() - AUTH_BYTES;
     let shown = before + ID_BYTES;
@@ -52,29 +64,67 @@ fn is_mac_right(key: &Key, bytes: &[u8]) -> bool
     )
 }
 
-fn has_wrong_mac(key: Option<&Key>, bytes: &[u8]) -> bool
+fn is_sha256_right(key: &Key, bytes: &[u8]) -> bool
     requires { AUTH_BYTES ≤ length bytes.now }
-    ensures { result ≡ has_wrong_mac (option_copied key.entry) bytes.now }
+    ensures { result ≡ is_sha256_right key.now bytes.now }
+{
+    let before = bytes.len() - AUTH_BYTES;
+    let shown = before + ID_BYTES;
+    are_equal(
+        &bytes[shown..shown + HASH_BYTES],
+        &long_hash(key, &bytes[..before]),
+    )
+}
+
+fn is_mac_right(key: &Key, bytes: &[u8]) -> bool
+    requires { AUTH_BYTES ≤ length bytes.now }
+    ensures { result ≡ is_mac_right key.now bytes.now }
+{
+    if hash_id(bytes) == SHA256_ID {
+        is_sha256_right(key, bytes)
+    } else {
+        is_sha1_right(key, bytes)
+    }
+}
+
+fn is_old_right(key: Option<&Key>, bytes: &[u8]) -> bool
+    requires { AUTH_BYTES ≤ length bytes.now }
+    ensures { result ≡ is_old_right (option_copied key.entry) bytes.now }
 {
     match key {
-        Some(key) => !is_mac_right(key, bytes),
+        Some(key) => is_mac_right(key, bytes),
         None => false,
     }
 }
 
-/// Whether a frame that was read is signed as it has to be: with a key it has its MAC, and without one
-/// anything will do. `head` is that of the message that these bytes spell.
-pub fn is_signed(key: Option<&Key>, head: &Head, bytes: &[u8]) -> bool
+// Both keys are tried, whichever is right, so that the time tells nothing of it.
+fn has_wrong_mac(ring: Option<&Ring>, bytes: &[u8]) -> bool
     requires { AUTH_BYTES ≤ length bytes.now }
-    ensures { result ≡ is_signed (option_copied key.entry) head.now bytes.now }
+    ensures { result ≡ has_wrong_mac (option_copied ring.entry) bytes.now }
 {
-    !lacks_mac(key, head) && !has_wrong_mac(key, bytes)
+    match ring {
+        Some(ring) => {
+            let first = is_mac_right(&ring.first, bytes);
+            let old = is_old_right(ring.old.as_ref(), bytes);
+            !(first | old)
+        }
+        None => false,
+    }
 }
 
-fn is_too_old(key: Option<&Key>, skew: u64, now: u64, head: &Head) -> bool
-    ensures { result ≡ is_too_old (option_copied key.entry) skew now head.now }
+/// Whether a frame that was read is signed as it has to be: with a ring it has the MAC of one of its keys, and
+/// without one anything will do. `head` is that of the message that these bytes spell.
+pub fn is_signed(ring: Option<&Ring>, head: &Head, bytes: &[u8]) -> bool
+    requires { AUTH_BYTES ≤ length bytes.now }
+    ensures { result ≡ is_signed (option_copied ring.entry) head.now bytes.now }
 {
-    key.is_some() && u64::from(head.secs).saturating_add(skew) < now / 1000
+    !lacks_mac(ring, head) && !has_wrong_mac(ring, bytes)
+}
+
+fn is_too_old(ring: Option<&Ring>, skew: u64, now: u64, head: &Head) -> bool
+    ensures { result ≡ is_too_old (option_copied ring.entry) skew now head.now }
+{
+    ring.is_some() && u64::from(head.secs).saturating_add(skew) < now / 1000
 }
 
 fn is_stranger(config: &Config, head: &Head) -> bool
@@ -173,25 +223,25 @@ fn admitted<'a>(
 
 /// The message of a datagram, or the first of its eight faults. `now` is this member's reading in ms.
 ///
-/// With a key the frame has to show its MAC, and the sender's clock may not be further behind this one
-/// than the configuration allows. Without a key an authentication part is not looked at.
+/// With a ring the frame has to show the MAC of one of its keys, and the sender's clock may not be further behind
+/// this one than the configuration allows. Without one an authentication part is not looked at.
 pub fn gate<'a>(
     config: &Config,
-    key: Option<&Key>,
+    ring: Option<&Ring>,
     me: MemberId,
     now: u64,
     bytes: &'a [u8],
 ) -> Result<Message<'a>, DropFault>
-    ensures { Passes result (verdict config.now (option_copied key.entry) me now bytes.now) }
+    ensures { Passes result (verdict config.now (option_copied ring.entry) me now bytes.now) }
 {
     let message = decode(bytes).map_err(DropFault::Frame)?;
-    if lacks_mac(key, &message.head) {
+    if lacks_mac(ring, &message.head) {
         return Err(DropFault::NoMac);
     }
-    if has_wrong_mac(key, bytes) {
+    if has_wrong_mac(ring, bytes) {
         return Err(DropFault::BadMac);
     }
-    if is_too_old(key, config.skew(), now, &message.head) {
+    if is_too_old(ring, config.skew(), now, &message.head) {
         return Err(DropFault::TooOld);
     }
     admitted(config, me, message)

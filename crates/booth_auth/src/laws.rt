@@ -1,10 +1,5 @@
-//! Laws of what is sealed.
-ghost use Rattle.booth_auth.specs.Laws.{KeyTextIsKey, GateLetsIn, GateTellsFirstFault, SealedIsRead, SealedIsAccepted};
-
-/// Of a key file that is plain text the key is what stands between the blanks.
-pub fn key_text_is_key()
-    ensures { KeyTextIsKey }
-{}
+//! Laws of the gate and of what is sealed.
+ghost use Rattle.booth_auth.specs.Laws.{GateLetsIn, GateTellsFirstFault, SealedIsRead, SealedIsAccepted, KeysChangeOneByOne};
 
 /// The gate lets in exactly what has none of its faults.
 pub fn gate_lets_in()
@@ -21,7 +16,12 @@ pub fn sealed_is_read()
     ensures { SealedIsRead }
 {}
 
-/// What a member seals is accepted by the other members with its key.
+/// What a member seals is accepted by the other members that have the key by which it seals.
 pub fn sealed_is_accepted()
     ensures { SealedIsAccepted }
+{}
+
+/// Members that are at neighbouring steps of the change of a key accept each other.
+pub fn keys_change_one_by_one()
+    ensures { KeysChangeOneByOne }
 {}

@@ -5,3 +5,4 @@ mod frames;
 mod gate_frames;
 mod hostile_frames;
 mod keys;
+mod rings;

@@ -41,7 +41,7 @@ fn move_to_second(
     let ticket = Name::read(b"ticket-db8").expect(rt, "a name");
     let moving = Moving {
         config,
-        key: None,
+        ring: None,
         ticket,
         target: 1,
         wait: true,

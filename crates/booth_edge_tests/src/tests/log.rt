@@ -12,11 +12,12 @@ use std::process::Abort;
 
 const LOCAL: Address = Address::V4([192, 0, 2, 10]);
 
-/// A call a row, and below it what the log says of it. A keep names the ticket, a term and the second in which its lease
-/// ends, or `-` for none. From `failing` on keeps and starts fail, and from `working` on they do not.
+/// A call a row, and below it what the log says of it. A keep names the ticket, a term and the second in which its
+/// lease ends, or `-` for none. From `failing` on keeps and starts fail, and from `working` on they do not.
 const STORY: &str = "\
 open
-boothd: begins: version 0.2.0, address 192.0.2.10, port 9929, records /var/lib/booth/booth, configuration /etc/booth/booth.conf
+boothd: begins: version 0.2.0, address 192.0.2.10, port 9929, records /var/lib/booth/booth, \
+configuration /etc/booth/booth.conf
 kept old
 boothd: ticket old: begins with the lease of term 4 until 2026-11-27 12:00:00 UTC
 kept db8

@@ -1,7 +1,8 @@
 //! Each command at the gate: who may send it, and what a key asks of it.
 use super::super::number_of;
-use super::frames::{begin, bytes_of, id_of, key, put, put_id, signed, told};
-use booth_auth::{DropFault, Key};
+use super::frames::{begin, bytes_of, id_of, put, put_id, ring, signed, told};
+use booth_auth::DropFault;
+use booth_keys::Ring;
 use std::alloc::Global;
 use std::process::Abort;
 
@@ -81,7 +82,7 @@ type Told = Option<DropFault>;
 fn told_of(
     rt: &impl Abort,
     alloc: Global,
-    key: &Key,
+    ring: &Ring,
     frame: &mut [u8; LONGEST_BYTES],
     body: u16,
     mac: &[u8],
@@ -89,14 +90,14 @@ fn told_of(
     assert!(rt; body <= 256);
     let plain = body + 48;
     set_form(rt, frame, 0, body, plain);
-    let unsigned_keyed = told(rt, alloc, Some(key), until(frame, plain));
+    let unsigned_keyed = told(rt, alloc, Some(ring), until(frame, plain));
     let unsigned = told(rt, alloc, None, until(frame, plain));
     let whole = plain + 28;
     set_form(rt, frame, 1, body, whole);
     put(rt, frame, usize::from(plain), &[0, 0, 0, 2]);
     put(rt, frame, usize::from(plain) + 4, mac);
     let signed = told(rt, alloc, None, until(frame, whole));
-    let signed_keyed = told(rt, alloc, Some(key), until(frame, whole));
+    let signed_keyed = told(rt, alloc, Some(ring), until(frame, whole));
     [signed_keyed, signed, unsigned_keyed, unsigned]
 }
 
@@ -108,7 +109,7 @@ fn check_row(rt: &impl Abort, alloc: Global, row: &str, want: [Told; 4]) {
     let body = body as u16;
     let mut frame = frame_of(rt, alloc, letters, body);
     let mac = bytes_of(rt, alloc, mac);
-    let told = told_of(rt, alloc, &key(rt), &mut frame, body, &mac);
+    let told = told_of(rt, alloc, &ring(rt), &mut frame, body, &mac);
     assert!(rt; told == want, "{row}");
 }
 

@@ -1,25 +1,26 @@
 //! Datagrams from a member at 192.168.201.100, at the gate of the one at 192.168.202.100.
 use super::frames::{
     ARBITRATOR, CLIENT, FRAME_BYTES, ME, NOW, PLAIN_BYTES, UNKNOWN, begin, bytes_of, key, put,
-    put_id, sign, signed, told, told_at,
+    put_id, ring, sign, signed, told, told_at,
 };
-use booth_auth::{DropFault, Key, seal};
+use booth_auth::{DropFault, seal};
+use booth_keys::Ring;
 use booth_wire::{Frame, FrameFault, decode};
 use std::alloc::Global;
 use std::process::Abort;
 
 // The message of these bytes is sealed at this time as those.
-fn check_sealed(
+pub(super) fn check_sealed(
     rt: &impl Abort,
     alloc: Global,
     message: &[u8],
-    key: Option<&Key>,
+    ring: Option<&Ring>,
     now: u64,
     want: &[u8],
 ) {
     let mut frame = Frame::new(alloc).expect(rt, "memory");
     let message = decode(message).expect(rt, "a message");
-    seal(&message, key, now, &mut frame);
+    seal(&message, ring, now, &mut frame);
     assert!(rt; frame.bytes() == want, "{now}");
 }
 
@@ -32,7 +33,7 @@ fn a_heartbeat_is_sealed_as_python_does_it(rt: HostRuntime) {
     put(&rt, &mut plain, 0, &[0; 12]);
     put(&rt, &mut plain, 24, &[0, 0, 0, 124]);
     let message = begin(&plain, PLAIN_BYTES);
-    check_sealed(&rt, alloc, message, Some(&key(&rt)), NOW, &signed);
+    check_sealed(&rt, alloc, message, Some(&ring(&rt)), NOW, &signed);
     let mut early = plain;
     put(&rt, &mut early, 8, &[0, 0, 0x13, 0x88]);
     check_sealed(&rt, alloc, &signed, None, 5, begin(&early, PLAIN_BYTES));
@@ -84,7 +85,7 @@ fn spoiled(
 ) -> [u8; FRAME_BYTES] {
     let mut bytes = signed(rt, alloc);
     spoil_twice(rt, &mut bytes, first, second);
-    sign(rt, &mut bytes, &key(rt));
+    sign(rt, &mut bytes);
     if first == DropFault::BadMac || second == DropFault::BadMac {
         bytes[147] ^= 1;
     }
@@ -98,7 +99,7 @@ fn check_faults(rt: &impl Abort, alloc: Global, first: DropFault, second: DropFa
     } else {
         FRAME_BYTES
     };
-    let told = told(rt, alloc, Some(&key(rt)), begin(&bytes, len));
+    let told = told(rt, alloc, Some(&ring(rt)), begin(&bytes, len));
     assert!(rt; told == Some(first), "{first}, {second}");
 }
 
@@ -159,11 +160,11 @@ fn what_is_no_frame_is_dropped(rt: HostRuntime) {
 
 fn check_age(rt: &impl Abort, alloc: Global, secs: u32, fault: Option<DropFault>) {
     let now = 1_700_000_600_999;
-    let key = key(rt);
+    let ring = ring(rt);
     let mut bytes = signed(rt, alloc);
     put(rt, &mut bytes, 4, &secs.to_be_bytes());
-    sign(rt, &mut bytes, &key);
-    let told = told_at(rt, alloc, Some(&key), ME, now, &bytes);
+    sign(rt, &mut bytes);
+    let told = told_at(rt, alloc, Some(&ring), ME, now, &bytes);
     assert!(rt; told == fault, "{secs}");
     let told = told_at(rt, alloc, None, ME, now, &bytes);
     assert!(rt; told.is_none(), "{secs} without a key");
@@ -191,7 +192,9 @@ fn is_told(place: usize, bit: u8, told: Option<DropFault>) -> bool {
         24..28 => told == Some(Frame(Length)),
         // the name may be another name then, or none
         48..112 => matches!(told, Some(Frame(Name) | BadMac)),
-        // the hash id, and the last bytes of the hash
+        // the number of the hash, which this bit makes that of SHA-256
+        127 if bit == 1 => told == Some(BadMac),
+        // any other number, and the last bytes of the hash
         124..128 | 148..152 => told.is_none(),
         _ => told == Some(BadMac),
     }
@@ -201,13 +204,13 @@ fn is_told(place: usize, bit: u8, told: Option<DropFault>) -> bool {
 fn each_bit_of_a_signed_frame_counts(rt: HostRuntime) {
     let alloc = rt.alloc();
     let signed = signed(&rt, alloc);
-    let key = key(&rt);
-    assert!(rt; told(&rt, alloc, Some(&key), &signed).is_none());
+    let ring = ring(&rt);
+    assert!(rt; told(&rt, alloc, Some(&ring), &signed).is_none());
     for place in 0..FRAME_BYTES {
         for bit in [1, 2, 4, 8, 16, 32, 64, 128] {
             let mut bytes = signed;
             bytes[place] ^= bit;
-            let told = told(&rt, alloc, Some(&key), &bytes);
+            let told = told(&rt, alloc, Some(&ring), &bytes);
             assert!(rt; is_told(place, bit, told), "bit {bit} of byte {place}");
         }
     }
@@ -217,8 +220,8 @@ fn each_bit_of_a_signed_frame_counts(rt: HostRuntime) {
 fn another_key_or_none_does_not_pass(rt: HostRuntime) {
     let alloc = rt.alloc();
     let signed = signed(&rt, alloc);
-    let key = Key::read("another-key".as_bytes()).expect(&rt, "a key");
-    assert!(rt; told(&rt, alloc, Some(&key), &signed) == Some(DropFault::BadMac));
+    let ring = Ring::of(key(&rt, "another-key"));
+    assert!(rt; told(&rt, alloc, Some(&ring), &signed) == Some(DropFault::BadMac));
     assert!(rt; told(&rt, alloc, None, &signed).is_none());
 }
 
@@ -240,7 +243,7 @@ fn long_frame(rt: &impl Abort, alloc: Global, len: u16, mac: &str) -> Vec<u8> {
 // The frame's authentication part is its hash id, the MAC and four zero bytes.
 fn check_long(rt: &impl Abort, alloc: Global, len: u16, part: &str, fault: DropFault) {
     let bytes = long_frame(rt, alloc, len, part);
-    let told = told(rt, alloc, Some(&key(rt)), &bytes);
+    let told = told(rt, alloc, Some(&ring(rt)), &bytes);
     assert!(rt; told == Some(fault), "{len} bytes");
 }
 

@@ -3,8 +3,9 @@ ghost use Rattle.std.specs.Prelude.{◌<◌};
 
 use super::super::conf::parsed;
 use super::super::number_of;
-use booth_auth::{DropFault, Key, gate, hmac};
+use booth_auth::{DropFault, gate};
 use booth_base::{MemberId, NO_ONE};
+use booth_keys::{Key, Ring, hmac};
 use std::alloc::Global;
 use std::mem;
 use std::process::Abort;
@@ -41,8 +42,13 @@ pub(super) const FRAME_BYTES: usize = 152;
 /// The same without its authentication part.
 pub(super) const PLAIN_BYTES: usize = 124;
 
-pub(super) fn key(rt: &impl Abort) -> Key {
-    Key::read("secret-key".as_bytes()).expect(rt, "a key")
+pub(super) fn key(rt: &impl Abort, text: &str) -> Key {
+    Key::read(text.as_bytes()).expect(rt, text)
+}
+
+/// The ring of that key.
+pub(super) fn ring(rt: &impl Abort) -> Ring {
+    Ring::of(key(rt, "secret-key"))
 }
 
 /// A member's id by what it is here.
@@ -113,8 +119,8 @@ pub(super) fn signed(rt: &impl Abort, alloc: Global) -> [u8; FRAME_BYTES] {
 }
 
 /// Signs a frame anew.
-pub(super) fn sign(rt: &impl Abort, bytes: &mut [u8; FRAME_BYTES], key: &Key) {
-    let code = hmac(key, &bytes[..PLAIN_BYTES]);
+pub(super) fn sign(rt: &impl Abort, bytes: &mut [u8; FRAME_BYTES]) {
+    let code = hmac(&key(rt, "secret-key"), &bytes[..PLAIN_BYTES]);
     put(rt, bytes, 128, &code);
 }
 
@@ -126,13 +132,13 @@ pub(super) fn begin(bytes: &[u8; FRAME_BYTES], len: usize) -> &[u8] {
 pub(super) fn told_at(
     rt: &impl Abort,
     alloc: Global,
-    key: Option<&Key>,
+    ring: Option<&Ring>,
     member: MemberId,
     now: u64,
     bytes: &[u8],
 ) -> Option<DropFault> {
     let config = parsed(rt, alloc, TEXT);
-    let told = gate(&config, key, member, now, bytes).err();
+    let told = gate(&config, ring, member, now, bytes).err();
     mem::forget(config);
     told
 }
@@ -141,8 +147,8 @@ pub(super) fn told_at(
 pub(super) fn told(
     rt: &impl Abort,
     alloc: Global,
-    key: Option<&Key>,
+    ring: Option<&Ring>,
     bytes: &[u8],
 ) -> Option<DropFault> {
-    told_at(rt, alloc, key, ME, NOW, bytes)
+    told_at(rt, alloc, ring, ME, NOW, bytes)
 }

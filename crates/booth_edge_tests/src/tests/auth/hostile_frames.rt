@@ -1,9 +1,10 @@
 //! Datagrams at the gate of the first site, which is at 192.168.201.100: what each of them is refused for.
-use super::frames::{FRAME_BYTES, NOW, SENDER, bytes_of, key, told_at};
+use super::frames::{FRAME_BYTES, NOW, SENDER, bytes_of, ring, told_at};
 use super::gate_frames::{
     ARBITRATOR_LEADS, BARE, BEHIND_NAME, HEAD_OF_16461, VOTE, WITH_ATTRIBUTE, WITHOUT_MAC,
 };
-use booth_auth::{DropFault, Key};
+use booth_auth::DropFault;
+use booth_keys::Ring;
 use booth_wire::FrameFault;
 use std::alloc::Global;
 use std::process::Abort;
@@ -14,15 +15,15 @@ const HEAD_BYTES: usize = 48;
 fn told_there(
     rt: &impl Abort,
     alloc: Global,
-    key: Option<&Key>,
+    ring: Option<&Ring>,
     bytes: &[u8],
 ) -> Option<DropFault> {
-    told_at(rt, alloc, key, SENDER, NOW, bytes)
+    told_at(rt, alloc, ring, SENDER, NOW, bytes)
 }
 
 // What is told of these bytes, with the key and without one.
 fn check(rt: &impl Abort, alloc: Global, bytes: &[u8], fault: DropFault) {
-    let with = told_there(rt, alloc, Some(&key(rt)), bytes);
+    let with = told_there(rt, alloc, Some(&ring(rt)), bytes);
     assert!(rt; with == Some(fault), "{fault}: {} bytes", bytes.len());
     let without = told_there(rt, alloc, None, bytes);
     assert!(rt;
@@ -49,7 +50,7 @@ fn a_vote_that_is_cut_anywhere_is_no_frame(rt: HostRuntime) {
     for len in HEAD_BYTES..FRAME_BYTES {
         check_cut(&rt, alloc, &vote, len, FrameFault::Length);
     }
-    assert!(rt; told_there(&rt, alloc, Some(&key(&rt)), &vote).is_none());
+    assert!(rt; told_there(&rt, alloc, Some(&ring(&rt)), &vote).is_none());
 }
 
 // A frame has at most 16,460 bytes.

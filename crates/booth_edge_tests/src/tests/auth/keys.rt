@@ -1,6 +1,7 @@
 //! Keys, and MACs of the standards.
 use super::frames::bytes_of;
-use booth_auth::{DropFault, Key, KeyFault, hmac};
+use booth_auth::DropFault;
+use booth_keys::{Key, KeyFault, hmac, hmac256};
 use booth_wire::FrameFault;
 use sha1::Sha1;
 use std::alloc::Global;
@@ -32,6 +33,26 @@ fn macs_are_those_of_the_standard(rt: HostRuntime) {
     check_mac(&rt, alloc, "# 4b*64", "# 78*64", mac);
     let mac = "# 8bd39410 55ae217b 13b5a797 df4e0a1e b126c77c";
     check_mac(&rt, alloc, "KKKKKKKK", "", mac);
+}
+
+fn check_long_mac(rt: &impl Abort, alloc: Global, key: &str, message: &str, mac: &str) {
+    let key = Key::read(&bytes_of(rt, alloc, key)).expect(rt, key);
+    let signed = hmac256(&key, &bytes_of(rt, alloc, message));
+    let mac = bytes_of(rt, alloc, mac);
+    assert!(rt; signed.as_slice() == mac.as_slice(), "{message}");
+}
+
+// RFC 4231, section 4: the vectors whose keys have 8 to 64 bytes, that of blanks alone with its zeros.
+#[test]
+fn long_macs_are_those_of_the_standard(rt: HostRuntime) {
+    let alloc = rt.alloc();
+    let mac = "# b0344c61 d8db3853 5ca8afce af0bf12b 881dc200 c9833da7 26e9376c 2e32cff7";
+    check_long_mac(&rt, alloc, "# 0b*20 00*44", "Hi There", mac);
+    let mac = "# 773ea91e 36800e46 854db8eb d09181a7 2959098b 3ef8c122 d9635514 ced565fe";
+    check_long_mac(&rt, alloc, "# aa*20", "# dd*50", mac);
+    let counting = "# 01020304 05060708 090a0b0c 0d0e0f10 11121314 15161718 19";
+    let mac = "# 82558a38 9a443c0e a4cc8198 99f2083a 85f0faa3 e578f807 7a2e3ff4 6729665b";
+    check_long_mac(&rt, alloc, counting, "# cd*50", mac);
 }
 
 fn check_digest(rt: &impl Abort, alloc: Global, message: &str, digest: &str) {

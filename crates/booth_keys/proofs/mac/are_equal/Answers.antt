@@ -1,8 +1,8 @@
 use Rattle.std.proofs.Common.{◌≡◌, ℕ, List, length, ap, sym, ◌∙◌, eqb-true, eq-eqb}
 use Rattle.std.specs.Bool.{one_answer}
 use Rattle.std.proofs.lemmas.Slice.Eq.{bytes_eq-Decides}
-use Rattle.booth_auth.proofs.MacLemmas.{found, none_found, found_none}
-use Rattle.booth_auth.proofs.mac.are_equal.Goals as goal
+use Rattle.booth_keys.proofs.MacLemmas.{found, none_found, found_none}
+use Rattle.booth_keys.proofs.mac.are_equal.Goals as goal
 
 same_if_none : (n : ℕ) (xs ys : List ℕ) → length xs ≡ length ys → n ≡ found 0 xs ys → n ≡ 0 → xs ≡ ys
 same_if_none n xs ys long is none = (none_found 0 xs ys long (sym is ∙ none)).1

@@ -1,12 +1,14 @@
 -- Cutting blanks off both ends.
-use Rattle.std.proofs.Common.{◌≡◌, ℕ, ◌+◌, ◌<◌, Bool, true, List, [], ◌∷◌, ◌++◌, length, reverse, refl, ap, ◌∙◌, arith}
+use Rattle.std.proofs.Common.{◌≡◌, ℕ, ◌+◌, ◌<◌, Bool, true, List, [], ◌∷◌, ◌++◌, length, reverse, refl, ap, ◌∙◌, ◌&&◌, false, arith}
 use Rattle.std.specs.List.{list_all, prefix_len, suffix_len}
 use Rattle.std.proofs.lemmas.Bool.Decides.{nat_tests}
 use Rattle.std.proofs.lemmas.List.{take_rest, take_at, drop_at, length-append, length-reverse, reverse-append}
-use Rattle.booth_wire.proofs.ByteLemmas.{and_split}
 use Rattle.std.proofs.lemmas.List.Sums.{prefix_len-le-length, suffix_len-le-length}
-use Rattle.booth_auth.specs.Key.{is_blank, is_plain, begun, ended}
-use Rattle.booth_auth.specs.Laws.{KeyTextIsKey}
+use Rattle.booth_keys.specs.Key.{is_blank, is_plain, begun, ended, KeyTextIsKey}
+
+and_split : (a b : Bool) → a && b ≡ true → (a ≡ true) × (b ≡ true)
+and_split true b h = (refl, h)
+and_split false b h = absurd cc
 
 pub ruleset cuts = (take_rest, prefix_len-le-length, suffix_len-le-length)
 

@@ -1,8 +1,8 @@
 //! The key that the members and their clients share.
 ghost use Rattle.std.specs.Prelude.{◌≡◌, ◌≤◌, ◌-◌, ◌++◌, length, replicate};
 ghost use Rattle.std.specs.List.{list_all, prefix_len, suffix_len};
-ghost use Rattle.booth_auth.specs.Key.{is_blank, is_plain, begun, ended, kept, key_read};
-ghost use Rattle.booth_auth.specs.Mac.{block};
+ghost use Rattle.booth_keys.specs.Key.{is_blank, is_plain, begun, ended, kept, key_read};
+ghost use Rattle.booth_keys.specs.Mac.{block};
 
 use arrayvec::ArrayVec;
 use std::marker::Model;
@@ -22,7 +22,7 @@ pub struct Key {
 
 impl Model for Key {
     ghost use Rattle.std.specs.Prelude.{List, ℕ, ◌≤◌, length};
-    ghost use Rattle.booth_auth.specs.declared.key.TheConstants.{LEAST_BYTES, BLOCK_BYTES};
+    ghost use Rattle.booth_keys.specs.declared.key.TheConstants.{LEAST_BYTES, BLOCK_BYTES};
 
     ghost Value = { List ℕ };
 
