@@ -28,7 +28,8 @@ begun_anew boot reached readings =
     else begun_with boot (readings.wall - readings.boot) reached readings
 
 -- The offset that is kept holds in its own boot; in each other one the clock is taken anew.
-pub record GoesOn (boot : BootId) (kept : KeptClock) (readings : Readings) (result : Result OwnClock ClockFault) : Type 0 where
+pub record GoesOn (boot : BootId) (kept : KeptClock) (readings : Readings) (result : Result OwnClock ClockFault)
+    : Type 0 where
   pub same_boot : kept.boot ≡ boot → result ≡ begun_with boot kept.offset kept.reached readings
   pub new_boot : kept.boot ≢ boot → result ≡ begun_anew boot kept.reached readings
 

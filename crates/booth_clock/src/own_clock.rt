@@ -8,8 +8,8 @@ use thiserror::Error;
 /// By how many milliseconds the wall clock has to step before it is told.
 const STEP_MS: u64 = 100;
 
-/// How many milliseconds a reading of the wall clock may be off before it is no reading of this clock: what the roundings
-/// of four readings make.
+/// How many milliseconds a reading of the wall clock may be off before it is no reading of this clock: what the
+/// roundings of four readings make.
 const NEAR_MS: u64 = 2;
 
 /// Both clocks at one moment, in milliseconds.
@@ -95,9 +95,9 @@ fn wall_offset(readings: Readings) -> u64
 }
 
 impl OwnClock {
-    /// The clock of this boot. In the boot of the clock that is kept it has that offset, whatever the wall clock reads; in
-    /// another boot, and where nothing is kept, it reads what the wall clock does. It does not begin behind a reading that
-    /// was reached.
+    /// The clock of this boot. In the boot of the clock that is kept it has that offset, whatever the wall clock
+    /// reads; in another boot, and where nothing is kept, it reads what the wall clock does. It does not begin behind
+    /// a reading that was reached.
     pub fn begin(
         boot: BootId,
         kept: Option<KeptClock>,

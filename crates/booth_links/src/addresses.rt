@@ -6,37 +6,19 @@ use mio::net::TcpListener;
 use std::io;
 use std::net::{IpAddr, Ipv4Addr, Ipv6Addr, SocketAddr};
 
-fn system_address(address: Address) -> IpAddr {
-    match address {
-        Address::V4(bytes) => IpAddr::V4(Ipv4Addr::from(bytes)),
-        Address::V6(bytes) => IpAddr::V6(Ipv6Addr::from(bytes)),
-    }
-}
-
-// An IPv4 peer of a socket of IPv6 is one of IPv4 (RFC 4291, section 2.5.5.2).
-fn address_of(address: IpAddr) -> Address {
-    match address {
-        IpAddr::V4(address) => Address::V4(address.octets()),
-        IpAddr::V6(address) => match address.to_ipv4_mapped() {
-            Some(address) => Address::V4(address.octets()),
-            None => Address::V6(address.octets()),
-        },
-    }
-}
-
-/// The peer at this address of the system.
+/// The peer at this address of the system. An IPv4 peer of a socket of IPv6 is one of IPv4 (RFC 4291, section 2.5.5.2).
 pub(crate) fn peer_at(from: SocketAddr) -> Peer {
     Peer {
-        address: address_of(from.ip()),
+        address: Address::from_ip(from.ip().to_canonical()),
         port: from.port(),
     }
 }
 
-/// A listener at this place. Where it has no address, peers of both families reach it, and on a machine without IPv6 those
-/// of IPv4. It binds anew at once, though links of a process before are not yet over.
+/// A listener at this place. Where it has no address, peers of both families reach it, and on a machine without IPv6
+/// those of IPv4. It binds anew at once, though links of a process before are not yet over.
 pub(crate) fn listen(rt: &HostRuntime, place: &Place) -> io::Result<TcpListener> {
     if let Some(address) = place.local {
-        return TcpListener::bind(rt, SocketAddr::new(system_address(address), place.port));
+        return TcpListener::bind(rt, SocketAddr::new(address.to_ip(), place.port));
     }
     let any = SocketAddr::new(IpAddr::V6(Ipv6Addr::UNSPECIFIED), place.port);
     match TcpListener::bind(rt, any) {

@@ -117,8 +117,8 @@ impl Line {
         Some(given)
     }
 
-    /// What this line has. Nothing is read before the peer has taken what is queued, so that one which asks and does not
-    /// read is not read either.
+    /// What this line has. Nothing is read before the peer has taken what is queued, so that one which asks and does
+    /// not read is not read either.
     pub(crate) fn hear(&mut self, buffer: &mut [u8]) -> Heard {
         if self.queue.is_empty() {
             return match &mut self.stream {
@@ -151,8 +151,8 @@ impl Line {
         queue_rest(&mut self.queue, bytes, given)
     }
 
-    /// Takes of these bytes what the peer takes at once, and behind it what there is room for. It says how many bytes that
-    /// is: none where the stream is over, or where the queue is full.
+    /// Takes of these bytes what the peer takes at once, and behind it what there is room for. It says how many bytes
+    /// that is: none where the stream is over, or where the queue is full.
     #[tactic(auto, using(crate::proofs::QueueLemmas::nothing_taken, crate::proofs::QueueLemmas::first_passed))]
     pub(crate) fn write(&mut self, bytes: &[u8]) -> usize
         ensures fits { result ≤ length bytes.now }
@@ -164,8 +164,8 @@ impl Line {
         self.add(bytes)
     }
 
-    /// Whether the system reports this line by itself when it has more: it is watched for bytes, and a read that had room
-    /// for more took all that were there (epoll(7), "Do I need to continuously read").
+    /// Whether the system reports this line by itself when it has more: it is watched for bytes, and a read that had
+    /// room for more took all that were there (epoll(7), "Do I need to continuously read").
     pub(crate) fn is_read_out(&self, heard: Heard, room: usize) -> bool {
         match (heard, self.watch) {
             (Heard::Bytes(count), Watch::Bytes) => count < room,
@@ -174,8 +174,8 @@ impl Line {
         }
     }
 
-    /// Has the system report this line: when there is room for what is queued, or else when bytes came. What is so already
-    /// is reported at once.
+    /// Has the system report this line: when there is room for what is queued, or else when bytes came. What is so
+    /// already is reported at once.
     pub(crate) fn watch(&mut self, registry: &Registry, seat: usize) -> io::Result<()> {
         let wanted = if self.queue.is_empty() {
             self.watch = Watch::Bytes;

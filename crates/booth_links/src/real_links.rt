@@ -109,8 +109,8 @@ impl RealLinks {
         })
     }
 
-    /// The file that can be read while these links have something, or a number below 0 where there is none. A host waits
-    /// for it beside its own.
+    /// The file that can be read while these links have something, or a number below 0 where there is none. A host
+    /// waits for it beside its own.
     pub fn ready_file(&self) -> RawFd
         ensures none { self.now.poll ≡ None → result ≡ negsuc 0 }
     {
@@ -120,8 +120,9 @@ impl RealLinks {
         }
     }
 
-    /// What a host sets that waits for this file, once it can be read. From now on a poll asks the system where it is set,
-    /// and unsets it; it is set, too, while more is left of what the system said, so that the host does not wait then.
+    /// What a host sets that waits for this file, once it can be read. From now on a poll asks the system where it is
+    /// set, and unsets it; it is set, too, while more is left of what the system said, so that the host does not wait
+    /// then.
     pub fn ready_mark(&mut self, alloc: Global) -> Result<Rc<Cell<bool>>, AllocError>
         ensures shared { IfOk result (λ _. is_some self.new.reports.known ≡ true) }
         ensures faults { self.new.faults ≡ self.old.faults }
@@ -382,16 +383,18 @@ impl RealLinks {
         }
     }
 
-    // One thing that happened: a link that has to leave, or what was reported. Where there is no link and the host knows of
-    // nothing, neither the clock nor the system is asked. One reading of the clock serves all that is reported at once.
+    // Whether there is no link, and the host knows of nothing. Then neither the clock nor the system is asked.
+    fn rests(&self) -> bool {
+        !self.is_timed && !self.reports.has_more() && !self.reports.may_come()
+    }
+
+    // One thing that happened: a link that has to leave, or what was reported. One reading of the clock serves all
+    // that is reported at once.
     fn look(&mut self, into: &mut Piece) -> io::Result<LinkEvent>
         ensures { self.new.faults ≡ self.old.faults }
     {
         if self.reports.has_more() {
             return self.next_report(into);
-        }
-        if !self.is_timed && !self.reports.may_come() {
-            return Ok(LinkEvent::Quiet);
         }
         self.read_clock();
         if let Some(seat) = self.leaving() {
@@ -402,7 +405,8 @@ impl RealLinks {
         self.next_report(into)
     }
 
-    // Gives bytes to the line of this seat, and says how many it took. It takes none where it cannot be watched for room.
+    // Gives bytes to the line of this seat, and says how many it took. It takes none where it cannot be watched for
+    // room.
     fn give(&mut self, seat: usize, bytes: &[u8]) -> usize
         ensures fits { result ≤ length bytes.now }
         ensures faults { self.new.faults ≡ self.old.faults }
@@ -440,12 +444,13 @@ impl Links for RealLinks {
         ensures cause { HasCause self.old.faults self.new.faults result }
         ensures turn { TakesTurn self.old.turn result self.new.turn }
     {
-        into.set(&[]);
+        into.clear();
         match self.turn {
             Turn::Host => {
                 self.turn = Turn::Links;
                 Ok(LinkEvent::Quiet)
             }
+            Turn::Links if self.rests() => Ok(LinkEvent::Quiet),
             Turn::Links => {
                 let answer = self.look(into);
                 let answer = self.checked(answer);
@@ -455,7 +460,8 @@ impl Links for RealLinks {
         }
     }
 
-    /// What the peer does not take at once is queued, up to the room of the queue. A link whose peer is gone takes nothing.
+    /// What the peer does not take at once is queued, up to the room of the queue. A link whose peer is gone takes
+    /// nothing.
     fn write(&mut self, link: u32, bytes: &[u8]) -> Result<usize, Failed> {
         Ok(self.give(link as usize, bytes))
     }

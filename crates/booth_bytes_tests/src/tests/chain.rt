@@ -110,8 +110,8 @@ fn two_slots_of_one_bucket_come_at_their_own_deadlines(rt: HostRuntime) {
     );
 }
 
-/// How many steps the looks of that row may take, counted by hand: at 4,400 one bucket and both slots, at 69,999 all buckets
-/// and the slot that is left.
+/// How many steps the looks of that row may take, counted by hand: at 4,400 one bucket and both slots, at 69,999 all
+/// buckets and the slot that is left.
 fn steps_of_two_slots_in_one_bucket()
     ensures first { most_steps (record { deadlines = Some 70000 ∷ Some 4400 ∷ None ∷ []; last = 4399; swept = 4399 }) 4400 ≡ 3 }
     ensures later { most_steps (record { deadlines = Some 70000 ∷ None ∷ None ∷ []; last = 4400; swept = 4399 }) 69999 ≡ 513 }
