@@ -18,7 +18,7 @@ use Rattle.booth_conf.specs.Values.{member_at}
 use Rattle.booth_conf.specs.ValueReader.{address_in}
 use Rattle.booth_conf.specs.Sound.{is_byte, is_address, is_member, is_sayable}
 use Rattle.booth_conf.specs.declared.members.Member.{Member}
-use Rattle.booth_conf.proofs.DefaultLemmas.{both_true}
+use Rattle.booth_conf.proofs.KeyLemmas.{both_true}
 use Rattle.booth_conf.proofs.AddressLemmas.{address_only}
 use Rattle.booth_conf.proofs.SegmentLemmas.{segments_below, segments_len}
 use Rattle.booth_conf.proofs.ValueAgain.{plain_sayable}

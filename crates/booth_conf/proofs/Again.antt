@@ -1,7 +1,8 @@
 -- What is printed is read as the same configuration.
-use Rattle.std.proofs.Common.{◌≡◌, ◌*◌, ◌/◌, ◌==◌, ℕ, Bool, true, false, List, [], ◌∷◌, ◌++◌, length, map, Option, Some, None, refl, arith, ap, ◌∙◌, sym, subst}
-use Rattle.std.specs.Prelude.{is_some, if◌then◌else◌}
+use Rattle.std.proofs.Common.{◌≡◌, ◌*◌, ◌/◌, ◌==◌, ℕ, Bool, true, false, nat_lt, List, [], ◌∷◌, ◌++◌, length, map, Option, Some, None, refl, arith, ap, ◌∙◌, sym, subst}
+use Rattle.std.specs.Prelude.{is_some, option_map, if◌then◌else◌}
 use Rattle.std.specs.List.{list_all, flat_map}
+use Rattle.std.proofs.lemmas.List.Folds.{list_all-append, list_all-map}
 use Rattle.std.proofs.lemmas.Bool.Decides.{nat_tests}
 use Rattle.booth_base.specs.declared.times.Times.{Times}
 use Rattle.booth_conf.specs.Rules.{Summary, summary, AreFine}
@@ -9,9 +10,12 @@ use Rattle.booth_conf.specs.SaidReader.{said}
 use Rattle.booth_conf.specs.Steps.{added}
 use Rattle.booth_conf.specs.Reads.{lines_of, said_lines}
 use Rattle.booth_conf.specs.Config.{ConfigSays, config_of, file_fault}
-use Rattle.booth_conf.specs.Print.{setting_name, setting_value, setting_line, line_text, lines_text, authfile_settings, extra_setting, weights_settings, handler_settings, prereq_setting, times_settings, ticket_settings, top_settings, settings_of, printed}
+use Rattle.booth_conf.specs.Print.{setting_name, setting_value, setting_line, line_text, lines_text, set, optional, authfile_entries, extra_entry, renewal_said, renewal_entries, weights_said, weights_entries, handler_entries, prereq_entry, word_of, times_entries, key_entries, ticket_settings, settings_of, printed}
 use Rattle.booth_conf.specs.Sound.{is_within, each, is_text, is_command, is_extra, is_member, are_weights, is_prereq, is_seconds, is_renewal, is_ticket, IsSound}
 use Rattle.booth_conf.specs.Says.{Says, said_config}
+use Rattle.booth_conf.specs.declared.limits.TheConstants.{SECONDS}
+use Rattle.booth_conf.specs.declared.keys.ConfKey.{ConfKey}
+use Rattle.booth_conf.specs.declared.keys.ConfKey.TheVariants as keys
 use Rattle.booth_conf.specs.declared.keys.KeyNo.{KeyNo}
 use Rattle.booth_conf.specs.declared.members.Member.{Member as MemberOf}
 use Rattle.booth_conf.specs.declared.tickets.Prereq.{Prereq as PrereqOf}
@@ -19,18 +23,20 @@ use Rattle.booth_conf.specs.declared.tickets.TicketConf.{TicketConf}
 use Rattle.booth_conf.specs.declared.faults.ConfFault.{ConfFault}
 use Rattle.booth_conf.specs.declared.line_meaning.Said.{Said}
 use Rattle.booth_conf.specs.declared.line_meaning.Said.TheVariants.{Empty, Pair}
-use Rattle.booth_conf.specs.declared.settings.FileSetting.TheVariants.{Skew}
-use Rattle.booth_conf.specs.declared.settings.TicketSetting.TheVariants.{Renewal}
+use Rattle.booth_conf.specs.declared.settings.Value.{Value}
+use Rattle.booth_conf.specs.declared.settings.Value.TheVariants.{Number, Text, Word}
+use Rattle.booth_conf.specs.declared.settings.Entry.{Entry}
 use Rattle.booth_conf.specs.declared.settings.Setting.{Setting}
 use Rattle.booth_conf.specs.declared.settings.Setting.TheVariants.{File, Member, Of}
-use Rattle.booth_conf.proofs.DefaultLemmas.{both_true}
+use Rattle.booth_conf.proofs.KeyLemmas.{both_true}
 use Rattle.booth_conf.proofs.SaidLemmas.{all_said_found}
 use Rattle.booth_conf.proofs.LineAgain.{line_cut}
-use Rattle.booth_conf.proofs.SettingAgain.{is_printed, key_of, IsRead, setting_read, line_said, setting_fine}
+use Rattle.booth_conf.proofs.SettingAgain.{is_file_entry, is_ticket_entry, is_printed, key_of, IsRead, setting_read, line_said, setting_fine}
 use Rattle.booth_conf.proofs.Runs.{Runs, Takes, takes_fine, takes_ends}
-use Rattle.booth_conf.proofs.ConfigRuns.{TicketFacts, ticket_facts, TimesFacts, times_facts, printed_summary, config_run, config_again}
+use Rattle.booth_conf.proofs.TicketAgain.{TicketFacts, ticket_facts, TimesFacts, times_facts}
+use Rattle.booth_conf.proofs.TopAgain.{top_of, ExtraFacts, extra_facts}
+use Rattle.booth_conf.proofs.ConfigRuns.{printed_summary, config_run, config_again}
 use Rattle.booth_conf.proofs.Short.{config_short}
-use Rattle.booth_conf.specs.declared.limits.TheConstants.{SECONDS}
 
 -- LINES
 
@@ -62,15 +68,26 @@ takes_runs d (s ∷ ss) e w r =
 
 -- EACH SETTING CAN BE PRINTED
 
-all_both : (xs ys : List Setting) → list_all is_printed xs ≡ true → list_all is_printed ys ≡ true →
-    list_all is_printed (xs ++ ys) ≡ true
-all_both [] ys h k = k
-all_both (x ∷ xs) ys h k = let b = both_true (is_printed x) (list_all is_printed xs) h in rw (b.0, all_both xs ys b.1 k) refl
+all_both : {X : Type 0} (p : X → Bool) (xs ys : List X) → list_all p xs ≡ true → list_all p ys ≡ true →
+    list_all p (xs ++ ys) ≡ true
+all_both p xs ys h k = list_all-append p xs ys ∙ rw (h, k) refl
+
+-- a key where there is a value for it
+optional_printed : (p : Entry → Bool) (key : ConfKey) (o : Option Value) → each (λ v. p (set key v)) o ≡ true →
+    list_all p (optional key o) ≡ true
+optional_printed p key None h = refl
+optional_printed p key (Some value) h = rw h refl
+
+extra_printed : (e : KeyNo × List ℕ) → is_extra e ≡ true → is_file_entry (extra_entry e) ≡ true
+extra_printed e h =
+    let f : ExtraFacts e.0.0 = extra_facts e h in
+    let b = both_true (is_within 5 9 e.0.0) (is_text 0 e.1) h in
+    rw (f.file, f.form) b.1
 
 extras_printed : (es : List (KeyNo × List ℕ)) → list_all is_extra es ≡ true →
-    list_all is_printed (map extra_setting es) ≡ true
+    list_all is_file_entry (map extra_entry es) ≡ true
 extras_printed [] h = refl
-extras_printed (e ∷ es) h = let b = both_true (is_extra e) (list_all is_extra es) h in rw (b.0, extras_printed es b.1) refl
+extras_printed (e ∷ es) h = let b = both_true (is_extra e) (list_all is_extra es) h in rw (extra_printed e b.0, extras_printed es b.1) refl
 
 members_printed : (ms : List MemberOf) → list_all is_member ms ≡ true →
     list_all is_printed (map Member ms) ≡ true
@@ -78,24 +95,24 @@ members_printed [] h = refl
 members_printed (m ∷ ms) h = let b = both_true (is_member m) (list_all is_member ms) h in rw (b.0, members_printed ms b.1) refl
 
 prereqs_printed : (qs : List PrereqOf) → list_all is_prereq qs ≡ true →
-    list_all is_printed (map prereq_setting qs) ≡ true
+    list_all is_ticket_entry (map prereq_entry qs) ≡ true
 prereqs_printed [] h = refl
 prereqs_printed (q ∷ qs) h = let b = both_true (is_prereq q) (list_all is_prereq qs) h in rw (b.0, prereqs_printed qs b.1) refl
 
 authfile_printed : (o : Option (List ℕ)) → each (is_text 1) o ≡ true →
-    list_all is_printed (authfile_settings o) ≡ true
+    each (λ v. is_file_entry (set keys.Authfile v)) (option_map Text o) ≡ true
 authfile_printed None h = refl
-authfile_printed (Some text) h = rw h refl
+authfile_printed (Some text) h = h
 
 handler_printed : (o : Option (List ℕ)) → each is_command o ≡ true →
-    list_all is_printed (handler_settings o) ≡ true
+    each (λ v. is_ticket_entry (set keys.BeforeAcquireHandler v)) (option_map Text o) ≡ true
 handler_printed None h = refl
-handler_printed (Some text) h = rw h refl
+handler_printed (Some text) h = h
 
 weights_printed : (ws : List ℕ) → are_weights ws ≡ true →
-    list_all is_printed (weights_settings ws) ≡ true
+    each (λ v. is_ticket_entry (set keys.Weights v)) (weights_said ws) ≡ true
 weights_printed [] h = refl
-weights_printed (n ∷ ns) h = let some : (length (n ∷ ns) == 0) ≡ false = grind (arith, nat_tests) in rw (some, h) refl
+weights_printed (n ∷ ns) h = let some : nat_lt 0 (length (n ∷ ns)) ≡ true = grind (arith, nat_tests) in rw (some, h) refl
 
 seconds_within : (least ms : ℕ) → is_seconds least ms ≡ true →
     is_within least SECONDS (ms / 1000) ≡ true
@@ -104,47 +121,54 @@ seconds_within least ms h =
 
 renewal_printed : (times : Times) (b : Bool) → (times.renewal == times.expire / 2) ≡ b →
     is_renewal times ≡ true →
-    list_all is_printed (if b then [] else Of (Renewal (times.renewal / 1000)) ∷ []) ≡ true
+    each (λ v. is_ticket_entry (set keys.RenewalFreq v)) (option_map Number (if b then None else Some (times.renewal / 1000))) ≡ true
 renewal_printed times true e h = refl
-renewal_printed times false e h =
-    let w : is_within 1 SECONDS (times.renewal / 1000) ≡ true =
-    seconds_within 1 times.renewal (grind (arith, nat_tests)) in
-    rw w refl
+renewal_printed times false e h = seconds_within 1 times.renewal (grind (arith, nat_tests))
 
 times_printed : (times : Times) → TimesFacts times →
-    list_all is_printed (times_settings times) ≡ true
+    list_all is_ticket_entry (times_entries times) ≡ true
 times_printed times f =
-    rw (seconds_within 1 times.expire f.expire, seconds_within 0 times.after f.after, seconds_within 1 times.timeout f.timeout, f.retries) (renewal_printed times (times.renewal == times.expire / 2) refl f.renewal)
+    let renewal : list_all is_ticket_entry (renewal_entries times) ≡ true =
+    optional_printed is_ticket_entry keys.RenewalFreq (option_map Number (renewal_said times)) (renewal_printed times (times.renewal == times.expire / 2) refl f.renewal) in
+    rw (seconds_within 1 times.expire f.expire, seconds_within 0 times.after f.after, seconds_within 1 times.timeout f.timeout, f.retries) renewal
+
+mode_printed : (manual : Bool) → list_all is_ticket_entry (set keys.Mode (Word (word_of manual)) ∷ []) ≡ true
+mode_printed true = refl
+mode_printed false = refl
+
+keys_printed : (t : TicketConf) → TicketFacts t → list_all is_ticket_entry (key_entries t) ≡ true
+keys_printed t f =
+    let qs = both_true _ (list_all is_prereq t.prereqs.items) f.prereqs in
+    all_both is_ticket_entry (times_entries t.times) _ (times_printed t.times (times_facts t.times f.times))
+    (all_both is_ticket_entry (weights_entries t.weights.items) _ (optional_printed is_ticket_entry keys.Weights (weights_said t.weights.items) (weights_printed t.weights.items f.weights))
+    (all_both is_ticket_entry (handler_entries t.handler) _ (optional_printed is_ticket_entry keys.BeforeAcquireHandler (option_map Text t.handler) (handler_printed t.handler f.handler))
+    (all_both is_ticket_entry (map prereq_entry t.prereqs.items) _ (prereqs_printed t.prereqs.items qs.1) (mode_printed t.manual))))
 
 ticket_printed : (t : TicketConf) → is_ticket t ≡ true →
     list_all is_printed (ticket_settings t) ≡ true
 ticket_printed t h =
     let f : TicketFacts t = ticket_facts t h in
-    let qs = both_true _ (list_all is_prereq t.prereqs.items) f.prereqs in
-    rw f.name
-    (all_both (times_settings t.times) _ (times_printed t.times (times_facts t.times f.times))
-    (all_both (weights_settings t.weights.items) _ (weights_printed t.weights.items f.weights)
-    (all_both (handler_settings t.handler) _ (handler_printed t.handler f.handler)
-    (all_both (map prereq_setting t.prereqs.items) _ (prereqs_printed t.prereqs.items qs.1) refl))))
+    rw f.name (list_all-map is_printed Of (key_entries t) ∙ keys_printed t f)
 
 tickets_printed : (ts : List TicketConf) → list_all is_ticket ts ≡ true →
     list_all is_printed (flat_map ticket_settings ts) ≡ true
 tickets_printed [] h = refl
 tickets_printed (t ∷ ts) h =
     let b = both_true (is_ticket t) (list_all is_ticket ts) h in
-    all_both (ticket_settings t) (flat_map ticket_settings ts) (ticket_printed t b.0) (tickets_printed ts b.1)
+    all_both is_printed (ticket_settings t) (flat_map ticket_settings ts) (ticket_printed t b.0) (tickets_printed ts b.1)
 
-top_printed : (c : ConfigSays) → IsSound c →
-    list_all is_printed (top_settings c.port c.authfile c.skew c.extras) ≡ true
+top_printed : (c : ConfigSays) → IsSound c → list_all is_file_entry (top_of c) ≡ true
 top_printed c s =
-    let rest : list_all is_printed (File (Skew c.skew) ∷ map extra_setting c.extras) ≡ true =
-    rw (s.skew, extras_printed c.extras s.extras) refl in
-    rw s.port (all_both (authfile_settings c.authfile) (File (Skew c.skew) ∷ map extra_setting c.extras) (authfile_printed c.authfile s.authfile) rest)
+    let rest : List Entry = set keys.Maxtimeskew (Number c.skew) ∷ map extra_entry c.extras in
+    let last : list_all is_file_entry rest ≡ true = rw (s.skew, extras_printed c.extras s.extras) refl in
+    rw s.port (all_both is_file_entry (authfile_entries c.authfile) rest
+    (optional_printed is_file_entry keys.Authfile (option_map Text c.authfile) (authfile_printed c.authfile s.authfile)) last)
 
 config_printed : (c : ConfigSays) → IsSound c → list_all is_printed (settings_of c) ≡ true
 config_printed c s =
-    all_both (top_settings c.port c.authfile c.skew c.extras) (map Member c.members ++ flat_map ticket_settings c.tickets) (top_printed c s)
-    (all_both (map Member c.members) (flat_map ticket_settings c.tickets) (members_printed c.members s.members) (tickets_printed c.tickets s.tickets))
+    all_both is_printed (map File (top_of c)) (map Member c.members ++ flat_map ticket_settings c.tickets)
+    (list_all-map is_printed File (top_of c) ∙ top_printed c s)
+    (all_both is_printed (map Member c.members) (flat_map ticket_settings c.tickets) (members_printed c.members s.members) (tickets_printed c.tickets s.tickets))
 
 -- THE TEXT
 

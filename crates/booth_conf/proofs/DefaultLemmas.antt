@@ -1,19 +1,26 @@
 -- A configuration is sound where its draft is.
-use Rattle.std.proofs.Common.{◌≡◌, ◌*◌, ◌/◌, ℕ, Bool, true, false, not, ◌&&◌, List, [], ◌∷◌, ◌++◌, map, Option, Some, None, refl, arith, ap}
+use Rattle.std.proofs.Common.{◌≡◌, ◌≤◌, ◌*◌, ◌/◌, ℕ, Bool, true, not, ◌&&◌, List, [], ◌∷◌, ◌++◌, map, Option, Some, None, refl, arith, ap, subst}
 use Rattle.std.specs.Prelude.{is_some, unwrap_or}
 use Rattle.std.specs.List.{list_all, list_any}
 use Rattle.std.specs.Option.{option_or}
 use Rattle.std.proofs.lemmas.List.{length-map, map-append}
 use Rattle.std.proofs.lemmas.Bool.Decides.{nat_tests}
 use Rattle.booth_base.specs.declared.times.Times.{Times}
-use Rattle.booth_conf.specs.Sections.{SectionSays, section_of}
+use Rattle.booth_conf.specs.Keys.{row_of}
+use Rattle.booth_conf.specs.Sections.{given, number_given, text_given, weights_given}
 use Rattle.booth_conf.specs.Rules.{Summary, name_of}
-use Rattle.booth_conf.specs.Config.{chosen, renewal_of, times_of, ticket_of, defaults_of, config_of, file_fault}
+use Rattle.booth_conf.specs.Config.{chosen, chosen_number, renewal_of, times_of, ticket_of, defaults_of, config_of, file_fault}
 use Rattle.booth_conf.specs.Lookups.{ticket_name}
-use Rattle.booth_conf.specs.Sound.{is_within, each, is_seconds, is_renewal, are_times, is_command, is_ticket_name, are_prereqs, is_ticket, are_new, same_ticket, IsSound}
-use Rattle.booth_conf.specs.SoundDraft.{are_some_weights, is_section, is_named_section, same_section, IsSoundDraft}
+use Rattle.booth_conf.specs.Sound.{is_within, each, is_seconds, is_renewal, are_times, is_command, is_ticket_name, is_ticket, are_new, same_ticket, IsSound}
+use Rattle.booth_conf.specs.SoundDraft.{is_of, is_entry, is_section, is_named_section, same_section, IsSoundDraft}
+use Rattle.booth_conf.specs.declared.keys.ConfKey.{ConfKey}
+use Rattle.booth_conf.specs.declared.keys.ConfKey.TheVariants as keys
+use Rattle.booth_conf.specs.declared.keys.Form.TheVariants.{Number}
 use Rattle.booth_conf.specs.declared.sections.NamedSection.{NamedSection}
+use Rattle.booth_conf.specs.declared.settings.Entry.{Entry}
 use Rattle.booth_conf.specs.declared.limits.TheConstants.{SECONDS}
+use Rattle.booth_conf.proofs.KeyLemmas.{both_true}
+use Rattle.booth_conf.proofs.SectionLemmas.{all_entries, given_form, number_at, text_at, command_at, weights_at, are_some_weights, prereqs_sound, extras_sound}
 
 -- a value that is chosen passes the test that each choice passes
 each_chosen : {X : Type 0} (p : X → Bool) (own default : Option X) (table : X) → each p own ≡ true →
@@ -51,69 +58,57 @@ all_five : (a b c d e : Bool) → a ≡ true → b ≡ true → c ≡ true → d
     (a && (b && (c && (d && e)))) ≡ true
 all_five a b c d e f g h i j = rw (f, g, h, i, j) refl
 
--- what the test of a section says of each of its keys
-pub record SectionFacts (p : SectionSays) : Type 0 where
-  pub expire : each (is_within 1 SECONDS) p.expire ≡ true
-  pub after : each (is_within 0 SECONDS) p.after ≡ true
-  pub timeout : each (is_within 1 SECONDS) p.timeout ≡ true
-  pub retries : each (is_within 3 100) p.retries ≡ true
-  pub renewal : each (is_within 1 SECONDS) p.renewal ≡ true
-  pub weights : each are_some_weights p.weights ≡ true
-  pub handler : each is_command p.handler ≡ true
-  pub prereqs : are_prereqs p.prereqs ≡ true
+given_within : (least most : ℕ) (key : ConfKey) (section : List Entry) → (row_of key).form ≡ Number least most →
+    list_all is_entry section ≡ true → each (is_within least most) (number_given key section) ≡ true
+given_within least most key section form h =
+    number_at least most (given key section) (λ v e. subst (λ f. is_of f v ≡ true) form (given_form section key v h e))
 
-pub both_true : (a b : Bool) → (a && b) ≡ true → (a ≡ true) × (b ≡ true)
-both_true true b h = (refl, h)
-both_true false b h = cc
+-- what is chosen for a key of numbers is in their range
+chosen_within : (least most : ℕ) (key : ConfKey) (defaults own : List Entry) (table : ℕ) → (row_of key).form ≡ Number least most →
+    list_all is_entry defaults ≡ true → list_all is_entry own ≡ true → is_within least most table ≡ true →
+    is_within least most (chosen_number key defaults own table) ≡ true
+chosen_within least most key defaults own table form d o t =
+    each_chosen (is_within least most) (number_given key own) (number_given key defaults) table
+    (given_within least most key own form o) (given_within least most key defaults form d) t
 
-pub section_facts : (p : SectionSays) → is_section p ≡ true → SectionFacts p
-section_facts p h =
-    let a = both_true _ _ h in
-    let b = both_true _ _ a.1 in
-    let c = both_true _ _ b.1 in
-    let d = both_true _ _ c.1 in
-    let e = both_true _ _ d.1 in
-    let f = both_true _ _ e.1 in
-    let g = both_true _ _ f.1 in
-    record { expire = a.0; after = b.0; timeout = c.0; retries = d.0; renewal = e.0; weights = f.0; handler = g.0; prereqs = g.1 }
-
-times_sound : (defaults own : SectionSays) → SectionFacts defaults → SectionFacts own →
+times_sound : (defaults own : List Entry) → list_all is_entry defaults ≡ true → list_all is_entry own ≡ true →
     are_times (times_of defaults own) ≡ true
 times_sound defaults own d o =
     all_five _ _ _ _ _
-    (whole_seconds 1 (chosen own.expire defaults.expire 600) (each_chosen (is_within 1 SECONDS) own.expire defaults.expire 600 o.expire d.expire refl))
-    (whole_seconds 0 (chosen own.after defaults.after 0) (each_chosen (is_within 0 SECONDS) own.after defaults.after 0 o.after d.after refl))
-    (whole_seconds 1 (chosen own.timeout defaults.timeout 5) (each_chosen (is_within 1 SECONDS) own.timeout defaults.timeout 5 o.timeout d.timeout refl))
-    (each_chosen (is_within 3 100) own.retries defaults.retries 10 o.retries d.retries refl)
-    (renewal_sound (option_or own.renewal defaults.renewal) (times_of defaults own) refl (each_or (is_within 1 SECONDS) own.renewal defaults.renewal o.renewal d.renewal))
+    (whole_seconds 1 (chosen_number keys.Expire defaults own 600) (chosen_within 1 SECONDS keys.Expire defaults own 600 refl d o refl))
+    (whole_seconds 0 (chosen_number keys.AcquireAfter defaults own 0) (chosen_within 0 SECONDS keys.AcquireAfter defaults own 0 refl d o refl))
+    (whole_seconds 1 (chosen_number keys.Timeout defaults own 5) (chosen_within 1 SECONDS keys.Timeout defaults own 5 refl d o refl))
+    (chosen_within 3 100 keys.Retries defaults own 10 refl d o refl)
+    (renewal_sound (option_or (number_given keys.RenewalFreq own) (number_given keys.RenewalFreq defaults)) (times_of defaults own) refl
+    (each_or (is_within 1 SECONDS) (number_given keys.RenewalFreq own) (number_given keys.RenewalFreq defaults) (given_within 1 SECONDS keys.RenewalFreq own refl o) (given_within 1 SECONDS keys.RenewalFreq defaults refl d)))
 
 -- TICKETS
 
-ticket_sound : (defaults : SectionSays) (t : NamedSection) → SectionFacts defaults →
+ticket_sound : (defaults : List Entry) (t : NamedSection) → list_all is_entry defaults ≡ true →
     is_named_section t ≡ true → is_ticket (ticket_of defaults t) ≡ true
 ticket_sound defaults t d h =
     let n = both_true (is_ticket_name t.name) (is_section t.section) h in
-    let o : SectionFacts t.section = section_facts t.section n.1 in
+    let o : list_all is_entry t.section ≡ true = all_entries t.section n.1 in
     all_five _ _ _ _ _
     n.0
     (times_sound defaults t.section d o)
-    (each_chosen are_some_weights t.section.weights defaults.weights (record { items = [] }) o.weights d.weights refl)
-    (each_or is_command t.section.handler defaults.handler o.handler d.handler)
-    o.prereqs
+    (each_chosen are_some_weights (weights_given keys.Weights t.section) (weights_given keys.Weights defaults) (record { items = [] }) (weights_at (given keys.Weights t.section) (λ v. given_form t.section keys.Weights v o)) (weights_at (given keys.Weights defaults) (λ v. given_form defaults keys.Weights v d)) refl)
+    (each_or is_command (text_given keys.BeforeAcquireHandler t.section) (text_given keys.BeforeAcquireHandler defaults) (command_at (given keys.BeforeAcquireHandler t.section) (λ v. given_form t.section keys.BeforeAcquireHandler v o)) (command_at (given keys.BeforeAcquireHandler defaults) (λ v. given_form defaults keys.BeforeAcquireHandler v d)))
+    (prereqs_sound t.section n.1)
 
-tickets_sound : (defaults : SectionSays) (ts : List NamedSection) → SectionFacts defaults →
+tickets_sound : (defaults : List Entry) (ts : List NamedSection) → list_all is_entry defaults ≡ true →
     list_all is_named_section ts ≡ true → list_all is_ticket (map (ticket_of defaults) ts) ≡ true
 tickets_sound defaults [] d h = refl
 tickets_sound defaults (t ∷ ts) d h =
     let b = both_true (is_named_section t) (list_all is_named_section ts) h in
     rw (ticket_sound defaults t d b.0) (tickets_sound defaults ts d b.1)
 
-same_any : (defaults : SectionSays) (t : NamedSection) (before : List NamedSection) →
+same_any : (defaults : List Entry) (t : NamedSection) (before : List NamedSection) →
     list_any (same_ticket (ticket_of defaults t)) (map (ticket_of defaults) before) ≡ list_any (same_section t) before
 same_any defaults t [] = refl
 same_any defaults t (u ∷ us) = rw (same_any defaults t us) refl
 
-new_sound : (defaults : SectionSays) (before ts : List NamedSection) →
+new_sound : (defaults : List Entry) (before ts : List NamedSection) →
     are_new same_section before ts ≡ true →
     are_new same_ticket (map (ticket_of defaults) before) (map (ticket_of defaults) ts) ≡ true
 new_sound defaults before [] h = refl
@@ -122,22 +117,27 @@ new_sound defaults before (t ∷ ts) h =
     both_true (not (list_any (same_section t) before)) (are_new same_section (before ++ t ∷ []) ts) h in
     rw (same_any defaults t before, b.0, ← map-append (ticket_of defaults) before (t ∷ [])) (new_sound defaults (before ++ t ∷ []) ts b.1)
 
-empty_section : is_section (section_of [] []) ≡ true
-empty_section = refl
+defaults_sound : (d : Summary) → IsSoundDraft d → list_all is_entry (defaults_of d) ≡ true
+defaults_sound d h = all_entries (defaults_of d) (each_unwrap is_section d.defaults [] h.defaults refl)
 
-defaults_facts : (d : Summary) → IsSoundDraft d → SectionFacts (defaults_of d)
-defaults_facts d h =
-    section_facts (defaults_of d) (each_unwrap is_section d.defaults (section_of [] []) h.defaults empty_section)
+-- the port fits its type
+pub port_fits : (top : List Entry) (port : ℕ) → is_section top ≡ true → number_given keys.Port top ≡ Some port →
+    port ≤ 65535
+port_fits top port h e =
+    let w : each (is_within 1 65535) (number_given keys.Port top) ≡ true = given_within 1 65535 keys.Port top refl (all_entries top h) in
+    let p : is_within 1 65535 port ≡ true = rw e at w in
+    grind (arith, nat_tests)
 
 pub config_sound : (d : Summary) → IsSoundDraft d →
     file_fault (config_of d).members (config_of d).tickets ≡ None → IsSound (config_of d)
 config_sound d h none =
-    let facts : SectionFacts (defaults_of d) = defaults_facts d h in
+    let facts : list_all is_entry (defaults_of d) ≡ true = defaults_sound d h in
+    let top : list_all is_entry d.top ≡ true = all_entries d.top h.top in
     record {
-      port = each_unwrap (is_within 1 65535) d.top.port 9929 h.port refl;
-      authfile = h.authfile;
-      skew = each_unwrap (is_within 1 SECONDS) d.top.skew 600 h.skew refl;
-      extras = h.extras;
+      port = each_unwrap (is_within 1 65535) (number_given keys.Port d.top) 9929 (given_within 1 65535 keys.Port d.top refl top) refl;
+      authfile = text_at 1 (given keys.Authfile d.top) (λ v. given_form d.top keys.Authfile v top);
+      skew = each_unwrap (is_within 1 SECONDS) (number_given keys.Maxtimeskew d.top) 600 (given_within 1 SECONDS keys.Maxtimeskew d.top refl top) refl;
+      extras = extras_sound d.top top;
       new_extras = h.new_extras;
       members = h.members;
       new_members = h.new_members;
@@ -148,7 +148,7 @@ config_sound d h none =
       no_fault = ap is_some none;
     }
 
-pub names_of : (defaults : SectionSays) (ts : List NamedSection) →
+pub names_of : (defaults : List Entry) (ts : List NamedSection) →
     map name_of ts ≡ map ticket_name (map (ticket_of defaults) ts)
 names_of defaults [] = refl
 names_of defaults (t ∷ ts) = ap (λ ns. t.name ∷ ns) (names_of defaults ts)

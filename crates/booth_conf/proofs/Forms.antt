@@ -1,5 +1,5 @@
--- The form of each key's value, both ways.
-use Rattle.std.proofs.Common.{◌≡◌, ◌≢◌, ◌≤◌, ◌==◌, ℕ, Bool, true, false, ◌&&◌, ◌||◌, cond, nat_lt, nat_le, List, [], ◌∷◌, ◌++◌, Option, Some, None, length, refl, arith, ap, ◌∙◌, sym, subst, ◌⊎◌, inl, inr, append-nil, append_assoc, length-append}
+-- The forms of values, both ways.
+use Rattle.std.proofs.Common.{◌≡◌, ◌≢◌, ◌≤◌, ◌==◌, ℕ, Bool, true, false, ◌&&◌, cond, nat_lt, nat_le, List, [], ◌∷◌, ◌++◌, Option, Some, None, length, refl, arith, ap, ◌∙◌, sym, subst, append-nil, append_assoc, length-append}
 use Rattle.std.specs.Prelude.{option_map, codes, bytes_eq}
 use Rattle.std.specs.List.{list_all, list_any, slice_split}
 use Rattle.std.proofs.lemmas.List.{length_push}
@@ -8,32 +8,33 @@ use Rattle.std.proofs.lemmas.Slice.Eq.{bytes_eq-Decides}
 use Rattle.std.proofs.NetLemmas.Options.{cond_some, and_then_some, map_some}
 use Rattle.booth_base.specs.Name.{is_name, is_value}
 use Rattle.booth_base.specs.Address.{Spells}
-use Rattle.booth_conf.specs.Values.{is_digit, worth, IsNumber, AreWords, IsText, IsCommand, IsTransport, IsMode, IsWeight, AreWeights, IsWeightList, IsKindWord, IsTestWord, IsPrereq, IsSetBy, IsTicketLine, HasValue, default_name, is_word_byte}
-use Rattle.booth_conf.specs.ValueReader.{number_in, number_within, when_within, text_in, command_in, transport_in, mode_in, address_in, name_in, value_in, ticket_in, weight_in, weight_added, weights_from, weights_in, one_word, four_words, kind_in, test_in, prereq_of, prereq_in, Words, setting_in}
-use Rattle.booth_conf.specs.declared.limits.TheConstants.{SECONDS, WEIGHT}
 use Rattle.booth_base.specs.declared.limits.TheConstants.{MEMBERS}
+use Rattle.booth_base.specs.declared.text.TheConstants.{PATH_BYTES}
+use Rattle.booth_conf.specs.Keys.{row_of}
+use Rattle.booth_conf.specs.Values.{is_digit, worth, IsNumber, AreWords, IsText, IsCommand, IsWeight, AreWeights, IsWeightList, IsKindWord, IsTestWord, IsPrereq, HasForm, HasValue, setting_of, default_name, is_word_byte}
+use Rattle.booth_conf.specs.ValueReader.{number_in, number_within, when_within, text_in, command_in, address_in, name_in, value_in, weight_in, weight_added, weights_from, weights_in, weights_value, one_word, four_words, kind_in, test_in, prereq_of, prereq_in, Words, form_in, setting_in}
+use Rattle.booth_conf.specs.declared.limits.TheConstants.{WEIGHT}
 use Rattle.booth_conf.specs.declared.keys.ConfKey.{ConfKey}
-use Rattle.booth_conf.specs.declared.keys.ConfKey.TheVariants as keys
+use Rattle.booth_conf.specs.declared.keys.Form.{Form}
+use Rattle.booth_conf.specs.declared.keys.Form.TheVariants as forms
 use Rattle.booth_conf.specs.declared.tickets.GrantKind.{GrantKind}
 use Rattle.booth_conf.specs.declared.tickets.GrantKind.TheVariants.{Auto, Manual}
 use Rattle.booth_conf.specs.declared.tickets.Prereq.{Prereq as PrereqOf}
-use Rattle.booth_conf.specs.declared.settings.Transport.{Transport as TransportOf}
-use Rattle.booth_conf.specs.declared.settings.Transport.TheVariants.{Udp}
+use Rattle.booth_conf.specs.declared.settings.Value.{Value}
+use Rattle.booth_conf.specs.declared.settings.Value.TheVariants.{Number, Text, Word, Address, Name, Defaults, Weights, Prereq}
 use Rattle.booth_conf.specs.declared.settings.Setting.{Setting}
-use Rattle.booth_conf.specs.declared.settings.Setting.TheVariants.{Ticket, Defaults}
 use Rattle.booth_conf.proofs.WordLemmas.{one_found, one_only, four_found, four_only}
 use Rattle.booth_conf.proofs.AddressLemmas.{address_found, address_only}
-use Rattle.booth_base.specs.declared.text.TheConstants.{PATH_BYTES}
 
 -- a reader reads a form: what it gives has the form, and it gives each value that has it
 pub record Reads {X : Type 0} (Form : List ℕ → X → Type 0) (read : List ℕ → Option X) : Type 0 where
   pub found : (text : List ℕ) (x : X) → read text ≡ Some x → Form text x
   pub only : (text : List ℕ) (x : X) → Form text x → read text ≡ Some x
 
-eq_found : (xs ys : List ℕ) → bytes_eq xs ys ≡ true → xs ≡ ys
+pub eq_found : (xs ys : List ℕ) → bytes_eq xs ys ≡ true → xs ≡ ys
 eq_found xs ys = (bytes_eq-Decides xs ys).0
 
-eq_only : (xs ys : List ℕ) → xs ≡ ys → bytes_eq xs ys ≡ true
+pub eq_only : (xs ys : List ℕ) → xs ≡ ys → bytes_eq xs ys ≡ true
 eq_only xs ys = (bytes_eq-Decides xs ys).1
 
 -- NUMBERS
@@ -96,58 +97,8 @@ command_found text value e =
 command_only : (text value : List ℕ) → IsCommand text value → command_in text ≡ Some value
 command_only text value h = rw h.some_word (text_only 1 text value h.text_of)
 
-commands : Reads IsCommand command_in
+pub commands : Reads IsCommand command_in
 commands = record { found = command_found; only = command_only }
-
--- WORDS OF A LIST
-
-either_found : (text a b : List ℕ) → (bytes_eq text a || bytes_eq text b) ≡ true →
-    (text ≡ a) ⊎ (text ≡ b)
-either_found text a b h = elim (bytes_eq text a) as (λ t. bytes_eq text a ≡ t → (t || bytes_eq text b) ≡ true → (text ≡ a) ⊎ (text ≡ b)) [
-  | true ↦ λ e _. inl (eq_found text a e)
-  | false ↦ λ _ k. inr (eq_found text b k)
-] refl h
-
-either_only : (text a b : List ℕ) → (text ≡ a) ⊎ (text ≡ b) →
-    (bytes_eq text a || bytes_eq text b) ≡ true
-either_only text a b (inl h) = rw (eq_only text a h) refl
-either_only text a b (inr h) = grind (arith, nat_tests, eq_only text b h)
-
-transport_found : (text : List ℕ) (t : TransportOf) → transport_in text ≡ Some t →
-    IsTransport text t
-transport_found text t e =
-    let k = cond_some (bytes_eq text (codes "UDP") || bytes_eq text (codes "udp")) Udp t e in
-    (either_found text (codes "UDP") (codes "udp") k.0, sym k.1)
-
-transport_only : (text : List ℕ) (t : TransportOf) → IsTransport text t → transport_in text ≡ Some t
-transport_only text t h =
-    rw (either_only text (codes "UDP") (codes "udp") h.0) (ap (λ x. Some x) (sym h.1))
-
-transports : Reads IsTransport transport_in
-transports = record { found = transport_found; only = transport_only }
-
-mode_at : (text : List ℕ) (a b : Bool) (kind : GrantKind) →
-    (bytes_eq text (codes "manual") || bytes_eq text (codes "MANUAL")) ≡ a →
-    (bytes_eq text (codes "auto") || bytes_eq text (codes "AUTO")) ≡ b →
-    cond a (Some Manual) (cond b (Some Auto) None) ≡ Some kind → IsMode text kind
-mode_at text true b Manual e f h = either_found text (codes "manual") (codes "MANUAL") e
-mode_at text true b Auto e f h = cc
-mode_at text false true Auto e f h = either_found text (codes "auto") (codes "AUTO") f
-mode_at text false true Manual e f h = cc
-mode_at text false false kind e f h = cc
-
-mode_found : (text : List ℕ) (kind : GrantKind) → mode_in text ≡ Some kind → IsMode text kind
-mode_found text kind e =
-    mode_at text (bytes_eq text (codes "manual") || bytes_eq text (codes "MANUAL")) (bytes_eq text (codes "auto") || bytes_eq text (codes "AUTO")) kind refl refl e
-
-mode_only : (text : List ℕ) (kind : GrantKind) → IsMode text kind → mode_in text ≡ Some kind
-mode_only text Auto (inl h) = rw h refl
-mode_only text Auto (inr h) = rw h refl
-mode_only text Manual (inl h) = rw h refl
-mode_only text Manual (inr h) = rw h refl
-
-modes : Reads IsMode mode_in
-modes = record { found = mode_found; only = mode_only }
 
 -- PREREQUISITES
 
@@ -214,7 +165,7 @@ pub prereq_only : (text : List ℕ) (q : PrereqOf) → IsPrereq text q → prere
 prereq_only text q h =
     rw (four_only text h.kind q.name h.test q.value h.words, kind_only h.kind q.kind h.kind_is, h.name_is, test_only h.test q.equal h.test_is, h.value_is) refl
 
-prereqs : Reads IsPrereq prereq_in
+pub prereqs : Reads IsPrereq prereq_in
 prereqs = record { found = prereq_found; only = prereq_only }
 
 -- WEIGHTS
@@ -277,94 +228,69 @@ pub weights_only : (text weights : List ℕ) → IsWeightList text weights →
 weights_only text weights h =
     from_only [] (slice_split (λ b. b == 0x2C) text) weights h.numbers h.few
 
-weight_lists : Reads IsWeightList weights_in
+pub weight_lists : Reads IsWeightList weights_in
 weight_lists = record { found = weights_found; only = weights_only }
 
--- TICKET LINES
+pub addresses : Reads Spells address_in
+addresses = record { found = address_found; only = address_only }
 
-ticket_at : (text : List ℕ) (a b : Bool) (s : Setting) → bytes_eq text default_name ≡ a →
-    is_name text ≡ b →
-    cond a (Some Defaults) (option_map Ticket (cond b (Some text) None)) ≡ Some s →
-    IsTicketLine text s
-ticket_at text true b s e f h = inl (eq_found text default_name e, cc)
-ticket_at text false true s e f h =
-    inr (λ same. (let t : true ≡ false = sym (eq_only text default_name same) ∙ e in cc), f, cc)
-ticket_at text false false s e f h = cc
+-- EACH FORM
 
-ticket_found : (text : List ℕ) (s : Setting) → ticket_in text ≡ Some s → IsTicketLine text s
-ticket_found text s h = ticket_at text (bytes_eq text default_name) (is_name text) s refl refl h
+-- what a reader makes has the form, where the maker keeps it
+made : {X : Type 0} (F : List ℕ → X → Type 0) (read : List ℕ → Option X) (make : X → Value) (form : Form) (text : List ℕ) (value : Value) →
+    Reads F read → ((x : X) → F text x → HasForm form text (make x)) →
+    option_map make (read text) ≡ Some value → HasForm form text value
+made F read make form text value r k e =
+    map_some make (read text) value e (λ x is same. subst (λ v. HasForm form text v) same (k x (r.found text x is)))
+
+ticket_at : (text : List ℕ) (a b : Bool) (value : Value) → bytes_eq text default_name ≡ a → is_name text ≡ b →
+    cond a (Some Defaults) (option_map Name (cond b (Some text) None)) ≡ Some value →
+    HasForm forms.TicketName text value
+ticket_at text true b value e f h =
+    let same : Defaults ≡ value = cc in
+    subst (λ v. HasForm forms.TicketName text v) same (eq_found text default_name e)
+ticket_at text false true value e f h =
+    let same : Name text ≡ value = cc in
+    subst (λ v. HasForm forms.TicketName text v) same (λ same. (let t : true ≡ false = sym (eq_only text default_name same) ∙ e in cc), f, refl)
+ticket_at text false false value e f h = cc
+
+pub form_found : (form : Form) (text : List ℕ) (value : Value) → form_in form text ≡ Some value → HasForm form text value
+form_found (forms.Number least most) text value e = made _ _ Number (forms.Number least most) text value (numbers least most) (λ x h. h) e
+form_found (forms.Text least) text value e = made _ _ Text (forms.Text least) text value (texts least) (λ x h. h) e
+form_found forms.Command text value e = made _ _ Text forms.Command text value commands (λ x h. h) e
+form_found (forms.OneOf choice) text value e =
+    map_some Word _ value e (λ place is same. subst (λ v. HasForm (forms.OneOf choice) text v) same is)
+form_found forms.Address text value e = made _ _ Address forms.Address text value addresses (λ x h. h) e
+form_found forms.TicketName text value e = ticket_at text (bytes_eq text default_name) (is_name text) value refl refl e
+form_found forms.Weights text value e = made _ _ weights_value forms.Weights text value weight_lists (λ x h. h) e
+form_found forms.Prereq text value e = made _ _ Prereq forms.Prereq text value prereqs (λ x h. h) e
 
 not_default : (text : List ℕ) (b : Bool) → text ≢ default_name → bytes_eq text default_name ≡ b →
     b ≡ false
 not_default text true n e = absurd (n (eq_found text default_name e))
 not_default text false n e = refl
 
-ticket_only : (text : List ℕ) (s : Setting) → IsTicketLine text s → ticket_in text ≡ Some s
-ticket_only text s (inl h) = rw (eq_only text default_name h.0) (ap (λ x. Some x) (sym h.1))
-ticket_only text s (inr h) =
-    rw (not_default text (bytes_eq text default_name) h.0 refl, h.1) (ap (λ x. Some x) (sym h.2))
+pub form_only : (form : Form) (text : List ℕ) (value : Value) → HasForm form text value → form_in form text ≡ Some value
+form_only (forms.Number least most) text (Number n) h = ap (option_map Number) ((numbers least most).only text n h)
+form_only (forms.Text least) text (Text value) h = ap (option_map Text) ((texts least).only text value h)
+form_only forms.Command text (Text value) h = ap (option_map Text) (commands.only text value h)
+form_only (forms.OneOf choice) text (Word place) h = ap (option_map Word) h
+form_only forms.Address text (Address address) h = ap (option_map Address) (addresses.only text address h)
+form_only forms.TicketName text (Name name) h =
+    rw (not_default text (bytes_eq text default_name) h.0 refl, h.1) (ap (λ n. Some (Name n)) (sym h.2))
+form_only forms.TicketName text Defaults h = rw (eq_only text default_name h) refl
+form_only forms.Weights text (Weights weights) h = ap (option_map weights_value) (weight_lists.only text weights.items h)
+form_only forms.Prereq text (Prereq prereq) h = ap (option_map Prereq) (prereqs.only text prereq h)
+form_only form text value h = absurd h
 
--- EACH KEY
-
-pub made_found : {X : Type 0} (Form : List ℕ → X → Type 0) (read : List ℕ → Option X) (make : X → Setting) →
-    Reads Form read → (text : List ℕ) (s : Setting) → option_map make (read text) ≡ Some s →
-    IsSetBy Form make text s
-made_found Form read make r text s e =
-    map_some make (read text) s e (λ x is made. record { value = x; spelled = r.found text x is; set = sym made })
-
-pub made_only : {X : Type 0} (Form : List ℕ → X → Type 0) (read : List ℕ → Option X) (make : X → Setting) →
-    Reads Form read → (text : List ℕ) (s : Setting) → IsSetBy Form make text s →
-    option_map make (read text) ≡ Some s
-made_only Form read make r text s h =
-    rw (r.only text h.value h.spelled) (ap (λ x. Some x) (sym h.set))
-
-addresses : Reads Spells address_in
-addresses = record { found = address_found; only = address_only }
+-- WHAT A KEY SETS
 
 pub setting_found : (key : ConfKey) (text : List ℕ) (s : Setting) → setting_in key text ≡ Some s →
     HasValue key text s
-setting_found keys.Port text s e = made_found _ _ _ (numbers 1 65535) text s e
-setting_found keys.Transport text s e = made_found _ _ _ transports text s e
-setting_found keys.Authfile text s e = made_found _ _ _ (texts 1) text s e
-setting_found keys.Maxtimeskew text s e = made_found _ _ _ (numbers 1 SECONDS) text s e
-setting_found keys.Debug text s e = made_found _ _ _ (texts 0) text s e
-setting_found keys.SiteUser text s e = made_found _ _ _ (texts 0) text s e
-setting_found keys.SiteGroup text s e = made_found _ _ _ (texts 0) text s e
-setting_found keys.ArbitratorUser text s e = made_found _ _ _ (texts 0) text s e
-setting_found keys.ArbitratorGroup text s e = made_found _ _ _ (texts 0) text s e
-setting_found keys.Site text s e = made_found _ _ _ addresses text s e
-setting_found keys.Arbitrator text s e = made_found _ _ _ addresses text s e
-setting_found keys.Ticket text s e = ticket_found text s e
-setting_found keys.Expire text s e = made_found _ _ _ (numbers 1 SECONDS) text s e
-setting_found keys.AcquireAfter text s e = made_found _ _ _ (numbers 0 SECONDS) text s e
-setting_found keys.Timeout text s e = made_found _ _ _ (numbers 1 SECONDS) text s e
-setting_found keys.Retries text s e = made_found _ _ _ (numbers 3 100) text s e
-setting_found keys.RenewalFreq text s e = made_found _ _ _ (numbers 1 SECONDS) text s e
-setting_found keys.Weights text s e = made_found _ _ _ weight_lists text s e
-setting_found keys.BeforeAcquireHandler text s e = made_found _ _ _ commands text s e
-setting_found keys.AttrPrereq text s e = made_found _ _ _ prereqs text s e
-setting_found keys.Mode text s e = made_found _ _ _ modes text s e
+setting_found key text s e =
+    map_some (setting_of key) (form_in (row_of key).form text) s e (λ value is same. record { value = value; spelled = form_found (row_of key).form text value is; set = sym same })
 
 pub setting_only : (key : ConfKey) (text : List ℕ) (s : Setting) → HasValue key text s →
     setting_in key text ≡ Some s
-setting_only keys.Port text s h = made_only _ _ _ (numbers 1 65535) text s h
-setting_only keys.Transport text s h = made_only _ _ _ transports text s h
-setting_only keys.Authfile text s h = made_only _ _ _ (texts 1) text s h
-setting_only keys.Maxtimeskew text s h = made_only _ _ _ (numbers 1 SECONDS) text s h
-setting_only keys.Debug text s h = made_only _ _ _ (texts 0) text s h
-setting_only keys.SiteUser text s h = made_only _ _ _ (texts 0) text s h
-setting_only keys.SiteGroup text s h = made_only _ _ _ (texts 0) text s h
-setting_only keys.ArbitratorUser text s h = made_only _ _ _ (texts 0) text s h
-setting_only keys.ArbitratorGroup text s h = made_only _ _ _ (texts 0) text s h
-setting_only keys.Site text s h = made_only _ _ _ addresses text s h
-setting_only keys.Arbitrator text s h = made_only _ _ _ addresses text s h
-setting_only keys.Ticket text s h = ticket_only text s h
-setting_only keys.Expire text s h = made_only _ _ _ (numbers 1 SECONDS) text s h
-setting_only keys.AcquireAfter text s h = made_only _ _ _ (numbers 0 SECONDS) text s h
-setting_only keys.Timeout text s h = made_only _ _ _ (numbers 1 SECONDS) text s h
-setting_only keys.Retries text s h = made_only _ _ _ (numbers 3 100) text s h
-setting_only keys.RenewalFreq text s h = made_only _ _ _ (numbers 1 SECONDS) text s h
-setting_only keys.Weights text s h = made_only _ _ _ weight_lists text s h
-setting_only keys.BeforeAcquireHandler text s h = made_only _ _ _ commands text s h
-setting_only keys.AttrPrereq text s h = made_only _ _ _ prereqs text s h
-setting_only keys.Mode text s h = made_only _ _ _ modes text s h
+setting_only key text s h =
+    ap (option_map (setting_of key)) (form_only (row_of key).form text h.value h.spelled) ∙ ap (λ x. Some x) (sym h.set)

@@ -1,71 +1,87 @@
--- One more key of the whole file, and one more key of a ticket.
-use Rattle.std.proofs.Common.{◌≡◌, Bool, true, false, List, [], ◌∷◌, ◌++◌, Option, Some, None, refl, ◌∙◌, append-nil, append_assoc}
-use Rattle.std.specs.List.{filter_map}
-use Rattle.std.specs.Prelude.{is_some}
-use Rattle.std.proofs.lemmas.List.Elements.{filter_map-append}
-use Rattle.booth_conf.specs.Sections.{first, once, top_of, top_clash, section_of, section_clash, port_in, transport_in, authfile_in, skew_in, extra_in, expire_in, after_in, timeout_in, retries_in, renewal_in, weights_in, handler_in, prereq_in, mode_in}
-use Rattle.booth_conf.specs.Steps.{top_added, section_added}
-use Rattle.booth_conf.specs.declared.tickets.Prereq.{Prereq as PrereqOf}
-use Rattle.booth_conf.specs.declared.settings.FileSetting.{FileSetting}
-use Rattle.booth_conf.specs.declared.settings.FileSetting.TheVariants.{Port, Transport, Authfile, Skew, Extra}
-use Rattle.booth_conf.specs.declared.settings.TicketSetting.{TicketSetting}
-use Rattle.booth_conf.specs.declared.settings.TicketSetting.TheVariants.{Expire, After, Timeout, Retries, Renewal, Weights, Handler, Prereq, Mode}
+-- What is true of each key of the table.
+use Rattle.std.proofs.Common.{◌≡◌, ◌≤◌, ◌-◌, ℕ, zero, suc, Bool, true, false, ◌&&◌, nat_lt, nat_le, List, [], ◌∷◌, length, Option, Some, None, refl, arith, ap, ◌∙◌, sym, subst}
+use Rattle.std.specs.Prelude.{slice_get}
+use Rattle.std.specs.List.{list_all}
+use Rattle.std.specs.Option.{option_map_or}
+use Rattle.std.proofs.lemmas.Bool.Decides.{nat_tests}
+use Rattle.booth_conf.specs.Grammar.{is_key}
+use Rattle.booth_conf.specs.Keys.{row_of, all_keys, key_named, are_one}
+use Rattle.booth_conf.specs.declared.keys.ConfKey.{ConfKey}
+use Rattle.booth_conf.specs.declared.keys.ConfKey.TheVariants as keys
+use Rattle.booth_conf.specs.declared.keys.Form.{Form}
+use Rattle.booth_conf.specs.declared.keys.Form.TheVariants as forms
 
-pub first_none : {X : Type 0} (xs : List X) (y : X) → is_some (first xs) ≡ false →
-    first (xs ++ y ∷ []) ≡ Some y
-first_none [] y h = refl
-first_none (x ∷ xs) y h = cc
+-- the keys stand in the order of their numbers, which count from 1
+at_number : (key : ConfKey) → slice_get all_keys ((row_of key).number - 1) ≡ Some key
+at_number keys.Port = refl
+at_number keys.Transport = refl
+at_number keys.Authfile = refl
+at_number keys.Maxtimeskew = refl
+at_number keys.Debug = refl
+at_number keys.SiteUser = refl
+at_number keys.SiteGroup = refl
+at_number keys.ArbitratorUser = refl
+at_number keys.ArbitratorGroup = refl
+at_number keys.Site = refl
+at_number keys.Arbitrator = refl
+at_number keys.Ticket = refl
+at_number keys.Expire = refl
+at_number keys.AcquireAfter = refl
+at_number keys.Timeout = refl
+at_number keys.Retries = refl
+at_number keys.RenewalFreq = refl
+at_number keys.Weights = refl
+at_number keys.BeforeAcquireHandler = refl
+at_number keys.AttrPrereq = refl
+at_number keys.Mode = refl
 
--- what was not given once is not given
-pub not_given : (given : Bool) → once given ≡ None → given ≡ false
-not_given true e = cc
-not_given false e = refl
+some_one : {X : Type 0} (x y : X) → Some x ≡ Some y → x ≡ y
+some_one x y e = cc
 
-pub kept : {X Y : Type 0} (h : X → Option Y) (ss : List X) (s : X) → h s ≡ None →
-    filter_map h (ss ++ s ∷ []) ≡ filter_map h ss
-kept h ss s n = filter_map-append h ss (s ∷ []) ∙ rw n (append-nil (filter_map h ss))
+pub both_true : (a b : Bool) → (a && b) ≡ true → (a ≡ true) × (b ≡ true)
+both_true true b h = (refl, h)
+both_true false b h = cc
 
-pub grows : {X Y : Type 0} (h : X → Option Y) (ss : List X) (s : X) (y : Y) → h s ≡ Some y →
-    filter_map h (ss ++ s ∷ []) ≡ filter_map h ss ++ y ∷ []
-grows h ss s y n = filter_map-append h ss (s ∷ []) ∙ rw n refl
+-- two keys of one number are one
+pub key_is : (key other : ConfKey) → are_one key other ≡ true → other ≡ key
+key_is key other h =
+    let n : (row_of other).number ≡ (row_of key).number = grind (arith, nat_tests) in
+    some_one other key (sym (at_number other) ∙ ap (λ m. slice_get all_keys (m - 1)) n ∙ at_number key)
 
--- the first of a key that was not given before
-first_given : {X Y : Type 0} (h : X → Option Y) (ss : List X) (s : X) (y : Y) → h s ≡ Some y →
-    once (is_some (first (filter_map h ss))) ≡ None → first (filter_map h (ss ++ s ∷ [])) ≡ Some y
-first_given h ss s y n e =
-    rw (grows h ss s y n) (first_none (filter_map h ss) y (not_given (is_some (first (filter_map h ss))) e))
+passes_at : (p : ConfKey → Bool) (xs : List ConfKey) (i : ℕ) (key : ConfKey) → list_all p xs ≡ true →
+    slice_get xs i ≡ Some key → p key ≡ true
+passes_at p [] i key h e = cc
+passes_at p (x ∷ xs) zero key h e = subst (λ k. p k ≡ true) (some_one x key e) (both_true (p x) (list_all p xs) h).0
+passes_at p (x ∷ xs) (suc i) key h e = passes_at p xs i key (both_true (p x) (list_all p xs) h).1 e
 
-pub top_more : (fs : List FileSetting) (f : FileSetting) → top_clash (top_of fs) f ≡ None →
-    top_of (fs ++ f ∷ []) ≡ top_added (top_of fs) f
-top_more fs (Port x) h =
-    rw (first_given port_in fs (Port x) x refl h, kept transport_in fs (Port x) refl, kept authfile_in fs (Port x) refl, kept skew_in fs (Port x) refl, kept extra_in fs (Port x) refl) refl
-top_more fs (Transport x) h =
-    rw (first_given transport_in fs (Transport x) x refl h, kept port_in fs (Transport x) refl, kept authfile_in fs (Transport x) refl, kept skew_in fs (Transport x) refl, kept extra_in fs (Transport x) refl) refl
-top_more fs (Authfile x) h =
-    rw (first_given authfile_in fs (Authfile x) x refl h, kept port_in fs (Authfile x) refl, kept transport_in fs (Authfile x) refl, kept skew_in fs (Authfile x) refl, kept extra_in fs (Authfile x) refl) refl
-top_more fs (Skew x) h =
-    rw (first_given skew_in fs (Skew x) x refl h, kept port_in fs (Skew x) refl, kept transport_in fs (Skew x) refl, kept authfile_in fs (Skew x) refl, kept extra_in fs (Skew x) refl) refl
-top_more fs (Extra k x) h =
-    rw (grows extra_in fs (Extra k x) (k, x) refl, kept port_in fs (Extra k x) refl, kept transport_in fs (Extra k x) refl, kept authfile_in fs (Extra k x) refl, kept skew_in fs (Extra k x) refl) refl
+-- a test that all keys of the table pass
+pub each_key : (p : ConfKey → Bool) → list_all p all_keys ≡ true → (key : ConfKey) → p key ≡ true
+each_key p h key = passes_at p all_keys ((row_of key).number - 1) key h (at_number key)
 
-pub section_more : (inherited : List PrereqOf) (ps : List TicketSetting) (p : TicketSetting) →
-    section_clash (section_of inherited ps) p ≡ None →
-    section_of inherited (ps ++ p ∷ []) ≡ section_added (section_of inherited ps) p
-section_more inherited ps (Expire x) h =
-    rw (first_given expire_in ps (Expire x) x refl h, kept after_in ps (Expire x) refl, kept timeout_in ps (Expire x) refl, kept retries_in ps (Expire x) refl, kept renewal_in ps (Expire x) refl, kept weights_in ps (Expire x) refl, kept handler_in ps (Expire x) refl, kept prereq_in ps (Expire x) refl, kept mode_in ps (Expire x) refl) refl
-section_more inherited ps (After x) h =
-    rw (first_given after_in ps (After x) x refl h, kept expire_in ps (After x) refl, kept timeout_in ps (After x) refl, kept retries_in ps (After x) refl, kept renewal_in ps (After x) refl, kept weights_in ps (After x) refl, kept handler_in ps (After x) refl, kept prereq_in ps (After x) refl, kept mode_in ps (After x) refl) refl
-section_more inherited ps (Timeout x) h =
-    rw (first_given timeout_in ps (Timeout x) x refl h, kept expire_in ps (Timeout x) refl, kept after_in ps (Timeout x) refl, kept retries_in ps (Timeout x) refl, kept renewal_in ps (Timeout x) refl, kept weights_in ps (Timeout x) refl, kept handler_in ps (Timeout x) refl, kept prereq_in ps (Timeout x) refl, kept mode_in ps (Timeout x) refl) refl
-section_more inherited ps (Retries x) h =
-    rw (first_given retries_in ps (Retries x) x refl h, kept expire_in ps (Retries x) refl, kept after_in ps (Retries x) refl, kept timeout_in ps (Retries x) refl, kept renewal_in ps (Retries x) refl, kept weights_in ps (Retries x) refl, kept handler_in ps (Retries x) refl, kept prereq_in ps (Retries x) refl, kept mode_in ps (Retries x) refl) refl
-section_more inherited ps (Renewal x) h =
-    rw (first_given renewal_in ps (Renewal x) x refl h, kept expire_in ps (Renewal x) refl, kept after_in ps (Renewal x) refl, kept timeout_in ps (Renewal x) refl, kept retries_in ps (Renewal x) refl, kept weights_in ps (Renewal x) refl, kept handler_in ps (Renewal x) refl, kept prereq_in ps (Renewal x) refl, kept mode_in ps (Renewal x) refl) refl
-section_more inherited ps (Weights x) h =
-    rw (first_given weights_in ps (Weights x) x refl h, kept expire_in ps (Weights x) refl, kept after_in ps (Weights x) refl, kept timeout_in ps (Weights x) refl, kept retries_in ps (Weights x) refl, kept renewal_in ps (Weights x) refl, kept handler_in ps (Weights x) refl, kept prereq_in ps (Weights x) refl, kept mode_in ps (Weights x) refl) refl
-section_more inherited ps (Handler x) h =
-    rw (first_given handler_in ps (Handler x) x refl h, kept expire_in ps (Handler x) refl, kept after_in ps (Handler x) refl, kept timeout_in ps (Handler x) refl, kept retries_in ps (Handler x) refl, kept renewal_in ps (Handler x) refl, kept weights_in ps (Handler x) refl, kept prereq_in ps (Handler x) refl, kept mode_in ps (Handler x) refl) refl
-section_more inherited ps (Prereq x) h =
-    rw (grows prereq_in ps (Prereq x) x refl, kept expire_in ps (Prereq x) refl, kept after_in ps (Prereq x) refl, kept timeout_in ps (Prereq x) refl, kept retries_in ps (Prereq x) refl, kept renewal_in ps (Prereq x) refl, kept weights_in ps (Prereq x) refl, kept handler_in ps (Prereq x) refl, kept mode_in ps (Prereq x) refl, ← append_assoc inherited (filter_map prereq_in ps) (x ∷ [])) refl
-section_more inherited ps (Mode x) h =
-    rw (first_given mode_in ps (Mode x) x refl h, kept expire_in ps (Mode x) refl, kept after_in ps (Mode x) refl, kept timeout_in ps (Mode x) refl, kept retries_in ps (Mode x) refl, kept renewal_in ps (Mode x) refl, kept weights_in ps (Mode x) refl, kept handler_in ps (Mode x) refl, kept prereq_in ps (Mode x) refl) refl
+-- NAMES
+
+pub key_name : (key : ConfKey) → is_key (row_of key).name ≡ true
+key_name key = each_key (λ k. is_key (row_of k).name) refl key
+
+pub name_most : (key : ConfKey) → length (row_of key).name ≤ 22
+name_most key =
+    let h : nat_le (length (row_of key).name) 22 ≡ true = each_key (λ k. nat_le (length (row_of k).name) 22) refl key in
+    grind (arith, nat_tests)
+
+found_is : (key : ConfKey) (o : Option ConfKey) → option_map_or (are_one key) o false ≡ true → o ≡ Some key
+found_is key None h = cc
+found_is key (Some other) h = ap (λ k. Some k) (key_is key other h)
+
+pub named_only : (key : ConfKey) → key_named (row_of key).name ≡ Some key
+named_only key =
+    found_is key (key_named (row_of key).name) (each_key (λ k. option_map_or (are_one k) (key_named (row_of k).name) false) refl key)
+
+-- NUMBERS
+
+-- a number of the form has at most ten digits
+abbrev pub is_short : Form → Bool
+is_short (forms.Number least most) = nat_lt most 10000000000
+is_short form = true
+
+pub short_form : (key : ConfKey) → is_short (row_of key).form ≡ true
+short_form key = each_key (λ k. is_short (row_of k).form) refl key

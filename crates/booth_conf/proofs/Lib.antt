@@ -1,3 +1,4 @@
+pub mod KeyLemmas
 pub mod Cuts
 pub mod Bare
 pub mod BothWays
@@ -10,12 +11,12 @@ pub mod Forms
 pub mod SaidLemmas
 pub mod MemberLemmas
 pub mod LastLemmas
-pub mod KeyLemmas
 pub mod More
 pub mod NameLemmas
 pub mod Turns
 pub mod FirstLemmas
 pub mod CheckLemmas
+pub mod SectionLemmas
 pub mod DefaultLemmas
 pub mod SayLemmas
 pub mod SettingLemmas
@@ -27,8 +28,11 @@ pub mod LineLemmas
 pub mod LineAgain
 pub mod ValueAgain
 pub mod AddressAgain
+pub mod FormAgain
 pub mod Runs
 pub mod SettingAgain
+pub mod TicketAgain
+pub mod TopAgain
 pub mod ConfigRuns
 pub mod TimesLemmas
 pub mod RankLemmas

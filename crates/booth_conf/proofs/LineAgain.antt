@@ -14,12 +14,10 @@ use Rattle.booth_conf.specs.Reads.{lines_of}
 use Rattle.booth_conf.specs.Print.{written, pair_line, line_text}
 use Rattle.booth_conf.specs.Sound.{is_sayable}
 use Rattle.booth_conf.specs.declared.keys.ConfKey.{ConfKey}
-use Rattle.booth_conf.specs.declared.keys.ConfKey.TheVariants as keys
 use Rattle.booth_conf.specs.declared.settings.Setting.{Setting}
 use Rattle.booth_conf.specs.declared.line_meaning.Said.TheVariants.{Pair}
 use Rattle.booth_conf.proofs.BothWays.{pair_only}
-use Rattle.booth_conf.proofs.DefaultLemmas.{both_true}
-use Rattle.booth_conf.proofs.SaidLemmas.{named_only}
+use Rattle.booth_conf.proofs.KeyLemmas.{both_true, key_name, named_only}
 use Rattle.booth_conf.proofs.SayLemmas.{is_formed}
 
 bare_is : (value : List ℕ) → (begins_bare value && stays_bare value []) ≡ true → IsBare value value
@@ -52,29 +50,6 @@ pair_again name value named s =
       written = written_is value (list_all (is_other 0x22) value) (list_all (is_other 0x27) value) refl refl b.1;
       plain = b.0;
     })
-
-key_name : (key : ConfKey) → is_key (row_of key).name ≡ true
-key_name keys.Port = refl
-key_name keys.Transport = refl
-key_name keys.Authfile = refl
-key_name keys.Maxtimeskew = refl
-key_name keys.Debug = refl
-key_name keys.SiteUser = refl
-key_name keys.SiteGroup = refl
-key_name keys.ArbitratorUser = refl
-key_name keys.ArbitratorGroup = refl
-key_name keys.Site = refl
-key_name keys.Arbitrator = refl
-key_name keys.Ticket = refl
-key_name keys.Expire = refl
-key_name keys.AcquireAfter = refl
-key_name keys.Timeout = refl
-key_name keys.Retries = refl
-key_name keys.RenewalFreq = refl
-key_name keys.Weights = refl
-key_name keys.BeforeAcquireHandler = refl
-key_name keys.AttrPrereq = refl
-key_name keys.Mode = refl
 
 pub key_said : (key : ConfKey) (value : List ℕ) (s : Setting) → is_sayable value ≡ true →
     setting_in key value ≡ Some s → said (pair_line (row_of key).name value) ≡ Pair key (Some s)

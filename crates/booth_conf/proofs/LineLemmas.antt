@@ -1,23 +1,44 @@
 -- Lines put one after the other.
-use Rattle.std.proofs.Common.{◌≡◌, ◌<◌, ◌+◌, ℕ, List, [], ◌∷◌, ◌++◌, Option, length, map, take, get_or, ap, ◌∙◌, sym, append-nil}
+use Rattle.std.proofs.Common.{◌≡◌, ◌<◌, ◌+◌, ℕ, List, [], ◌∷◌, ◌++◌, Option, length, map, take, get_or, refl, ap, ◌∙◌, sym, append-nil}
 use Rattle.std.specs.Prelude.{codes, decimal}
 use Rattle.std.specs.List.{flat_map}
 use Rattle.std.proofs.lemmas.List.{map_more, take_more}
 use Rattle.std.proofs.lemmas.Grind.{flat_map-append}
 use Rattle.booth_conf.specs.Keys.{row_of}
-use Rattle.booth_conf.specs.Print.{line_text, lines_text, setting_name, setting_value, times_settings, weights_settings, handler_settings, prereq_setting, kind_word, kind_of, ticket_settings, authfile_settings, extra_setting, top_settings, printed}
+use Rattle.booth_conf.specs.Print.{line_text, lines_text, entries_text, entry_name, entry_value, setting_name, setting_value, set, times_entries, weights_entries, handler_entries, prereq_entry, word_at, word_of, key_entries, ticket_settings, authfile_entries, extra_entry, top_entries, printed}
 use Rattle.booth_conf.specs.Config.{ConfigSays}
 use Rattle.booth_conf.specs.declared.keys.KeyNo.{KeyNo}
 use Rattle.booth_conf.specs.declared.keys.ConfKey.TheVariants as keys
-use Rattle.booth_conf.specs.declared.settings.FileSetting.TheVariants.{Skew}
+use Rattle.booth_conf.specs.declared.keys.Choice.TheVariants.{Mode}
 use Rattle.booth_conf.specs.declared.tickets.TicketConf.{TicketConf}
-use Rattle.booth_conf.specs.declared.settings.TicketSetting.TheVariants.{Mode}
+use Rattle.booth_conf.specs.declared.settings.Value.TheVariants.{Number, Word}
+use Rattle.booth_conf.specs.declared.settings.Entry.{Entry}
 use Rattle.booth_conf.specs.declared.settings.Setting.{Setting}
 use Rattle.booth_conf.specs.declared.settings.Setting.TheVariants.{File, Member, Of}
 use Rattle.booth_conf.proofs.PushLemmas.{two_pushed}
 
 pub lines_append : (xs ys : List Setting) → lines_text (xs ++ ys) ≡ lines_text xs ++ lines_text ys
 lines_append xs ys = flat_map-append (λ s. line_text (setting_name s) (setting_value s)) xs ys
+
+pub entries_append : (xs ys : List Entry) → entries_text (xs ++ ys) ≡ entries_text xs ++ entries_text ys
+entries_append xs ys = flat_map-append (λ e. line_text (entry_name e) (entry_value e)) xs ys
+
+-- entries as settings have the lines of the entries
+of_text : (es : List Entry) → lines_text (map Of es) ≡ entries_text es
+of_text [] = refl
+of_text (e ∷ es) = ap (λ xs. line_text (entry_name e) (entry_value e) ++ xs) (of_text es)
+
+file_text : (es : List Entry) → lines_text (map File es) ≡ entries_text es
+file_text [] = refl
+file_text (e ∷ es) = ap (λ xs. line_text (entry_name e) (entry_value e) ++ xs) (file_text es)
+
+-- one more entry
+pub entries_more : {X : Type 0} (f : X → Entry) (xs : List X) (i : ℕ) (x : X) → i < length xs →
+    x ≡ get_or xs i x →
+    entries_text (map f (take (i + 1) xs)) ≡ entries_text (map f (take i xs)) ++ entries_text (f x ∷ [])
+entries_more f xs i x lt is =
+    ap entries_text (map_more f xs i x lt ∙ ap (λ y. map f (take i xs) ++ f y ∷ []) (sym is))
+    ∙ entries_append (map f (take i xs)) (f x ∷ [])
 
 -- one more line
 pub lines_more : {X : Type 0} (f : X → Setting) (xs : List X) (i : ℕ) (x : X) → i < length xs →
@@ -37,52 +58,56 @@ tickets_more xs i x lt is =
     ∙ lines_append (flat_map ticket_settings (take i xs)) (ticket_settings x)
 
 pub ticket_pushed : (t u v w x y z : List ℕ) (ticket : TicketConf) →
-    u ≡ t ++ line_text (row_of keys.Ticket).name ticket.name → v ≡ u ++ lines_text (times_settings ticket.times) → w ≡ v ++ lines_text (weights_settings ticket.weights.items)
-    → x ≡ w ++ lines_text (handler_settings ticket.handler) → y ≡ x ++ lines_text (map prereq_setting ticket.prereqs.items) → z ≡ y ++ line_text (row_of keys.Mode).name (kind_word (kind_of ticket.manual))
+    u ≡ t ++ line_text (row_of keys.Ticket).name ticket.name → v ≡ u ++ entries_text (times_entries ticket.times)
+    → w ≡ v ++ entries_text (weights_entries ticket.weights.items) → x ≡ w ++ entries_text (handler_entries ticket.handler)
+    → y ≡ x ++ entries_text (map prereq_entry ticket.prereqs.items)
+    → z ≡ y ++ line_text (row_of keys.Mode).name (word_at Mode (word_of ticket.manual))
     → z ≡ t ++ lines_text (ticket_settings ticket)
 ticket_pushed t u v w x y z ticket a b c d e f =
-    let mode : List Setting = Of (Mode (kind_of ticket.manual)) ∷ [] in
-    let prereqs : List Setting = map prereq_setting ticket.prereqs.items in
-    let handler : List Setting = handler_settings ticket.handler in
-    let weights : List Setting = weights_settings ticket.weights.items in
-    let times : List Setting = times_settings ticket.times in
-    let mode_line : List ℕ =
-    line_text (row_of keys.Mode).name (kind_word (kind_of ticket.manual)) in
-    let end : z ≡ y ++ lines_text mode = f ∙ ap (λ xs. y ++ xs) (sym (append-nil mode_line)) in
-    let last : z ≡ x ++ lines_text (prereqs ++ mode) =
-    two_pushed x y z (lines_text prereqs) (lines_text mode) e end
-    ∙ ap (λ xs. x ++ xs) (sym (lines_append prereqs mode)) in
-    let third : z ≡ w ++ lines_text (handler ++ (prereqs ++ mode)) =
-    two_pushed w x z (lines_text handler) (lines_text (prereqs ++ mode)) d last
-    ∙ ap (λ xs. w ++ xs) (sym (lines_append handler (prereqs ++ mode))) in
-    let second : z ≡ v ++ lines_text (weights ++ (handler ++ (prereqs ++ mode))) =
-    two_pushed v w z (lines_text weights) (lines_text (handler ++ (prereqs ++ mode))) c third
-    ∙ ap (λ xs. v ++ xs) (sym (lines_append weights (handler ++ (prereqs ++ mode)))) in
-    let first : z ≡ u ++ lines_text (times ++ (weights ++ (handler ++ (prereqs ++ mode)))) =
-    two_pushed u v z (lines_text times) (lines_text (weights ++ (handler ++ (prereqs ++ mode)))) b second
-    ∙ ap (λ xs. u ++ xs) (sym (lines_append times (weights ++ (handler ++ (prereqs ++ mode))))) in
-    two_pushed t u z (line_text (row_of keys.Ticket).name ticket.name) (lines_text (times ++ (weights ++ (handler ++ (prereqs ++ mode))))) a first
+    let mode : List Entry = set keys.Mode (Word (word_of ticket.manual)) ∷ [] in
+    let prereqs : List Entry = map prereq_entry ticket.prereqs.items in
+    let handler : List Entry = handler_entries ticket.handler in
+    let weights : List Entry = weights_entries ticket.weights.items in
+    let times : List Entry = times_entries ticket.times in
+    let name : List ℕ = line_text (row_of keys.Ticket).name ticket.name in
+    let mode_line : List ℕ = line_text (row_of keys.Mode).name (word_at Mode (word_of ticket.manual)) in
+    let end : z ≡ y ++ entries_text mode = f ∙ ap (λ xs. y ++ xs) (sym (append-nil mode_line)) in
+    let last : z ≡ x ++ entries_text (prereqs ++ mode) =
+    two_pushed x y z (entries_text prereqs) (entries_text mode) e end
+    ∙ ap (λ xs. x ++ xs) (sym (entries_append prereqs mode)) in
+    let third : z ≡ w ++ entries_text (handler ++ (prereqs ++ mode)) =
+    two_pushed w x z (entries_text handler) (entries_text (prereqs ++ mode)) d last
+    ∙ ap (λ xs. w ++ xs) (sym (entries_append handler (prereqs ++ mode))) in
+    let second : z ≡ v ++ entries_text (weights ++ (handler ++ (prereqs ++ mode))) =
+    two_pushed v w z (entries_text weights) (entries_text (handler ++ (prereqs ++ mode))) c third
+    ∙ ap (λ xs. v ++ xs) (sym (entries_append weights (handler ++ (prereqs ++ mode)))) in
+    let first : z ≡ u ++ entries_text (key_entries ticket) =
+    two_pushed u v z (entries_text times) (entries_text (weights ++ (handler ++ (prereqs ++ mode)))) b second
+    ∙ ap (λ xs. u ++ xs) (sym (entries_append times (weights ++ (handler ++ (prereqs ++ mode))))) in
+    two_pushed t u z name (entries_text (key_entries ticket)) a first
+    ∙ ap (λ xs. t ++ (name ++ xs)) (sym (of_text (key_entries ticket)))
 
 pub top_pushed : (t u v w x y : List ℕ) (port : ℕ) (authfile : Option (List ℕ)) (skew : ℕ) (extras : List (KeyNo × List ℕ)) →
-    u ≡ t ++ line_text (row_of keys.Port).name (decimal port) → v ≡ u ++ line_text (row_of keys.Transport).name (codes "UDP") → w ≡ v ++ lines_text (authfile_settings authfile)
-    → x ≡ w ++ line_text (row_of keys.Maxtimeskew).name (decimal skew) → y ≡ x ++ lines_text (map extra_setting extras)
-    → y ≡ t ++ lines_text (top_settings port authfile skew extras)
+    u ≡ t ++ line_text (row_of keys.Port).name (decimal port) → v ≡ u ++ line_text (row_of keys.Transport).name (codes "UDP") → w ≡ v ++ entries_text (authfile_entries authfile)
+    → x ≡ w ++ line_text (row_of keys.Maxtimeskew).name (decimal skew) → y ≡ x ++ entries_text (map extra_entry extras)
+    → y ≡ t ++ entries_text (top_entries port authfile skew extras)
 top_pushed t u v w x y port authfile skew extras a b c d e =
-    let rest : List Setting = File (Skew skew) ∷ map extra_setting extras in
-    let last : y ≡ w ++ lines_text rest =
-    two_pushed w x y (line_text (row_of keys.Maxtimeskew).name (decimal skew)) (lines_text (map extra_setting extras)) d e in
-    let third : y ≡ v ++ lines_text (authfile_settings authfile ++ rest) =
-    two_pushed v w y (lines_text (authfile_settings authfile)) (lines_text rest) c last
-    ∙ ap (λ xs. v ++ xs) (sym (lines_append (authfile_settings authfile) rest)) in
-    two_pushed t u y (line_text (row_of keys.Port).name (decimal port)) (line_text (row_of keys.Transport).name (codes "UDP") ++ lines_text (authfile_settings authfile ++ rest)) a
-    (two_pushed u v y (line_text (row_of keys.Transport).name (codes "UDP")) (lines_text (authfile_settings authfile ++ rest)) b third)
+    let rest : List Entry = set keys.Maxtimeskew (Number skew) ∷ map extra_entry extras in
+    let last : y ≡ w ++ entries_text rest =
+    two_pushed w x y (line_text (row_of keys.Maxtimeskew).name (decimal skew)) (entries_text (map extra_entry extras)) d e in
+    let third : y ≡ v ++ entries_text (authfile_entries authfile ++ rest) =
+    two_pushed v w y (entries_text (authfile_entries authfile)) (entries_text rest) c last
+    ∙ ap (λ xs. v ++ xs) (sym (entries_append (authfile_entries authfile) rest)) in
+    two_pushed t u y (line_text (row_of keys.Port).name (decimal port)) (line_text (row_of keys.Transport).name (codes "UDP") ++ entries_text (authfile_entries authfile ++ rest)) a
+    (two_pushed u v y (line_text (row_of keys.Transport).name (codes "UDP")) (entries_text (authfile_entries authfile ++ rest)) b third)
 
 pub config_pushed : (t u v : List ℕ) (c : ConfigSays) →
-    t ≡ lines_text (top_settings c.port c.authfile c.skew c.extras) →
+    t ≡ entries_text (top_entries c.port c.authfile c.skew c.extras) →
     u ≡ t ++ lines_text (map Member c.members) →
     v ≡ u ++ lines_text (flat_map ticket_settings c.tickets) → v ≡ printed c
 config_pushed t u v c d e f =
+    let top : List Entry = top_entries c.port c.authfile c.skew c.extras in
     two_pushed t u v (lines_text (map Member c.members)) (lines_text (flat_map ticket_settings c.tickets)) e f
     ∙ ap (λ xs. t ++ xs) (sym (lines_append (map Member c.members) (flat_map ticket_settings c.tickets)))
-    ∙ ap (λ xs. xs ++ lines_text (map Member c.members ++ flat_map ticket_settings c.tickets)) d
-    ∙ sym (lines_append (top_settings c.port c.authfile c.skew c.extras) (map Member c.members ++ flat_map ticket_settings c.tickets))
+    ∙ ap (λ xs. xs ++ lines_text (map Member c.members ++ flat_map ticket_settings c.tickets)) (d ∙ sym (file_text top))
+    ∙ sym (lines_append (map File top) (map Member c.members ++ flat_map ticket_settings c.tickets))

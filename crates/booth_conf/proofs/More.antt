@@ -1,32 +1,36 @@
 -- One more setting, and one more line.
-use Rattle.std.proofs.Common.{◌≡◌, ℕ, Bool, true, false, cond, nat_lt, List, [], ◌∷◌, ◌++◌, length, map, Option, Some, None, refl, arith, ap, ◌∙◌, append-nil}
+use Rattle.std.proofs.Common.{◌≡◌, ℕ, Bool, true, false, cond, nat_lt, List, [], ◌∷◌, ◌++◌, length, map, Option, Some, None, refl, arith, ap, ◌∙◌, sym, append-nil, append_assoc}
 use Rattle.std.proofs.lemmas.List.{map-append}
 use Rattle.std.specs.List.{filter_map, cons_option}
-use Rattle.std.specs.Prelude.{is_some, option_map}
+use Rattle.std.specs.Prelude.{is_some}
 use Rattle.std.proofs.lemmas.Bool.Decides.{nat_tests}
 use Rattle.std.proofs.lemmas.List.Elements.{filter_map-append}
-use Rattle.booth_conf.specs.Sections.{SectionSays, section_of, section_clash}
 use Rattle.booth_conf.specs.Rules.{OwnKeys, own, owns, default_own, file_in, member_in, prereqs_of, named_section, Summary, summary, open_section, placed_clash, clash, said_fault, setting_said, settings, line_fault, is_misplaced, value_fault}
 use Rattle.booth_conf.specs.Steps.{added, last_added, said_added}
 use Rattle.booth_conf.specs.declared.sections.NamedSection.{NamedSection}
 use Rattle.booth_conf.specs.declared.keys.ConfKey.{ConfKey}
 use Rattle.booth_conf.specs.declared.members.Member.{Member as MemberOf}
-use Rattle.booth_conf.specs.declared.tickets.Prereq.{Prereq as PrereqOf}
 use Rattle.booth_conf.specs.declared.line_meaning.Said.{Said}
 use Rattle.booth_conf.specs.declared.line_meaning.Said.TheVariants.{Empty, Broken, Unknown, Pair}
 use Rattle.booth_conf.specs.declared.faults.LineFault.TheVariants.{Misplaced, Repeated, DefaultLate}
-use Rattle.booth_conf.specs.declared.settings.FileSetting.{FileSetting}
-use Rattle.booth_conf.specs.declared.settings.TicketSetting.{TicketSetting}
+use Rattle.booth_conf.specs.declared.settings.Entry.{Entry}
 use Rattle.booth_conf.specs.declared.settings.Setting.{Setting}
 use Rattle.booth_conf.specs.declared.settings.Setting.TheVariants.{File, Member, Ticket, Defaults, Of}
-use Rattle.booth_conf.proofs.KeyLemmas.{kept, grows, top_more, section_more}
+
+kept : {X Y : Type 0} (h : X → Option Y) (ss : List X) (s : X) → h s ≡ None →
+    filter_map h (ss ++ s ∷ []) ≡ filter_map h ss
+kept h ss s n = filter_map-append h ss (s ∷ []) ∙ rw n (append-nil (filter_map h ss))
+
+grows : {X Y : Type 0} (h : X → Option Y) (ss : List X) (s : X) (y : Y) → h s ≡ Some y →
+    filter_map h (ss ++ s ∷ []) ≡ filter_map h ss ++ y ∷ []
+grows h ss s y n = filter_map-append h ss (s ∷ []) ∙ rw n refl
 
 -- one ticket's keys, with more after them
-abbrev pub with_more : List TicketSetting → OwnKeys → OwnKeys
+abbrev pub with_more : List Entry → OwnKeys → OwnKeys
 with_more q o = record o { keys = o.keys ++ q }
 
 -- the last ticket, with more keys
-abbrev pub on_last : List TicketSetting → List OwnKeys → List OwnKeys
+abbrev pub on_last : List Entry → List OwnKeys → List OwnKeys
 on_last q [] = []
 on_last q (o ∷ []) = with_more q o ∷ []
 on_last q (o ∷ r ∷ rs) = o ∷ on_last q (r ∷ rs)
@@ -49,7 +53,7 @@ own_more_some (Ticket n ∷ ss) s o os h = refl
 own_more_some (Defaults ∷ ss) s o os h = own_more_some ss s o os h
 own_more_some (Of p ∷ ss) s o os h = ap (λ xs. p ∷ xs) (own_more_some ss s o os h)
 
-abbrev titled : List ℕ → List TicketSetting → OwnKeys
+abbrev titled : List ℕ → List Entry → OwnKeys
 titled n ks = record { name = n; keys = ks }
 
 owns_ticket : (n : List ℕ) (ss : List Setting) (s : Setting) (os : List OwnKeys) → owns ss ≡ os →
@@ -68,7 +72,7 @@ owns_more (Defaults ∷ ss) s = owns_more ss s
 owns_more (Of p ∷ ss) s = owns_more ss s
 
 -- the default's keys, where no ticket stands after them
-abbrev pub default_more : Option (List TicketSetting) → Setting → Option (List TicketSetting)
+abbrev pub default_more : Option (List Entry) → Setting → Option (List Entry)
 default_more None s = default_own (s ∷ [])
 default_more (Some o) s = Some (o ++ own (s ∷ []))
 
@@ -95,7 +99,7 @@ on_last_nil [] = refl
 on_last_nil (o ∷ []) = ap (λ ks. titled o.name ks ∷ []) (append-nil o.keys)
 on_last_nil (o ∷ r ∷ rs) = ap (λ xs. o ∷ xs) (on_last_nil (r ∷ rs))
 
-default_more_nil : (o : Option (List TicketSetting)) (s : Setting) → own (s ∷ []) ≡ [] →
+default_more_nil : (o : Option (List Entry)) (s : Setting) → own (s ∷ []) ≡ [] →
     default_own (s ∷ []) ≡ None → default_more o s ≡ o
 default_more_nil None s h d = d
 default_more_nil (Some o) s h d = ap (λ q. Some (o ++ q)) h ∙ ap (λ x. Some x) (append-nil o)
@@ -125,18 +129,18 @@ then_none : {K : Type 0} (b : Bool) (k : K) (o : Option K) → cond b (Some k) o
 then_none true k o e = cc
 then_none false k o e = (refl, e)
 
-sections_more : (inherited : List PrereqOf) (defaults : Option SectionSays) (o : OwnKeys) (os : List OwnKeys) (p : TicketSetting) →
+sections_more : (inherited : List Entry) (defaults : Option (List Entry)) (o : OwnKeys) (os : List OwnKeys) (p : Entry) →
     placed_clash (open_section defaults (map (named_section inherited) (o ∷ os))) p ≡ None →
     map (named_section inherited) (on_last (p ∷ []) (o ∷ os)) ≡ last_added (map (named_section inherited) (o ∷ os)) p
 sections_more inherited defaults o [] p h =
-    ap (λ (x : SectionSays). (record { name = o.name; section = x }) ∷ []) (section_more inherited o.keys p h)
+    ap (λ (x : List Entry). (record { name = o.name; section = x }) ∷ []) (sym (append_assoc inherited o.keys (p ∷ [])))
 sections_more inherited defaults o (r ∷ rs) p h =
     ap (λ xs. named_section inherited o ∷ xs) (sections_more inherited defaults r rs p h)
 
-summary_file : (ss : List Setting) (f : FileSetting) → clash (summary ss) (File f) ≡ None →
+summary_file : (ss : List Setting) (f : Entry) → clash (summary ss) (File f) ≡ None →
     summary (ss ++ File f ∷ []) ≡ added (summary ss) (File f)
 summary_file ss f h =
-    rw (grows file_in ss (File f) f refl, top_more (filter_map file_in ss) f h, kept member_in ss (File f) refl, default_kept ss (File f) refl refl, owns_kept ss (File f) refl, append-nil (owns ss)) refl
+    rw (grows file_in ss (File f) f refl, kept member_in ss (File f) refl, default_kept ss (File f) refl refl, owns_kept ss (File f) refl, append-nil (owns ss)) refl
 
 summary_member : (ss : List Setting) (m : MemberOf) →
     summary (ss ++ Member m ∷ []) ≡ added (summary ss) (Member m)
@@ -146,50 +150,48 @@ summary_member ss m =
 summary_ticket : (ss : List Setting) (n : List ℕ) →
     summary (ss ++ Ticket n ∷ []) ≡ added (summary ss) (Ticket n)
 summary_ticket ss n =
-    rw (kept file_in ss (Ticket n) refl, kept member_in ss (Ticket n) refl, default_kept ss (Ticket n) refl refl, owns_kept ss (Ticket n) refl, map-append (named_section (prereqs_of (option_map (section_of []) (default_own ss)))) (owns ss) (titled n [] ∷ [])) refl
+    rw (kept file_in ss (Ticket n) refl, kept member_in ss (Ticket n) refl, default_kept ss (Ticket n) refl refl, owns_kept ss (Ticket n) refl, map-append (named_section (prereqs_of (default_own ss))) (owns ss) (titled n [] ∷ []), append-nil (prereqs_of (default_own ss))) refl
 
 no_sections : (f : OwnKeys → NamedSection) (os : List OwnKeys) →
     nat_lt 0 (length (map f os)) ≡ false → os ≡ []
 no_sections f [] h = refl
 no_sections f (o ∷ os) h = grind (arith, nat_tests)
 
-no_default : (f : List TicketSetting → SectionSays) (o : Option (List TicketSetting)) →
-    is_some (option_map f o) ≡ false → o ≡ None
-no_default f None h = refl
-no_default f (Some o) h = cc
+no_default : (o : Option (List Entry)) → is_some o ≡ false → o ≡ None
+no_default None h = refl
+no_default (Some o) h = cc
 
 summary_defaults : (ss : List Setting) → clash (summary ss) Defaults ≡ None →
     summary (ss ++ Defaults ∷ []) ≡ added (summary ss) Defaults
 summary_defaults ss h =
-    let defaults : Option SectionSays = option_map (section_of []) (default_own ss) in
+    let defaults : Option (List Entry) = default_own ss in
     let t =
     then_none (is_some defaults) Repeated (cond (nat_lt 0 (length (map (named_section (prereqs_of defaults)) (owns ss)))) (Some DefaultLate) None) h in
     let none : owns ss ≡ [] =
     no_sections (named_section (prereqs_of defaults)) (owns ss) (none_of _ DefaultLate t.1) in
-    let was : default_own ss ≡ None = no_default (section_of []) (default_own ss) t.0 in
+    let was : default_own ss ≡ None = no_default (default_own ss) t.0 in
     rw (kept file_in ss Defaults refl, kept member_in ss Defaults refl, default_none ss Defaults none, owns_kept ss Defaults refl, none, was) refl
 
-of_default : (ss : List Setting) (p : TicketSetting) (d : Option (List TicketSetting)) →
+of_default : (ss : List Setting) (p : Entry) (d : Option (List Entry)) →
     owns ss ≡ [] → default_own ss ≡ d → clash (summary ss) (Of p) ≡ None →
     summary (ss ++ Of p ∷ []) ≡ added (summary ss) (Of p)
 of_default ss p None none was h = let e : Some Misplaced ≡ None = rw (none, was) at h in cc
 of_default ss p (Some o) none was h =
-    let c : section_clash (section_of [] o) p ≡ None = rw (none, was) at h in
-    rw (kept file_in ss (Of p) refl, kept member_in ss (Of p) refl, default_none ss (Of p) none, owns_more ss (Of p), none, was, section_more [] o p c) refl
+    rw (kept file_in ss (Of p) refl, kept member_in ss (Of p) refl, default_none ss (Of p) none, owns_more ss (Of p), none, was) refl
 
-of_ticket : (ss : List Setting) (p : TicketSetting) (o : OwnKeys) (os : List OwnKeys) →
+of_ticket : (ss : List Setting) (p : Entry) (o : OwnKeys) (os : List OwnKeys) →
     owns ss ≡ o ∷ os → clash (summary ss) (Of p) ≡ None →
     summary (ss ++ Of p ∷ []) ≡ added (summary ss) (Of p)
 of_ticket ss p o os some h =
-    let defaults : Option SectionSays = option_map (section_of []) (default_own ss) in
-    let inherited : List PrereqOf = prereqs_of defaults in
+    let defaults : Option (List Entry) = default_own ss in
+    let inherited : List Entry = prereqs_of defaults in
     let c : placed_clash (open_section defaults (map (named_section inherited) (o ∷ os))) p ≡ None =
     rw some at h in
     let t : nat_lt 0 (length (map (named_section inherited) (o ∷ os))) ≡ true =
     grind (arith, nat_tests) in
     rw (kept file_in ss (Of p) refl, kept member_in ss (Of p) refl, default_some ss (Of p) o os some, owns_more ss (Of p), some, append-nil (on_last (p ∷ []) (o ∷ os)), sections_more inherited defaults o os p c, t) refl
 
-of_at : (ss : List Setting) (p : TicketSetting) (os : List OwnKeys) → owns ss ≡ os →
+of_at : (ss : List Setting) (p : Entry) (os : List OwnKeys) → owns ss ≡ os →
     clash (summary ss) (Of p) ≡ None → summary (ss ++ Of p ∷ []) ≡ added (summary ss) (Of p)
 of_at ss p [] e h = of_default ss p (default_own ss) e refl h
 of_at ss p (o ∷ os) e h = of_ticket ss p o os e h

@@ -15,7 +15,7 @@ use Rattle.booth_conf.specs.declared.faults.ConfFault.TheVariants.{TooLarge, Syn
 use Rattle.booth_conf.specs.declared.faults.LineFault.{LineFault}
 use Rattle.booth_conf.specs.declared.faults.LineFault.TheVariants as faults
 use Rattle.booth_conf.proofs.SaidLemmas.{all_said_found}
-use Rattle.booth_conf.proofs.DefaultLemmas.{both_true}
+use Rattle.booth_conf.proofs.KeyLemmas.{both_true}
 
 -- FAULTS OF THE WHOLE FILE
 

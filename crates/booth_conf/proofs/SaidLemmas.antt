@@ -10,10 +10,10 @@ use Rattle.booth_conf.specs.ValueReader.{setting_in}
 use Rattle.booth_conf.specs.Said.{IsSaid, AreSaid, SaysUnknown, IsBroken, MakesSetting}
 use Rattle.booth_conf.specs.SaidReader.{said, said_of, said_by}
 use Rattle.booth_conf.specs.declared.keys.ConfKey.{ConfKey}
-use Rattle.booth_conf.specs.declared.keys.ConfKey.TheVariants as keys
 use Rattle.booth_conf.specs.declared.settings.Setting.{Setting}
 use Rattle.booth_conf.specs.declared.line_meaning.Said.{Said}
 use Rattle.booth_conf.specs.declared.line_meaning.Said.TheVariants.{Empty, Broken, Unknown, Pair}
+use Rattle.booth_conf.proofs.KeyLemmas.{named_only}
 use Rattle.booth_conf.proofs.BothWays.{pair_only, pair_found, empty_read, empty_found}
 use Rattle.booth_conf.proofs.Forms.{setting_found, setting_only}
 
@@ -31,29 +31,6 @@ pub named_found : (name : List ℕ) (key : ConfKey) → key_named name ≡ Some 
     (row_of key).name ≡ name
 named_found name key e =
     (bytes_eq-Decides (row_of key).name name).0 (find_passes (is_named name) all_keys key e)
-
-pub named_only : (key : ConfKey) → key_named (row_of key).name ≡ Some key
-named_only keys.Port = refl
-named_only keys.Transport = refl
-named_only keys.Authfile = refl
-named_only keys.Maxtimeskew = refl
-named_only keys.Debug = refl
-named_only keys.SiteUser = refl
-named_only keys.SiteGroup = refl
-named_only keys.ArbitratorUser = refl
-named_only keys.ArbitratorGroup = refl
-named_only keys.Site = refl
-named_only keys.Arbitrator = refl
-named_only keys.Ticket = refl
-named_only keys.Expire = refl
-named_only keys.AcquireAfter = refl
-named_only keys.Timeout = refl
-named_only keys.Retries = refl
-named_only keys.RenewalFreq = refl
-named_only keys.Weights = refl
-named_only keys.BeforeAcquireHandler = refl
-named_only keys.AttrPrereq = refl
-named_only keys.Mode = refl
 
 -- WHAT IS READ IS SAID
 

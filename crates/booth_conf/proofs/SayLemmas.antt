@@ -10,7 +10,7 @@ use Rattle.booth_conf.specs.Sound.{is_sayable, is_prereq}
 use Rattle.booth_conf.specs.declared.tickets.GrantKind.{GrantKind}
 use Rattle.booth_conf.specs.declared.tickets.GrantKind.TheVariants.{Auto, Manual}
 use Rattle.booth_conf.specs.declared.tickets.Prereq.{Prereq}
-use Rattle.booth_conf.proofs.DefaultLemmas.{both_true}
+use Rattle.booth_conf.proofs.KeyLemmas.{both_true}
 
 -- the three forms of a value, as one test
 abbrev pub is_formed : List ℕ → Bool

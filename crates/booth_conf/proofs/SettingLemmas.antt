@@ -1,50 +1,46 @@
 -- Each setting of a line has the form of its key.
-use Rattle.std.proofs.Common.{◌≡◌, ◌≢◌, ◌<◌, ◌==◌, ◌^◌, ℕ, suc, Bool, true, false, not, nat_lt, nat_le, List, [], ◌∷◌, length, get_or, Some, refl, arith, subst, inl, inr, eq-eqb}
-use Rattle.std.specs.Prelude.{bytes_eq}
+use Rattle.std.proofs.Common.{◌≡◌, ◌≢◌, ◌<◌, ◌+◌, ◌==◌, ◌^◌, ℕ, suc, Bool, true, false, not, ◌&&◌, nat_lt, nat_le, List, [], ◌∷◌, length, get_or, Some, refl, arith, ap, ◌∙◌, subst, eq-eqb}
+use Rattle.std.specs.Prelude.{bytes_eq, count_by, position}
 use Rattle.std.specs.List.{list_all, list_any, slice_split}
 use Rattle.std.specs.Net.Grammar.{IsDotted}
 use Rattle.std.proofs.lemmas.Bool.Decides.{nat_tests}
+use Rattle.std.proofs.lemmas.List.Quantifiers.{position-Some}
+use Rattle.std.proofs.lemmas.List.Splits.{length-slice_split}
 use Rattle.std.proofs.lemmas.Slice.Eq.{bytes_eq-Decides}
 use Rattle.booth_base.specs.Address.{Spells, id_of}
-use Rattle.booth_base.specs.declared.address.Address.{Address}
+use Rattle.booth_base.specs.declared.address.Address.{Address as AddressOf}
 use Rattle.booth_base.specs.declared.address.Address.TheVariants.{V4, V6}
-use Rattle.booth_conf.specs.Values.{IsNumber, IsText, IsCommand, AreWeights, IsWeightList, IsSetBy, IsTicketLine, HasValue, default_name, member_at, is_word_byte}
+use Rattle.booth_base.specs.declared.text.TheConstants.{PATH_BYTES}
+use Rattle.booth_conf.specs.Keys.{row_of, are_one}
+use Rattle.booth_conf.specs.Values.{IsNumber, IsText, IsCommand, AreWeights, IsWeightList, HasForm, HasValue, in_scope, setting_of, default_name, member_at, is_word_byte, is_word_of, words_of}
 use Rattle.booth_conf.specs.Said.{SaysKey, IsSaid}
 use Rattle.booth_conf.specs.SaidReader.{said}
-use Rattle.booth_conf.specs.Sound.{is_within, is_sayable, is_text, is_command, is_extra, is_byte, is_address, is_member, is_weight, are_weights, is_prereq, is_ticket_name}
-use Rattle.booth_conf.specs.SoundDraft.{are_some_weights}
+use Rattle.booth_conf.specs.Sound.{is_within, is_sayable, is_text, is_command, is_byte, is_address, is_member, is_weight, are_weights, is_ticket_name}
+use Rattle.booth_conf.specs.SoundDraft.{is_of, is_entry}
 use Rattle.booth_conf.specs.declared.keys.ConfKey.{ConfKey}
 use Rattle.booth_conf.specs.declared.keys.ConfKey.TheVariants as keys
-use Rattle.booth_conf.specs.declared.settings.FileSetting.TheVariants.{Port, Transport, Authfile, Skew, Extra}
-use Rattle.booth_conf.specs.declared.settings.TicketSetting.TheVariants.{Expire, After, Timeout, Retries, Renewal, Weights, Handler, Prereq, Mode}
+use Rattle.booth_conf.specs.declared.keys.Form.{Form}
+use Rattle.booth_conf.specs.declared.keys.Form.TheVariants as forms
+use Rattle.booth_conf.specs.declared.keys.Scope.{Scope}
+use Rattle.booth_conf.specs.declared.keys.Scope.TheVariants as scopes
+use Rattle.booth_conf.specs.declared.settings.Value.{Value}
+use Rattle.booth_conf.specs.declared.settings.Value.TheVariants as values
+use Rattle.booth_conf.specs.declared.settings.Value.TheVariants.{Number, Text, Word, Address, Name, Weights, Prereq}
+use Rattle.booth_conf.specs.declared.settings.Entry.{Entry}
 use Rattle.booth_conf.specs.declared.settings.Setting.{Setting}
 use Rattle.booth_conf.specs.declared.settings.Setting.TheVariants.{File, Member, Ticket, Defaults, Of}
 use Rattle.booth_conf.specs.declared.line_meaning.Said.{Said}
 use Rattle.booth_conf.specs.declared.line_meaning.Said.TheVariants.{Pair}
 use Rattle.booth_conf.proofs.SayLemmas.{pair_sayable, prereq_sound}
 use Rattle.booth_conf.proofs.SaidLemmas.{said_found}
-use Rattle.booth_conf.specs.declared.limits.TheConstants.{SECONDS}
-use Rattle.booth_base.specs.declared.text.TheConstants.{PATH_BYTES}
 
--- the form of a setting
+-- what is true of a setting
 abbrev pub is_setting : Setting → Bool
-is_setting (File (Port n)) = is_within 1 65535 n
-is_setting (File (Transport t)) = true
-is_setting (File (Authfile text)) = is_text 1 text
-is_setting (File (Skew n)) = is_within 1 SECONDS n
-is_setting (File (Extra key text)) = is_extra (key, text)
+is_setting (File e) = is_entry e
 is_setting (Member m) = is_member m
 is_setting (Ticket name) = is_ticket_name name
 is_setting Defaults = true
-is_setting (Of (Expire n)) = is_within 1 SECONDS n
-is_setting (Of (After n)) = is_within 0 SECONDS n
-is_setting (Of (Timeout n)) = is_within 1 SECONDS n
-is_setting (Of (Retries n)) = is_within 3 100 n
-is_setting (Of (Renewal n)) = is_within 1 SECONDS n
-is_setting (Of (Weights ws)) = are_some_weights ws
-is_setting (Of (Handler text)) = is_command text
-is_setting (Of (Prereq q)) = is_prereq q
-is_setting (Of (Mode kind)) = true
+is_setting (Of e) = is_entry e
 
 within : (least most : ℕ) (text : List ℕ) (n : ℕ) → IsNumber least most text n →
     is_within least most n ≡ true
@@ -78,17 +74,11 @@ dotted_form text octets h =
     let d : nat_lt h.d 256 ≡ true = grind (arith, nat_tests, h.fit.3) in
     rw (h.value, a, b, c, d) refl
 
-address_form : (text : List ℕ) (a : Address) → Spells text a → is_address a ≡ true
+address_form : (text : List ℕ) (a : AddressOf) → Spells text a → is_address a ≡ true
 address_form text (V4 octets) h = dotted_form text octets h
 address_form text (V6 octets) h =
     let n : (length octets == 16) ≡ true = grind (arith, nat_tests, h.0.0) in
     rw (n, bytes_pass octets h.0.1) refl
-
-member_form : (site : Bool) (text : List ℕ) (a : Address) → Spells text a →
-    is_member (member_at site a) ≡ true
-member_form site text a h =
-    let same : (id_of a == id_of a) ≡ true = eq-eqb (id_of a) (id_of a) refl in
-    rw (address_form text a h, same) refl
 
 weights_pass : (pieces : List (List ℕ)) (ws : List ℕ) → AreWeights pieces ws →
     list_all is_weight ws ≡ true
@@ -99,10 +89,26 @@ weights_pass (p ∷ ps) (n ∷ ns) h =
     let here : is_weight n ≡ true = grind (arith, nat_tests, h.0.2.high) in
     rw (here, weights_pass ps ns h.1) refl
 
-weights_form : (text ws : List ℕ) → IsWeightList text ws → are_weights ws ≡ true
+pieces_len : (pieces : List (List ℕ)) (ws : List ℕ) → AreWeights pieces ws → length ws ≡ length pieces
+pieces_len [] [] h = refl
+pieces_len [] (n ∷ ns) h = absurd h
+pieces_len (p ∷ ps) [] h = absurd h
+pieces_len (p ∷ ps) (n ∷ ns) h = ap suc (pieces_len ps ns h.1)
+
+weights_form : (text ws : List ℕ) → IsWeightList text ws → (nat_lt 0 (length ws) && are_weights ws) ≡ true
 weights_form text ws h =
+    let pieces : List (List ℕ) = slice_split (λ b. b == 0x2C) text in
+    let len : length ws ≡ count_by (λ b. b == 0x2C) text + 1 =
+    pieces_len pieces ws h.numbers ∙ length-slice_split (λ b. b == 0x2C) text in
+    let some : nat_lt 0 (length ws) ≡ true = grind (arith, nat_tests, len) in
     let few : nat_le (length ws) 16 ≡ true = grind (arith, nat_tests, h.few) in
-    rw (few, weights_pass (slice_split (λ b. b == 0x2C) text) ws h.numbers) refl
+    rw (some, few, weights_pass pieces ws h.numbers) refl
+
+word_form : (words : List (List ℕ × List ℕ)) (text : List ℕ) (place : ℕ) →
+    position (is_word_of text) words ≡ Some place → nat_lt place (length words) ≡ true
+word_form words text place e =
+    let h : place < length words = (position-Some (is_word_of text) words place ([], []) e).0 in
+    grind (arith, nat_tests)
 
 other_name : (name : List ℕ) → name ≢ default_name → not (bytes_eq name default_name) ≡ true
 other_name name n = other_at name (bytes_eq name default_name) n refl where
@@ -111,43 +117,44 @@ other_name name n = other_at name (bytes_eq name default_name) n refl where
   other_at name true n e = absurd (n ((bytes_eq-Decides name default_name).0 e))
   other_at name false n e = refl
 
-ticket_form : (text : List ℕ) (s : Setting) → is_sayable text ≡ true → IsTicketLine text s →
-    is_setting s ≡ true
-ticket_form text s t (inl h) = rw h.1 refl
-ticket_form text s t (inr h) = rw (h.2, h.1, other_name text h.0, t) refl
+-- a value that a line spells can be said by a line
+form_sound : (form : Form) (text : List ℕ) (value : Value) → is_sayable text ≡ true → HasForm form text value →
+    is_of form value ≡ true
+form_sound (forms.Number least most) text (Number n) t h = within least most text n h
+form_sound (forms.Text least) text (Text value) t h = text_form least text value t h
+form_sound forms.Command text (Text value) t h = command_form text value t h
+form_sound (forms.OneOf choice) text (Word place) t h = word_form (words_of choice) text place h
+form_sound forms.Address text (Address address) t h = address_form text address h
+form_sound forms.TicketName text (Name name) t h = rw (h.2, h.1, other_name text h.0, t) refl
+form_sound forms.TicketName text values.Defaults t h = refl
+form_sound forms.Weights text (Weights weights) t h = weights_form text weights.items h
+form_sound forms.Prereq text (Prereq prereq) t h = prereq_sound text prereq t h
+form_sound form text value t h = absurd h
 
--- what a maker makes of a value of a form passes the test that it passes for each such value
-made_form : {X : Type 0} (Form : List ℕ → X → Type 0) (make : X → Setting) (text : List ℕ) (s : Setting) →
-    IsSetBy Form make text s → ((x : X) → Form text x → is_setting (make x) ≡ true) →
-    is_setting s ≡ true
-made_form Form make text s h k = rw h.set (k h.value h.spelled)
+entry_sound : (scope : Scope) (e : Entry) → is_entry e ≡ true → is_setting (in_scope scope e) ≡ true
+entry_sound scopes.File e h = h
+entry_sound scopes.Ticket e h = h
 
-pub setting_form : (key : ConfKey) (text : List ℕ) (s : Setting) → is_sayable text ≡ true →
+member_sound : (site : Bool) (form : Form) (a : AddressOf) → is_of form (Address a) ≡ true →
+    is_member (member_at site a) ≡ true
+member_sound site forms.Address a h = let same : (id_of a == id_of a) ≡ true = eq-eqb (id_of a) (id_of a) refl in rw (h, same) refl
+member_sound site form a h = cc
+
+name_sound : (form : Form) (name : List ℕ) → is_of form (Name name) ≡ true → is_ticket_name name ≡ true
+name_sound forms.TicketName name h = h
+name_sound form name h = cc
+
+value_sound : (key : ConfKey) (value : Value) → is_of (row_of key).form value ≡ true →
+    is_setting (setting_of key value) ≡ true
+value_sound key (Address a) h = member_sound (are_one keys.Site key) (row_of key).form a h
+value_sound key (Name name) h = name_sound (row_of key).form name h
+value_sound key values.Defaults h = refl
+value_sound key value h = entry_sound (row_of key).scope (record { key = key; value = value }) h
+
+setting_form : (key : ConfKey) (text : List ℕ) (s : Setting) → is_sayable text ≡ true →
     HasValue key text s → is_setting s ≡ true
-setting_form keys.Port text s t h = made_form _ _ text s h (λ n k. within 1 65535 text n k)
-setting_form keys.Transport text s t h = made_form _ _ text s h (λ n k. refl)
-setting_form keys.Authfile text s t h = made_form _ _ text s h (λ v k. text_form 1 text v t k)
-setting_form keys.Maxtimeskew text s t h = made_form _ _ text s h (λ n k. within 1 SECONDS text n k)
-setting_form keys.Debug text s t h = made_form _ _ text s h (λ v k. text_form 0 text v t k)
-setting_form keys.SiteUser text s t h = made_form _ _ text s h (λ v k. text_form 0 text v t k)
-setting_form keys.SiteGroup text s t h = made_form _ _ text s h (λ v k. text_form 0 text v t k)
-setting_form keys.ArbitratorUser text s t h = made_form _ _ text s h (λ v k. text_form 0 text v t k)
-setting_form keys.ArbitratorGroup text s t h =
-    made_form _ _ text s h (λ v k. text_form 0 text v t k)
-setting_form keys.Site text s t h = made_form _ _ text s h (λ a k. member_form true text a k)
-setting_form keys.Arbitrator text s t h = made_form _ _ text s h (λ a k. member_form false text a k)
-setting_form keys.Ticket text s t h = ticket_form text s t h
-setting_form keys.Expire text s t h = made_form _ _ text s h (λ n k. within 1 SECONDS text n k)
-setting_form keys.AcquireAfter text s t h =
-    made_form _ _ text s h (λ n k. within 0 SECONDS text n k)
-setting_form keys.Timeout text s t h = made_form _ _ text s h (λ n k. within 1 SECONDS text n k)
-setting_form keys.Retries text s t h = made_form _ _ text s h (λ n k. within 3 100 text n k)
-setting_form keys.RenewalFreq text s t h = made_form _ _ text s h (λ n k. within 1 SECONDS text n k)
-setting_form keys.Weights text s t h = made_form _ _ text s h (λ ws k. weights_form text ws k)
-setting_form keys.BeforeAcquireHandler text s t h =
-    made_form _ _ text s h (λ v k. command_form text v t k)
-setting_form keys.AttrPrereq text s t h = made_form _ _ text s h (λ q k. prereq_sound text q t k)
-setting_form keys.Mode text s t h = made_form _ _ text s h (λ kind k. refl)
+setting_form key text s t h =
+    rw h.set (value_sound key h.value (form_sound (row_of key).form text h.value t h.spelled))
 
 -- the setting of a line
 said_form : (line : List ℕ) (t : Said) (key : ConfKey) (s : Setting) → IsSaid line t →

@@ -10,9 +10,9 @@ use Rattle.booth_conf.specs.declared.limits.TheConstants.{SECONDS}
 use Rattle.booth_conf.specs.declared.tickets.TicketConf.{TicketConf}
 use Rattle.booth_conf.specs.declared.faults.ConfFault.{ConfFault}
 use Rattle.booth_conf.specs.declared.faults.ConfFault.TheVariants.{Renewal, RetryTime}
-use Rattle.booth_conf.proofs.DefaultLemmas.{both_true}
+use Rattle.booth_conf.proofs.KeyLemmas.{both_true}
 use Rattle.booth_conf.proofs.FirstLemmas.{given, given_cons}
-use Rattle.booth_conf.proofs.ConfigRuns.{TimesFacts, times_facts, ticket_facts}
+use Rattle.booth_conf.proofs.TicketAgain.{TimesFacts, times_facts, ticket_facts}
 
 -- what is given of no element is given neither of the first nor of the others
 none_given : {X Y : Type 0} (f : ℕ × X → Option Y) (n : ℕ) (x : X) (xs : List X) (o : Option Y)

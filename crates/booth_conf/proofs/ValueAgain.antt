@@ -10,7 +10,7 @@ use Rattle.std.proofs.lemmas.Bool.Decides.{nat_tests}
 use Rattle.booth_base.specs.Name.{is_name, is_value, is_name_byte}
 use Rattle.booth_conf.specs.Grammar.{is_value_byte, is_other}
 use Rattle.booth_conf.specs.Values.{is_digit, worth, is_word_byte, is_word, begins_gap, AreWords, IsWeight, AreWeights, IsKindWord, IsTestWord, default_name}
-use Rattle.booth_conf.specs.ValueReader.{number_in, number_within, text_in, command_in, weights_in, prereq_in, ticket_in}
+use Rattle.booth_conf.specs.ValueReader.{number_in, number_within, text_in, command_in, weights_in, prereq_in}
 use Rattle.booth_conf.specs.Print.{kind_word, test_word, prereq_text, weights_text}
 use Rattle.booth_conf.specs.Sound.{is_within, is_sayable, is_text, is_command, is_weight, are_weights, is_prereq, is_ticket_name}
 use Rattle.booth_conf.specs.declared.limits.TheConstants.{WEIGHT}
@@ -18,8 +18,7 @@ use Rattle.booth_base.specs.declared.limits.TheConstants.{MEMBERS}
 use Rattle.booth_conf.specs.declared.tickets.GrantKind.{GrantKind}
 use Rattle.booth_conf.specs.declared.tickets.GrantKind.TheVariants.{Auto, Manual}
 use Rattle.booth_conf.specs.declared.tickets.Prereq.{Prereq}
-use Rattle.booth_conf.specs.declared.settings.Setting.TheVariants.{Ticket}
-use Rattle.booth_conf.proofs.DefaultLemmas.{both_true}
+use Rattle.booth_conf.proofs.KeyLemmas.{both_true}
 use Rattle.booth_conf.proofs.Forms.{weights_only, prereq_only}
 use Rattle.booth_conf.proofs.SayLemmas.{name_bytes}
 use Rattle.booth_base.specs.declared.text.TheConstants.{PATH_BYTES}
@@ -104,14 +103,6 @@ command_again value h = let b = both_true (is_text 1 value) (list_any is_word_by
 pub command_sayable : (value : List ℕ) → is_command value ≡ true → is_sayable value ≡ true
 command_sayable value h =
     text_sayable 1 value (both_true (is_text 1 value) (list_any is_word_byte value) h).0
-
-pub ticket_again : (name : List ℕ) → is_ticket_name name ≡ true →
-    ticket_in name ≡ Some (Ticket name)
-ticket_again name h =
-    let a = both_true (is_name name) (not (bytes_eq name default_name) && is_sayable name) h in
-    let b = both_true (not (bytes_eq name default_name)) (is_sayable name) a.1 in
-    let n : bytes_eq name default_name ≡ false = grind (arith, nat_tests) in
-    rw (n, a.0) refl
 
 pub ticket_sayable : (name : List ℕ) → is_ticket_name name ≡ true → is_sayable name ≡ true
 ticket_sayable name h =

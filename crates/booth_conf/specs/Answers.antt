@@ -4,13 +4,8 @@ use Rattle.booth_conf.specs.declared.faults.LineFault.{LineFault}
 use Rattle.booth_conf.specs.declared.faults.Stop.{Stop}
 use Rattle.booth_conf.specs.declared.faults.Stop.TheVariants as stops
 
--- Ok: no fault, and the new value is this one. Err: this fault, and the value is unchanged.
-abbrev pub AnswersAt : {V : Type 0} → Result (Unit {0}) LineFault → V → Option LineFault → V → V → Type 0
-AnswersAt (Ok done) new fault old more = (fault ≡ None) × (new ≡ more)
-AnswersAt (Err kind) new fault old more = (fault ≡ Some kind) × (new ≡ old)
-
--- the same, and nothing where memory ran out
+-- Ok: no fault, and the new value is this one. Err: this fault, or want of memory, and the value is unchanged.
 abbrev pub Answers : {V : Type 0} → Result (Unit {0}) Stop → V → Option LineFault → V → V → Type 0
 Answers (Ok done) new fault old more = (fault ≡ None) × (new ≡ more)
-Answers (Err stops.Memory) new fault old more = Unit {0}
+Answers (Err stops.Memory) new fault old more = new ≡ old
 Answers (Err (stops.Line kind)) new fault old more = (fault ≡ Some kind) × (new ≡ old)

@@ -1,18 +1,19 @@
 -- The configuration that settings say together, and what may be wrong with the whole file.
-use Rattle.std.specs.Prelude.{◌≡◌, ◌⊎◌, ℕ, Bool, true, false, not, nat_lt, ◌==◌, ◌||◌, ◌+◌, ◌*◌, ◌/◌, List, [], ◌∷◌, ◌++◌, map, drop, position, Option, Some, None, option_map, unwrap_or, Result, Ok, Err, if◌then◌else◌}
+use Rattle.std.specs.Prelude.{◌≡◌, ◌⊎◌, ℕ, Bool, not, nat_lt, ◌==◌, ◌||◌, ◌+◌, ◌*◌, ◌/◌, List, [], ◌∷◌, ◌++◌, map, drop, position, Option, Some, None, option_map, unwrap_or, Result, Ok, Err, if◌then◌else◌}
 use Rattle.std.specs.List.{list_any, filter_map, enumerate_from}
 use Rattle.std.specs.Option.{option_or}
 use Rattle.booth_base.specs.declared.address.MemberId.{MemberId}
 use Rattle.booth_base.specs.declared.address.TheConstants.{NO_ONE}
 use Rattle.booth_base.specs.declared.times.Times.{Times}
-use Rattle.booth_conf.specs.Sections.{SectionSays, first, section_of}
+use Rattle.booth_conf.specs.Sections.{first, number_given, text_given, word_given, weights_given, prereq_of, extra_of}
 use Rattle.booth_conf.specs.Rules.{Summary}
+use Rattle.booth_conf.specs.declared.keys.ConfKey.{ConfKey}
+use Rattle.booth_conf.specs.declared.keys.ConfKey.TheVariants as keys
 use Rattle.booth_conf.specs.declared.keys.KeyNo.{KeyNo}
 use Rattle.booth_conf.specs.declared.members.Member.{Member}
-use Rattle.booth_conf.specs.declared.tickets.GrantKind.{GrantKind}
-use Rattle.booth_conf.specs.declared.tickets.GrantKind.TheVariants.{Auto, Manual}
 use Rattle.booth_conf.specs.declared.tickets.TicketConf.{TicketConf}
 use Rattle.booth_conf.specs.declared.sections.NamedSection.{NamedSection}
+use Rattle.booth_conf.specs.declared.settings.Entry.{Entry}
 use Rattle.booth_conf.specs.declared.faults.ConfFault.{ConfFault}
 use Rattle.booth_conf.specs.declared.faults.ConfFault.TheVariants.{NoSite, NoTicket, IdClash, Renewal, RetryTime, OutOfMemory}
 
@@ -36,42 +37,47 @@ abbrev pub renewal_of : Option ℕ → ℕ → ℕ
 renewal_of None expire = expire / 2
 renewal_of (Some seconds) expire = 1000 * seconds
 
+-- the number that is chosen for a key
+abbrev pub chosen_number : ConfKey → List Entry → List Entry → ℕ → ℕ
+chosen_number key defaults own table = chosen (number_given key own) (number_given key defaults) table
+
 -- the times in milliseconds
-abbrev pub times_of : SectionSays → SectionSays → Times
+abbrev pub times_of : List Entry → List Entry → Times
 times_of defaults own =
-    let expire : ℕ = 1000 * chosen own.expire defaults.expire 600 in
+    let expire : ℕ = 1000 * chosen_number keys.Expire defaults own 600 in
     record {
       expire = expire;
-      after = 1000 * chosen own.after defaults.after 0;
-      timeout = 1000 * chosen own.timeout defaults.timeout 5;
-      retries = chosen own.retries defaults.retries 10;
-      renewal = renewal_of (option_or own.renewal defaults.renewal) expire;
+      after = 1000 * chosen_number keys.AcquireAfter defaults own 0;
+      timeout = 1000 * chosen_number keys.Timeout defaults own 5;
+      retries = chosen_number keys.Retries defaults own 10;
+      renewal = renewal_of
+          (option_or (number_given keys.RenewalFreq own) (number_given keys.RenewalFreq defaults)) expire;
     }
 
-abbrev pub is_manual : GrantKind → Bool
-is_manual Auto = false
-is_manual Manual = true
+-- the second word of a mode is `manual`
+abbrev pub is_manual : ℕ → Bool
+is_manual place = place == 1
 
-abbrev pub ticket_of : SectionSays → NamedSection → TicketConf
+abbrev pub ticket_of : List Entry → NamedSection → TicketConf
 ticket_of defaults t = record {
   name = t.name;
-  manual = is_manual (chosen t.section.mode defaults.mode Auto);
+  manual = is_manual (chosen (word_given keys.Mode t.section) (word_given keys.Mode defaults) 0);
   times = times_of defaults t.section;
-  weights = chosen t.section.weights defaults.weights (record { items = [] });
-  handler = option_or t.section.handler defaults.handler;
-  prereqs = record { items = t.section.prereqs };
+  weights = chosen (weights_given keys.Weights t.section) (weights_given keys.Weights defaults) (record { items = [] });
+  handler = option_or (text_given keys.BeforeAcquireHandler t.section) (text_given keys.BeforeAcquireHandler defaults);
+  prereqs = record { items = filter_map prereq_of t.section };
 }
 
 -- the defaults, which are empty where there is no `__default__`
-abbrev pub defaults_of : Summary → SectionSays
-defaults_of d = unwrap_or d.defaults (section_of [] [])
+abbrev pub defaults_of : Summary → List Entry
+defaults_of d = unwrap_or d.defaults []
 
 abbrev pub config_of : Summary → ConfigSays
 config_of d = record {
-  port = unwrap_or d.top.port 9929;
-  authfile = d.top.authfile;
-  skew = unwrap_or d.top.skew 600;
-  extras = d.top.extras;
+  port = unwrap_or (number_given keys.Port d.top) 9929;
+  authfile = text_given keys.Authfile d.top;
+  skew = unwrap_or (number_given keys.Maxtimeskew d.top) 600;
+  extras = filter_map extra_of d.top;
   members = d.members;
   tickets = map (ticket_of (defaults_of d)) d.tickets;
 }

@@ -1,52 +1,58 @@
--- The table of keys: the number, the name and the scope of each. `Values` has the forms of their values.
+-- The table of keys: the number, the name, the scope and the form of each. `Values` says what has a form.
 use Rattle.std.specs.Prelude.{◌≡◌, ◌==◌, ℕ, Bool, List, [], ◌∷◌, Option, Some, None, option_map, codes, bytes_eq}
 use Rattle.std.specs.List.{find}
 use Rattle.std.specs.Borrow.{Bor}
 use Rattle.booth_conf.specs.declared.keys.KeyNo.{KeyNo}
 use Rattle.booth_conf.specs.declared.keys.Row.{Row}
+use Rattle.booth_conf.specs.declared.limits.TheConstants.{SECONDS}
+use Rattle.booth_conf.specs.declared.keys.Choice.TheVariants as choices
+use Rattle.booth_conf.specs.declared.keys.Form.{Form}
+use Rattle.booth_conf.specs.declared.keys.Form.TheVariants.{Number, Text, Command, OneOf, Address, TicketName, Weights, Prereq}
 use Rattle.booth_conf.specs.declared.keys.Scope.{Scope}
 use Rattle.booth_conf.specs.declared.keys.Scope.TheVariants.{File, Ticket as OfTicket}
 use Rattle.booth_conf.specs.declared.keys.ConfKey.{ConfKey}
-use Rattle.booth_conf.specs.declared.keys.ConfKey.TheVariants.{Port, Transport, Authfile, Maxtimeskew, Debug, SiteUser, SiteGroup, ArbitratorUser, ArbitratorGroup, Site, Arbitrator, Ticket, Expire, AcquireAfter, Timeout, Retries, RenewalFreq, Weights, BeforeAcquireHandler, AttrPrereq, Mode}
+use Rattle.booth_conf.specs.declared.keys.ConfKey.TheVariants as keys
 
 -- what the table says of a key
 pub record KeyRow : Type 0 where
   pub number : ℕ
   pub name : List ℕ
   pub scope : Scope
+  pub form : Form
 
-abbrev pub row : ℕ → List ℕ → Scope → KeyRow
-row number name scope = record { number = number; name = name; scope = scope }
+abbrev pub row : ℕ → List ℕ → Scope → Form → KeyRow
+row number name scope form = record { number = number; name = name; scope = scope; form = form }
 
 -- THE TABLE
 abbrev pub row_of : ConfKey → KeyRow
-row_of Port = row 1 (codes "port") File
-row_of Transport = row 2 (codes "transport") File
-row_of Authfile = row 3 (codes "authfile") File
-row_of Maxtimeskew = row 4 (codes "maxtimeskew") File
-row_of Debug = row 5 (codes "debug") File
-row_of SiteUser = row 6 (codes "site-user") File
-row_of SiteGroup = row 7 (codes "site-group") File
-row_of ArbitratorUser = row 8 (codes "arbitrator-user") File
-row_of ArbitratorGroup = row 9 (codes "arbitrator-group") File
-row_of Site = row 10 (codes "site") File
-row_of Arbitrator = row 11 (codes "arbitrator") File
-row_of Ticket = row 12 (codes "ticket") File
-row_of Expire = row 13 (codes "expire") OfTicket
-row_of AcquireAfter = row 14 (codes "acquire-after") OfTicket
-row_of Timeout = row 15 (codes "timeout") OfTicket
-row_of Retries = row 16 (codes "retries") OfTicket
-row_of RenewalFreq = row 17 (codes "renewal-freq") OfTicket
-row_of Weights = row 18 (codes "weights") OfTicket
-row_of BeforeAcquireHandler = row 19 (codes "before-acquire-handler") OfTicket
-row_of AttrPrereq = row 20 (codes "attr-prereq") OfTicket
-row_of Mode = row 21 (codes "mode") OfTicket
+row_of keys.Port = row 1 (codes "port") File (Number 1 65535)
+row_of keys.Transport = row 2 (codes "transport") File (OneOf choices.Transport)
+row_of keys.Authfile = row 3 (codes "authfile") File (Text 1)
+row_of keys.Maxtimeskew = row 4 (codes "maxtimeskew") File (Number 1 SECONDS)
+row_of keys.Debug = row 5 (codes "debug") File (Text 0)
+row_of keys.SiteUser = row 6 (codes "site-user") File (Text 0)
+row_of keys.SiteGroup = row 7 (codes "site-group") File (Text 0)
+row_of keys.ArbitratorUser = row 8 (codes "arbitrator-user") File (Text 0)
+row_of keys.ArbitratorGroup = row 9 (codes "arbitrator-group") File (Text 0)
+row_of keys.Site = row 10 (codes "site") File Address
+row_of keys.Arbitrator = row 11 (codes "arbitrator") File Address
+row_of keys.Ticket = row 12 (codes "ticket") File TicketName
+row_of keys.Expire = row 13 (codes "expire") OfTicket (Number 1 SECONDS)
+row_of keys.AcquireAfter = row 14 (codes "acquire-after") OfTicket (Number 0 SECONDS)
+row_of keys.Timeout = row 15 (codes "timeout") OfTicket (Number 1 SECONDS)
+row_of keys.Retries = row 16 (codes "retries") OfTicket (Number 3 100)
+row_of keys.RenewalFreq = row 17 (codes "renewal-freq") OfTicket (Number 1 SECONDS)
+row_of keys.Weights = row 18 (codes "weights") OfTicket Weights
+row_of keys.BeforeAcquireHandler = row 19 (codes "before-acquire-handler") OfTicket Command
+row_of keys.AttrPrereq = row 20 (codes "attr-prereq") OfTicket Prereq
+row_of keys.Mode = row 21 (codes "mode") OfTicket (OneOf choices.Mode)
 
 abbrev pub all_keys : List ConfKey
 all_keys =
-    Port ∷ Transport ∷ Authfile ∷ Maxtimeskew ∷ Debug ∷ SiteUser ∷ SiteGroup ∷ ArbitratorUser
-    ∷ ArbitratorGroup ∷ Site ∷ Arbitrator ∷ Ticket ∷ Expire ∷ AcquireAfter ∷ Timeout ∷ Retries
-    ∷ RenewalFreq ∷ Weights ∷ BeforeAcquireHandler ∷ AttrPrereq ∷ Mode ∷ []
+    keys.Port ∷ keys.Transport ∷ keys.Authfile ∷ keys.Maxtimeskew ∷ keys.Debug ∷ keys.SiteUser
+    ∷ keys.SiteGroup ∷ keys.ArbitratorUser ∷ keys.ArbitratorGroup ∷ keys.Site ∷ keys.Arbitrator
+    ∷ keys.Ticket ∷ keys.Expire ∷ keys.AcquireAfter ∷ keys.Timeout ∷ keys.Retries ∷ keys.RenewalFreq
+    ∷ keys.Weights ∷ keys.BeforeAcquireHandler ∷ keys.AttrPrereq ∷ keys.Mode ∷ []
 
 abbrev pub is_named : List ℕ → ConfKey → Bool
 is_named name key = bytes_eq (row_of key).name name
@@ -61,6 +67,10 @@ number_of key = record { 0 = (row_of key).number }
 abbrev pub has_number : KeyNo → ConfKey → Bool
 has_number number key = (row_of key).number == number.0
 
+-- two keys are one where their numbers are
+abbrev pub are_one : ConfKey → ConfKey → Bool
+are_one key other = (row_of other).number == (row_of key).number
+
 -- the key with this number
 abbrev pub key_numbered : KeyNo → Option ConfKey
 key_numbered number = find (has_number number) all_keys
@@ -74,6 +84,7 @@ pub record IsRow (shown : Row) (said : KeyRow) : Type 0 where
   pub number : shown.number.0 ≡ said.number
   pub name : shown.name.now ≡ said.name
   pub scope : shown.scope ≡ said.scope
+  pub form : shown.form ≡ said.form
 
 abbrev pub Names : Option (Bor (List ℕ)) → Option (List ℕ) → Type 0
 Names None name = name ≡ None

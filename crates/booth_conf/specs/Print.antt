@@ -1,57 +1,35 @@
 -- The text of a configuration: one line a key, as `key = value`.
-use Rattle.std.specs.Prelude.{ℕ, Bool, true, false, ◌==◌, ◌/◌, List, [], ◌∷◌, ◌++◌, map, flat_map, Option, Some, None, unwrap_or, if◌then◌else◌, codes, decimal}
+use Rattle.std.specs.Prelude.{ℕ, Bool, true, false, ◌==◌, ◌/◌, List, [], ◌∷◌, ◌++◌, map, flat_map, Option, Some, None, option_map, unwrap_or, slice_get, if◌then◌else◌, codes, decimal}
 use Rattle.std.specs.List.{list_all}
+use Rattle.std.specs.Option.{option_map_or}
 use Rattle.booth_base.specs.Address.{printed as address_text}
 use Rattle.booth_base.specs.declared.times.Times.{Times}
 use Rattle.booth_conf.specs.Grammar.{is_other}
-use Rattle.booth_conf.specs.Keys.{row_of, name_at}
-use Rattle.booth_conf.specs.Values.{default_name}
+use Rattle.booth_conf.specs.Keys.{row_of, key_numbered}
+use Rattle.booth_conf.specs.Values.{default_name, words_of}
 use Rattle.booth_conf.specs.Config.{ConfigSays}
-use Rattle.booth_conf.specs.declared.keys.KeyNo.{KeyNo}
+use Rattle.booth_conf.specs.declared.keys.Choice.{Choice}
+use Rattle.booth_conf.specs.declared.keys.ConfKey.{ConfKey}
 use Rattle.booth_conf.specs.declared.keys.ConfKey.TheVariants as keys
+use Rattle.booth_conf.specs.declared.keys.Form.{Form}
+use Rattle.booth_conf.specs.declared.keys.Form.TheVariants.{OneOf}
+use Rattle.booth_conf.specs.declared.keys.KeyNo.{KeyNo}
 use Rattle.booth_conf.specs.declared.tickets.GrantKind.{GrantKind}
 use Rattle.booth_conf.specs.declared.tickets.GrantKind.TheVariants.{Auto, Manual}
 use Rattle.booth_conf.specs.declared.tickets.Prereq.{Prereq as PrereqOf}
 use Rattle.booth_conf.specs.declared.tickets.TicketConf.{TicketConf}
-use Rattle.booth_conf.specs.declared.settings.Transport.TheVariants.{Udp}
-use Rattle.booth_conf.specs.declared.settings.FileSetting.{FileSetting}
-use Rattle.booth_conf.specs.declared.settings.FileSetting.TheVariants.{Port, Transport, Authfile, Skew, Extra}
-use Rattle.booth_conf.specs.declared.settings.TicketSetting.{TicketSetting}
-use Rattle.booth_conf.specs.declared.settings.TicketSetting.TheVariants.{Expire, After, Timeout, Retries, Renewal, Weights, Handler, Prereq, Mode}
+use Rattle.booth_conf.specs.declared.settings.Value.{Value}
+use Rattle.booth_conf.specs.declared.settings.Value.TheVariants as values
+use Rattle.booth_conf.specs.declared.settings.Value.TheVariants.{Number, Text, Word, Address, Name, Weights, Prereq}
+use Rattle.booth_conf.specs.declared.settings.Entry.{Entry}
 use Rattle.booth_conf.specs.declared.settings.Setting.{Setting}
 use Rattle.booth_conf.specs.declared.settings.Setting.TheVariants.{File, Member, Ticket, Defaults, Of}
 
 -- A SETTING AS A LINE
 
-abbrev pub file_name : FileSetting → List ℕ
-file_name (Port n) = (row_of keys.Port).name
-file_name (Transport t) = (row_of keys.Transport).name
-file_name (Authfile text) = (row_of keys.Authfile).name
-file_name (Skew n) = (row_of keys.Maxtimeskew).name
-file_name (Extra key text) = unwrap_or (name_at key) []
-
-abbrev pub ticket_key_name : TicketSetting → List ℕ
-ticket_key_name (Expire n) = (row_of keys.Expire).name
-ticket_key_name (After n) = (row_of keys.AcquireAfter).name
-ticket_key_name (Timeout n) = (row_of keys.Timeout).name
-ticket_key_name (Retries n) = (row_of keys.Retries).name
-ticket_key_name (Renewal n) = (row_of keys.RenewalFreq).name
-ticket_key_name (Weights ws) = (row_of keys.Weights).name
-ticket_key_name (Handler text) = (row_of keys.BeforeAcquireHandler).name
-ticket_key_name (Prereq q) = (row_of keys.AttrPrereq).name
-ticket_key_name (Mode kind) = (row_of keys.Mode).name
-
 abbrev pub role_name : Bool → List ℕ
 role_name true = (row_of keys.Site).name
 role_name false = (row_of keys.Arbitrator).name
-
--- the name of a setting's key
-abbrev pub setting_name : Setting → List ℕ
-setting_name (File f) = file_name f
-setting_name (Member m) = role_name m.site
-setting_name (Ticket name) = (row_of keys.Ticket).name
-setting_name Defaults = (row_of keys.Ticket).name
-setting_name (Of p) = ticket_key_name p
 
 abbrev pub kind_word : GrantKind → List ℕ
 kind_word Auto = codes "auto"
@@ -71,31 +49,45 @@ abbrev pub weights_text : List ℕ → List ℕ
 weights_text [] = []
 weights_text (n ∷ ns) = decimal n ++ flat_map (λ m. 0x2C ∷ decimal m) ns
 
-abbrev pub file_value : FileSetting → List ℕ
-file_value (Port n) = decimal n
-file_value (Transport t) = codes "UDP"
-file_value (Authfile text) = text
-file_value (Skew n) = decimal n
-file_value (Extra key text) = text
+abbrev pub word_at : Choice → ℕ → List ℕ
+word_at choice place = option_map_or (λ word. word.0) (slice_get (words_of choice) place) []
 
-abbrev pub ticket_key_value : TicketSetting → List ℕ
-ticket_key_value (Expire n) = decimal n
-ticket_key_value (After n) = decimal n
-ticket_key_value (Timeout n) = decimal n
-ticket_key_value (Retries n) = decimal n
-ticket_key_value (Renewal n) = decimal n
-ticket_key_value (Weights ws) = weights_text ws.items
-ticket_key_value (Handler text) = text
-ticket_key_value (Prereq q) = prereq_text q
-ticket_key_value (Mode kind) = kind_word kind
+abbrev pub word_text : Form → ℕ → List ℕ
+word_text (OneOf choice) place = word_at choice place
+word_text form place = []
+
+-- a value of this form
+abbrev pub value_text : Form → Value → List ℕ
+value_text form (Number n) = decimal n
+value_text form (Text text) = text
+value_text form (Word place) = word_text form place
+value_text form (Address address) = address_text address
+value_text form (Name name) = name
+value_text form values.Defaults = default_name
+value_text form (Weights weights) = weights_text weights.items
+value_text form (Prereq prereq) = prereq_text prereq
+
+abbrev pub entry_name : Entry → List ℕ
+entry_name e = (row_of e.key).name
+
+abbrev pub entry_value : Entry → List ℕ
+entry_value e = value_text (row_of e.key).form e.value
+
+-- the name of a setting's key
+abbrev pub setting_name : Setting → List ℕ
+setting_name (File e) = entry_name e
+setting_name (Member m) = role_name m.site
+setting_name (Ticket name) = (row_of keys.Ticket).name
+setting_name Defaults = (row_of keys.Ticket).name
+setting_name (Of e) = entry_name e
 
 -- the value of a setting
 abbrev pub setting_value : Setting → List ℕ
-setting_value (File f) = file_value f
+setting_value (File e) = entry_value e
 setting_value (Member m) = address_text m.address
 setting_value (Ticket name) = name
 setting_value Defaults = default_name
-setting_value (Of p) = ticket_key_value p
+setting_value (Of e) = entry_value e
 
 -- in `"` where the value has none, else in `'` where it has none, else bare
 abbrev pub written : List ℕ → List ℕ
@@ -118,59 +110,79 @@ setting_line s = pair_line (setting_name s) (setting_value s)
 abbrev pub lines_text : List Setting → List ℕ
 lines_text ss = flat_map (λ s. line_text (setting_name s) (setting_value s)) ss
 
--- THE SETTINGS THAT ARE PRINTED
+abbrev pub entries_text : List Entry → List ℕ
+entries_text es = flat_map (λ e. line_text (entry_name e) (entry_value e)) es
 
-abbrev pub authfile_settings : Option (List ℕ) → List Setting
-authfile_settings None = []
-authfile_settings (Some text) = File (Authfile text) ∷ []
+-- THE SETTINGS THAT ARE PRINTED, in the order of the table
 
-abbrev pub extra_setting : KeyNo × List ℕ → Setting
-extra_setting e = File (Extra e.0 e.1)
+abbrev pub set : ConfKey → Value → Entry
+set key value = record { key = key; value = value }
+
+-- a key where there is a value for it
+abbrev pub optional : ConfKey → Option Value → List Entry
+optional key None = []
+optional key (Some value) = set key value ∷ []
+
+abbrev pub authfile_entries : Option (List ℕ) → List Entry
+authfile_entries authfile = optional keys.Authfile (option_map Text authfile)
+
+-- the key without effect with this number
+abbrev pub extra_key : KeyNo → ConfKey
+extra_key number = unwrap_or (key_numbered number) keys.Debug
+
+abbrev pub extra_entry : KeyNo × List ℕ → Entry
+extra_entry extra = set (extra_key extra.0) (Text extra.1)
 
 -- a renewal that is half of expire is left out
-abbrev pub renewal_settings : Times → List Setting
-renewal_settings times =
-    if times.renewal == times.expire / 2 then [] else Of (Renewal (times.renewal / 1000)) ∷ []
+abbrev pub renewal_said : Times → Option ℕ
+renewal_said times = if times.renewal == times.expire / 2 then None else Some (times.renewal / 1000)
 
-abbrev pub weights_settings : List ℕ → List Setting
-weights_settings [] = []
-weights_settings (n ∷ ns) = Of (Weights (record { items = n ∷ ns })) ∷ []
+abbrev pub renewal_entries : Times → List Entry
+renewal_entries times = optional keys.RenewalFreq (option_map Number (renewal_said times))
 
-abbrev pub handler_settings : Option (List ℕ) → List Setting
-handler_settings None = []
-handler_settings (Some text) = Of (Handler text) ∷ []
+abbrev pub weights_said : List ℕ → Option Value
+weights_said [] = None
+weights_said (n ∷ ns) = Some (Weights (record { items = n ∷ ns }))
 
-abbrev pub prereq_setting : PrereqOf → Setting
-prereq_setting q = Of (Prereq q)
+abbrev pub weights_entries : List ℕ → List Entry
+weights_entries weights = optional keys.Weights (weights_said weights)
 
-abbrev pub kind_of : Bool → GrantKind
-kind_of true = Manual
-kind_of false = Auto
+abbrev pub handler_entries : Option (List ℕ) → List Entry
+handler_entries handler = optional keys.BeforeAcquireHandler (option_map Text handler)
+
+abbrev pub prereq_entry : PrereqOf → Entry
+prereq_entry prereq = set keys.AttrPrereq (Prereq prereq)
+
+-- the place of the word of a mode
+abbrev pub word_of : Bool → ℕ
+word_of false = 0
+word_of true = 1
 
 -- the times in seconds
-abbrev pub times_settings : Times → List Setting
-times_settings times =
-    Of (Expire (times.expire / 1000)) ∷ Of (After (times.after / 1000))
-    ∷ Of (Timeout (times.timeout / 1000)) ∷ Of (Retries times.retries) ∷ renewal_settings times
+abbrev pub times_entries : Times → List Entry
+times_entries times =
+    set keys.Expire (Number (times.expire / 1000)) ∷ set keys.AcquireAfter (Number (times.after / 1000))
+    ∷ set keys.Timeout (Number (times.timeout / 1000)) ∷ set keys.Retries (Number times.retries) ∷ renewal_entries times
 
 -- the keys of a ticket
-abbrev pub key_settings : TicketConf → List Setting
-key_settings t =
-    times_settings t.times ++ (weights_settings t.weights.items ++ (handler_settings t.handler
-    ++ (map prereq_setting t.prereqs.items ++ Of (Mode (kind_of t.manual)) ∷ [])))
+abbrev pub key_entries : TicketConf → List Entry
+key_entries t =
+    times_entries t.times ++ (weights_entries t.weights.items ++ (handler_entries t.handler
+    ++ (map prereq_entry t.prereqs.items ++ set keys.Mode (Word (word_of t.manual)) ∷ [])))
 
 abbrev pub ticket_settings : TicketConf → List Setting
-ticket_settings t = Ticket t.name ∷ key_settings t
+ticket_settings t = Ticket t.name ∷ map Of (key_entries t)
 
-abbrev pub top_settings : ℕ → Option (List ℕ) → ℕ → List (KeyNo × List ℕ) → List Setting
-top_settings port authfile skew extras =
-    File (Port port) ∷ File (Transport Udp)
-    ∷ (authfile_settings authfile ++ (File (Skew skew) ∷ map extra_setting extras))
+-- the keys of the whole file
+abbrev pub top_entries : ℕ → Option (List ℕ) → ℕ → List (KeyNo × List ℕ) → List Entry
+top_entries port authfile skew extras =
+    set keys.Port (Number port) ∷ set keys.Transport (Word 0)
+    ∷ (authfile_entries authfile ++ (set keys.Maxtimeskew (Number skew) ∷ map extra_entry extras))
 
 -- the keys of the whole file, the members, and the tickets with all their keys
 abbrev pub settings_of : ConfigSays → List Setting
 settings_of c =
-    top_settings c.port c.authfile c.skew c.extras
+    map File (top_entries c.port c.authfile c.skew c.extras)
     ++ (map Member c.members ++ flat_map ticket_settings c.tickets)
 
 abbrev pub printed : ConfigSays → List ℕ

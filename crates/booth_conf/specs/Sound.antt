@@ -8,7 +8,6 @@ use Rattle.booth_base.specs.declared.address.Address.TheVariants.{V4, V6}
 use Rattle.booth_base.specs.declared.times.Times.{Times}
 use Rattle.booth_conf.specs.Grammar.{is_value_byte, is_other, begins_bare, stays_bare}
 use Rattle.booth_conf.specs.Values.{is_word_byte, is_word, default_name}
-use Rattle.booth_conf.specs.Sections.{has_key}
 use Rattle.booth_conf.specs.Rules.{is_at}
 use Rattle.booth_conf.specs.Config.{ConfigSays, file_fault}
 use Rattle.booth_conf.specs.Print.{prereq_text}
@@ -93,7 +92,7 @@ are_new same before [] = true
 are_new same before (x ∷ xs) = not (list_any (same x) before) && are_new same (before ++ x ∷ []) xs
 
 abbrev pub same_key : KeyNo × List ℕ → KeyNo × List ℕ → Bool
-same_key e f = has_key e.0 f
+same_key e f = f.0.0 == e.0.0
 
 abbrev pub same_member : Member → Member → Bool
 same_member m n = is_at m.address n

@@ -1,23 +1,41 @@
 -- What is true of what is read, before the defaults are filled in.
-use Rattle.std.specs.Prelude.{◌≡◌, ◌≤◌, ℕ, Bool, true, ◌&&◌, [], length, bytes_eq}
-use Rattle.std.specs.List.{list_all}
-use Rattle.arrayvec.specs.ArrayVec.{ArrayVec}
-use Rattle.booth_conf.specs.Sections.{SectionSays}
-use Rattle.booth_conf.specs.Rules.{Summary}
-use Rattle.booth_conf.specs.Sound.{is_within, each, is_text, is_command, is_extra, is_member, are_weights, are_prereqs, is_ticket_name, are_new, same_key, same_member}
-use Rattle.booth_conf.specs.declared.limits.TheConstants.{SECONDS, TICKETS}
+use Rattle.std.specs.Prelude.{◌≡◌, ◌≤◌, Bool, true, false, ◌&&◌, nat_lt, nat_le, List, [], length, count_by, bytes_eq}
+use Rattle.std.specs.List.{list_all, filter_map}
 use Rattle.booth_base.specs.declared.limits.TheConstants.{MEMBERS}
+use Rattle.booth_conf.specs.Keys.{row_of}
+use Rattle.booth_conf.specs.Values.{words_of}
+use Rattle.booth_conf.specs.Sections.{has_key, extra_of}
+use Rattle.booth_conf.specs.Rules.{Summary}
+use Rattle.booth_conf.specs.Sound.{is_within, each, is_text, is_command, is_address, is_member, are_weights, is_prereq, is_ticket_name, are_new, same_key, same_member}
+use Rattle.booth_conf.specs.declared.limits.TheConstants.{PREREQS, TICKETS}
+use Rattle.booth_conf.specs.declared.keys.ConfKey.TheVariants as keys
+use Rattle.booth_conf.specs.declared.keys.Form.{Form}
+use Rattle.booth_conf.specs.declared.keys.Form.TheVariants as forms
 use Rattle.booth_conf.specs.declared.sections.NamedSection.{NamedSection}
+use Rattle.booth_conf.specs.declared.settings.Value.{Value}
+use Rattle.booth_conf.specs.declared.settings.Value.TheVariants.{Number, Text, Word, Address, Name, Defaults, Weights, Prereq}
+use Rattle.booth_conf.specs.declared.settings.Entry.{Entry}
 
-abbrev pub are_some_weights : ArrayVec ℕ → Bool
-are_some_weights ws = are_weights ws.items
+-- a value that some line can say in this form
+abbrev pub is_of : Form → Value → Bool
+is_of (forms.Number least most) (Number n) = is_within least most n
+is_of (forms.Text least) (Text text) = is_text least text
+is_of forms.Command (Text text) = is_command text
+is_of (forms.OneOf choice) (Word place) = nat_lt place (length (words_of choice))
+is_of forms.Address (Address address) = is_address address
+is_of forms.TicketName (Name name) = is_ticket_name name
+is_of forms.TicketName Defaults = true
+is_of forms.Weights (Weights weights) = nat_lt 0 (length weights.items) && are_weights weights.items
+is_of forms.Prereq (Prereq prereq) = is_prereq prereq
+is_of form value = false
 
-abbrev pub is_section : SectionSays → Bool
-is_section p =
-    each (is_within 1 SECONDS) p.expire && (each (is_within 0 SECONDS) p.after
-    && (each (is_within 1 SECONDS) p.timeout && (each (is_within 3 100) p.retries
-    && (each (is_within 1 SECONDS) p.renewal && (each are_some_weights p.weights
-    && (each is_command p.handler && are_prereqs p.prereqs))))))
+abbrev pub is_entry : Entry → Bool
+is_entry e = is_of (row_of e.key).form e.value
+
+-- each entry has its key's form, and there are not too many prerequisites
+abbrev pub is_section : List Entry → Bool
+is_section section =
+    list_all is_entry section && nat_le (count_by (has_key keys.AttrPrereq) section) PREREQS
 
 abbrev pub is_named_section : NamedSection → Bool
 is_named_section t = is_ticket_name t.name && is_section t.section
@@ -26,11 +44,8 @@ abbrev pub same_section : NamedSection → NamedSection → Bool
 same_section t u = bytes_eq t.name u.name
 
 pub record IsSoundDraft (d : Summary) : Type 0 where
-  pub port : each (is_within 1 65535) d.top.port ≡ true
-  pub authfile : each (is_text 1) d.top.authfile ≡ true
-  pub skew : each (is_within 1 SECONDS) d.top.skew ≡ true
-  pub extras : list_all is_extra d.top.extras ≡ true
-  pub new_extras : are_new same_key [] d.top.extras ≡ true
+  pub top : is_section d.top ≡ true
+  pub new_extras : are_new same_key [] (filter_map extra_of d.top) ≡ true
   pub members : list_all is_member d.members ≡ true
   pub new_members : are_new same_member [] d.members ≡ true
   pub few_members : length d.members ≤ MEMBERS

@@ -1,5 +1,5 @@
--- What the functions that read a value compute. The proofs show that it is the form of the key.
-use Rattle.std.specs.Prelude.{◌≡◌, ℕ, Bool, true, false, ◌&&◌, ◌||◌, nat_le, nat_lt, List, [], ◌∷◌, ◌++◌, length, Option, Some, None, is_some, option_map, option_and_then, if◌then◌else◌, codes, bytes_eq, ◌==◌}
+-- What the functions that read a value compute. The proofs show that it is what the text spells.
+use Rattle.std.specs.Prelude.{◌≡◌, ℕ, Bool, true, false, ◌&&◌, nat_le, nat_lt, List, [], ◌∷◌, ◌++◌, length, Option, Some, None, is_some, option_map, option_and_then, position, if◌then◌else◌, codes, bytes_eq, ◌==◌}
 use Rattle.std.specs.List.{list_all, list_any, slice_split}
 use Rattle.std.specs.Borrow.{Bor}
 use Rattle.std.specs.Net.Addr.{octets_of}
@@ -9,22 +9,20 @@ use Rattle.booth_base.specs.declared.address.Address.{Address}
 use Rattle.booth_base.specs.declared.address.Address.TheVariants.{V4, V6}
 use Rattle.booth_conf.specs.Grammar.{past}
 use Rattle.booth_conf.specs.LineReader.{front}
-use Rattle.booth_conf.specs.Keys.{number_of}
-use Rattle.booth_conf.specs.Values.{is_digit, worth, is_gap, is_word_byte, default_name, member_at}
-use Rattle.booth_conf.specs.declared.limits.TheConstants.{SECONDS, WEIGHT}
+use Rattle.booth_conf.specs.Keys.{row_of}
+use Rattle.booth_conf.specs.Values.{is_digit, worth, is_gap, is_word_byte, is_word_of, words_of, default_name, setting_of}
+use Rattle.booth_conf.specs.declared.limits.TheConstants.{WEIGHT}
 use Rattle.booth_base.specs.declared.limits.TheConstants.{MEMBERS}
 use Rattle.booth_conf.specs.declared.words.FourWords.{FourWords}
 use Rattle.booth_conf.specs.declared.keys.ConfKey.{ConfKey}
-use Rattle.booth_conf.specs.declared.keys.ConfKey.TheVariants as keys
+use Rattle.booth_conf.specs.declared.keys.Form.{Form}
+use Rattle.booth_conf.specs.declared.keys.Form.TheVariants as forms
 use Rattle.booth_conf.specs.declared.tickets.GrantKind.{GrantKind}
 use Rattle.booth_conf.specs.declared.tickets.GrantKind.TheVariants.{Auto, Manual}
 use Rattle.booth_conf.specs.declared.tickets.Prereq.{Prereq as PrereqOf}
-use Rattle.booth_conf.specs.declared.settings.Transport.{Transport as TransportOf}
-use Rattle.booth_conf.specs.declared.settings.Transport.TheVariants.{Udp}
-use Rattle.booth_conf.specs.declared.settings.FileSetting.TheVariants.{Port, Transport, Authfile, Skew, Extra}
-use Rattle.booth_conf.specs.declared.settings.TicketSetting.TheVariants.{Expire, After, Timeout, Retries, Renewal, Weights, Handler, Prereq, Mode}
+use Rattle.booth_conf.specs.declared.settings.Value.{Value}
+use Rattle.booth_conf.specs.declared.settings.Value.TheVariants.{Number, Text, Word, Address as AnAddress, Name, Defaults, Weights, Prereq}
 use Rattle.booth_conf.specs.declared.settings.Setting.{Setting}
-use Rattle.booth_conf.specs.declared.settings.Setting.TheVariants.{File, Member, Ticket, Defaults, Of}
 use Rattle.booth_base.specs.declared.text.TheConstants.{PATH_BYTES}
 
 -- NUMBERS
@@ -88,14 +86,6 @@ text_in least text =
 abbrev pub command_in : List ℕ → Option (List ℕ)
 command_in text = if list_any is_word_byte text then text_in 1 text else None
 
-abbrev pub transport_in : List ℕ → Option TransportOf
-transport_in text = if bytes_eq text (codes "UDP") || bytes_eq text (codes "udp") then Some Udp else None
-
-abbrev pub mode_in : List ℕ → Option GrantKind
-mode_in text =
-    if bytes_eq text (codes "manual") || bytes_eq text (codes "MANUAL") then Some Manual
-    else (if bytes_eq text (codes "auto") || bytes_eq text (codes "AUTO") then Some Auto else None)
-
 abbrev pub is_segment : ℕ → Bool
 is_segment segment = nat_lt segment 65536
 
@@ -116,9 +106,6 @@ name_in text = if is_name text then Some text else None
 
 abbrev pub value_in : List ℕ → Option (List ℕ)
 value_in text = if is_value text then Some text else None
-
-abbrev pub ticket_in : List ℕ → Option Setting
-ticket_in text = if bytes_eq text default_name then Some Defaults else option_map Ticket (name_in text)
 
 abbrev pub weight_in : List ℕ → Option ℕ
 weight_in piece = option_and_then (number_within 0 WEIGHT) (one_word piece)
@@ -158,31 +145,21 @@ prereq_of w =
 abbrev pub prereq_in : List ℕ → Option PrereqOf
 prereq_in text = option_and_then prereq_of (four_words text)
 
--- THE VALUE OF EACH KEY
+-- THE VALUE OF A KEY
 
-abbrev pub extra_in : ConfKey → List ℕ → Option Setting
-extra_in key text = option_map (λ value. File (Extra (number_of key) value)) (text_in 0 text)
+abbrev pub weights_value : List ℕ → Value
+weights_value ws = Weights (record { items = ws })
+
+-- the value that a text spells in this form, where there is one
+abbrev pub form_in : Form → List ℕ → Option Value
+form_in (forms.Number least most) text = option_map Number (number_within least most text)
+form_in (forms.Text least) text = option_map Text (text_in least text)
+form_in forms.Command text = option_map Text (command_in text)
+form_in (forms.OneOf choice) text = option_map Word (position (is_word_of text) (words_of choice))
+form_in forms.Address text = option_map AnAddress (address_in text)
+form_in forms.TicketName text = if bytes_eq text default_name then Some Defaults else option_map Name (name_in text)
+form_in forms.Weights text = option_map weights_value (weights_in text)
+form_in forms.Prereq text = option_map Prereq (prereq_in text)
 
 abbrev pub setting_in : ConfKey → List ℕ → Option Setting
-setting_in keys.Port text = option_map (λ n. File (Port n)) (number_within 1 65535 text)
-setting_in keys.Transport text = option_map (λ t. File (Transport t)) (transport_in text)
-setting_in keys.Authfile text = option_map (λ value. File (Authfile value)) (text_in 1 text)
-setting_in keys.Maxtimeskew text = option_map (λ n. File (Skew n)) (number_within 1 SECONDS text)
-setting_in keys.Debug text = extra_in keys.Debug text
-setting_in keys.SiteUser text = extra_in keys.SiteUser text
-setting_in keys.SiteGroup text = extra_in keys.SiteGroup text
-setting_in keys.ArbitratorUser text = extra_in keys.ArbitratorUser text
-setting_in keys.ArbitratorGroup text = extra_in keys.ArbitratorGroup text
-setting_in keys.Site text = option_map (λ a. Member (member_at true a)) (address_in text)
-setting_in keys.Arbitrator text = option_map (λ a. Member (member_at false a)) (address_in text)
-setting_in keys.Ticket text = ticket_in text
-setting_in keys.Expire text = option_map (λ n. Of (Expire n)) (number_within 1 SECONDS text)
-setting_in keys.AcquireAfter text = option_map (λ n. Of (After n)) (number_within 0 SECONDS text)
-setting_in keys.Timeout text = option_map (λ n. Of (Timeout n)) (number_within 1 SECONDS text)
-setting_in keys.Retries text = option_map (λ n. Of (Retries n)) (number_within 3 100 text)
-setting_in keys.RenewalFreq text = option_map (λ n. Of (Renewal n)) (number_within 1 SECONDS text)
-setting_in keys.Weights text =
-    option_map (λ ws. Of (Weights (record { items = ws }))) (weights_in text)
-setting_in keys.BeforeAcquireHandler text = option_map (λ value. Of (Handler value)) (command_in text)
-setting_in keys.AttrPrereq text = option_map (λ q. Of (Prereq q)) (prereq_in text)
-setting_in keys.Mode text = option_map (λ kind. Of (Mode kind)) (mode_in text)
+setting_in key text = option_map (setting_of key) (form_in (row_of key).form text)

@@ -1,25 +1,31 @@
--- The form of each key's value. There is no reader in it.
-use Rattle.std.specs.Prelude.{◌≡◌, ◌≢◌, ◌≤◌, ◌<◌, ℕ, Bool, true, false, ◌&&◌, ◌||◌, not, nat_le, ◌==◌, ◌+◌, ◌-◌, ◌*◌, List, [], ◌∷◌, ◌++◌, length, fold, codes, ◌⊎◌}
+-- The forms of values, and what the value of a key sets. There is no reader in it.
+use Rattle.std.specs.Prelude.{◌≡◌, ◌≢◌, ◌≤◌, ◌<◌, ℕ, Bool, true, false, ◌&&◌, ◌||◌, not, nat_le, ◌==◌, ◌+◌, ◌-◌, ◌*◌, List, [], ◌∷◌, ◌++◌, length, fold, position, Some, codes, bytes_eq}
 use Rattle.std.specs.List.{list_all, list_any, slice_split}
 use Rattle.booth_base.specs.Name.{is_name, is_value}
 use Rattle.booth_base.specs.Address.{Spells, id_of}
-use Rattle.booth_base.specs.declared.address.Address.{Address}
-use Rattle.booth_conf.specs.Keys.{number_of}
-use Rattle.booth_conf.specs.declared.limits.TheConstants.{SECONDS, WEIGHT}
+use Rattle.booth_base.specs.declared.address.Address.{Address as AddressOf}
 use Rattle.booth_base.specs.declared.limits.TheConstants.{MEMBERS}
+use Rattle.booth_base.specs.declared.text.TheConstants.{PATH_BYTES}
+use Rattle.booth_conf.specs.Keys.{row_of, are_one}
+use Rattle.booth_conf.specs.declared.limits.TheConstants.{WEIGHT}
+use Rattle.booth_conf.specs.declared.keys.Choice.{Choice}
+use Rattle.booth_conf.specs.declared.keys.Choice.TheVariants as choices
 use Rattle.booth_conf.specs.declared.keys.ConfKey.{ConfKey}
 use Rattle.booth_conf.specs.declared.keys.ConfKey.TheVariants as keys
+use Rattle.booth_conf.specs.declared.keys.Form.{Form}
+use Rattle.booth_conf.specs.declared.keys.Form.TheVariants as forms
+use Rattle.booth_conf.specs.declared.keys.Scope.{Scope}
+use Rattle.booth_conf.specs.declared.keys.Scope.TheVariants as scopes
 use Rattle.booth_conf.specs.declared.members.Member.{Member as MemberOf}
 use Rattle.booth_conf.specs.declared.tickets.GrantKind.{GrantKind}
 use Rattle.booth_conf.specs.declared.tickets.GrantKind.TheVariants as kinds
 use Rattle.booth_conf.specs.declared.tickets.Prereq.{Prereq as PrereqOf}
-use Rattle.booth_conf.specs.declared.settings.Transport.{Transport as TransportOf}
-use Rattle.booth_conf.specs.declared.settings.Transport.TheVariants.{Udp}
-use Rattle.booth_conf.specs.declared.settings.FileSetting.TheVariants.{Port, Transport, Authfile, Skew, Extra}
-use Rattle.booth_conf.specs.declared.settings.TicketSetting.TheVariants.{Expire, After, Timeout, Retries, Renewal, Weights, Handler, Prereq, Mode}
+use Rattle.booth_conf.specs.declared.settings.Value.{Value}
+use Rattle.booth_conf.specs.declared.settings.Value.TheVariants.{Number, Text, Word, Address, Name, Defaults, Weights, Prereq}
+use Rattle.booth_conf.specs.declared.settings.Entry.{Entry}
 use Rattle.booth_conf.specs.declared.settings.Setting.{Setting}
-use Rattle.booth_conf.specs.declared.settings.Setting.TheVariants.{File, Member, Ticket, Defaults, Of}
-use Rattle.booth_base.specs.declared.text.TheConstants.{PATH_BYTES}
+use Rattle.booth_conf.specs.declared.settings.Setting.TheVariants as settings
+use Rattle.booth_conf.specs.declared.settings.Setting.TheVariants.{File, Member, Ticket, Of}
 
 -- NUMBERS
 
@@ -78,12 +84,17 @@ pub record IsCommand (text value : List ℕ) : Type 0 where
   pub text_of : IsText 1 PATH_BYTES text value
   pub some_word : list_any is_word_byte text ≡ true
 
-abbrev pub IsTransport : List ℕ → TransportOf → Type 0
-IsTransport text transport = ((text ≡ codes "UDP") ⊎ (text ≡ codes "udp")) × (transport ≡ Udp)
+-- each word as it is printed, and its other spelling
+abbrev pub words_of : Choice → List (List ℕ × List ℕ)
+words_of choices.Transport = (codes "UDP", codes "udp") ∷ []
+words_of choices.Mode = (codes "auto", codes "AUTO") ∷ (codes "manual", codes "MANUAL") ∷ []
 
-abbrev pub IsMode : List ℕ → GrantKind → Type 0
-IsMode text kinds.Auto = (text ≡ codes "auto") ⊎ (text ≡ codes "AUTO")
-IsMode text kinds.Manual = (text ≡ codes "manual") ⊎ (text ≡ codes "MANUAL")
+abbrev pub is_word_of : List ℕ → List ℕ × List ℕ → Bool
+is_word_of text word = bytes_eq text word.0 || bytes_eq text word.1
+
+-- the place of the first of these words that the text is
+abbrev pub IsOneOf : Choice → List ℕ → ℕ → Type 0
+IsOneOf choice text place = position (is_word_of text) (words_of choice) ≡ Some place
 
 -- one number between the commas, with gaps around it
 abbrev pub IsWeight : List ℕ → ℕ → Type 0
@@ -117,49 +128,40 @@ pub record IsPrereq (text : List ℕ) (prereq : PrereqOf) : Type 0 where
   pub test_is : IsTestWord test prereq.equal
   pub value_is : is_value prereq.value ≡ true
 
--- THE FORM OF EACH KEY
-
--- the setting that this maker makes of a value that the text spells
-pub record IsSetBy {X : Type 0} (Form : List ℕ → X → Type 0) (make : X → Setting) (text : List ℕ)
-    (setting : Setting) : Type 0 where
-  pub value : X
-  pub spelled : Form text value
-  pub set : setting ≡ make value
-
 abbrev pub default_name : List ℕ
 default_name = codes "__default__"
 
--- `__default__`, or the name of a ticket
-abbrev pub IsTicketLine : List ℕ → Setting → Type 0
-IsTicketLine text setting =
-    ((text ≡ default_name) × (setting ≡ Defaults))
-    ⊎ ((text ≢ default_name) × (is_name text ≡ true) × (setting ≡ Ticket text))
+-- the value that a text spells in this form
+abbrev pub HasForm : Form → List ℕ → Value → Type 0
+HasForm (forms.Number least most) text (Number n) = IsNumber least most text n
+HasForm (forms.Text least) text (Text value) = IsText least PATH_BYTES text value
+HasForm forms.Command text (Text value) = IsCommand text value
+HasForm (forms.OneOf choice) text (Word place) = IsOneOf choice text place
+HasForm forms.Address text (Address address) = Spells text address
+HasForm forms.TicketName text (Name name) = (text ≢ default_name) × (is_name text ≡ true) × (name ≡ text)
+HasForm forms.TicketName text Defaults = text ≡ default_name
+HasForm forms.Weights text (Weights weights) = IsWeightList text weights.items
+HasForm forms.Prereq text (Prereq prereq) = IsPrereq text prereq
+HasForm form text value = ⊥
 
-abbrev pub member_at : Bool → Address → MemberOf
+-- WHAT A KEY SETS
+
+abbrev pub member_at : Bool → AddressOf → MemberOf
 member_at site address = record { site = site; address = address; id = record { 0 = id_of address } }
 
-abbrev pub IsExtra : ConfKey → List ℕ → Setting → Type 0
-IsExtra key = IsSetBy (IsText 0 PATH_BYTES) (λ text. File (Extra (number_of key) text))
+abbrev pub in_scope : Scope → Entry → Setting
+in_scope scopes.File entry = File entry
+in_scope scopes.Ticket entry = Of entry
 
-abbrev pub HasValue : ConfKey → List ℕ → Setting → Type 0
-HasValue keys.Port = IsSetBy (IsNumber 1 65535) (λ n. File (Port n))
-HasValue keys.Transport = IsSetBy IsTransport (λ t. File (Transport t))
-HasValue keys.Authfile = IsSetBy (IsText 1 PATH_BYTES) (λ text. File (Authfile text))
-HasValue keys.Maxtimeskew = IsSetBy (IsNumber 1 SECONDS) (λ n. File (Skew n))
-HasValue keys.Debug = IsExtra keys.Debug
-HasValue keys.SiteUser = IsExtra keys.SiteUser
-HasValue keys.SiteGroup = IsExtra keys.SiteGroup
-HasValue keys.ArbitratorUser = IsExtra keys.ArbitratorUser
-HasValue keys.ArbitratorGroup = IsExtra keys.ArbitratorGroup
-HasValue keys.Site = IsSetBy Spells (λ a. Member (member_at true a))
-HasValue keys.Arbitrator = IsSetBy Spells (λ a. Member (member_at false a))
-HasValue keys.Ticket = IsTicketLine
-HasValue keys.Expire = IsSetBy (IsNumber 1 SECONDS) (λ n. Of (Expire n))
-HasValue keys.AcquireAfter = IsSetBy (IsNumber 0 SECONDS) (λ n. Of (After n))
-HasValue keys.Timeout = IsSetBy (IsNumber 1 SECONDS) (λ n. Of (Timeout n))
-HasValue keys.Retries = IsSetBy (IsNumber 3 100) (λ n. Of (Retries n))
-HasValue keys.RenewalFreq = IsSetBy (IsNumber 1 SECONDS) (λ n. Of (Renewal n))
-HasValue keys.Weights = IsSetBy IsWeightList (λ ws. Of (Weights (record { items = ws })))
-HasValue keys.BeforeAcquireHandler = IsSetBy IsCommand (λ text. Of (Handler text))
-HasValue keys.AttrPrereq = IsSetBy IsPrereq (λ q. Of (Prereq q))
-HasValue keys.Mode = IsSetBy IsMode (λ kind. Of (Mode kind))
+-- what a key and its value set
+abbrev pub setting_of : ConfKey → Value → Setting
+setting_of key (Address address) = Member (member_at (are_one keys.Site key) address)
+setting_of key (Name name) = Ticket name
+setting_of key Defaults = settings.Defaults
+setting_of key value = in_scope (row_of key).scope (record { key = key; value = value })
+
+-- the text spells a value in the key's form, and this is what the two set
+pub record HasValue (key : ConfKey) (text : List ℕ) (setting : Setting) : Type 0 where
+  pub value : Value
+  pub spelled : HasForm (row_of key).form text value
+  pub set : setting ≡ setting_of key value

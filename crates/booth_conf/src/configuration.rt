@@ -5,16 +5,17 @@ ghost use Rattle.std.specs.List.{All};
 ghost use Rattle.std.specs.Option.{option_copied};
 ghost use Rattle.booth_conf.specs.Config.{Completes, ConfigSays, has_id};
 ghost use Rattle.booth_conf.specs.Lookups.{is_called, rank_of, weights_at};
-ghost use Rattle.booth_conf.specs.Sections.{section_of};
+ghost use Rattle.booth_conf.specs.Sections.{number_given};
 ghost use Rattle.booth_conf.specs.Print.{printed};
 ghost use Rattle.booth_conf.specs.Says.{Parses, Says};
 ghost use Rattle.booth_conf.specs.Sound.{HasTimes, IsSound};
-ghost use Rattle.booth_conf.specs.SoundDraft.{IsSoundDraft};
+ghost use Rattle.booth_conf.specs.SoundDraft.{is_section, IsSoundDraft};
 
 use crate::checks::file_fault;
 use crate::defaults::tickets;
 use crate::drafts::{Draft, NamesAndSections};
 use crate::faults::ConfFault;
+use crate::keys::ConfKey;
 use crate::limits::{TEXT_BYTES, TICKETS};
 use crate::lines::read_lines;
 use crate::members::Member;
@@ -68,12 +69,23 @@ impl Model for Config {
         }) };
 }
 
-fn defaults(draft: Option<Section>) -> Section
-    ensures { result ≡ unwrap_or draft (section_of [] []) }
+fn defaults(alloc: Global, draft: Option<Section>) -> Section
+    ensures { result ≡ unwrap_or draft [] }
 {
     match draft {
         Some(section) => section,
-        None => Section::new(),
+        None => Section::new(alloc),
+    }
+}
+
+#[tactic(auto, using(crate::proofs::DefaultLemmas::port_fits))]
+fn port(top: &Section) -> u16
+    requires { is_section top.now ≡ true }
+    ensures { result ≡ unwrap_or (number_given ConfKey.Port top.now) 9929 }
+{
+    match top.number(ConfKey::Port) {
+        Some(port) => port as u16,
+        None => 9929,
     }
 }
 
@@ -88,9 +100,13 @@ fn complete(alloc: Global, draft: Draft) -> Result<Config, ConfFault>
         defaults: default,
         tickets: sections,
     } = draft;
-    let defaults = defaults(default);
+    let defaults = defaults(alloc, default);
     let NamesAndSections { names, sections } = sections.into_sections();
     let members = members.into_vec();
+    let extras = match top.extras(alloc) {
+        Ok(extras) => extras,
+        Err(_) => return Err(ConfFault::OutOfMemory),
+    };
     let tickets = match tickets(alloc, &defaults, &sections) {
         Ok(tickets) => tickets,
         Err(_) => return Err(ConfFault::OutOfMemory),
@@ -98,10 +114,10 @@ fn complete(alloc: Global, draft: Draft) -> Result<Config, ConfFault>
     match file_fault(&members, &tickets) {
         Some(fault) => Err(fault),
         None => Ok(Config {
-            port: top.port.unwrap_or(9929),
-            authfile: top.authfile,
-            skew: u64::from(top.skew.unwrap_or(600)),
-            extras: top.extras,
+            port: port(&top),
+            authfile: top.text(ConfKey::Authfile),
+            skew: u64::from(top.number(ConfKey::Maxtimeskew).unwrap_or(600)),
+            extras,
             members,
             names,
             tickets,

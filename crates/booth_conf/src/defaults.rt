@@ -1,12 +1,15 @@
 //! Tickets with the defaults filled in.
-ghost use Rattle.std.specs.Prelude.{◌≡◌, ◌*◌, [], IfOk, map};
+ghost use Rattle.std.specs.Prelude.{◌≡◌, ◌*◌, true, [], IfOk, map};
+ghost use Rattle.std.specs.List.{list_all};
 ghost use Rattle.std.specs.Option.{option_or};
 ghost use Rattle.booth_conf.specs.Config.{chosen, is_manual, renewal_of, ticket_of, times_of};
+ghost use Rattle.booth_conf.specs.SoundDraft.{is_named_section, is_section};
 
+use crate::keys::ConfKey;
 use crate::sections::{NamedSection, Section};
-use crate::tickets::{GrantKind, TicketConf, copy_path, copy_prereqs, copy_weights};
+use crate::tickets::TicketConf;
 use arrayvec::ArrayVec;
-use booth_base::{MEMBERS, PathText, Times};
+use booth_base::Times;
 use std::alloc::{AllocError, Global};
 
 fn milliseconds(own: Option<u32>, default: Option<u32>, table: u32) -> u64
@@ -27,66 +30,70 @@ fn renewal(own: Option<u32>, default: Option<u32>, expire: u64) -> u64
 fn times(defaults: &Section, own: &Section) -> Times
     ensures { result ≡ times_of defaults.now own.now }
 {
-    let expire = milliseconds(own.expire, defaults.expire, 600);
+    let expire = milliseconds(
+        own.number(ConfKey::Expire),
+        defaults.number(ConfKey::Expire),
+        600,
+    );
     Times {
         expire,
-        after: milliseconds(own.after, defaults.after, 0),
-        timeout: milliseconds(own.timeout, defaults.timeout, 5),
-        retries: own.retries.or(defaults.retries).unwrap_or(10),
-        renewal: renewal(own.renewal, defaults.renewal, expire),
+        after: milliseconds(
+            own.number(ConfKey::AcquireAfter),
+            defaults.number(ConfKey::AcquireAfter),
+            0,
+        ),
+        timeout: milliseconds(
+            own.number(ConfKey::Timeout),
+            defaults.number(ConfKey::Timeout),
+            5,
+        ),
+        retries: own
+            .number(ConfKey::Retries)
+            .or(defaults.number(ConfKey::Retries))
+            .unwrap_or(10),
+        renewal: renewal(
+            own.number(ConfKey::RenewalFreq),
+            defaults.number(ConfKey::RenewalFreq),
+            expire,
+        ),
     }
 }
 
-fn is_manual(kind: GrantKind) -> bool
-    ensures { result ≡ is_manual kind }
+// Whether the word of a mode is the second, `manual`.
+fn is_manual(own: Option<usize>, default: Option<usize>) -> bool
+    ensures { result ≡ is_manual (chosen own default 0) }
 {
-    match kind {
-        GrantKind::Auto => false,
-        GrantKind::Manual => true,
-    }
-}
-
-fn weights(
-    own: &Option<ArrayVec<u32, MEMBERS>>,
-    default: &Option<ArrayVec<u32, MEMBERS>>,
-) -> ArrayVec<u32, MEMBERS>
-    ensures { result ≡ chosen own.now default.now (record { items = [] }) }
-{
-    match (own, default) {
-        (Some(weights), _) | (None, Some(weights)) => copy_weights(weights),
-        (None, None) => ArrayVec::new(),
-    }
-}
-
-fn handler(own: &Option<PathText>, default: &Option<PathText>) -> Option<PathText>
-    ensures { result ≡ option_or own.now default.now }
-{
-    match own {
-        Some(path) => Some(path.copy()),
-        None => copy_path(default),
-    }
+    own.or(default).unwrap_or(0) == 1
 }
 
 fn ticket(defaults: &Section, named: &NamedSection) -> TicketConf
+    requires { is_section named.now.section ≡ true }
     ensures { result ≡ ticket_of defaults.now named.now }
 {
     let own = &named.section;
     TicketConf {
         name: named.name.copy(),
-        manual: is_manual(own.mode.or(defaults.mode).unwrap_or(GrantKind::Auto)),
+        manual: is_manual(own.word(ConfKey::Mode), defaults.word(ConfKey::Mode)),
         times: times(defaults, own),
-        weights: weights(&own.weights, &defaults.weights),
-        handler: handler(&own.handler, &defaults.handler),
-        prereqs: copy_prereqs(own.prereqs()),
+        weights: own
+            .weights(ConfKey::Weights)
+            .or(defaults.weights(ConfKey::Weights))
+            .unwrap_or(ArrayVec::new()),
+        handler: own
+            .text(ConfKey::BeforeAcquireHandler)
+            .or(defaults.text(ConfKey::BeforeAcquireHandler)),
+        prereqs: own.prereqs(),
     }
 }
 
 /// The tickets, each with its own values or else with the defaults.
+#[tactic(auto, using(crate::proofs::SectionLemmas::section_at))]
 pub fn tickets(
     alloc: Global,
     defaults: &Section,
     sections: &[NamedSection],
 ) -> Result<Vec<TicketConf>, AllocError>
+    requires { list_all is_named_section sections.now ≡ true }
     ensures { IfOk result (λ tickets. tickets.items ≡ map (ticket_of defaults.now) sections.now) }
 {
     let mut tickets = Vec::with_capacity(alloc, sections.len())?;

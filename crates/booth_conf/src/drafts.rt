@@ -1,8 +1,7 @@
 //! A configuration while its lines are read.
-ghost use Rattle.std.specs.Prelude.{◌≡◌, ◌++◌, ◌∷◌, [], ◌≤◌, ◌<◌, false, length, is_some, vec_len, map, OnOk, OnErr};
+ghost use Rattle.std.specs.Prelude.{◌≡◌, ◌++◌, ◌∷◌, [], ◌<◌, false, length, vec_len, map, IfOk, OnOk, OnErr};
 ghost use Rattle.std.specs.List.{list_any};
-ghost use Rattle.booth_conf.specs.Answers.{Answers, AnswersAt};
-ghost use Rattle.booth_conf.specs.Sections.{SectionSays};
+ghost use Rattle.booth_conf.specs.Answers.{Answers};
 ghost use Rattle.booth_conf.specs.Rules.{clash, has_name, is_misplaced, name_of, open_section, placed_clash, prereqs_of, said_fault, summary, value_fault};
 ghost use Rattle.booth_conf.specs.SaidReader.{said};
 ghost use Rattle.booth_conf.specs.Steps.{added, last_added, said_added, value_added};
@@ -10,12 +9,11 @@ ghost use Rattle.booth_conf.specs.declared.sections.NamedSection.{NamedSection a
 
 use crate::faults::{LineFault, Stop};
 use crate::keys::{ConfKey, Scope};
-use crate::limits::{PREREQS, TICKETS};
+use crate::limits::TICKETS;
 use crate::line_meaning::{Said, read_line};
 use crate::members::{Member, MemberList};
-use crate::sections::{NamedSection, Section, Top};
-use crate::settings::{Setting, TicketSetting};
-use crate::tickets::Prereq;
+use crate::sections::{NamedSection, Section};
+use crate::settings::{Entry, Setting};
 use booth_base::{MEMBERS, Name};
 use indexmap::IndexSet;
 use std::alloc::{AllocError, Global};
@@ -85,13 +83,13 @@ impl SectionList {
         Ok(())
     }
 
-    // Adds a key to the last ticket, or says what is wrong with it.
-    fn add(&mut self, setting: TicketSetting) -> Result<(), LineFault>
+    // Adds an entry to the last ticket, or says what is wrong with it.
+    fn add(&mut self, entry: Entry) -> Result<(), Stop>
         requires { 0 < length self.old }
-        ensures { AnswersAt result self.new (placed_clash (open_section None self.old) setting)
-            self.old (last_added self.old setting) }
+        ensures { Answers result self.new (placed_clash (open_section None self.old) entry)
+            self.old (last_added self.old entry) }
     {
-        add_to_last(&mut self.sections, setting)
+        add_to_last(&mut self.sections, entry)
     }
 
     /// The names and the sections.
@@ -105,20 +103,20 @@ impl SectionList {
 }
 
 #[tactic(auto, using(crate::proofs::LastLemmas::open_last, crate::proofs::LastLemmas::added_last))]
-fn add_to_last(sections: &mut Vec<NamedSection>, setting: TicketSetting) -> Result<(), LineFault>
+fn add_to_last(sections: &mut Vec<NamedSection>, entry: Entry) -> Result<(), Stop>
     requires { 0 < vec_len sections.old }
-    ensures { AnswersAt result sections.new.items
-        (placed_clash (open_section None sections.old.items) setting)
-        sections.old.items (last_added sections.old.items setting) }
+    ensures { Answers result sections.new.items
+        (placed_clash (open_section None sections.old.items) entry)
+        sections.old.items (last_added sections.old.items entry) }
 {
     let last = sections.len() - 1;
-    sections[last].section.add(setting)
+    sections[last].section.add(entry)
 }
 
 /// What the lines so far say.
 #[derive(Drop)]
 pub struct Draft {
-    pub top: Top,
+    pub top: Section,
     pub members: MemberList,
     pub defaults: Option<Section>,
     pub tickets: SectionList,
@@ -137,7 +135,7 @@ impl Draft {
         ensures { result ≡ summary [] }
     {
         Draft {
-            top: Top::new(alloc),
+            top: Section::new(alloc),
             members: MemberList::new(alloc),
             defaults: None,
             tickets: SectionList::new(alloc),
@@ -157,17 +155,17 @@ impl Draft {
         self.members.push(member).map_err(|_| Stop::Memory)
     }
 
-    fn default_prereqs(&self) -> &[Prereq]
-        ensures value { result.now ≡ prereqs_of self.now.defaults }
-        ensures few { length result.now ≤ PREREQS }
+    // What a new ticket inherits of the defaults.
+    fn inherited(&self, alloc: Global) -> Result<Section, AllocError>
+        ensures { IfOk result (λ section. section ≡ prereqs_of self.now.defaults) }
     {
         match &self.defaults {
-            Some(section) => section.prereqs(),
-            None => &[],
+            Some(section) => section.inherited(alloc),
+            None => Ok(Section::new(alloc)),
         }
     }
 
-    fn add_ticket(&mut self, name: Name) -> Result<(), Stop>
+    fn add_ticket(&mut self, alloc: Global, name: Name) -> Result<(), Stop>
         ensures { Answers result self.new (clash self.old (Setting.Ticket name))
             self.old (added self.old (Setting.Ticket name)) }
     {
@@ -177,56 +175,63 @@ impl Draft {
         if self.tickets.len() >= TICKETS {
             return Err(Stop::Line(LineFault::TooMany));
         }
-        let section = Section::inheriting(self.default_prereqs());
-        self.tickets.push(name, section).map_err(|_| Stop::Memory)
+        match self.inherited(alloc) {
+            Ok(section) => self.tickets.push(name, section).map_err(|_| Stop::Memory),
+            Err(_) => Err(Stop::Memory),
+        }
     }
 
-    fn add_defaults(&mut self) -> Result<(), LineFault>
-        ensures { AnswersAt result self.new (clash self.old Setting.Defaults)
+    fn add_defaults(&mut self, alloc: Global) -> Result<(), Stop>
+        ensures { Answers result self.new (clash self.old Setting.Defaults)
             self.old (added self.old Setting.Defaults) }
     {
         if self.defaults.is_some() {
-            return Err(LineFault::Repeated);
+            return Err(Stop::Line(LineFault::Repeated));
         }
         if self.tickets.len() > 0 {
-            return Err(LineFault::DefaultLate);
+            return Err(Stop::Line(LineFault::DefaultLate));
         }
-        self.defaults = Some(Section::new());
+        self.defaults = Some(Section::new(alloc));
         Ok(())
     }
 
-    fn add_of_ticket(&mut self, setting: TicketSetting) -> Result<(), LineFault>
-        ensures { AnswersAt result self.new (clash self.old (Setting.Of setting))
-            self.old (added self.old (Setting.Of setting)) }
+    fn add_of_ticket(&mut self, entry: Entry) -> Result<(), Stop>
+        ensures { Answers result self.new (clash self.old (Setting.Of entry))
+            self.old (added self.old (Setting.Of entry)) }
     {
         if self.tickets.len() > 0 {
-            return self.tickets.add(setting);
+            return self.tickets.add(entry);
         }
         match &mut self.defaults {
-            Some(section) => section.add(setting),
-            None => Err(LineFault::Misplaced),
+            Some(section) => section.add(entry),
+            None => Err(Stop::Line(LineFault::Misplaced)),
         }
     }
 
-    fn add(&mut self, setting: Setting) -> Result<(), Stop>
+    fn add(&mut self, alloc: Global, setting: Setting) -> Result<(), Stop>
         ensures { Answers result self.new (clash self.old setting)
             self.old (added self.old setting) }
     {
         match setting {
-            Setting::File(setting) => self.top.add(setting),
+            Setting::File(entry) => self.top.add(entry),
             Setting::Member(member) => self.add_member(member),
-            Setting::Ticket(name) => self.add_ticket(name),
-            Setting::Defaults => self.add_defaults().map_err(Stop::Line),
-            Setting::Of(setting) => self.add_of_ticket(setting).map_err(Stop::Line),
+            Setting::Ticket(name) => self.add_ticket(alloc, name),
+            Setting::Defaults => self.add_defaults(alloc),
+            Setting::Of(entry) => self.add_of_ticket(entry),
         }
     }
 
-    fn add_value(&mut self, key: ConfKey, setting: Option<Setting>) -> Result<(), Stop>
+    fn add_value(
+        &mut self,
+        alloc: Global,
+        key: ConfKey,
+        setting: Option<Setting>,
+    ) -> Result<(), Stop>
         ensures { Answers result self.new (value_fault key self.old setting)
             self.old (value_added self.old setting) }
     {
         match setting {
-            Some(setting) => self.add(setting),
+            Some(setting) => self.add(alloc, setting),
             None => Err(Stop::Line(LineFault::BadValue(key.number()))),
         }
     }
@@ -243,7 +248,7 @@ impl Draft {
     }
 
     /// Takes one line, or says what is wrong with it. It is linear in the line's bytes.
-    pub fn line(&mut self, line: &[u8]) -> Result<(), Stop>
+    pub fn line(&mut self, alloc: Global, line: &[u8]) -> Result<(), Stop>
         ensures { Answers result self.new (said_fault self.old (said line.now))
             self.old (said_added self.old (said line.now)) }
     {
@@ -255,7 +260,7 @@ impl Draft {
                 if self.is_misplaced(key) {
                     return Err(Stop::Line(LineFault::Misplaced));
                 }
-                self.add_value(key, setting)
+                self.add_value(alloc, key, setting)
             }
         }
     }

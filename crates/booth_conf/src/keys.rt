@@ -1,10 +1,36 @@
-//! The table of keys: the number, the name and the scope of each.
+//! The table of keys: the number, the name, the scope and the form of each.
 ghost use Rattle.std.specs.Prelude.{◌≡◌, ◌≤◌, ◌==◌, bytes_eq, length, IfSome};
-ghost use Rattle.booth_conf.specs.Keys.{IsRow, has_number, row, is_named, key_named, key_numbered, name_at, number_of, row_of, Names};
+ghost use Rattle.booth_conf.specs.Keys.{IsRow, are_one, has_number, row, is_named, key_named, key_numbered, name_at, number_of, row_of, Names};
+
+use crate::limits::SECONDS;
 
 /// The number of a key: 1 to 21.
 #[derive(Clone, Copy, Debug, PartialEq, Eq)]
 pub struct KeyNo(pub u8);
+
+/// Words of which a value is one.
+#[derive(Clone, Copy, Debug)]
+pub enum Choice {
+    Transport,
+    Mode,
+}
+
+/// What the value of a key has to be.
+#[derive(Clone, Copy, Debug)]
+pub enum Form {
+    /// A number in this range.
+    Number { least: u32, most: u32 },
+    /// A text of at least so many bytes.
+    Text { least: usize },
+    /// A path and its arguments.
+    Command,
+    /// One of these words.
+    OneOf(Choice),
+    Address,
+    TicketName,
+    Weights,
+    Prereq,
+}
 
 /// A key.
 #[derive(Clone, Copy, Debug)]
@@ -45,18 +71,43 @@ pub struct Row {
     pub number: KeyNo,
     pub name: &'static str,
     pub scope: Scope,
+    pub form: Form,
 }
 
 impl Row {
-    fn new(number: u8, name: &'static str, scope: Scope) -> Row
-        ensures { IsRow result (row number name.entry.now scope) }
+    fn file(number: u8, name: &'static str, form: Form) -> Row
+        ensures { IsRow result (row number name.entry.now Scope.File form) }
     {
         Row {
             number: KeyNo(number),
             name,
-            scope,
+            scope: Scope::File,
+            form,
         }
     }
+
+    fn ticket(number: u8, name: &'static str, form: Form) -> Row
+        ensures { IsRow result (row number name.entry.now Scope.Ticket form) }
+    {
+        Row {
+            number: KeyNo(number),
+            name,
+            scope: Scope::Ticket,
+            form,
+        }
+    }
+}
+
+fn number(least: u32, most: u32) -> Form
+    ensures { result ≡ Form.Number least most }
+{
+    Form::Number { least, most }
+}
+
+fn text(least: usize) -> Form
+    ensures { result ≡ Form.Text least }
+{
+    Form::Text { least }
 }
 
 impl ConfKey {
@@ -91,27 +142,31 @@ impl ConfKey {
         ensures short { length result.name.now ≤ 22 }
     {
         match self {
-            ConfKey::Port => Row::new(1, "port", Scope::File),
-            ConfKey::Transport => Row::new(2, "transport", Scope::File),
-            ConfKey::Authfile => Row::new(3, "authfile", Scope::File),
-            ConfKey::Maxtimeskew => Row::new(4, "maxtimeskew", Scope::File),
-            ConfKey::Debug => Row::new(5, "debug", Scope::File),
-            ConfKey::SiteUser => Row::new(6, "site-user", Scope::File),
-            ConfKey::SiteGroup => Row::new(7, "site-group", Scope::File),
-            ConfKey::ArbitratorUser => Row::new(8, "arbitrator-user", Scope::File),
-            ConfKey::ArbitratorGroup => Row::new(9, "arbitrator-group", Scope::File),
-            ConfKey::Site => Row::new(10, "site", Scope::File),
-            ConfKey::Arbitrator => Row::new(11, "arbitrator", Scope::File),
-            ConfKey::Ticket => Row::new(12, "ticket", Scope::File),
-            ConfKey::Expire => Row::new(13, "expire", Scope::Ticket),
-            ConfKey::AcquireAfter => Row::new(14, "acquire-after", Scope::Ticket),
-            ConfKey::Timeout => Row::new(15, "timeout", Scope::Ticket),
-            ConfKey::Retries => Row::new(16, "retries", Scope::Ticket),
-            ConfKey::RenewalFreq => Row::new(17, "renewal-freq", Scope::Ticket),
-            ConfKey::Weights => Row::new(18, "weights", Scope::Ticket),
-            ConfKey::BeforeAcquireHandler => Row::new(19, "before-acquire-handler", Scope::Ticket),
-            ConfKey::AttrPrereq => Row::new(20, "attr-prereq", Scope::Ticket),
-            ConfKey::Mode => Row::new(21, "mode", Scope::Ticket),
+            ConfKey::Port => Row::file(1, "port", number(1, 65_535)),
+            ConfKey::Transport => Row::file(2, "transport", Form::OneOf(Choice::Transport)),
+            ConfKey::Authfile => Row::file(3, "authfile", text(1)),
+            ConfKey::Maxtimeskew => Row::file(4, "maxtimeskew", number(1, SECONDS)),
+            ConfKey::Debug => Row::file(5, "debug", text(0)),
+            ConfKey::SiteUser => Row::file(6, "site-user", text(0)),
+            ConfKey::SiteGroup => Row::file(7, "site-group", text(0)),
+            ConfKey::ArbitratorUser => Row::file(8, "arbitrator-user", text(0)),
+            ConfKey::ArbitratorGroup => Row::file(9, "arbitrator-group", text(0)),
+            ConfKey::Site => Row::file(10, "site", Form::Address),
+            ConfKey::Arbitrator => Row::file(11, "arbitrator", Form::Address),
+            ConfKey::Ticket => Row::file(12, "ticket", Form::TicketName),
+            ConfKey::Expire => Row::ticket(13, "expire", number(1, SECONDS)),
+            ConfKey::AcquireAfter => Row::ticket(14, "acquire-after", number(0, SECONDS)),
+            ConfKey::Timeout => Row::ticket(15, "timeout", number(1, SECONDS)),
+            ConfKey::Retries => Row::ticket(16, "retries", number(3, 100)),
+            ConfKey::RenewalFreq => Row::ticket(17, "renewal-freq", number(1, SECONDS)),
+            ConfKey::Weights => Row::ticket(18, "weights", Form::Weights),
+            ConfKey::BeforeAcquireHandler => Row::ticket(
+                19,
+                "before-acquire-handler",
+                Form::Command,
+            ),
+            ConfKey::AttrPrereq => Row::ticket(20, "attr-prereq", Form::Prereq),
+            ConfKey::Mode => Row::ticket(21, "mode", Form::OneOf(Choice::Mode)),
         }
     }
 
@@ -120,6 +175,20 @@ impl ConfKey {
         ensures { result ≡ number_of self }
     {
         self.row().number
+    }
+
+    /// The form of its value.
+    pub fn form(self) -> Form
+        ensures { result ≡ (row_of self).form }
+    {
+        self.row().form
+    }
+
+    /// Whether this is that key.
+    pub fn is(self, key: ConfKey) -> bool
+        ensures { result ≡ are_one key self }
+    {
+        self.row().number.0 == key.row().number.0
     }
 
     fn is_named(self, name: &[u8]) -> bool
@@ -141,7 +210,8 @@ impl ConfKey {
         ConfKey::ALL.iter().copied().find(|key| key.is_named(name))
     }
 
-    fn numbered(number: KeyNo) -> Option<ConfKey>
+    /// The key with this number.
+    pub fn numbered(number: KeyNo) -> Option<ConfKey>
         ensures { result ≡ key_numbered number }
     {
         ConfKey::ALL

@@ -16,7 +16,7 @@ fn read(alloc: Global, text: &[u8]) -> Result<Draft, ConfFault>
     let mut number = 0;
     for line in text.split(|b| *b == b'\n') {
         number += 1;
-        match draft.line(line) {
+        match draft.line(alloc, line) {
             Ok(()) => {}
             Err(stop) => return Err(at_line(number, stop)),
         }

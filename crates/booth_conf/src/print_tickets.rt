@@ -2,13 +2,14 @@
 ghost use Rattle.std.specs.Prelude.{◌≡◌, ◌∷◌, [], map};
 ghost use Rattle.std.specs.List.{flat_map};
 ghost use Rattle.booth_conf.specs.Grows.{Grows};
-ghost use Rattle.booth_conf.specs.Print.{handler_settings, kind_of, line_text, lines_text, prereq_setting, renewal_settings, role_name, ticket_settings, times_settings, weights_settings};
+ghost use Rattle.booth_conf.specs.Print.{entries_text, handler_entries, lines_text, prereq_entry, renewal_entries, role_name, ticket_settings, times_entries, weights_entries, word_at, word_of};
+ghost use Rattle.booth_conf.specs.declared.keys.Choice.TheVariants.{Mode};
 ghost use Rattle.booth_conf.specs.declared.settings.Setting.TheVariants.{Member as MemberSetting};
 
 use crate::keys::ConfKey;
 use crate::members::Member;
-use crate::prints::{kind_word, prereq_text, push_line, push_number, weights_text};
-use crate::tickets::{GrantKind, Prereq, TicketConf};
+use crate::prints::{prereq_text, push_line, push_number, weights_text};
+use crate::tickets::{Prereq, TicketConf};
 use booth_base::{PathText, Times};
 use std::alloc::{AllocError, Global};
 
@@ -45,7 +46,7 @@ pub fn push_members(out: &mut Vec<u8>, members: &[Member]) -> Result<(), AllocEr
 
 // A renewal that is half of expire is left out.
 fn push_renewal(out: &mut Vec<u8>, times: &Times) -> Result<(), AllocError>
-    ensures { Grows result out.old.items out.new.items (lines_text (renewal_settings times.now)) }
+    ensures { Grows result out.old.items out.new.items (entries_text (renewal_entries times.now)) }
 {
     if times.renewal == times.expire / 2 {
         return Ok(());
@@ -55,7 +56,7 @@ fn push_renewal(out: &mut Vec<u8>, times: &Times) -> Result<(), AllocError>
 
 #[tactic(auto, using(crate::proofs::PushLemmas::five_pushed))]
 fn push_times(out: &mut Vec<u8>, times: &Times) -> Result<(), AllocError>
-    ensures { Grows result out.old.items out.new.items (lines_text (times_settings times.now)) }
+    ensures { Grows result out.old.items out.new.items (entries_text (times_entries times.now)) }
 {
     push_number(out, ConfKey::Expire, times.expire / 1000)?;
     push_number(out, ConfKey::AcquireAfter, times.after / 1000)?;
@@ -66,7 +67,7 @@ fn push_times(out: &mut Vec<u8>, times: &Times) -> Result<(), AllocError>
 
 // Weights that are empty are left out.
 fn push_weights(alloc: Global, out: &mut Vec<u8>, weights: &[u32]) -> Result<(), AllocError>
-    ensures { Grows result out.old.items out.new.items (lines_text (weights_settings weights.now)) }
+    ensures { Grows result out.old.items out.new.items (entries_text (weights_entries weights.now)) }
 {
     match weights {
         [] => Ok(()),
@@ -78,7 +79,7 @@ fn push_weights(alloc: Global, out: &mut Vec<u8>, weights: &[u32]) -> Result<(),
 }
 
 fn push_handler(out: &mut Vec<u8>, handler: &Option<PathText>) -> Result<(), AllocError>
-    ensures { Grows result out.old.items out.new.items (lines_text (handler_settings handler.now)) }
+    ensures { Grows result out.old.items out.new.items (entries_text (handler_entries handler.now)) }
 {
     match handler {
         Some(command) => push_line(
@@ -91,15 +92,15 @@ fn push_handler(out: &mut Vec<u8>, handler: &Option<PathText>) -> Result<(), All
 }
 
 fn push_prereq(alloc: Global, out: &mut Vec<u8>, prereq: &Prereq) -> Result<(), AllocError>
-    ensures { Grows result out.old.items out.new.items (lines_text (prereq_setting prereq.now ∷ [])) }
+    ensures { Grows result out.old.items out.new.items (entries_text (prereq_entry prereq.now ∷ [])) }
 {
     let text = prereq_text(alloc, prereq)?;
     push_line(out, ConfKey::AttrPrereq.row().name, &text)
 }
 
-#[tactic(auto, using(crate::proofs::LineLemmas::lines_more, std::proofs::lemmas::List::map_more, crate::proofs::LineLemmas::lines_append))]
+#[tactic(auto, using(crate::proofs::LineLemmas::entries_more, std::proofs::lemmas::List::map_more, crate::proofs::LineLemmas::entries_append))]
 fn push_prereqs(alloc: Global, out: &mut Vec<u8>, prereqs: &[Prereq]) -> Result<(), AllocError>
-    ensures { Grows result out.old.items out.new.items (lines_text (map prereq_setting prereqs.now)) }
+    ensures { Grows result out.old.items out.new.items (entries_text (map prereq_entry prereqs.now)) }
 {
     for prereq in prereqs {
         push_prereq(alloc, out, prereq)?;
@@ -107,14 +108,10 @@ fn push_prereqs(alloc: Global, out: &mut Vec<u8>, prereqs: &[Prereq]) -> Result<
     Ok(())
 }
 
-fn kind_of(manual: bool) -> GrantKind
-    ensures { result ≡ kind_of manual }
+fn mode_word(manual: bool) -> &'static [u8]
+    ensures { result.now ≡ word_at Mode (word_of manual) }
 {
-    if manual {
-        GrantKind::Manual
-    } else {
-        GrantKind::Auto
-    }
+    if manual { b"manual" } else { b"auto" }
 }
 
 #[tactic(auto, using(crate::proofs::LineLemmas::ticket_pushed))]
@@ -126,11 +123,7 @@ fn push_ticket(alloc: Global, out: &mut Vec<u8>, ticket: &TicketConf) -> Result<
     push_weights(alloc, out, &ticket.weights)?;
     push_handler(out, &ticket.handler)?;
     push_prereqs(alloc, out, &ticket.prereqs)?;
-    push_line(
-        out,
-        ConfKey::Mode.row().name,
-        kind_word(kind_of(ticket.manual)),
-    )
+    push_line(out, ConfKey::Mode.row().name, mode_word(ticket.manual))
 }
 
 /// Prints the tickets.

@@ -1,10 +1,10 @@
 //! The text of a configuration.
-ghost use Rattle.std.specs.Prelude.{◌≡◌, ◌++◌, ◌∷◌, [], flat_map, map, IfOk, decimal, unwrap_or};
+ghost use Rattle.std.specs.Prelude.{◌≡◌, ◌++◌, ◌∷◌, [], flat_map, map, IfOk, decimal};
 ghost use Rattle.std.specs.List.{list_all};
 ghost use Rattle.booth_conf.specs.Grammar.{is_other};
 ghost use Rattle.booth_conf.specs.Grows.{Grows, quote_of};
-ghost use Rattle.booth_conf.specs.Keys.{name_at, row_of};
-ghost use Rattle.booth_conf.specs.Print.{authfile_settings, extra_setting, kind_word, line_text, lines_text, prereq_text, test_word, top_settings, weights_text, written};
+ghost use Rattle.booth_conf.specs.Keys.{row_of};
+ghost use Rattle.booth_conf.specs.Print.{authfile_entries, entries_text, extra_entry, extra_key, kind_word, line_text, prereq_text, test_word, top_entries, weights_text, written};
 
 use crate::keys::{ConfKey, KeyNo};
 use crate::sections::Extra;
@@ -98,7 +98,7 @@ fn push_word(out: &mut Vec<u8>, word: &[u8]) -> Result<(), AllocError>
     push(out, word)
 }
 
-pub fn kind_word(kind: GrantKind) -> &'static [u8]
+fn kind_word(kind: GrantKind) -> &'static [u8]
     ensures { result.now ≡ kind_word kind }
 {
     match kind {
@@ -160,7 +160,7 @@ pub fn weights_text(alloc: Global, first: u32, rest: &[u32]) -> Result<Vec<u8>, 
 }
 
 fn push_authfile(out: &mut Vec<u8>, path: &Option<PathText>) -> Result<(), AllocError>
-    ensures { Grows result out.old.items out.new.items (lines_text (authfile_settings path.now)) }
+    ensures { Grows result out.old.items out.new.items (entries_text (authfile_entries path.now)) }
 {
     match path {
         Some(path) => push_line(out, ConfKey::Authfile.row().name, path.as_str().as_bytes()),
@@ -168,25 +168,27 @@ fn push_authfile(out: &mut Vec<u8>, path: &Option<PathText>) -> Result<(), Alloc
     }
 }
 
-fn extra_name(key: KeyNo) -> &'static str
-    ensures { result.now ≡ unwrap_or (name_at key) [] }
+// The key without effect with this number.
+fn extra_key(number: KeyNo) -> ConfKey
+    ensures { result ≡ extra_key number }
 {
-    match key.name() {
-        Some(name) => name,
-        None => "",
-    }
+    ConfKey::numbered(number).unwrap_or(ConfKey::Debug)
 }
 
 fn push_extra(out: &mut Vec<u8>, extra: &Extra) -> Result<(), AllocError>
     ensures { Grows result out.old.items out.new.items
-        (lines_text (extra_setting (extra.now.0, extra.now.1) ∷ [])) }
+        (entries_text (extra_entry (extra.now.0, extra.now.1) ∷ [])) }
 {
-    push_line(out, extra_name(extra.0), extra.1.as_str().as_bytes())
+    push_line(
+        out,
+        extra_key(extra.0).row().name,
+        extra.1.as_str().as_bytes(),
+    )
 }
 
-#[tactic(auto, using(crate::proofs::LineLemmas::lines_more, std::proofs::lemmas::List::map_more, crate::proofs::LineLemmas::lines_append))]
+#[tactic(auto, using(crate::proofs::LineLemmas::entries_more, std::proofs::lemmas::List::map_more, crate::proofs::LineLemmas::entries_append))]
 fn push_extras(out: &mut Vec<u8>, extras: &[Extra]) -> Result<(), AllocError>
-    ensures { Grows result out.old.items out.new.items (lines_text (map extra_setting extras.now)) }
+    ensures { Grows result out.old.items out.new.items (entries_text (map extra_entry extras.now)) }
 {
     for extra in extras {
         push_extra(out, extra)?;
@@ -204,7 +206,7 @@ pub fn push_top(
     extras: &[Extra],
 ) -> Result<(), AllocError>
     ensures { Grows result out.old.items out.new.items
-        (lines_text (top_settings port authfile.now skew extras.now)) }
+        (entries_text (top_entries port authfile.now skew extras.now)) }
 {
     push_number(out, ConfKey::Port, u64::from(port))?;
     push_line(out, ConfKey::Transport.row().name, b"UDP")?;

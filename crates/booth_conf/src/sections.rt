@@ -1,204 +1,232 @@
-//! The keys of the whole file, and the keys below one `ticket` line.
-ghost use Rattle.std.specs.Prelude.{◌≡◌, ◌≤◌, [], length, is_some};
-ghost use Rattle.std.specs.List.{list_any};
-ghost use Rattle.booth_conf.specs.Answers.{Answers, AnswersAt};
-ghost use Rattle.booth_conf.specs.Sections.{has_key, once, section_of, section_clash, top_of, top_clash};
-ghost use Rattle.booth_conf.specs.Steps.{section_added, top_added};
+//! Sections: what was given, key by key, in the whole file or below one `ticket` line.
+ghost use Rattle.booth_base.specs.declared.limits.TheConstants.{MEMBERS};
+ghost use Rattle.std.specs.Prelude.{◌≡◌, ◌++◌, ◌∷◌, [], true, count_by, option_copied, IfOk};
+ghost use Rattle.std.specs.List.{filter_map};
+ghost use Rattle.booth_conf.specs.Answers.{Answers};
+ghost use Rattle.booth_conf.specs.Sections.{entry_clash, extra_of, given, has_key, inherited, is_without_effect, most_of, number_given, prereq_of, text_given, too_often, weights_given, word_given};
+ghost use Rattle.booth_conf.specs.SoundDraft.{is_section};
 
 use crate::faults::{LineFault, Stop};
-use crate::keys::KeyNo;
+use crate::keys::{ConfKey, Form, KeyNo};
 use crate::limits::PREREQS;
-use crate::settings::{FileSetting, TicketSetting, Transport};
-use crate::tickets::{GrantKind, Prereq, copy_prereqs};
+use crate::settings::{Entry, Value};
+use crate::tickets::{Prereq, copy_weights};
 use arrayvec::ArrayVec;
 use booth_base::{MEMBERS, Name, PathText};
-use std::alloc::Global;
+use std::alloc::{AllocError, Global};
 use std::marker::Model;
 
 /// A key without effect, with its text.
 pub type Extra = (KeyNo, PathText);
 
-// Sets what is not set yet, or says that it was given before.
-fn set_once<T: Drop>(slot: &mut Option<T>, value: T) -> Result<(), LineFault>
-    ensures { AnswersAt result slot.new (once (is_some slot.old)) slot.old (Some value) }
+fn most_of(form: Form) -> usize
+    ensures { result ≡ most_of form }
 {
-    if slot.is_some() {
-        return Err(LineFault::Repeated);
-    }
-    *slot = Some(value);
-    Ok(())
-}
-
-/// The keys of the whole file.
-#[derive(Drop)]
-pub struct Top {
-    pub port: Option<u16>,
-    pub transport: Option<Transport>,
-    pub authfile: Option<PathText>,
-    pub skew: Option<u32>,
-    pub extras: Vec<Extra>,
-}
-
-impl Model for Top {
-    ghost use Rattle.booth_conf.specs.Sections.{TopSays};
-
-    ghost Value = { TopSays };
-
-    ghost view = { λ t. record {
-      port = t.port;
-      transport = t.transport;
-      authfile = t.authfile;
-      skew = t.skew;
-      extras = t.extras.items;
-    } };
-}
-
-impl Top {
-    pub fn new(alloc: Global) -> Top
-        ensures { result ≡ top_of [] }
-    {
-        Top {
-            port: None,
-            transport: None,
-            authfile: None,
-            skew: None,
-            extras: Vec::new(alloc),
-        }
-    }
-
-    fn has_extra(&self, key: KeyNo) -> bool
-        ensures { result ≡ list_any (has_key key) self.now.extras }
-    {
-        self.extras.iter().any(|extra| extra.0.0 == key.0)
-    }
-
-    fn add_extra(&mut self, key: KeyNo, text: PathText) -> Result<(), Stop>
-        ensures { Answers result self.new (top_clash self.old (FileSetting.Extra key text))
-            self.old (top_added self.old (FileSetting.Extra key text)) }
-    {
-        if self.has_extra(key) {
-            return Err(Stop::Line(LineFault::Repeated));
-        }
-        match self.extras.push((key, text)) {
-            Ok(()) => Ok(()),
-            Err(_) => Err(Stop::Memory),
-        }
-    }
-
-    /// Adds a key, or says what is wrong with it.
-    pub fn add(&mut self, setting: FileSetting) -> Result<(), Stop>
-        ensures { Answers result self.new (top_clash self.old setting)
-            self.old (top_added self.old setting) }
-    {
-        match setting {
-            FileSetting::Port(port) => set_once(&mut self.port, port).map_err(Stop::Line),
-            FileSetting::Transport(transport) => set_once(&mut self.transport, transport).map_err(
-                Stop::Line,
-            ),
-            FileSetting::Authfile(path) => set_once(&mut self.authfile, path).map_err(Stop::Line),
-            FileSetting::Skew(seconds) => set_once(&mut self.skew, seconds).map_err(Stop::Line),
-            FileSetting::Extra(key, text) => self.add_extra(key, text),
-        }
+    match form {
+        Form::Prereq => PREREQS,
+        Form::Number { .. }
+        | Form::Text { .. }
+        | Form::Command
+        | Form::OneOf(_)
+        | Form::Address
+        | Form::TicketName
+        | Form::Weights => 1,
     }
 }
 
-/// The keys below one `ticket` line. Times are in seconds.
+fn too_often(form: Form) -> LineFault
+    ensures { result ≡ too_often form }
+{
+    match form {
+        Form::Prereq => LineFault::TooMany,
+        Form::Number { .. }
+        | Form::Text { .. }
+        | Form::Command
+        | Form::OneOf(_)
+        | Form::Address
+        | Form::TicketName
+        | Form::Weights => LineFault::Repeated,
+    }
+}
+
+// Whether the key has no effect.
+fn is_without_effect(key: ConfKey) -> bool
+    ensures { result ≡ is_without_effect key }
+{
+    matches!(key.number().0, 5..=9)
+}
+
+fn extra_of(entry: &Entry) -> Option<Extra>
+    ensures { result ≡ extra_of entry.now }
+{
+    match &entry.value {
+        Value::Text(text) if is_without_effect(entry.key) => Some((
+            entry.key.number(),
+            text.copy(),
+        )),
+        Value::Number(_)
+        | Value::Text(_)
+        | Value::Word(_)
+        | Value::Address(_)
+        | Value::Name(_)
+        | Value::Defaults
+        | Value::Weights(_)
+        | Value::Prereq(_) => None,
+    }
+}
+
+fn prereq_of(entry: &Entry) -> Option<Prereq>
+    ensures { result ≡ prereq_of entry.now }
+{
+    match &entry.value {
+        Value::Prereq(prereq) => Some(prereq.copy()),
+        Value::Number(_)
+        | Value::Text(_)
+        | Value::Word(_)
+        | Value::Address(_)
+        | Value::Name(_)
+        | Value::Defaults
+        | Value::Weights(_) => None,
+    }
+}
+
+/// What was given for the keys of the whole file or of a ticket, in its order. Contracts see it as
+/// its list of entries.
 #[derive(Drop)]
 pub struct Section {
-    pub expire: Option<u32>,
-    pub after: Option<u32>,
-    pub timeout: Option<u32>,
-    pub retries: Option<u32>,
-    pub renewal: Option<u32>,
-    pub weights: Option<ArrayVec<u32, MEMBERS>>,
-    pub handler: Option<PathText>,
-    pub mode: Option<GrantKind>,
-    pub prereqs: ArrayVec<Prereq, PREREQS>,
+    entries: Vec<Entry>,
 }
 
 impl Model for Section {
-    ghost use Rattle.booth_conf.specs.Sections.{SectionSays};
+    ghost use Rattle.std.specs.Prelude.{List};
+    ghost use Rattle.booth_conf.specs.declared.settings.Entry.{Entry};
 
-    ghost Value = { SectionSays };
+    ghost Value = { List Entry };
 
-    ghost view = { λ p. record {
-      expire = p.expire;
-      after = p.after;
-      timeout = p.timeout;
-      retries = p.retries;
-      renewal = p.renewal;
-      weights = p.weights;
-      handler = p.handler;
-      mode = p.mode;
-      prereqs = p.prereqs.items;
-    } };
+    ghost view = { λ s. s.entries.items };
 }
 
 impl Section {
-    pub fn new() -> Section
-        ensures { result ≡ section_of [] [] }
-    {
-        Section::with(ArrayVec::new())
-    }
-
-    fn with(prereqs: ArrayVec<Prereq, PREREQS>) -> Section
-        ensures { result ≡ section_of prereqs.items [] }
+    pub fn new(alloc: Global) -> Section
+        ensures { result ≡ [] }
     {
         Section {
-            expire: None,
-            after: None,
-            timeout: None,
-            retries: None,
-            renewal: None,
-            weights: None,
-            handler: None,
-            mode: None,
-            prereqs,
+            entries: Vec::new(alloc),
         }
     }
 
-    /// A section that inherits these prerequisites.
-    pub fn inheriting(prereqs: &[Prereq]) -> Section
-        requires { length prereqs.now ≤ PREREQS }
-        ensures { result ≡ section_of prereqs.now [] }
+    /// What a new section inherits of this one: its prerequisites.
+    pub fn inherited(&self, alloc: Global) -> Result<Section, AllocError>
+        ensures { IfOk result (λ section. section ≡ inherited self.now) }
     {
-        Section::with(copy_prereqs(prereqs))
+        let mut entries = Vec::new(alloc);
+        for entry in &self.entries {
+            if entry.key.is(ConfKey::AttrPrereq) {
+                entries.push(entry.copy())?;
+            }
+        }
+        Ok(Section { entries })
+    }
+
+    fn count(&self, key: ConfKey) -> usize
+        ensures { result ≡ count_by (has_key key) self.now }
+    {
+        self.entries
+            .iter()
+            .filter(|entry| entry.key.is(key))
+            .count()
+    }
+
+    /// Adds an entry, or says what is wrong with it.
+    pub fn add(&mut self, entry: Entry) -> Result<(), Stop>
+        ensures { Answers result self.new (entry_clash self.old entry) self.old (self.old ++ entry ∷ []) }
+    {
+        let form = entry.key.form();
+        if self.count(entry.key) >= most_of(form) {
+            return Err(Stop::Line(too_often(form)));
+        }
+        self.entries.push(entry).map_err(|_| Stop::Memory)
+    }
+
+    fn given(&self, key: ConfKey) -> Option<&Value>
+        ensures { option_copied result ≡ given key self.now }
+    {
+        match self.entries.iter().find(|entry| entry.key.is(key)) {
+            Some(entry) => Some(&entry.value),
+            None => None,
+        }
+    }
+
+    /// The number that was given for a key.
+    pub fn number(&self, key: ConfKey) -> Option<u32>
+        ensures { result ≡ number_given key self.now }
+    {
+        match self.given(key) {
+            Some(Value::Number(number)) => Some(*number),
+            Some(_) | None => None,
+        }
+    }
+
+    /// The text that was given for a key.
+    pub fn text(&self, key: ConfKey) -> Option<PathText>
+        ensures { result ≡ text_given key self.now }
+    {
+        match self.given(key) {
+            Some(Value::Text(text)) => Some(text.copy()),
+            Some(_) | None => None,
+        }
+    }
+
+    /// The place of the word that was given for a key, among the words of the key.
+    pub fn word(&self, key: ConfKey) -> Option<usize>
+        ensures { result ≡ word_given key self.now }
+    {
+        match self.given(key) {
+            Some(Value::Word(place)) => Some(*place),
+            Some(_) | None => None,
+        }
+    }
+
+    /// The weights that were given for a key.
+    pub fn weights(&self, key: ConfKey) -> Option<ArrayVec<u32, MEMBERS>>
+        ensures { result ≡ weights_given key self.now }
+    {
+        match self.given(key) {
+            Some(Value::Weights(weights)) => Some(copy_weights(weights)),
+            Some(_) | None => None,
+        }
     }
 
     /// The prerequisites, those that it inherits before its own.
-    pub fn prereqs(&self) -> &[Prereq]
-        ensures value { result.now ≡ self.now.prereqs }
-        ensures few { length result.now ≤ PREREQS }
+    #[tactic(auto, using(crate::proofs::SectionLemmas::prereq_room))]
+    pub fn prereqs(&self) -> ArrayVec<Prereq, PREREQS>
+        requires { is_section self.now ≡ true }
+        ensures { result.items ≡ filter_map prereq_of self.now }
     {
-        self.prereqs.as_slice()
+        let mut prereqs = ArrayVec::new();
+        for entry in &self.entries {
+            if let Some(prereq) = prereq_of(entry) {
+                prereqs.push(prereq);
+            }
+        }
+        prereqs
     }
 
-    /// Adds a key, or says what is wrong with it.
-    pub fn add(&mut self, setting: TicketSetting) -> Result<(), LineFault>
-        ensures { AnswersAt result self.new (section_clash self.old setting)
-            self.old (section_added self.old setting) }
+    /// The keys without effect, with their texts.
+    pub fn extras(&self, alloc: Global) -> Result<Vec<Extra>, AllocError>
+        ensures { IfOk result (λ extras. extras.items ≡ filter_map extra_of self.now) }
     {
-        match setting {
-            TicketSetting::Expire(seconds) => set_once(&mut self.expire, seconds),
-            TicketSetting::After(seconds) => set_once(&mut self.after, seconds),
-            TicketSetting::Timeout(seconds) => set_once(&mut self.timeout, seconds),
-            TicketSetting::Retries(count) => set_once(&mut self.retries, count),
-            TicketSetting::Renewal(seconds) => set_once(&mut self.renewal, seconds),
-            TicketSetting::Weights(weights) => set_once(&mut self.weights, weights),
-            TicketSetting::Handler(command) => set_once(&mut self.handler, command),
-            TicketSetting::Prereq(prereq) => {
-                if self.prereqs.is_full() {
-                    return Err(LineFault::TooMany);
-                }
-                self.prereqs.push(prereq);
-                Ok(())
+        let mut extras = Vec::new(alloc);
+        for entry in &self.entries {
+            if let Some(extra) = extra_of(entry) {
+                extras.push(extra)?;
             }
-            TicketSetting::Mode(kind) => set_once(&mut self.mode, kind),
         }
+        Ok(extras)
     }
 }
 
-/// A ticket's name, and the keys below its line.
+/// A ticket's name, and what was given below its line.
 #[derive(Drop)]
 pub struct NamedSection {
     pub name: Name,

@@ -1,47 +1,94 @@
 //! What a line can set.
-use crate::keys::KeyNo;
-use crate::members::Member;
-use crate::tickets::{GrantKind, Prereq};
+ghost use Rattle.std.specs.Prelude.{◌≡◌};
+ghost use Rattle.booth_conf.specs.Values.{in_scope, setting_of};
+
+use crate::keys::{ConfKey, Scope};
+use crate::members::{Member, member_at};
+use crate::tickets::{Prereq, copy_weights};
 use arrayvec::ArrayVec;
-use booth_base::{MEMBERS, Name, PathText};
+use booth_base::{Address, MEMBERS, Name, PathText};
 
-/// What carries datagrams.
-#[derive(Clone, Copy, Debug)]
-pub enum Transport {
-    Udp,
-}
-
-/// A key of the whole file that may stand once.
+/// The value of a key. A word is its place among those of the key. Times are in seconds.
 #[derive(Drop)]
-pub enum FileSetting {
-    Port(u16),
-    Transport(Transport),
-    Authfile(PathText),
-    Skew(u32),
-    Extra(KeyNo, PathText),
-}
-
-/// A key of a ticket. Times are in seconds.
-#[derive(Drop)]
-pub enum TicketSetting {
-    Expire(u32),
-    After(u32),
-    Timeout(u32),
-    Retries(u32),
-    Renewal(u32),
+pub enum Value {
+    Number(u32),
+    Text(PathText),
+    Word(usize),
+    Address(Address),
+    Name(Name),
+    /// The name of the `ticket` line whose values are the defaults of all tickets.
+    Defaults,
     Weights(ArrayVec<u32, MEMBERS>),
-    Handler(PathText),
     Prereq(Prereq),
-    Mode(GrantKind),
 }
 
 /// A key with its value.
 #[derive(Drop)]
+pub struct Entry {
+    pub key: ConfKey,
+    pub value: Value,
+}
+
+/// What a line sets: a key of the whole file, a member, or something of tickets.
+#[derive(Drop)]
 pub enum Setting {
-    File(FileSetting),
+    File(Entry),
     Member(Member),
     Ticket(Name),
     /// The `ticket` line whose values are the defaults of all tickets.
     Defaults,
-    Of(TicketSetting),
+    /// A key of a ticket.
+    Of(Entry),
+}
+
+impl Value {
+    /// An equal value.
+    pub fn copy(&self) -> Value
+        ensures { result ≡ self.now }
+    {
+        match self {
+            Value::Number(number) => Value::Number(*number),
+            Value::Text(text) => Value::Text(text.copy()),
+            Value::Word(place) => Value::Word(*place),
+            Value::Address(address) => Value::Address(*address),
+            Value::Name(name) => Value::Name(name.copy()),
+            Value::Defaults => Value::Defaults,
+            Value::Weights(weights) => Value::Weights(copy_weights(weights)),
+            Value::Prereq(prereq) => Value::Prereq(prereq.copy()),
+        }
+    }
+}
+
+impl Entry {
+    /// An equal entry.
+    pub fn copy(&self) -> Entry
+        ensures { result ≡ self.now }
+    {
+        Entry {
+            key: self.key,
+            value: self.value.copy(),
+        }
+    }
+}
+
+fn in_scope(scope: Scope, entry: Entry) -> Setting
+    ensures { result ≡ in_scope scope entry }
+{
+    match scope {
+        Scope::File => Setting::File(entry),
+        Scope::Ticket => Setting::Of(entry),
+    }
+}
+
+/// What a key and its value set.
+pub fn setting_of(key: ConfKey, value: Value) -> Setting
+    ensures { result ≡ setting_of key value }
+{
+    match value {
+        Value::Address(address) => Setting::Member(member_at(key.is(ConfKey::Site), address)),
+        Value::Name(name) => Setting::Ticket(name),
+        Value::Defaults => Setting::Defaults,
+        Value::Number(_) | Value::Text(_) | Value::Word(_) | Value::Weights(_) | Value::Prereq(_) =>
+            in_scope(key.row().scope, Entry { key, value }),
+    }
 }

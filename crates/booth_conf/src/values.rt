@@ -1,15 +1,13 @@
 //! The value of a key.
-ghost use Rattle.std.specs.Prelude.{◌≡◌, true, bytes_eq, option_map};
+ghost use Rattle.std.specs.Prelude.{◌≡◌, true, bytes_eq, position};
 ghost use Rattle.std.specs.List.{list_all};
 ghost use Rattle.booth_conf.specs.Grammar.{is_value_byte};
-ghost use Rattle.booth_conf.specs.Keys.{number_of};
-ghost use Rattle.booth_conf.specs.ValueReader.{extra_in, kind_in, mode_in, prereq_in, setting_in, test_in, ticket_in};
+ghost use Rattle.booth_conf.specs.Values.{is_word_of, words_of};
+ghost use Rattle.booth_conf.specs.ValueReader.{form_in, kind_in, prereq_in, setting_in, test_in};
 
 use crate::digits::number_within;
-use crate::keys::ConfKey;
-use crate::limits::SECONDS;
-use crate::members::member_at;
-use crate::settings::{FileSetting, Setting, TicketSetting, Transport};
+use crate::keys::{Choice, ConfKey, Form};
+use crate::settings::{Setting, Value, setting_of};
 use crate::texts::{address, attr_value, command, name, text};
 use crate::tickets::{GrantKind, Prereq};
 use crate::weights::weights;
@@ -18,19 +16,19 @@ use crate::words::{four_words, is_either};
 /// The name of the `ticket` line whose values are the defaults.
 const DEFAULTS: &str = "__default__";
 
-fn transport(bytes: &[u8]) -> Option<Setting>
-    ensures { result ≡ setting_in ConfKey.Transport bytes.now }
+// The place of the word among those of which a value is one.
+fn word(choice: Choice, bytes: &[u8]) -> Option<usize>
+    ensures { result ≡ position (is_word_of bytes.now) (words_of choice) }
 {
-    is_either(bytes, "UDP", "udp").then_some(Setting::File(FileSetting::Transport(Transport::Udp)))
-}
-
-fn mode(bytes: &[u8]) -> Option<GrantKind>
-    ensures { result ≡ mode_in bytes.now }
-{
-    if is_either(bytes, "manual", "MANUAL") {
-        return Some(GrantKind::Manual);
+    match choice {
+        Choice::Transport => is_either(bytes, "UDP", "udp").then_some(0),
+        Choice::Mode => {
+            if is_either(bytes, "auto", "AUTO") {
+                return Some(0);
+            }
+            is_either(bytes, "manual", "MANUAL").then_some(1)
+        }
     }
-    is_either(bytes, "auto", "AUTO").then_some(GrantKind::Auto)
 }
 
 fn is_word(bytes: &[u8], word: &str) -> bool
@@ -73,30 +71,32 @@ fn prereq(bytes: &[u8]) -> Option<Prereq>
     })
 }
 
-fn ticket(bytes: &[u8]) -> Option<Setting>
-    ensures { result ≡ ticket_in bytes.now }
+fn ticket(bytes: &[u8]) -> Option<Value>
+    ensures { result ≡ form_in Form.TicketName bytes.now }
 {
     if is_word(bytes, DEFAULTS) {
-        return Some(Setting::Defaults);
+        return Some(Value::Defaults);
     }
-    name(bytes).map(Setting::Ticket)
+    name(bytes).map(Value::Name)
 }
 
-fn port(bytes: &[u8]) -> Option<Setting>
-    ensures { result ≡ setting_in ConfKey.Port bytes.now }
-{
-    match number_within(bytes, 1, 65_535) {
-        Some(n) => Some(Setting::File(FileSetting::Port(n as u16))),
-        None => None,
+impl Form {
+    /// The value that the text spells in this form.
+    pub fn read(self, bytes: &[u8]) -> Option<Value>
+        requires { list_all is_value_byte bytes.now ≡ true }
+        ensures { result ≡ form_in self bytes.now }
+    {
+        match self {
+            Form::Number { least, most } => number_within(bytes, least, most).map(Value::Number),
+            Form::Text { least } => text(bytes, least).map(Value::Text),
+            Form::Command => command(bytes).map(Value::Text),
+            Form::OneOf(choice) => word(choice, bytes).map(Value::Word),
+            Form::Address => address(bytes).map(Value::Address),
+            Form::TicketName => ticket(bytes),
+            Form::Weights => weights(bytes).map(Value::Weights),
+            Form::Prereq => prereq(bytes).map(Value::Prereq),
+        }
     }
-}
-
-fn extra(key: ConfKey, bytes: &[u8]) -> Option<Setting>
-    requires { list_all is_value_byte bytes.now ≡ true }
-    ensures { result ≡ extra_in key bytes.now }
-{
-    let number = key.number();
-    text(bytes, 0).map(|text| Setting::File(FileSetting::Extra(number, text)))
 }
 
 impl ConfKey {
@@ -105,42 +105,9 @@ impl ConfKey {
         requires { list_all is_value_byte value.now ≡ true }
         ensures { result ≡ setting_in self value.now }
     {
-        match self {
-            ConfKey::Port => port(value),
-            ConfKey::Transport => transport(value),
-            ConfKey::Authfile => text(value, 1).map(FileSetting::Authfile).map(Setting::File),
-            ConfKey::Maxtimeskew => {
-                number_within(value, 1, SECONDS).map(|n| Setting::File(FileSetting::Skew(n)))
-            }
-            ConfKey::Debug
-            | ConfKey::SiteUser
-            | ConfKey::SiteGroup
-            | ConfKey::ArbitratorUser
-            | ConfKey::ArbitratorGroup => extra(self, value),
-            ConfKey::Site => address(value).map(|a| Setting::Member(member_at(true, a))),
-            ConfKey::Arbitrator => address(value).map(|a| Setting::Member(member_at(false, a))),
-            ConfKey::Ticket => ticket(value),
-            ConfKey::Expire => {
-                number_within(value, 1, SECONDS).map(|n| Setting::Of(TicketSetting::Expire(n)))
-            }
-            ConfKey::AcquireAfter => {
-                number_within(value, 0, SECONDS).map(|n| Setting::Of(TicketSetting::After(n)))
-            }
-            ConfKey::Timeout => {
-                number_within(value, 1, SECONDS).map(|n| Setting::Of(TicketSetting::Timeout(n)))
-            }
-            ConfKey::Retries => {
-                number_within(value, 3, 100).map(|n| Setting::Of(TicketSetting::Retries(n)))
-            }
-            ConfKey::RenewalFreq => {
-                number_within(value, 1, SECONDS).map(|n| Setting::Of(TicketSetting::Renewal(n)))
-            }
-            ConfKey::Weights => weights(value).map(|ws| Setting::Of(TicketSetting::Weights(ws))),
-            ConfKey::BeforeAcquireHandler => {
-                command(value).map(|text| Setting::Of(TicketSetting::Handler(text)))
-            }
-            ConfKey::AttrPrereq => prereq(value).map(|q| Setting::Of(TicketSetting::Prereq(q))),
-            ConfKey::Mode => mode(value).map(|kind| Setting::Of(TicketSetting::Mode(kind))),
+        match self.form().read(value) {
+            Some(value) => Some(setting_of(self, value)),
+            None => None,
         }
     }
 }

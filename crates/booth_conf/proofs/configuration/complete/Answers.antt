@@ -8,16 +8,16 @@ use Rattle.booth_conf.proofs.configuration.complete.Goals as goal
 pub invariant_of-result : goal.invariant_of-result
 invariant_of-result c =
     let made : ConfigSays = record {
-      port = c.unwrap_or.result;
-      authfile = c.top.inside.authfile;
+      port = c.port.result;
+      authfile = c.text.result;
       skew = c.from.result;
-      extras = c.top.inside.extras.items;
+      extras = c.in-Ok.extras.items;
       members = c.into_vec-members.result.items;
-      tickets = c.in-Ok.tickets.items;
+      tickets = c.in-Ok-tickets.tickets.items;
     } in
     let same : made ≡ config_of c.args.draft = search rules in
     let fine : file_fault made.members made.tickets ≡ None = search rules in
-    let items : c.in-Ok.tickets.items ≡ map (ticket_of c.defaults-defaults.result) c.draft.inside.tickets = search rules in (
+    let items : c.in-Ok-tickets.tickets.items ≡ map (ticket_of c.defaults-defaults.result) c.draft.inside.tickets = search rules in (
       c.into_sections-names.ensures.names
           ∙ names_of c.defaults-defaults.result c.draft.inside.tickets
           ∙ ap (map ticket_name) (sym items),
