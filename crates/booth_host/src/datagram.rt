@@ -34,6 +34,13 @@ impl Datagram {
         })
     }
 
+    /// Drops all bytes.
+    pub fn clear(&mut self)
+        ensures { self.new ≡ [] }
+    {
+        self.bytes.clear();
+    }
+
     /// Keeps the first 16,461 of these bytes.
     pub fn set(&mut self, bytes: &[u8])
         ensures { self.new ≡ take (min (length bytes.now) DATAGRAM_BYTES) bytes.now }

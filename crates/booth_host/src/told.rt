@@ -130,6 +130,10 @@ impl Told {
         ensures past { GrewBy (told_past self.old) (told_past self.new) (Entry.Now reading ∷ []) }
         ensures room { self.new.room ≡ self.old.room }
     {
+        if !self.has_room() {
+            self.end();
+            return;
+        }
         self.note(Ok(Entry::Now { reading }));
     }
 

@@ -1,5 +1,5 @@
--- Which lines a call is told by, given what is known before it; and what is known after it. Together they say of any list
--- of calls, from a start at which nothing is known, all its lines.
+-- Which lines a call is told by, given what is known before it; and what is known after it. Together they say of any
+-- list of calls, from a start at which nothing is known, all its lines.
 use Rattle.std.specs.Prelude.{ℕ, ℤ, true, false, pos, List, [], ◌∷◌, ◌++◌, length, Option, None, Some, Result, Ok, Err, option_map, if◌then◌else◌}
 use Rattle.std.specs.Ordering.{int_eq}
 use Rattle.booth_host.specs.declared.entry.Entry.{Entry}

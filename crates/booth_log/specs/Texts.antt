@@ -27,8 +27,9 @@ printed_local (Some address) = printed address
 -- what the daemon begins with
 abbrev pub begins_text : Option Address → ℕ → List ℕ → List ℕ → List ℕ
 begins_text local port records conf_path =
-    codes "begins: version " ++ VERSION.now ++ codes ", address " ++ printed_local local ++ codes ", port " ++ decimal port
-    ++ codes ", records " ++ printed_path records ++ codes ", configuration " ++ printed_path conf_path
+    codes "begins: version " ++ VERSION.now ++ codes ", address " ++ printed_local local
+    ++ codes ", port " ++ decimal port ++ codes ", records " ++ printed_path records ++ codes ", configuration "
+    ++ printed_path conf_path
 
 -- all records were read, of so many tickets
 abbrev pub ready_text : ℕ → List ℕ
@@ -63,4 +64,5 @@ status_text status = codes "its handler ended with status " ++ signed_decimal st
 
 -- a handler of which the ticket is not known
 abbrev pub stray_text : ℕ → ℤ → List ℕ
-stray_text job status = codes "the handler of job " ++ decimal job ++ codes " ended with status " ++ signed_decimal status
+stray_text job status =
+    codes "the handler of job " ++ decimal job ++ codes " ended with status " ++ signed_decimal status

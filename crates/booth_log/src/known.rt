@@ -32,8 +32,8 @@ impl Known {
     }
 }
 
-/// What is known of tickets, by their names. It has the memory of as many as a configuration may have, and takes no more.
-/// Contracts see it as a list, in the order in which they were met.
+/// What is known of tickets, by their names. It has the memory of as many as a configuration may have, and takes no
+/// more. Contracts see it as a list, in the order in which they were met.
 #[derive(Drop)]
 pub(crate) struct Tickets {
     known: IndexMap<Name, Known>,

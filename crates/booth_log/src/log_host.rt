@@ -21,8 +21,8 @@ use booth_host::{Arrival, Datagram, Failed, Host, Job, Place, ReadFault};
 use booth_rec::{Lease, Record};
 use std::alloc::{AllocError, Global};
 
-/// A host over a host: each call is the inner one's, and is answered as that one answers. What belongs into a log is said
-/// after it.
+/// A host over a host: each call is the inner one's, and is answered as that one answers. What belongs into a log is
+/// said after it.
 #[derive(Drop)]
 pub struct LogHost<H, L> {
     host: H,
@@ -128,7 +128,8 @@ impl<H: Host, L: Lines> Host for LogHost<H, L> {
             (Entry.Open place.now.local place.now.port place.now.records place.now.conf_path result ∷ []) }
         ensures cause { HasCause (H.faults self.old.host) (H.faults self.new.host) result }
         ensures says { SaidMore (L.said self.old.lines) (L.said self.new.lines)
-            (lines_of self.old.seen (Entry.Open place.now.local place.now.port place.now.records place.now.conf_path result)) }
+            (lines_of self.old.seen
+            (Entry.Open place.now.local place.now.port place.now.records place.now.conf_path result)) }
         ensures seen { self.new.seen ≡ after self.old.seen
             (Entry.Open place.now.local place.now.port place.now.records place.now.conf_path result) }
     {
@@ -202,7 +203,8 @@ impl<H: Host, L: Lines> Host for LogHost<H, L> {
             (Entry.Start job.now.number job.now.ticket job.now.handler job.now.local job.now.expires result ∷ []) }
         ensures cause { HasCause (H.faults self.old.host) (H.faults self.new.host) result }
         ensures says { SaidMore (L.said self.old.lines) (L.said self.new.lines)
-            (lines_of self.old.seen (Entry.Start job.now.number job.now.ticket job.now.handler job.now.local job.now.expires result)) }
+            (lines_of self.old.seen
+            (Entry.Start job.now.number job.now.ticket job.now.handler job.now.local job.now.expires result)) }
         ensures seen { self.new.seen ≡ after self.old.seen
             (Entry.Start job.now.number job.now.ticket job.now.handler job.now.local job.now.expires result) }
     {

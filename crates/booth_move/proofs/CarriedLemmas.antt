@@ -55,8 +55,8 @@ read_answers : (moving : Moving) (stage : Stage) (bytes : List ℕ) (read : Resu
     Answers moving stage (answer_read moving stage bytes read)
 read_answers moving stage bytes (Err fault) = tt
 read_answers moving stage bytes (Ok m) =
-    cond_both (is_signed moving.key m.head bytes && is_answer (setup_of moving) stage m) (Some m) None (Answers moving stage)
-    (λ e. (and_parts (is_signed moving.key m.head bytes) (is_answer (setup_of moving) stage m) e).1)
+    cond_both (is_signed moving.ring m.head bytes && is_answer (setup_of moving) stage m) (Some m) None (Answers moving stage)
+    (λ e. (and_parts (is_signed moving.ring m.head bytes) (is_answer (setup_of moving) stage m) e).1)
     (λ e. tt)
 
 bytes_answer : (moving : Moving) (stage : Stage) (bytes : List ℕ) → Answers moving stage (answer_in moving stage bytes)

@@ -24,7 +24,8 @@ all_told moving start pairs =
 
 -- the calls of pairs, after each of which a deed is done
 abbrev pub calls_with : Moving → List CallPair → List MoveDeed → List Entry
-calls_with moving (p ∷ ps) (d ∷ ds) = (calls_of p ++ sends moving p.reading (sent_for moving d)) ++ calls_with moving ps ds
+calls_with moving (p ∷ ps) (d ∷ ds) =
+    (calls_of p ++ sends moving p.reading (sent_for moving d)) ++ calls_with moving ps ds
 calls_with moving ps ds = []
 
 -- the calls of a move with these deeds, the first of which is done at its start
@@ -50,4 +51,5 @@ IsRequest deed = ⊥
 -- Each request of a move to a member's place is sent somewhere.
 abbrev pub RequestsAreSent : Type 0
 RequestsAreSent = (moving : Moving) (stage : Stage) (p : CallPair) → moving.target < length moving.config.members →
-    IsSoundStage stage → IsRequest (step_at moving stage p).deed → is_some (sent_for moving (step_at moving stage p).deed) ≡ true
+    IsSoundStage stage → IsRequest (step_at moving stage p).deed
+    → is_some (sent_for moving (step_at moving stage p).deed) ≡ true

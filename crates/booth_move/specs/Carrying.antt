@@ -62,7 +62,7 @@ request moving what number = record {
 
 -- the bytes of a request of this number that is sent at this reading
 abbrev pub request_bytes : Moving → Asks → ℕ → ℕ → List ℕ
-request_bytes moving what number start = sealed moving.key (stamped moving.key start (request moving what number))
+request_bytes moving what number start = sealed moving.ring (stamped moving.ring start (request moving what number))
 
 -- where the member at a place listens
 abbrev pub member_peer : Moving → ℕ → Option Place
@@ -75,7 +75,8 @@ sending_to what number to = record { to = to; what = what; number = number }
 abbrev pub sent_for : Moving → MoveDeed → Option Sending
 sent_for moving deeds.Nothing = None
 sent_for moving (deeds.Revoke None number) = Some (sending_to asks.Revoke number moving.to)
-sent_for moving (deeds.Revoke (Some place) number) = option_map (sending_to asks.Revoke number) (member_peer moving place)
+sent_for moving (deeds.Revoke (Some place) number) =
+    option_map (sending_to asks.Revoke number) (member_peer moving place)
 sent_for moving (deeds.Grant number) = option_map (sending_to asks.Grant number) (member_peer moving moving.target)
 sent_for moving (deeds.End end) = None
 
@@ -88,7 +89,7 @@ send_call moving start s answer = Send s.to (request_bytes moving s.what s.numbe
 -- the message has the right MAC where there is a key, and it is an answer to the last request
 abbrev pub answer_read : Moving → Stage → List ℕ → Result PlainMessage FrameFault → Option PlainMessage
 answer_read moving stage bytes (Ok m) =
-    if is_signed moving.key m.head bytes && is_answer (setup_of moving) stage m then Some m else None
+    if is_signed moving.ring m.head bytes && is_answer (setup_of moving) stage m then Some m else None
 answer_read moving stage bytes (Err fault) = None
 
 -- the answer that these bytes are, if they are one
@@ -152,7 +153,8 @@ pub record IsUnsent (moving : Moving) (start : ℕ) (failed : Failed) (entries :
   pub last : CallPair
   pub s : Sending
   pub is : sent_for moving (step_at moving (stage_so_far moving start pairs) last).deed ≡ Some s
-  pub whole : entries ≡ calls_so_far moving start pairs ++ (calls_of last ++ send_call moving last.reading s (Err failed) ∷ [])
+  pub whole : entries ≡ calls_so_far moving start pairs
+      ++ (calls_of last ++ send_call moving last.reading s (Err failed) ∷ [])
 
 -- All calls of a move from its start on, by how it ended.
 abbrev pub IsCarried : Moving → ℕ → Result MoveEnd Failed → List Entry → Type 0

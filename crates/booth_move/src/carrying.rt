@@ -11,10 +11,11 @@ ghost use Rattle.booth_move.specs.Move.{is_answer};
 
 use crate::deeds::{MoveDeed, MoveEnd};
 use crate::mover::Mover;
-use booth_auth::{Key, is_signed};
+use booth_auth::is_signed;
 use booth_base::{MemberId, NO_ONE, Name, Peer};
 use booth_conf::Config;
 use booth_host::{Arrival, Datagram, Failed, Host};
+use booth_keys::Ring;
 use booth_wire::{Body, Cmd, Frame, Head, Message, TicketPart, decode, options};
 use std::alloc::{AllocError, Global};
 
@@ -26,7 +27,7 @@ const MOST_PAIRS: u64 = 36 << 40;
 #[derive(Drop)]
 pub struct Moving {
     pub config: Config,
-    pub key: Option<Key>,
+    pub ring: Option<Ring>,
     pub ticket: Name,
     /// The place of the site that is to have the ticket.
     pub target: usize,
@@ -156,7 +157,7 @@ fn answer_in<'a>(moving: &Moving, mover: &Mover, bytes: &'a [u8]) -> Option<Mess
 {
     match decode(bytes) {
         Ok(message) => {
-            if is_signed(moving.key.as_ref(), &message.head, bytes) && mover.is_answer(&message) {
+            if is_signed(moving.ring.as_ref(), &message.head, bytes) && mover.is_answer(&message) {
                 Some(message)
             } else {
                 None
@@ -225,7 +226,7 @@ fn send_for<H: Host>(
     match sent_for(moving, deed) {
         Some(sending) => {
             let message = message_of(moving, sending.what, sending.number);
-            booth_auth::seal(&message, moving.key.as_ref(), start, &mut room.frame);
+            booth_auth::seal(&message, moving.ring.as_ref(), start, &mut room.frame);
             host.send(&sending.to, room.frame.bytes())
         }
         None => Ok(()),

@@ -32,10 +32,10 @@ module _ {H : Type 0} {past : H → Option (List Entry)} {faults : H → ℕ} {a
   -- a send that the hands made
   pub said_to : (node : NodeConfig) (now : ℕ) (name : List ℕ) (common common' : Common) (to : To) (head : Head)
       (part : TicketPart) (peer : Peer) (frame : List ℕ) (answer : Result (Unit {0}) Failed)
-      → peer_of node.config to ≡ Some peer → frame ≡ sealed node.key (sent_as node now head part)
+      → peer_of node.config to ≡ Some peer → frame ≡ sealed node.ring (sent_as node now head part)
       → Fits (sent_as node now head part) → GrewBy (past a) (past b) (calls.Send peer frame answer ∷ [])
       → faults a ≤ faults b → common' ≡ count_send common to (is_ok answer)
-      → Led past faults (IsDone node.key) (one_of node now name common (Say to head part))
+      → Led past faults (IsDone node.ring) (one_of node now name common (Say to head part))
       (record { ok = true; common = common' }) a b
   said_to node now name common common' to head part peer frame answer there spelled fits grew later counted =
       let left : Common → Answered = λ c. record { ok = true; common = c } in
@@ -51,12 +51,12 @@ module _ {H : Type 0} {past : H → Option (List Entry)} {faults : H → ℕ} {a
       → slice_get state.tickets place ≡ Some before → name ≡ before.setup.ticket
       → job ≡ job_at node place state.common
       → waiters ≡ set state.waiters place after.waiters
-      → Led past faults (IsDone node.key)
+      → Led past faults (IsDone node.ring)
       (lifted node now name state.common
       (befalls before (waiting_at state.waiters place) (spare_in state.waiters)
       (is_ready node state.attributes place) job event now))
       (record { common = common; left = after }) a b
-      → Led past faults (IsDone node.key) (acts node now state place event)
+      → Led past faults (IsDone node.ring) (acts node now state place event)
       (record {
         tickets = set state.tickets place after.ticket;
         waiters = waiters;
@@ -96,10 +96,10 @@ same_state {ts} {ts'} {ws} {ws'} {all} {all'} {c} {c'} now tickets waiters attri
 pub heard_so : {H : Type 0} {past : H → Option (List Entry)} {faults : H → ℕ} {a b : H} (node node' : NodeConfig)
     (now from place : ℕ) (event : Event) (old new left : State) (common : Common)
     → node' ≡ node → new ≡ record old { common = common } → common ≡ (accepted old from now).common
-    → Led past faults (IsDone node'.key) (acts node' now new place event) left a b
-    → Led past faults (IsDone node.key) (acts node now (accepted old from now) place event) left a b
+    → Led past faults (IsDone node'.ring) (acts node' now new place event) left a b
+    → Led past faults (IsDone node.ring) (acts node now (accepted old from now) place event) left a b
 heard_so {past = past} {faults = faults} {a} {b} node node' now from place event old new left common same_node same_state same_common led =
-    subst (λ (c : Common). Led past faults (IsDone node.key) (acts node now (record old { common = c }) place event) left a b)
+    subst (λ (c : Common). Led past faults (IsDone node.ring) (acts node now (record old { common = c }) place event) left a b)
     same_common
-    (subst (λ (s : State). Led past faults (IsDone node.key) (acts node now s place event) left a b) same_state
-    (subst (λ (n : NodeConfig). Led past faults (IsDone n.key) (acts n now new place event) left a b) same_node led))
+    (subst (λ (s : State). Led past faults (IsDone node.ring) (acts node now s place event) left a b) same_state
+    (subst (λ (n : NodeConfig). Led past faults (IsDone n.ring) (acts n now new place event) left a b) same_node led))

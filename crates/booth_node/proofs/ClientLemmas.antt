@@ -65,13 +65,13 @@ opens node records reading same = (
 module _ (node : NodeConfig) (now : ℕ) where
   acts_set_up : (state : State) (place : ℕ) (event : Event) (es : List Entry) (after : State)
       → AreSetUp node state
-      → Leads (IsDone node.key) (acts node now state place event) es (Ends after) → AreSetUp node after
+      → Leads (IsDone node.ring) (acts node now state place event) es (Ends after) → AreSetUp node after
   acts_set_up state place event es after set_up leads = by_ticket (slice_get state.tickets place) refl
     where
       by_ticket : (o : Option TicketState) → slice_get state.tickets place ≡ o → AreSetUp node after
       by_ticket None is =
           (stays_here node state after es set_up
-          (subst (λ (o : Option TicketState). Leads (IsDone node.key)
+          (subst (λ (o : Option TicketState). Leads (IsDone node.ring)
           (acts_as node now state place event o) es (Ends after))
           is leads)).set_up
       by_ticket (Some ticket) is =
@@ -80,7 +80,7 @@ module _ (node : NodeConfig) (now : ℕ) where
 
   met_set_up : (state : State) (from : Peer) (a : Action) (es : List Entry) (after : State)
       → AreSetUp node state
-      → Leads (IsDone node.key) (met node now state from a) es (Ends after) → AreSetUp node after
+      → Leads (IsDone node.ring) (met node now state from a) es (Ends after) → AreSetUp node after
   met_set_up state from (Drops fault) es after set_up leads =
       (stays_here node (dropped state fault) after es set_up leads).set_up
   met_set_up state from (Hears member ticket head part) es after set_up leads =
@@ -91,13 +91,13 @@ module _ (node : NodeConfig) (now : ℕ) where
   met_set_up state from (Attends ticket request) (e ∷ es) after set_up leads =
       (stays_here node (after_attending state ticket request) after es set_up leads.2).set_up
   met_set_up state from (Answers messages) es after set_up leads =
-      subst (λ (s : State). AreSetUp node s) (sym (sent_back node.key from messages state es after leads).left) set_up
+      subst (λ (s : State). AreSetUp node s) (sym (sent_back node.ring from messages state es after leads).left) set_up
   met_set_up state from Rests es after set_up leads = (stays_here node state after es set_up leads).set_up
 
   arrived_set_up : (state : State) (arrival : Result Arrival Failed) (bytes : List ℕ) (es : List Entry)
       (after : State)
       → AreSetUp node state
-      → Leads (IsDone node.key) (arrived node now state arrival bytes) es (Ends after)
+      → Leads (IsDone node.ring) (arrived node now state arrival bytes) es (Ends after)
       → AreSetUp node after
   arrived_set_up state (Ok (arrivals.Datagram from)) bytes es after set_up leads =
       met_set_up state from (action node now state.tickets state.common from bytes) es after set_up leads
@@ -113,15 +113,15 @@ module _ (node : NodeConfig) (now : ℕ) where
 -- the arrival's row of a turn, and then the deadlines'
 abbrev pub Parts : NodeConfig → State → ℕ → Result Arrival Failed → List ℕ → List Entry → State → Type 0
 Parts node old now arrival bytes entries new =
-    Split (IsDone node.key) (arrived node now (at_moment old now) arrival bytes)
+    Split (IsDone node.ring) (arrived node now (at_moment old now) arrival bytes)
     (dues node now (turn_end arrival)) entries new
 
 pub parts_of : (node : NodeConfig) (old new : State) (now : ℕ) (arrival : Result Arrival Failed)
     (bytes : List ℕ)
-    (entries : List Entry) → Leads (IsDone node.key) (react node old now arrival bytes) entries (Ends new)
+    (entries : List Entry) → Leads (IsDone node.ring) (react node old now arrival bytes) entries (Ends new)
     → Parts node old now arrival bytes entries new
 parts_of node old new now arrival bytes entries leads =
-    split (IsDone node.key) (arrived node now (at_moment old now) arrival bytes)
+    split (IsDone node.ring) (arrived node now (at_moment old now) arrival bytes)
     (dues node now (turn_end arrival))
     entries new leads
 
@@ -147,9 +147,9 @@ settled node from message a (IsHeard to member place part is content known named
     subst (λ (x : Action). IsSettled node x) (sym is) (known, named)
 
 pub rests_not : NothingRests
-rests_not node now state from bytes = by_verdict (verdict node.config node.key node.me now bytes) refl
+rests_not node now state from bytes = by_verdict (verdict node.config node.ring node.me now bytes) refl
   where
-    by_verdict : (v : Result PlainMessage DropFault) → verdict node.config node.key node.me now bytes ≡ v
+    by_verdict : (v : Result PlainMessage DropFault) → verdict node.config node.ring node.me now bytes ≡ v
         → IsSettled node (action node now state.tickets state.common from bytes)
     by_verdict (Err fault) is =
         subst (λ (v : Result PlainMessage DropFault). IsSettled node
@@ -164,14 +164,14 @@ rests_not node now state from bytes = by_verdict (verdict node.config node.key n
 pub alone : DropsAlone
 alone node old new now from bytes fault entries is leads =
     subst (λ (v : Result PlainMessage DropFault).
-    Leads (IsDone node.key)
+    Leads (IsDone node.ring)
     (met node now (at_moment old now) from (demanded node now old.tickets old.common from v)
     >>= dues node now Went)
     entries (Ends new)) is leads
 
 module _ (node : NodeConfig) (now : ℕ) where
   acts_undropped : (state : State) (place : ℕ) (event : Event) (es : List Entry) (after : State)
-      → Leads (IsDone node.key) (acts node now state place event) es (Ends after)
+      → Leads (IsDone node.ring) (acts node now state place event) es (Ends after)
       → after.common.drops ≡ state.common.drops
   acts_undropped state place event es after leads = by_ticket (slice_get state.tickets place) refl
     where
@@ -179,8 +179,8 @@ module _ (node : NodeConfig) (now : ℕ) where
           → after.common.drops ≡ state.common.drops
       by_ticket None is =
           ap (λ (s : State). s.common.drops)
-          (at_end (IsDone node.key) state after es
-          (subst (λ (o : Option TicketState). Leads (IsDone node.key)
+          (at_end (IsDone node.ring) state after es
+          (subst (λ (o : Option TicketState). Leads (IsDone node.ring)
           (acts_as node now state place event o) es (Ends after))
           is leads)).1
       by_ticket (Some ticket) is =
@@ -188,81 +188,81 @@ module _ (node : NodeConfig) (now : ℕ) where
           (acted_at node now state place event ticket es after is leads)
 
   each_undropped : (places : List ℕ) (state after : State) (es : List Entry)
-      → Leads (IsDone node.key) (each_due node now places state) es (Ends after)
+      → Leads (IsDone node.ring) (each_due node now places state) es (Ends after)
       → after.common.drops ≡ state.common.drops
   each_undropped [] state after es leads = ap (λ (s : State). s.common.drops)
-      (at_end (IsDone node.key) state after es leads).1
+      (at_end (IsDone node.ring) state after es leads).1
   each_undropped (place ∷ places) state after es leads =
-      let parts : Split (IsDone node.key) (acts node now state place Due) (each_due node now places)
+      let parts : Split (IsDone node.ring) (acts node now state place Due) (each_due node now places)
       es after =
-      split (IsDone node.key) (acts node now state place Due) (each_due node now places) es after
+      split (IsDone node.ring) (acts node now state place Due) (each_due node now places) es after
       leads in
       each_undropped places parts.mid after parts.later parts.to_end
       ∙ acts_undropped state place Due parts.first parts.mid parts.to_mid
 
   each_over_undropped : (job : ℕ) (service : Service) (places : List ℕ) (state after : State) (es : List Entry)
-      → Leads (IsDone node.key) (each_over node now job service places state) es (Ends after)
+      → Leads (IsDone node.ring) (each_over node now job service places state) es (Ends after)
       → after.common.drops ≡ state.common.drops
   each_over_undropped job service [] state after es leads = ap (λ (s : State). s.common.drops)
-      (at_end (IsDone node.key) state after es leads).1
+      (at_end (IsDone node.ring) state after es leads).1
   each_over_undropped job service (place ∷ places) state after es leads =
-      let parts : Split (IsDone node.key) (acts node now state place (Over job service))
+      let parts : Split (IsDone node.ring) (acts node now state place (Over job service))
       (each_over node now job service places) es after =
-      split (IsDone node.key) (acts node now state place (Over job service))
+      split (IsDone node.ring) (acts node now state place (Over job service))
       (each_over node now job service places) es after leads in
       each_over_undropped job service places parts.mid after parts.later parts.to_end
       ∙ acts_undropped state place (Over job service) parts.first parts.mid parts.to_mid
 
   dues_undropped : (turn : Turn) (state after : State) (es : List Entry)
-      → Leads (IsDone node.key) (dues node now turn state) es (Ends after)
+      → Leads (IsDone node.ring) (dues node now turn state) es (Ends after)
       → after.common.drops ≡ state.common.drops
   dues_undropped Went state after es leads = each_undropped (due_places now state.tickets) state after es
       leads
   dues_undropped Stopped state after es leads = ap (λ (s : State). s.common.drops)
-      (at_end (IsDone node.key) state after es leads).1
+      (at_end (IsDone node.ring) state after es leads).1
 
   let_in_undropped : (state : State) (from : Peer) (message : PlainMessage) (a : Action) (es : List Entry)
       (after : State)
-      → Comes node from message a → Leads (IsDone node.key) (met node now state from a) es (Ends after)
+      → Comes node from message a → Leads (IsDone node.ring) (met node now state from a) es (Ends after)
       → after.common.drops ≡ state.common.drops
   let_in_undropped state from message a es after (IsAnsweredAtOnce to replies is answers) leads =
       ap (λ (s : State). s.common.drops)
-      (sent_back node.key from replies state es after
-      (subst (λ (x : Action). Leads (IsDone node.key) (met node now state from x) es (Ends after)) is leads)).left
+      (sent_back node.ring from replies state es after
+      (subst (λ (x : Action). Leads (IsDone node.ring) (met node now state from x) es (Ends after)) is leads)).left
   let_in_undropped state from message a es after
       (IsAsked to place request is part named same_from same_number answer) leads =
       acts_undropped state place (Asked request) es after
-      (subst (λ (x : Action). Leads (IsDone node.key) (met node now state from x) es (Ends after)) is
+      (subst (λ (x : Action). Leads (IsDone node.ring) (met node now state from x) es (Ends after)) is
       leads)
   let_in_undropped state from message a es after (IsAttended to place request is below number answer) leads =
-      sent es (subst (λ (x : Action). Leads (IsDone node.key) (met node now state from x) es
+      sent es (subst (λ (x : Action). Leads (IsDone node.ring) (met node now state from x) es
       (Ends after)) is leads)
     where
       sent : (es : List Entry)
-          → Leads (IsDone node.key) (met node now state from (Attends place request)) es (Ends after)
+          → Leads (IsDone node.ring) (met node now state from (Attends place request)) es (Ends after)
           → after.common.drops ≡ state.common.drops
       sent [] leads = absurd cc
       sent (e ∷ es) leads = ap (λ (s : State). s.common.drops)
-          (at_end (IsDone node.key) (after_attending state place request) after es leads.2).1
+          (at_end (IsDone node.ring) (after_attending state place request) after es leads.2).1
   let_in_undropped state from message a es after (IsHeard to member place part is content known named) leads =
       acts_undropped (accepted state member now) place (Heard member message.head part) es after
-      (subst (λ (x : Action). Leads (IsDone node.key) (met node now state from x) es (Ends after)) is
+      (subst (λ (x : Action). Leads (IsDone node.ring) (met node now state from x) es (Ends after)) is
       leads)
 
   arrived_drops : (state : State) (arrival : Result Arrival Failed) (bytes : List ℕ) (es : List Entry)
       (after : State)
-      → Leads (IsDone node.key) (arrived node now state arrival bytes) es (Ends after)
+      → Leads (IsDone node.ring) (arrived node now state arrival bytes) es (Ends after)
       → after.common.drops ≡ drops_after node now state.common arrival bytes
   arrived_drops state (Ok (arrivals.Datagram from)) bytes es after leads =
-      by_verdict (verdict node.config node.key node.me now bytes) refl
+      by_verdict (verdict node.config node.ring node.me now bytes) refl
     where
-      by_verdict : (v : Result PlainMessage DropFault) → verdict node.config node.key node.me now bytes ≡ v
-          → after.common.drops ≡ drops_by state.common (verdict node.config node.key node.me now bytes)
+      by_verdict : (v : Result PlainMessage DropFault) → verdict node.config node.ring node.me now bytes ≡ v
+          → after.common.drops ≡ drops_by state.common (verdict node.config node.ring node.me now bytes)
       by_verdict (Err fault) is =
           ap (λ (s : State). s.common.drops)
-          (at_end (IsDone node.key) (dropped state fault) after es
+          (at_end (IsDone node.ring) (dropped state fault) after es
           (subst (λ (v : Result PlainMessage DropFault).
-          Leads (IsDone node.key)
+          Leads (IsDone node.ring)
           (met node now state from (demanded node now state.tickets state.common from v)) es
           (Ends after))
           is leads)).1
@@ -275,11 +275,11 @@ module _ (node : NodeConfig) (now : ℕ) where
   arrived_drops state (Ok (arrivals.Handler job status)) bytes es after leads =
       each_over_undropped job (service_of status) (all_places state) state after es leads
   arrived_drops state (Ok arrivals.Quiet) bytes es after leads =
-      ap (λ (s : State). s.common.drops) (at_end (IsDone node.key) state after es leads).1
+      ap (λ (s : State). s.common.drops) (at_end (IsDone node.ring) state after es leads).1
   arrived_drops state (Ok arrivals.Stop) bytes es after leads =
-      ap (λ (s : State). s.common.drops) (at_end (IsDone node.key) state after es leads).1
+      ap (λ (s : State). s.common.drops) (at_end (IsDone node.ring) state after es leads).1
   arrived_drops state (Err failed) bytes es after leads =
-      ap (λ (s : State). s.common.drops) (at_end (IsDone node.key) state after es leads).1
+      ap (λ (s : State). s.common.drops) (at_end (IsDone node.ring) state after es leads).1
 
 pub counts : CountsEachFault
 counts node old new now arrival bytes entries leads =
@@ -297,7 +297,7 @@ record Answered (node : NodeConfig) (state : State) (from : Peer) (message : Pla
   sent : List Entry
   whole : es ≡ before ++ sent
   answers : AreRepliesTo node message 0 replies
-  sends : AreSends node.key from replies sent
+  sends : AreSends node.ring from replies sent
   among : Each (ReachesWaiters node state.waiters) before
   set_up : AreSetUp node after
 
@@ -305,16 +305,16 @@ module _ (node : NodeConfig) (now : ℕ) (state : State) (from : Peer) (message 
     (set_up : AreSetUp node state) where
   answered_once : (reply : PlainMessage) (mid : State) (es : List Entry) (after : State)
       → IsReplyTo node message 0 reply → AreSetUp node mid
-      → Leads (IsDone node.key) (Does (Send from reply) (λ ok. Ends mid)) es (Ends after)
+      → Leads (IsDone node.ring) (Does (Send from reply) (λ ok. Ends mid)) es (Ends after)
       → Answered node state from message es after
   answered_once reply mid [] after replies mid_set_up leads = absurd cc
   answered_once reply mid (e ∷ es) after replies mid_set_up leads =
-      let sent = is_send node.key from reply leads.0 e leads.1 in
-      let over = at_end (IsDone node.key) mid after es leads.2 in
+      let sent = is_send node.ring from reply leads.0 e leads.1 in
+      let over = at_end (IsDone node.ring) mid after es leads.2 in
       record {
         before = [];
         replies = reply ∷ [];
-        sent = calls.Send from (sealed node.key reply) sent.0 ∷ [];
+        sent = calls.Send from (sealed node.ring reply) sent.0 ∷ [];
         whole = ap (λ (l : List Entry). e ∷ l) over.0 ∙ ap (λ (x : Entry). x ∷ []) sent.1;
         answers = replies;
         sends = (refl, refl, tt);
@@ -326,7 +326,7 @@ module _ (node : NodeConfig) (now : ℕ) (state : State) (from : Peer) (message 
       → request.from ≡ from → request.number ≡ message.head.request
       → answer_of message.head.cmd ≡ Some (reply_cmd request.wish)
       → slice_get state.tickets place ≡ Some ticket
-      → Leads (IsDone node.key) (acts node now state place (Asked request)) es (Ends after)
+      → Leads (IsDone node.ring) (acts node now state place (Asked request)) es (Ends after)
       → Answered node state from message es after
   answered_so place request ticket es after same_from same_number answer there leads =
       let acted = acted_at node now state place (Asked request) ticket es after there leads in
@@ -347,12 +347,12 @@ module _ (node : NodeConfig) (now : ℕ) (state : State) (from : Peer) (message 
       record {
         before = parts.0;
         replies = reply ∷ [];
-        sent = calls.Send from (sealed node.key reply) sent.0 ∷ [];
+        sent = calls.Send from (sealed node.ring reply) sent.0 ∷ [];
         whole = parts.2
             ∙ ap (λ (l : List Entry). parts.0 ++ l)
-            (sent.2 ∙ ap (λ (l : List Entry). calls.Send request.from (sealed node.key reply) sent.0 ∷ l)
+            (sent.2 ∙ ap (λ (l : List Entry). calls.Send request.from (sealed node.ring reply) sent.0 ∷ l)
             sent.3
-            ∙ ap (λ (p : Peer). calls.Send p (sealed node.key reply) sent.0 ∷ []) same_from);
+            ∙ ap (λ (p : Peer). calls.Send p (sealed node.ring reply) sent.0 ∷ []) same_from);
         answers = record {
           cmd = answer;
           request = same_number;
@@ -387,11 +387,11 @@ module _ (node : NodeConfig) (now : ℕ) (state : State) (from : Peer) (message 
 
   answered : (a : Action) (es : List Entry) (after : State) → direction_of message.head.cmd ≡ ToDaemon
       → Comes node from message a
-      → Leads (IsDone node.key) (met node now state from a) es (Ends after)
+      → Leads (IsDone node.ring) (met node now state from a) es (Ends after)
       → Answered node state from message es after
   answered a es after asks (IsAnsweredAtOnce to replies is answers) leads =
-      let back = sent_back node.key from replies state es after
-      (subst (λ (x : Action). Leads (IsDone node.key) (met node now state from x) es (Ends after)) is leads) in
+      let back = sent_back node.ring from replies state es after
+      (subst (λ (x : Action). Leads (IsDone node.ring) (met node now state from x) es (Ends after)) is leads) in
       record {
         before = [];
         replies = replies;
@@ -405,13 +405,13 @@ module _ (node : NodeConfig) (now : ℕ) (state : State) (from : Peer) (message 
   answered a es after asks (IsAsked to place request is part named same_from same_number answer) leads =
       let it = ticket_there place part.ticket named in
       answered_so place request it.0 es after same_from same_number answer it.1
-      (subst (λ (x : Action). Leads (IsDone node.key) (met node now state from x) es (Ends after)) is
+      (subst (λ (x : Action). Leads (IsDone node.ring) (met node now state from x) es (Ends after)) is
       leads)
   answered a es after asks (IsAttended to place request is below number answer) leads =
       answered_once (attr_message node now state.attributes place request)
       (after_attending state place request) es after
       (record { cmd = answer; request = number; options = refl; reason = refl; from = refl }) set_up
-      (subst (λ (x : Action). Leads (IsDone node.key) (met node now state from x) es (Ends after)) is
+      (subst (λ (x : Action). Leads (IsDone node.ring) (met node now state from x) es (Ends after)) is
       leads)
   answered a es after asks (IsHeard to member place part is content known named) leads = absurd
       (differ _ ToDaemon asks to)
@@ -460,7 +460,7 @@ module _ (node : NodeConfig) (now : ℕ) (state : State) (set_up : AreSetUp node
 
   unasked_stays : (from : Peer) (message : PlainMessage) (a : Action) (es : List Entry) (after : State)
       → asked_by (direction_of message.head.cmd) message ≡ None → Comes node from message a
-      → Leads (IsDone node.key) (met node now state from a) es (Ends after)
+      → Leads (IsDone node.ring) (met node now state from a) es (Ends after)
       → Quiet es after
   unasked_stays from message a es after none (IsAnsweredAtOnce to reply is replies) leads =
       absurd (asks_nothing (direction_of message.head.cmd) message none to)
@@ -475,23 +475,23 @@ module _ (node : NodeConfig) (now : ℕ) (state : State) (set_up : AreSetUp node
       (λ ticket left waiters spare ready job did leads.
       heard_among ticket left waiters spare ready job now did member message.head part leads)
       set_up
-      (subst (λ (x : Action). Leads (IsDone node.key) (met node now state from x) es (Ends after)) is
+      (subst (λ (x : Action). Leads (IsDone node.ring) (met node now state from x) es (Ends after)) is
       leads))
 
   arrived_unasked : (arrival : Result Arrival Failed) (bytes : List ℕ) (es : List Entry) (after : State)
       → request_of node now arrival bytes ≡ None
-      → Leads (IsDone node.key) (arrived node now state arrival bytes) es (Ends after)
+      → Leads (IsDone node.ring) (arrived node now state arrival bytes) es (Ends after)
       → Quiet es after
   arrived_unasked (Ok (arrivals.Datagram from)) bytes es after none leads =
-      by_verdict (verdict node.config node.key node.me now bytes) refl
+      by_verdict (verdict node.config node.ring node.me now bytes) refl
     where
-      by_verdict : (v : Result PlainMessage DropFault) → verdict node.config node.key node.me now bytes ≡ v
+      by_verdict : (v : Result PlainMessage DropFault) → verdict node.config node.ring node.me now bytes ≡ v
           → Quiet es after
       by_verdict (Err fault) is =
           quiet_by (dropped state fault) es after refl
           (stays_here node (dropped state fault) after es set_up
           (subst (λ (v : Result PlainMessage DropFault).
-          Leads (IsDone node.key)
+          Leads (IsDone node.ring)
           (met node now state from (demanded node now state.tickets state.common from v)) es
           (Ends after))
           is leads))
@@ -530,13 +530,13 @@ module _ (node : NodeConfig) (now : ℕ) (state : State) (set_up : AreSetUp node
   Kept es after = AllRemember node state.waiters after.waiters es
 
   asks_remember : (place : ℕ) (request : Request) (es : List Entry) (after : State)
-      → Leads (IsDone node.key) (acts node now state place (Asked request)) es (Ends after) → Kept es after
+      → Leads (IsDone node.ring) (acts node now state place (Asked request)) es (Ends after) → Kept es after
   asks_remember place request es after leads = by_ticket (slice_get state.tickets place) refl
     where
       by_ticket : (o : Option TicketState) → slice_get state.tickets place ≡ o → Kept es after
       by_ticket None is =
           (stays_here node state after es set_up
-          (subst (λ (o : Option TicketState). Leads (IsDone node.key)
+          (subst (λ (o : Option TicketState). Leads (IsDone node.ring)
           (acts_as node now state place (Asked request) o) es (Ends after)) is leads)).remember
       by_ticket (Some ticket) is =
           let acted = acted_at node now state place (Asked request) ticket es after is leads in
@@ -545,7 +545,7 @@ module _ (node : NodeConfig) (now : ℕ) (state : State) (set_up : AreSetUp node
           (is_ready node state.attributes place) (job_at node place state.common) now acted.did request acted.leads).remembers
 
   met_remember : (from : Peer) (a : Action) (es : List Entry) (after : State)
-      → Leads (IsDone node.key) (met node now state from a) es (Ends after) → Kept es after
+      → Leads (IsDone node.ring) (met node now state from a) es (Ends after) → Kept es after
   met_remember from (Drops fault) es after leads =
       (stays_here node (dropped state fault) after es set_up leads).remember
   met_remember from (Hears member ticket head part) es after leads =
@@ -556,14 +556,14 @@ module _ (node : NodeConfig) (now : ℕ) (state : State) (set_up : AreSetUp node
   met_remember from (Attends ticket request) [] after leads = absurd cc
   met_remember from (Attends ticket request) (e ∷ es) after leads = λ place w h.
       inl (subst (λ (s : State). IsAmong w (waiting_at s.waiters place))
-      (sym (at_end (IsDone node.key) (after_attending state ticket request) after es leads.2).1) h)
+      (sym (at_end (IsDone node.ring) (after_attending state ticket request) after es leads.2).1) h)
   met_remember from (Answers messages) es after leads = λ place w h.
       inl (subst (λ (s : State). IsAmong w (waiting_at s.waiters place))
-      (sym (sent_back node.key from messages state es after leads).left) h)
+      (sym (sent_back node.ring from messages state es after leads).left) h)
   met_remember from Rests es after leads = (stays_here node state after es set_up leads).remember
 
   arrived_remember : (arrival : Result Arrival Failed) (bytes : List ℕ) (es : List Entry) (after : State)
-      → Leads (IsDone node.key) (arrived node now state arrival bytes) es (Ends after) → Kept es after
+      → Leads (IsDone node.ring) (arrived node now state arrival bytes) es (Ends after) → Kept es after
   arrived_remember (Ok (arrivals.Datagram from)) bytes es after leads =
       met_remember from (action node now state.tickets state.common from bytes) es after leads
   arrived_remember (Ok (arrivals.Handler job status)) bytes es after leads =

@@ -163,24 +163,24 @@ module _ (node : NodeConfig) (now : ℕ) (tickets : List TicketState) (common : 
 
   at_once : (cmd out : Cmd) → message.head.cmd ≡ cmd → answer_of cmd ≡ Some out → direction_of cmd ≡ ToDaemon
       → is_list cmd ≡ false → HasReply (reply_with (text_for node common cmd) cmd message.content)
-      → Routed ≡ answers node.key now (replies_to node now tickets common message)
+      → Routed ≡ answers node.ring now (replies_to node now tickets common message)
       → Comes node from message Routed
   at_once cmd out is answer to single found routes =
       let reply : PlainMessage = reply_message node.me message.head.request out found.0 in
       let same : replies_to node now tickets common message ≡ reply ∷ [] = rw (is, single, answer, found.1) refl in
-      IsAnsweredAtOnce (ap direction_of is ∙ to) (stamped node.key now reply ∷ [])
-      (routes ∙ ap (λ r. answers node.key now r) same)
+      IsAnsweredAtOnce (ap direction_of is ∙ to) (stamped node.ring now reply ∷ [])
+      (routes ∙ ap (λ r. answers node.ring now r) same)
       (record { cmd = ap answer_of is ∙ answer; request = refl; options = refl; reason = refl; from = refl })
 
   -- a request that is about no ticket goes to none
   unasked_routes : (cmd : Cmd) → message.head.cmd ≡ cmd → direction_of cmd ≡ ToDaemon → wish_of cmd ≡ None
       → ((name : Option (List ℕ)) (value : List ℕ) → attr_wish cmd name value ≡ None)
-      → Routed ≡ answers node.key now (replies_to node now tickets common message)
+      → Routed ≡ answers node.ring now (replies_to node now tickets common message)
   unasked_routes cmd is to none no_wish =
       ap (λ d. routed node now tickets common from message d) (ap direction_of is ∙ to)
       ∙ ap (λ w. requested node now tickets common message (request_of from message.head w message.content))
       (ap wish_of is ∙ none)
-      ∙ ap (λ r. attended node r (answers node.key now (replies_to node now tickets common message)))
+      ∙ ap (λ r. attended node r (answers node.ring now (replies_to node now tickets common message)))
       (asks_no_attribute message.head message.content
       (λ name value. ap (λ (k : Cmd). attr_wish k name value) is ∙ no_wish name value))
 
@@ -195,7 +195,7 @@ module _ (node : NodeConfig) (now : ℕ) (tickets : List TicketState) (common : 
   -- a list is answered by its parts
   parts_answer : message.head.cmd ≡ CLst → (number : ℕ) (part : List (List ℕ)) (parts : List (List (List ℕ)))
       → AreRepliesTo node message number
-      (map (stamped node.key now) (part_messages node.me message.head.request number (part ∷ parts)))
+      (map (stamped node.ring now) (part_messages node.me message.head.request number (part ∷ parts)))
   parts_answer is number part [] =
       record { cmd = ap answer_of is; request = refl; options = refl; reason = refl; from = refl }
   parts_answer is number part (next ∷ []) = (
@@ -218,10 +218,10 @@ module _ (node : NodeConfig) (now : ℕ) (tickets : List TicketState) (common : 
       let same : replies_to node now tickets common message ≡ part_messages node.me message.head.request 0 (cut_lines 0 lines)
       = rw is refl in
       IsAnsweredAtOnce (ap direction_of is) (list_messages node now message.head.request lines)
-      (unasked_routes CLst is refl refl (λ name value. refl) ∙ ap (λ r. answers node.key now r) same
+      (unasked_routes CLst is refl refl (λ name value. refl) ∙ ap (λ r. answers node.ring now r) same
       ∙ list_answers node now message.head.request lines)
       (subst (λ (ps : List (List (List ℕ))). AreRepliesTo node message 0
-      (map (stamped node.key now) (part_messages node.me message.head.request 0 ps))) (sym some.2)
+      (map (stamped node.ring now) (part_messages node.me message.head.request 0 ps))) (sym some.2)
       (parts_answer is 0 some.0 some.1))
 
   -- a request about attributes is attended to, or answered at once
@@ -234,7 +234,7 @@ module _ (node : NodeConfig) (now : ℕ) (tickets : List TicketState) (common : 
       by_place (attended_place node part.ticket) refl
     where
       once : Action
-      once = answers node.key now (replies_to node now tickets common message)
+      once = answers node.ring now (replies_to node now tickets common message)
 
       with_wish : AttrWish → AttrRequest
       with_wish w = record { ticket = part.ticket; number = message.head.request; wish = w }
@@ -269,7 +269,7 @@ module _ (node : NodeConfig) (now : ℕ) (tickets : List TicketState) (common : 
       by_ticket (position (is_called part.ticket) node.config.tickets) refl
     where
       once : Action
-      once = answers node.key now (replies_to node now tickets common message)
+      once = answers node.ring now (replies_to node now tickets common message)
 
       routes : (o : Option ℕ) → position (is_called part.ticket) node.config.tickets ≡ o
           → Routed ≡ asks o request once
@@ -402,10 +402,10 @@ is_not h = cc
 -- what is let in is answered at once, asked of its ticket, or heard by its ticket
 pub comes : (node : NodeConfig) (now : ℕ) (tickets : List TicketState) (common : Common) (from : Sender)
     (bytes : List ℕ)
-    (message : PlainMessage) → verdict node.config node.key node.me now bytes ≡ Ok message
+    (message : PlainMessage) → verdict node.config node.ring node.me now bytes ≡ Ok message
     → Comes node from message (action node now tickets common from bytes)
 comes node now tickets common from bytes message is =
-    let free = (lets_in node.config node.key node.me now bytes message).0 is in
+    let free = (lets_in node.config node.ring node.me now bytes message).0 is in
     let read : IsRead message.head.cmd message.content = content_read bytes message free.read in
     subst (λ (a : Action). Comes node from message a)
     (sym (ap (λ v. demanded node now tickets common from v) is))

@@ -28,12 +28,12 @@ all_said did (place ∷ places) m i d head part a b c some most first others who
 pub still_written : (node node' : NodeConfig) (now now' : ℕ) (head : Head) (part : TicketPart)
     (frame frame' : List ℕ)
     → frame' ≡ frame → node' ≡ node → now' ≡ now
-    → frame ≡ sealed node.key (sent_as node now head part)
-    → frame' ≡ sealed node'.key (sent_as node' now' head part)
+    → frame ≡ sealed node.ring (sent_as node now head part)
+    → frame' ≡ sealed node'.ring (sent_as node' now' head part)
 still_written node node' now now' head part frame frame' same_frame same_node same_moment written =
-    same_frame ∙ subst (λ (n : NodeConfig). frame ≡ sealed n.key (sent_as n now' head part))
+    same_frame ∙ subst (λ (n : NodeConfig). frame ≡ sealed n.ring (sent_as n now' head part))
     (sym same_node)
-    (subst (λ (m : ℕ). frame ≡ sealed node.key (sent_as node m head part)) (sym same_moment) written)
+    (subst (λ (m : ℕ). frame ≡ sealed node.ring (sent_as node m head part)) (sym same_moment) written)
 
 pub still_fits : (node node' : NodeConfig) (now now' : ℕ) (head : Head) (part : TicketPart)
     → node' ≡ node → now' ≡ now → Fits (sent_as node now head part)

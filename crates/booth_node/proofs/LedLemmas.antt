@@ -96,12 +96,12 @@ last_place n = place_more 0 n ∙ ap (λ (k : ℕ). range_with_len 0 n ++ k ∷ 
 module _ {H : Type 0} {past : H → Option (List Entry)} {faults : H → ℕ} {X : Type 0} {did : X → Act → X → Type 0}
     (node : NodeConfig) (now : ℕ) (name : List ℕ) (host : X → H) (common : X → Common) (Stays : X → Type 0)
     (step : (a b : X) (act : Act) → Stays a → did a act b
-    → Stays b × Led past faults (IsDone node.key) (one_of node now name (common a) act.ask)
+    → Stays b × Led past faults (IsDone node.ring) (one_of node now name (common a) act.ask)
     (record { ok = act.ok; common = common b }) (host a) (host b)) where
   -- what the hands led the host to, and what they left as it was
   abbrev LedTo : {S : Type 0} → Deeds TicketAsk S → S → X → X → Type 0
   LedTo t left a b =
-      Stays b × Led past faults (IsDone node.key) (lifted node now name (common a) t)
+      Stays b × Led past faults (IsDone node.ring) (lifted node now name (common a) t)
       (record { common = common b; left = left }) (host a) (host b)
 
   led_lifted : {S : Type 0} (t : Deeds TicketAsk S) (left : S) (a b : X) (acts : List Act) → Stays a → Dids did a acts b
@@ -114,9 +114,9 @@ module _ {H : Type 0} {past : H → Option (List Entry)} {faults : H → ℕ} {X
       let mid : X = chain.0 in
       let one = step a mid act stays chain.1 in
       let more : LedTo (goes_on leads.0) left mid b = led_lifted (goes_on leads.0) left mid b acts one.0 chain.2 leads.2 in
-      let asked : Led past faults (IsDone node.key) (one_of node now name (common a) ask)
+      let asked : Led past faults (IsDone node.ring) (one_of node now name (common a) ask)
       (record { ok = leads.0; common = common mid }) (host a) (host mid) =
-      subst (λ (c : Act). Led past faults (IsDone node.key) (one_of node now name (common a) c.ask)
+      subst (λ (c : Act). Led past faults (IsDone node.ring) (one_of node now name (common a) c.ask)
       (record { ok = c.ok; common = common mid }) (host a) (host mid)) leads.1 one.1 in
       (more.0, led_then (λ done. lifted node now name done.common (goes_on done.ok)) asked more.1)
 
@@ -131,12 +131,12 @@ pub led_hands : {H X A B C : Type 0} {past : H → Option (List Entry)} {faults 
     (host : X → H) (common : X → Common)
     → ((a b : X) (act : Act) → did a act b → (host_name b ≡ host_name a) × (common_name b ≡ common_name a)
     × (frame_name b ≡ frame_name a) × ((node b ≡ node a) × (now b ≡ now a) × (name b ≡ name a))
-    × Led past faults (IsDone (node a).key) (one_of (node a) (now a) (name a) (common a) act.ask)
+    × Led past faults (IsDone (node a).ring) (one_of (node a) (now a) (name a) (common a) act.ask)
     (record { ok = act.ok; common = common b }) (host a) (host b))
     → {S : Type 0} {t : Deeds TicketAsk S} {left : S} {a b : X} → Did did t left a b
     → ((host_name b ≡ host_name a) × (common_name b ≡ common_name a) × (frame_name b ≡ frame_name a)
     × (node b ≡ node a) × (now b ≡ now a) × (name b ≡ name a))
-    × Led past faults (IsDone (node a).key) (lifted (node a) (now a) (name a) (common a) t)
+    × Led past faults (IsDone (node a).ring) (lifted (node a) (now a) (name a) (common a) t)
     (record { common = common b; left = left }) (host a) (host b)
 led_hands {H} {X} {past = past} {faults = faults} host_name common_name frame_name node now name host common step {a = first} done =
     led_by (node first) (now first) (name first) host common
@@ -152,11 +152,11 @@ led_hands {H} {X} {past = past} {faults = faults} host_name common_name frame_na
         one.3.1 ∙ stays.4,
         one.3.2 ∙ stays.5,
       ),
-      subst (λ (n : List ℕ). Led past faults (IsDone (node first).key) (one_of (node first) (now first) n (common a) act.ask)
+      subst (λ (n : List ℕ). Led past faults (IsDone (node first).ring) (one_of (node first) (now first) n (common a) act.ask)
           (record { ok = act.ok; common = common b }) (host a) (host b)) stays.5
-          (subst (λ (m : ℕ). Led past faults (IsDone (node first).key) (one_of (node first) m (name a) (common a) act.ask)
+          (subst (λ (m : ℕ). Led past faults (IsDone (node first).ring) (one_of (node first) m (name a) (common a) act.ask)
           (record { ok = act.ok; common = common b }) (host a) (host b)) stays.4
-          (subst (λ (n : NodeConfig). Led past faults (IsDone n.key) (one_of n (now a) (name a) (common a) act.ask)
+          (subst (λ (n : NodeConfig). Led past faults (IsDone n.ring) (one_of n (now a) (name a) (common a) act.ask)
           (record { ok = act.ok; common = common b }) (host a) (host b)) stays.3 one.4)),
     ))
     (refl, refl, refl, refl, refl, refl) done

@@ -20,3 +20,4 @@ pub mod StayLemmas
 pub mod ComesLemmas
 pub mod ClientLemmas
 pub mod MayLemmas
+pub mod AttributeLemmas

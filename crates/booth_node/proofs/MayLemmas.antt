@@ -231,8 +231,8 @@ pub lifted_done : (node : NodeConfig) (old new state : State) (now place : ℕ) 
     → place < length state.waiters
     → Says node says → IsDoneBy deeds (kept tried true ∷ says) Holds → KeepsFirst entries
     → entries ≡ first ++ later
-    → Leads (IsDone node.key) (acts node now state place event) first (Ends mid)
-    → Leads (IsDone node.key) (dues node now Went mid) later (Ends new)
+    → Leads (IsDone node.ring) (acts node now state place event) first (Ends mid)
+    → Leads (IsDone node.ring) (dues node now Went mid) later (Ends new)
     → ArrivalDoes node now place setup (kept tried true ∷ says) Holds entries new
 lifted_done node old new state now place event setup view deeds tried says Holds entries first later mid
     is there listed heard done well
@@ -359,7 +359,7 @@ rounds node old new now from message entries place part setup view kind turn abo
     let ticket : TicketState = record { setup = setup; known = Automatic view } in
     let acted : Acted node now (accepted state to.0 now) place event ticket parts.first parts.mid =
     acted_at node now (accepted state to.0 now) place event ticket parts.first parts.mid about.there
-    (subst (λ (a : Action). Leads (IsDone node.key) (met node now state from a) parts.first
+    (subst (λ (a : Action). Leads (IsDone node.ring) (met node now state from a) parts.first
     (Ends parts.mid)) to.2 parts.to_mid) in
     let deeds : Deeds TicketAsk Left =
     hear (record { setup = setup; view = view }) (waiting_at old.waiters place) to.0 message.head part now in
@@ -415,7 +415,7 @@ grants node old new now from message entries place part setup view set_up turn a
     (record { now = now; ready = ready; job = job }) request Grant in
     let parts : Parts node old now (Ok (arrivals.Datagram from)) turn.bytes entries new =
     parts_of node old new now (Ok (arrivals.Datagram from)) turn.bytes entries turn.deeds in
-    let once : Action = answers_with node.key now (replies_to node now old.tickets old.common message) in
+    let once : Action = answers_with node.ring now (replies_to node now old.tickets old.common message) in
     let to : action node now old.tickets old.common from turn.bytes ≡ Asks place request =
     ap (λ (v : Result PlainMessage DropFault). demanded node now old.tickets old.common from v) turn.let_in
     ∙ ap (λ (d : Direction). routed node now old.tickets old.common from message d) (ap direction_of cmd)
@@ -438,7 +438,7 @@ grants node old new now from message entries place part setup view set_up turn a
     (asks_everyone setup view (waiting_at old.waiters place) (spare_in old.waiters) ready request now none
     few)
     well parts.whole
-    (subst (λ (a : Action). Leads (IsDone node.key) (met node now state from a) parts.first
+    (subst (λ (a : Action). Leads (IsDone node.ring) (met node now state from a) parts.first
     (Ends parts.mid)) to parts.to_mid)
     parts.to_end
 
@@ -474,6 +474,6 @@ majorities node old new now from message entries place part setup view round kin
     (says_others node setup _ _ many) (says_granted node setup (waiting_at old.waiters place) _))
     (gains setup view (waiting_at old.waiters place) round member kind message.head part now is_round
     is done) well parts.whole
-    (subst (λ (a : Action). Leads (IsDone node.key) (met node now state from a) parts.first
+    (subst (λ (a : Action). Leads (IsDone node.ring) (met node now state from a) parts.first
     (Ends parts.mid)) to parts.to_mid)
     parts.to_end

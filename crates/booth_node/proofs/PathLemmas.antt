@@ -1,6 +1,7 @@
 -- The calls of a lifted ticket are a path of the ticket's own deeds.
 use Rattle.std.proofs.Common.{◌≡◌, ℕ, Bool, true, List, [], ◌∷◌, ◌++◌, refl, sym, ap, ◌∙◌, subst}
 use Rattle.std.specs.Prelude.{Option, Some, None, IsSome, Result, is_ok}
+use Rattle.booth_keys.specs.declared.ring.Ring.{Ring}
 use Rattle.booth_base.specs.declared.address.Peer.{Peer}
 use Rattle.booth_base.specs.Tree.{Deeds, Ends, Does, Leads, ◌>>=◌, ◌>>◌, each}
 use Rattle.booth_base.proofs.TreeLemmas.{at_end}
@@ -28,78 +29,78 @@ use Rattle.booth_node.specs.State.{State}
 
 -- ---- calls
 
-is_keep : (key : Option (List ℕ)) (name : List ℕ) (tried : Record) (ok : Bool) (e : Entry)
-    → IsDone key (Keep name tried) ok e
+is_keep : (ring : Option Ring) (name : List ℕ) (tried : Record) (ok : Bool) (e : Entry)
+    → IsDone ring (Keep name tried) ok e
     → (answer : Result (Unit {0}) Failed) × (e ≡ calls.Keep name tried answer) × (is_ok answer ≡ ok)
-is_keep key name tried ok (calls.Keep ticket rec answer) done = (
+is_keep ring name tried ok (calls.Keep ticket rec answer) done = (
   answer,
   ap (λ (n : List ℕ). calls.Keep n rec answer) done.0 ∙ ap (λ (r : Record). calls.Keep name r answer) done.1,
   sym done.2,
 )
-is_keep key name tried ok (calls.Send to bytes answer) done = absurd done
-is_keep key name tried ok (calls.Open local port records conf_path answer) done = absurd done
-is_keep key name tried ok (calls.Next wait answer bytes) done = absurd done
-is_keep key name tried ok (calls.Now reading) done = absurd done
-is_keep key name tried ok (calls.ReadFile path answer) done = absurd done
-is_keep key name tried ok (calls.Lock path answer) done = absurd done
-is_keep key name tried ok (calls.Kept ticket answer) done = absurd done
-is_keep key name tried ok (calls.Start number ticket handler local expires answer) done = absurd done
-is_keep key name tried ok (calls.Out bytes answer) done = absurd done
-is_keep key name tried ok (calls.Err bytes answer) done = absurd done
+is_keep ring name tried ok (calls.Send to bytes answer) done = absurd done
+is_keep ring name tried ok (calls.Open local port records conf_path answer) done = absurd done
+is_keep ring name tried ok (calls.Next wait answer bytes) done = absurd done
+is_keep ring name tried ok (calls.Now reading) done = absurd done
+is_keep ring name tried ok (calls.ReadFile path answer) done = absurd done
+is_keep ring name tried ok (calls.Lock path answer) done = absurd done
+is_keep ring name tried ok (calls.Kept ticket answer) done = absurd done
+is_keep ring name tried ok (calls.Start number ticket handler local expires answer) done = absurd done
+is_keep ring name tried ok (calls.Out bytes answer) done = absurd done
+is_keep ring name tried ok (calls.Err bytes answer) done = absurd done
 
-is_start : (key : Option (List ℕ)) (job : Job) (ok : Bool) (e : Entry)
-    → IsDone key (Start job) ok e
+is_start : (ring : Option Ring) (job : Job) (ok : Bool) (e : Entry)
+    → IsDone ring (Start job) ok e
     → (answer : Result (Unit {0}) Failed) × (e ≡ start_call job answer) × (is_ok answer ≡ ok)
-is_start key job ok (calls.Start number ticket handler local expires answer) done =
+is_start ring job ok (calls.Start number ticket handler local expires answer) done =
     (answer, ap (λ (j : Job). start_call j answer) done.0, sym done.1)
-is_start key job ok (calls.Keep ticket rec answer) done = absurd done
-is_start key job ok (calls.Send to bytes answer) done = absurd done
-is_start key job ok (calls.Open local port records conf_path answer) done = absurd done
-is_start key job ok (calls.Next wait answer bytes) done = absurd done
-is_start key job ok (calls.Now reading) done = absurd done
-is_start key job ok (calls.ReadFile path answer) done = absurd done
-is_start key job ok (calls.Lock path answer) done = absurd done
-is_start key job ok (calls.Kept ticket answer) done = absurd done
-is_start key job ok (calls.Out bytes answer) done = absurd done
-is_start key job ok (calls.Err bytes answer) done = absurd done
+is_start ring job ok (calls.Keep ticket rec answer) done = absurd done
+is_start ring job ok (calls.Send to bytes answer) done = absurd done
+is_start ring job ok (calls.Open local port records conf_path answer) done = absurd done
+is_start ring job ok (calls.Next wait answer bytes) done = absurd done
+is_start ring job ok (calls.Now reading) done = absurd done
+is_start ring job ok (calls.ReadFile path answer) done = absurd done
+is_start ring job ok (calls.Lock path answer) done = absurd done
+is_start ring job ok (calls.Kept ticket answer) done = absurd done
+is_start ring job ok (calls.Out bytes answer) done = absurd done
+is_start ring job ok (calls.Err bytes answer) done = absurd done
 
-pub is_send : (key : Option (List ℕ)) (peer : Peer) (message : PlainMessage) (ok : Bool) (e : Entry)
-    → IsDone key (Send peer message) ok e
-    → (answer : Result (Unit {0}) Failed) × (e ≡ calls.Send peer (sealed key message) answer)
-is_send key peer message ok (calls.Send to bytes answer) done = (
+pub is_send : (ring : Option Ring) (peer : Peer) (message : PlainMessage) (ok : Bool) (e : Entry)
+    → IsDone ring (Send peer message) ok e
+    → (answer : Result (Unit {0}) Failed) × (e ≡ calls.Send peer (sealed ring message) answer)
+is_send ring peer message ok (calls.Send to bytes answer) done = (
   answer,
   ap (λ (p : Peer). calls.Send p bytes answer) done.0
       ∙ ap (λ (b : List ℕ). calls.Send peer b answer) done.1,
 )
-is_send key peer message ok (calls.Keep ticket rec answer) done = absurd done
-is_send key peer message ok (calls.Open local port records conf_path answer) done = absurd done
-is_send key peer message ok (calls.Next wait answer bytes) done = absurd done
-is_send key peer message ok (calls.Now reading) done = absurd done
-is_send key peer message ok (calls.ReadFile path answer) done = absurd done
-is_send key peer message ok (calls.Lock path answer) done = absurd done
-is_send key peer message ok (calls.Kept ticket answer) done = absurd done
-is_send key peer message ok (calls.Start number ticket handler local expires answer) done = absurd done
-is_send key peer message ok (calls.Out bytes answer) done = absurd done
-is_send key peer message ok (calls.Err bytes answer) done = absurd done
+is_send ring peer message ok (calls.Keep ticket rec answer) done = absurd done
+is_send ring peer message ok (calls.Open local port records conf_path answer) done = absurd done
+is_send ring peer message ok (calls.Next wait answer bytes) done = absurd done
+is_send ring peer message ok (calls.Now reading) done = absurd done
+is_send ring peer message ok (calls.ReadFile path answer) done = absurd done
+is_send ring peer message ok (calls.Lock path answer) done = absurd done
+is_send ring peer message ok (calls.Kept ticket answer) done = absurd done
+is_send ring peer message ok (calls.Start number ticket handler local expires answer) done = absurd done
+is_send ring peer message ok (calls.Out bytes answer) done = absurd done
+is_send ring peer message ok (calls.Err bytes answer) done = absurd done
 
 -- messages that were sent back to who asked
-pub record SentBack (key : Option (List ℕ)) (from : Peer) (messages : List PlainMessage) (state : State) (es : List Entry)
+pub record SentBack (ring : Option Ring) (from : Peer) (messages : List PlainMessage) (state : State) (es : List Entry)
     (after : State) : Type 0 where
-  pub sends : AreSends key from messages es
+  pub sends : AreSends ring from messages es
   pub left : after ≡ state
 
-pub sent_back : (key : Option (List ℕ)) (from : Peer) (messages : List PlainMessage) (state : State) (es : List Entry)
-    (after : State) → Leads (IsDone key) (each (sends_back from) messages >> Ends state) es (Ends after)
-    → SentBack key from messages state es after
-sent_back key from [] state es after leads =
-    let over = at_end (IsDone key) state after es leads in
-    record { sends = subst (λ (l : List Entry). AreSends key from [] l) (sym over.0) tt; left = over.1 }
-sent_back key from (message ∷ messages) state [] after leads = absurd cc
-sent_back key from (message ∷ messages) state (e ∷ es) after leads =
-    let sent = is_send key from message leads.0 e leads.1 in
-    let more = sent_back key from messages state es after leads.2 in
+pub sent_back : (ring : Option Ring) (from : Peer) (messages : List PlainMessage) (state : State) (es : List Entry)
+    (after : State) → Leads (IsDone ring) (each (sends_back from) messages >> Ends state) es (Ends after)
+    → SentBack ring from messages state es after
+sent_back ring from [] state es after leads =
+    let over = at_end (IsDone ring) state after es leads in
+    record { sends = subst (λ (l : List Entry). AreSends ring from [] l) (sym over.0) tt; left = over.1 }
+sent_back ring from (message ∷ messages) state [] after leads = absurd cc
+sent_back ring from (message ∷ messages) state (e ∷ es) after leads =
+    let sent = is_send ring from message leads.0 e leads.1 in
+    let more = sent_back ring from messages state es after leads.2 in
     record {
-      sends = subst (λ (entry : Entry). AreSends key from (message ∷ messages) (entry ∷ es)) (sym sent.1) (refl, refl, more.sends);
+      sends = subst (λ (entry : Entry). AreSends ring from (message ∷ messages) (entry ∷ es)) (sym sent.1) (refl, refl, more.sends);
       left = more.left;
     }
 
@@ -122,7 +123,7 @@ ActFirst node now name (StartsJob number expires) ok es More =
     × (es ≡ start_call (job_of node name number expires) answer ∷ rest)
     × (is_ok answer ≡ ok) × More rest
 ActFirst node now name (Say to head part) ok es More =
-    (ok ≡ true) × SaidFirst (peer_of node.config to) (sealed node.key (sent_as node now head part)) es More
+    (ok ≡ true) × SaidFirst (peer_of node.config to) (sealed node.ring (sent_as node now head part)) es More
 
 -- these calls are those acts
 abbrev pub Seen : NodeConfig → ℕ → List ℕ → List Act → List Entry → Type 0
@@ -149,7 +150,7 @@ module _ {S : Type 0} (node : NodeConfig) (now : ℕ) (name : List ℕ) (g : Com
 
   abbrev Lifts : Common → Deeds TicketAsk TicketLeft → List Entry → Type 0
   Lifts common deeds es =
-      Leads (IsDone node.key) (lifted node now name common deeds >>= ending) es (Ends s)
+      Leads (IsDone node.ring) (lifted node now name common deeds >>= ending) es (Ends s)
 
   send_undropped : (common : Common) (to : To) (ok : Bool) → (count_send common to ok).drops ≡ common.drops
   send_undropped common (whom.Member place) ok = refl
@@ -176,25 +177,25 @@ module _ {S : Type 0} (node : NodeConfig) (now : ℕ) (name : List ℕ) (g : Com
       → Deeds TicketAsk TicketLeft) (common : Common)
       → ((c : Common) (es : List Entry) → Lifts c (f true) es → Path node now name c (f true) g es s)
       → (o : Option Peer) → peer_of node.config to ≡ o → (es : List Entry)
-      → Leads (IsDone node.key) ((sends o (sent_as node now head part) common to
+      → Leads (IsDone node.ring) ((sends o (sent_as node now head part) common to
       >>= (λ done. lifted node now name done.common (f done.ok))) >>= ending) es (Ends s)
       → Path node now name common (Does (Say to head part) f) g es s
   said_on to head part f common more None nowhere es leads =
       acted_on common (Say to head part) f true es es common refl
       (λ More rest. (
         refl,
-        subst (λ (o : Option Peer). SaidFirst o (sealed node.key (sent_as node now head part)) es More)
+        subst (λ (o : Option Peer). SaidFirst o (sealed node.ring (sent_as node now head part)) es More)
             (sym nowhere) rest,
       ))
       (more common es leads)
   said_on to head part f common more (Some peer) there [] leads = absurd cc
   said_on to head part f common more (Some peer) there (e ∷ es) leads =
-      let sent = is_send node.key peer (sent_as node now head part) leads.0 e leads.1 in
+      let sent = is_send node.ring peer (sent_as node now head part) leads.0 e leads.1 in
       acted_on common (Say to head part) f true (e ∷ es) es (count_send common to leads.0)
       (send_undropped common to leads.0)
       (λ More rest. (
         refl,
-        subst (λ (o : Option Peer). SaidFirst o (sealed node.key (sent_as node now head part))
+        subst (λ (o : Option Peer). SaidFirst o (sealed node.ring (sent_as node now head part))
             (e ∷ es) More) (sym there)
             (sent.0, es, ap (λ (x : Entry). x ∷ es) sent.1, rest),
       ))
@@ -215,13 +216,13 @@ module _ {S : Type 0} (node : NodeConfig) (now : ℕ) (name : List ℕ) (g : Com
   path_of (Ends left) common (e ∷ es) leads = absurd leads
   path_of (Does (KeepsRecord tried) f) common [] leads = absurd cc
   path_of (Does (KeepsRecord tried) f) common (e ∷ es) leads =
-      let kept = is_keep node.key name tried leads.0 e leads.1 in
+      let kept = is_keep node.ring name tried leads.0 e leads.1 in
       acted_on common (KeepsRecord tried) f leads.0 (e ∷ es) es common refl
       (λ More more. (kept.0, es, ap (λ (x : Entry). x ∷ es) kept.1, kept.2, more))
       (path_of (f leads.0) common es leads.2)
   path_of (Does (StartsJob number expires) f) common [] leads = absurd cc
   path_of (Does (StartsJob number expires) f) common (e ∷ es) leads =
-      let started = is_start node.key (job_of node name number expires) leads.0 e leads.1 in
+      let started = is_start node.ring (job_of node name number expires) leads.0 e leads.1 in
       acted_on common (StartsJob number expires) f leads.0 (e ∷ es) es (count_start common) refl
       (λ More more. (started.0, es, ap (λ (x : Entry). x ∷ es) started.1, started.2, more))
       (path_of (f leads.0) (count_start common) es leads.2)
@@ -252,7 +253,7 @@ module _ (node : NodeConfig) (now : ℕ) (name : List ℕ) where
   first_call (Say to head part) ok es More has first = by_peer (peer_of node.config to) refl has first.1
     where
       bytes : List ℕ
-      bytes = sealed node.key (sent_as node now head part)
+      bytes = sealed node.ring (sent_as node now head part)
 
       by_peer : (o : Option Peer) → peer_of node.config to ≡ o → IsSome o → SaidFirst o bytes es More
           → (e : Entry) × (rest : List Entry) × (es ≡ e ∷ rest)
@@ -317,7 +318,7 @@ module _ (node : NodeConfig) (now : ℕ) (name : List ℕ) where
       )
   first_parts (Say to head part) ok es More Mine Others goes said =
       let g =
-      said_parts (peer_of node.config to) (sealed node.key (sent_as node now head part)) es More Mine
+      said_parts (peer_of node.config to) (sealed node.ring (sent_as node now head part)) es More Mine
       Others goes said.1 in
       (g.0, g.1, g.2, (said.0, g.3), g.4)
 

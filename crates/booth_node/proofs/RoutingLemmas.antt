@@ -85,35 +85,35 @@ untrue is = cc
 module _ {H : Type 0} {past : H → Option (List Entry)} {faults : H → ℕ} {left : State} {a b : H} (node : NodeConfig)
     (now : ℕ) (state : State) (from : Peer) where
   pub followed : (message : PlainMessage) (route : Made) → Routes node from message route
-      → Led past faults (IsDone node.key)
+      → Led past faults (IsDone node.ring)
       (met node now state from (named (at_once node now state.tickets state.common message) route)) left a b
-      → Led past faults (IsDone node.key)
+      → Led past faults (IsDone node.ring)
       (met node now state from (routed node now state.tickets state.common from message (direction_of message.head.cmd))) left a b
   followed message route routes led =
-      subst (λ (it : Action). Led past faults (IsDone node.key) (met node now state from it) left a b)
+      subst (λ (it : Action). Led past faults (IsDone node.ring) (met node now state from it) left a b)
       (routes now state.tickets state.common) led
 
   pub judged : (bytes : List ℕ) (given : Result PlainMessage DropFault)
-      → verdict node.config node.key node.me now bytes ≡ given
-      → Led past faults (IsDone node.key) (met node now state from (demanded node now state.tickets state.common from given)) left a b
-      → Led past faults (IsDone node.key) (met node now state from (action node now state.tickets state.common from bytes)) left a b
+      → verdict node.config node.ring node.me now bytes ≡ given
+      → Led past faults (IsDone node.ring) (met node now state from (demanded node now state.tickets state.common from given)) left a b
+      → Led past faults (IsDone node.ring) (met node now state from (action node now state.tickets state.common from bytes)) left a b
   judged bytes given is led =
-      subst (λ (v : Result PlainMessage DropFault). Led past faults (IsDone node.key)
+      subst (λ (v : Result PlainMessage DropFault). Led past faults (IsDone node.ring)
       (met node now state from (demanded node now state.tickets state.common from v)) left a b) (sym is) led
 
   -- ---- a message that is answered at once
 
-  pub unanswered : (replies : List PlainMessage) (frame : List ℕ) → IsWritten node.key now replies false frame
-      → Led past faults (IsDone node.key) (met node now state from Rests) left a b
-      → Led past faults (IsDone node.key) (met node now state from (answers node.key now replies)) left a b
+  pub unanswered : (replies : List PlainMessage) (frame : List ℕ) → IsWritten node.ring now replies false frame
+      → Led past faults (IsDone node.ring) (met node now state from Rests) left a b
+      → Led past faults (IsDone node.ring) (met node now state from (answers node.ring now replies)) left a b
   unanswered [] frame written led = led
   unanswered (reply ∷ []) frame written led = absurd (untrue written.0)
   unanswered (reply ∷ next ∷ replies) frame written led = absurd written
 
-  pub answered : (replies : List PlainMessage) (frame : List ℕ) → IsWritten node.key now replies true frame
-      → ((message : PlainMessage) → frame ≡ sealed node.key message → Fits message
-      → Led past faults (IsDone node.key) (met node now state from (Answers (message ∷ []))) left a b)
-      → Led past faults (IsDone node.key) (met node now state from (answers node.key now replies)) left a b
+  pub answered : (replies : List PlainMessage) (frame : List ℕ) → IsWritten node.ring now replies true frame
+      → ((message : PlainMessage) → frame ≡ sealed node.ring message → Fits message
+      → Led past faults (IsDone node.ring) (met node now state from (Answers (message ∷ []))) left a b)
+      → Led past faults (IsDone node.ring) (met node now state from (answers node.ring now replies)) left a b
   answered [] frame written meets = absurd (untrue (sym written))
   answered (reply ∷ []) frame written meets = meets _ written.1 written.2
   answered (reply ∷ next ∷ replies) frame written meets = absurd written

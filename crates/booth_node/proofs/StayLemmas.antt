@@ -135,14 +135,14 @@ module _ (node : NodeConfig) (now : ℕ) (name : List ℕ) (setup : Setup) (list
   to_member : (place : ℕ) (head : Head) (part : TicketPart) (ok : Bool) (es : List Entry) (More : List Entry
       → Type 0)
       → IsOwn setup head part
-      → SaidFirst (peer_of node.config (Member place)) (sealed node.key (sent_as node now head part))
+      → SaidFirst (peer_of node.config (Member place)) (sealed node.ring (sent_as node now head part))
       es More
       → ((rest : List Entry) → More rest → Reaches rest) → Reaches es
   to_member place head part ok es More own first later = by_peer (peer_of node.config (Member place)) refl
       first
     where
       by_peer : (o : Option Peer) → peer_of node.config (Member place) ≡ o
-          → SaidFirst o (sealed node.key (sent_as node now head part)) es More
+          → SaidFirst o (sealed node.ring (sent_as node now head part)) es More
           → Reaches es
       by_peer None is first = later es first
       by_peer (Some peer) is first =
@@ -240,7 +240,7 @@ told_before node place waiter xs ys es whole told = record {
   answer = told.answer;
   after = told.after ++ ys;
   whole = whole ∙ ap (λ (l : List Entry). l ++ ys) told.whole
-      ∙ append_assoc told.before (calls.Send waiter.from (sealed node.key told.message) told.answer ∷ told.after)
+      ∙ append_assoc told.before (calls.Send waiter.from (sealed node.ring told.message) told.answer ∷ told.after)
       ys;
   outcome = told.outcome;
   about = told.about;
@@ -255,7 +255,7 @@ told_after node place waiter xs ys es whole told = record {
   after = told.after;
   whole = whole ∙ ap (λ (l : List Entry). xs ++ l) told.whole
       ∙ sym (append_assoc xs told.before
-      (calls.Send waiter.from (sealed node.key told.message) told.answer ∷ told.after));
+      (calls.Send waiter.from (sealed node.ring told.message) told.answer ∷ told.after));
   outcome = told.outcome;
   about = told.about;
 }
@@ -334,9 +334,9 @@ pub record Stays (node : NodeConfig) (state after : State) (es : List Entry) : T
   pub remember : AllRemember node state.waiters after.waiters es
 
 pub stays_here : (node : NodeConfig) (state after : State) (es : List Entry) → AreSetUp node state
-    → Leads (IsDone node.key) (Ends state) es (Ends after) → Stays node state after es
+    → Leads (IsDone node.ring) (Ends state) es (Ends after) → Stays node state after es
 stays_here node state after es set_up leads =
-    let over = at_end (IsDone node.key) state after es leads in
+    let over = at_end (IsDone node.ring) state after es leads in
     subst (λ (l : List Entry). Stays node state after l) (sym over.0)
     (subst (λ (s : State). Stays node state s []) (sym over.1)
     (record { set_up = set_up; undropped = refl; among = tt; fewer = λ place w h. h; remember = λ place w h. inl h }))
@@ -372,7 +372,7 @@ pub record Acted (node : NodeConfig) (now : ℕ) (state : State) (place : ℕ) (
 pub acted_at : (node : NodeConfig) (now : ℕ) (state : State) (place : ℕ) (event : Event)
     (ticket : TicketState)
     (es : List Entry) (after : State) → slice_get state.tickets place ≡ Some ticket
-    → Leads (IsDone node.key) (acts node now state place event) es (Ends after)
+    → Leads (IsDone node.ring) (acts node now state place event) es (Ends after)
     → Acted node now state place event ticket es after
 acted_at node now state place event ticket es after there leads =
     let p =
@@ -380,7 +380,7 @@ acted_at node now state place event ticket es after there leads =
     (befalls ticket (waiting_at state.waiters place) (spare_in state.waiters)
     (is_ready node state.attributes place) (job_at node place state.common) event
     now) state.common es
-    (subst (λ (o : Option TicketState). Leads (IsDone node.key) (acts_as node now state place event o) es
+    (subst (λ (o : Option TicketState). Leads (IsDone node.ring) (acts_as node now state place event o) es
     (Ends after)) there leads) in
     record {
       did = p.acts;
@@ -440,14 +440,14 @@ TalksAmong event now =
 pub acts_stay : (node : NodeConfig) (now : ℕ) (state : State) (place : ℕ) (event : Event)
     (es : List Entry) (after : State)
     → TalksAmong event now → AreSetUp node state
-    → Leads (IsDone node.key) (acts node now state place event) es (Ends after) → Stays node state after es
+    → Leads (IsDone node.ring) (acts node now state place event) es (Ends after) → Stays node state after es
 acts_stay node now state place event es after talks set_up leads = by_ticket
     (slice_get state.tickets place) refl
   where
     by_ticket : (o : Option TicketState) → slice_get state.tickets place ≡ o → Stays node state after es
     by_ticket None is =
         stays_here node state after es set_up
-        (subst (λ (o : Option TicketState). Leads (IsDone node.key)
+        (subst (λ (o : Option TicketState). Leads (IsDone node.ring)
         (acts_as node now state place event o) es (Ends after)) is leads)
     by_ticket (Some ticket) is =
         let acted = acted_at node now state place event ticket es after is leads in
@@ -469,13 +469,13 @@ acts_stay node now state place event es after talks set_up leads = by_ticket
 
 pub each_over_stays : (node : NodeConfig) (now job : ℕ) (service : Service) (places : List ℕ) (state after : State)
     (es : List Entry) → AreSetUp node state
-    → Leads (IsDone node.key) (each_over node now job service places state) es (Ends after)
+    → Leads (IsDone node.ring) (each_over node now job service places state) es (Ends after)
     → Stays node state after es
 each_over_stays node now job service [] state after es set_up leads = stays_here node state after es set_up leads
 each_over_stays node now job service (place ∷ places) state after es set_up leads =
-    let parts : Split (IsDone node.key) (acts node now state place (Over job service))
+    let parts : Split (IsDone node.ring) (acts node now state place (Over job service))
     (each_over node now job service places) es after =
-    split (IsDone node.key) (acts node now state place (Over job service)) (each_over node now job service places)
+    split (IsDone node.ring) (acts node now state place (Over job service)) (each_over node now job service places)
     es after leads in
     let one =
     acts_stay node now state place (Over job service) parts.first parts.mid
@@ -489,12 +489,12 @@ each_over_stays node now job service (place ∷ places) state after es set_up le
 
 each_due_stays : (node : NodeConfig) (now : ℕ) (places : List ℕ) (state after : State) (es : List Entry)
     → AreSetUp node state
-    → Leads (IsDone node.key) (each_due node now places state) es (Ends after) → Stays node state after es
+    → Leads (IsDone node.ring) (each_due node now places state) es (Ends after) → Stays node state after es
 each_due_stays node now [] state after es set_up leads = stays_here node state after es set_up leads
 each_due_stays node now (place ∷ places) state after es set_up leads =
-    let parts : Split (IsDone node.key) (acts node now state place Due) (each_due node now places) es
+    let parts : Split (IsDone node.ring) (acts node now state place Due) (each_due node now places) es
     after =
-    split (IsDone node.key) (acts node now state place Due) (each_due node now places) es after leads in
+    split (IsDone node.ring) (acts node now state place Due) (each_due node now places) es after leads in
     let one =
     acts_stay node now state place Due parts.first parts.mid
     (λ ticket left waiters spare ready job did leads. due_among ticket left waiters spare ready job now did leads) set_up
@@ -504,7 +504,7 @@ each_due_stays node now (place ∷ places) state after es set_up leads =
 
 pub dues_stay : (node : NodeConfig) (now : ℕ) (turn : Turn) (state after : State) (es : List Entry)
     → AreSetUp node state
-    → Leads (IsDone node.key) (dues node now turn state) es (Ends after) → Stays node state after es
+    → Leads (IsDone node.ring) (dues node now turn state) es (Ends after) → Stays node state after es
 dues_stay node now Went state after es set_up leads =
     each_due_stays node now (due_places now state.tickets) state after es set_up leads
 dues_stay node now Stopped state after es set_up leads = stays_here node state after es set_up leads

@@ -24,32 +24,32 @@ use Rattle.booth_node.proofs.ListLemmas.{all_taken, begins, first_message, none_
 
 -- the messages of a list are what is answered
 pub list_answers : (node : NodeConfig) (now request : ℕ) (lines : List (List ℕ))
-    → answers node.key now (part_messages node.me request 0 (cut_lines 0 lines)) ≡ Answers (list_messages node now request lines)
+    → answers node.ring now (part_messages node.me request 0 (cut_lines 0 lines)) ≡ Answers (list_messages node now request lines)
 list_answers node now request lines =
     let some = some_part 0 lines in
     by_parts some.0 some.1 (cut_lines 0 lines) some.2
   where
     in_parts : (part : List (List ℕ)) (parts : List (List (List ℕ)))
-        → answers node.key now (part_messages node.me request 0 (part ∷ parts))
-        ≡ Answers (map (stamped node.key now) (part_messages node.me request 0 (part ∷ parts)))
+        → answers node.ring now (part_messages node.me request 0 (part ∷ parts))
+        ≡ Answers (map (stamped node.ring now) (part_messages node.me request 0 (part ∷ parts)))
     in_parts part [] = refl
     in_parts part (next ∷ parts) = refl
 
     by_parts : (part : List (List ℕ)) (parts all : List (List (List ℕ))) → all ≡ part ∷ parts
-        → answers node.key now (part_messages node.me request 0 all)
-        ≡ Answers (map (stamped node.key now) (part_messages node.me request 0 all))
+        → answers node.ring now (part_messages node.me request 0 all)
+        ≡ Answers (map (stamped node.ring now) (part_messages node.me request 0 all))
     by_parts part parts all is =
-        ap (λ (ps : List (List (List ℕ))). answers node.key now (part_messages node.me request 0 ps)) is
+        ap (λ (ps : List (List (List ℕ))). answers node.ring now (part_messages node.me request 0 ps)) is
         ∙ in_parts part parts
-        ∙ ap (λ (ps : List (List (List ℕ))). Answers (map (stamped node.key now) (part_messages node.me request 0 ps))) (sym is)
+        ∙ ap (λ (ps : List (List (List ℕ))). Answers (map (stamped node.ring now) (part_messages node.me request 0 ps))) (sym is)
 
 -- The parts of these numbers, this one the last, were sent, and so many lines stood in them.
 pub record Told {H : Type 0} (past : H → Option (List Entry)) (faults : H → ℕ) (node : NodeConfig) (now : ℕ) (to : Peer)
     (request : ℕ) (lines : List (List ℕ)) (number next : ℕ) (a b : H) : Type 0 where
-  pub led : Led past faults (IsDone node.key)
+  pub led : Led past faults (IsDone node.ring)
       (each (sends_back to) (take (number + 1) (list_messages node now request lines))) tt a b
   pub left : drop (number + 1) (list_messages node now request lines)
-      ≡ map (stamped node.key now) (part_messages node.me request (number + 1) (parts_from lines next))
+      ≡ map (stamped node.ring now) (part_messages node.me request (number + 1) (parts_from lines next))
   pub within : next ≤ length lines
   pub counted : number ≤ next
 
@@ -59,12 +59,12 @@ module _ {H : Type 0} {past : H → Option (List Entry)} {faults : H → ℕ} (n
   told_first count {a} {b} sent =
       let first = part_message node.me request 0 (part_result lines count) sent.text in
       let rest = part_messages node.me request 1 (parts_from lines count) in
-      let all : (list_messages node now request lines) ≡ stamped node.key now first ∷ map (stamped node.key now) rest =
-      ap (λ (ms : List PlainMessage). map (stamped node.key now) ms) (first_message node.me request 0 lines count sent.text sent.part) in
+      let all : (list_messages node now request lines) ≡ stamped node.ring now first ∷ map (stamped node.ring now) rest =
+      ap (λ (ms : List PlainMessage). map (stamped node.ring now) ms) (first_message node.me request 0 lines count sent.text sent.part) in
       let within = sent.part.within in
       record {
         led = led_as (sym (ap (λ (ms : List PlainMessage). each (sends_back to) (take 1 ms)) all
-            ∙ each_one (sends_back to) (stamped node.key now first))) refl sent.led;
+            ∙ each_one (sends_back to) (stamped node.ring now first))) refl sent.led;
         left = ap (λ (ms : List PlainMessage). drop 1 ms) all;
         within = within;
         counted = omega arith;
@@ -84,21 +84,21 @@ module _ {H : Type 0} {past : H → Option (List Entry)} {faults : H → ℕ} (n
       → Told past faults node now to request lines (number + 1) (next + count) a c
   told_next number next count below told sent =
       let one = part_message node.me request (number + 1) (part_result (drop next lines) count) sent.text in
-      let rest = map (stamped node.key now) (part_messages node.me request (number + 1 + 1) (parts_from lines (next + count))) in
+      let rest = map (stamped node.ring now) (part_messages node.me request (number + 1 + 1) (parts_from lines (next + count))) in
       let more = lines_more next count below sent in
       let low = told.within in
       let counted = told.counted in
-      let left : drop (number + 1) (list_messages node now request lines) ≡ stamped node.key now one ∷ rest =
+      let left : drop (number + 1) (list_messages node now request lines) ≡ stamped node.ring now one ∷ rest =
       told.left
-      ∙ ap (λ (ps : List (List (List ℕ))). map (stamped node.key now) (part_messages node.me request (number + 1) ps))
+      ∙ ap (λ (ps : List (List (List ℕ))). map (stamped node.ring now) (part_messages node.me request (number + 1) ps))
       (some_from lines next below)
-      ∙ ap (λ (ms : List PlainMessage). map (stamped node.key now) ms)
+      ∙ ap (λ (ms : List PlainMessage). map (stamped node.ring now) ms)
       (first_message node.me request (number + 1) (drop next lines) count sent.text sent.part)
-      ∙ ap (λ (ps : List (List (List ℕ))). stamped node.key now one ∷ map (stamped node.key now) (part_messages node.me request (number + 1 + 1) ps))
+      ∙ ap (λ (ps : List (List (List ℕ))). stamped node.ring now one ∷ map (stamped node.ring now) (part_messages node.me request (number + 1 + 1) ps))
       (parts_on lines next count low) in
-      let it = begins (list_messages node now request lines) (number + 1) (stamped node.key now one) (stamped node.key now one) rest left in
+      let it = begins (list_messages node now request lines) (number + 1) (stamped node.ring now one) (stamped node.ring now one) rest left in
       record {
-        led = led_each_taken (sends_back to) (list_messages node now request lines) (number + 1) (stamped node.key now one) it.below told.led
+        led = led_each_taken (sends_back to) (list_messages node now request lines) (number + 1) (stamped node.ring now one) it.below told.led
             (led_as (ap (λ (m : PlainMessage). sends_back to m) (sym it.here)) refl sent.led);
         left = it.after;
         within = more.0;
@@ -106,17 +106,17 @@ module _ {H : Type 0} {past : H → Option (List Entry)} {faults : H → ℕ} (n
       }
 
   pub told_all : (number next : ℕ) {a b : H} → length lines ≤ next → Told past faults node now to request lines number next a b
-      → Led past faults (IsDone node.key) (each (sends_back to) (list_messages node now request lines)) tt a b
+      → Led past faults (IsDone node.ring) (each (sends_back to) (list_messages node now request lines)) tt a b
   told_all number next over told =
       let none : drop (number + 1) (list_messages node now request lines) ≡ [] =
-      told.left ∙ ap (λ (ps : List (List (List ℕ))). map (stamped node.key now) (part_messages node.me request (number + 1) ps))
+      told.left ∙ ap (λ (ps : List (List (List ℕ))). map (stamped node.ring now) (part_messages node.me request (number + 1) ps))
       (none_from lines next over) in
       led_as (ap (λ (ms : List PlainMessage). each (sends_back to) ms) (all_taken (list_messages node now request lines) (number + 1) none)) refl told.led
 
   -- all of it, and then the same state
   pub told_met : (state left : State) {a b : H} → left ≡ state
-      → Led past faults (IsDone node.key) (each (sends_back to) (list_messages node now request lines)) tt a b
-      → Led past faults (IsDone node.key) (met node now state to (answers node.key now (part_messages node.me request 0 (cut_lines 0 lines)))) left a b
+      → Led past faults (IsDone node.ring) (each (sends_back to) (list_messages node now request lines)) tt a b
+      → Led past faults (IsDone node.ring) (met node now state to (answers node.ring now (part_messages node.me request 0 (cut_lines 0 lines)))) left a b
   told_met state left is led =
       led_as (ap (met node now state to) (sym (list_answers node now request lines))) (sym is)
       (led_then (λ (done : Unit {0}). Ends state) led led_end)

@@ -22,19 +22,19 @@ module _ {a b c d : Option (List Entry)} (node node' : NodeConfig) (old begun mi
     (same_bytes : bytes' ≡ bytes)
     (next_call : GrewBy a b (calls.Next 100 answer bytes ∷ []))
     (now_call : GrewBy b c (calls.Now reading ∷ []))
-    (deeds : GrewSome (λ es. Leads {S = State} (IsDone node'.key)
+    (deeds : GrewSome (λ es. Leads {S = State} (IsDone node'.ring)
     (arrived node' begun.last_reading begun answer bytes') es (Ends mid)) c d) where
-  first : GrewSome (λ es. Leads {S = State} (IsDone node.key)
+  first : GrewSome (λ es. Leads {S = State} (IsDone node.ring)
       (arrived node (used old.last_reading reading)
       (record old { last_reading = used old.last_reading reading }) answer bytes) es (Ends mid)) c d
   first =
-      subst (λ (s : State). GrewSome (λ es. Leads {S = State} (IsDone node.key)
+      subst (λ (s : State). GrewSome (λ es. Leads {S = State} (IsDone node.ring)
       (arrived node s.last_reading s answer bytes) es (Ends mid)) c d) same
-      (subst (λ (bs : List ℕ). GrewSome (λ es. Leads {S = State} (IsDone node.key)
+      (subst (λ (bs : List ℕ). GrewSome (λ es. Leads {S = State} (IsDone node.ring)
       (arrived node begun.last_reading begun answer bs) es (Ends mid)) c d)
       same_bytes
       (subst (λ (n : NodeConfig). GrewSome
-      (λ es. Leads {S = State} (IsDone n.key) (arrived n begun.last_reading begun answer bytes') es
+      (λ es. Leads {S = State} (IsDone n.ring) (arrived n begun.last_reading begun answer bytes') es
       (Ends mid)) c d)
       same_node deeds))
 
@@ -46,40 +46,40 @@ module _ {a b c d : Option (List Entry)} (node node' : NodeConfig) (old begun mi
 
   -- an arrival, a reading, what the arrival demands, and what the deadlines do
   turn_of : {e : Option (List Entry)} (new : State)
-      → GrewSome (λ es. Leads {S = State} (IsDone node.key) (dues node (used old.last_reading reading)
+      → GrewSome (λ es. Leads {S = State} (IsDone node.ring) (dues node (used old.last_reading reading)
       (turn_end answer) mid) es (Ends new)) d e
       → GrewSome (λ es. IsTurn node old turn es new) a e
   unfolding begins follows
   turn_of new later =
-      then_some (λ es. Leads {S = State} (IsDone node.key)
+      then_some (λ es. Leads {S = State} (IsDone node.ring)
       (react node old (used old.last_reading reading) answer bytes) es (Ends new))
       (λ es. IsTurn node old turn es new)
       (one_more next_call now_call) (λ ys h. (refl, ends, h))
-      (some_joined (λ es. Leads (IsDone node.key) begins es (Ends mid)) (λ es. Leads (IsDone node.key) (follows mid) es (Ends new))
-      (λ es. Leads {S = State} (IsDone node.key) (begins >>= follows) es (Ends new))
-      (λ xs ys h g. leads_then (IsDone node.key) begins follows mid (Ends new) xs ys h g) first later)
+      (some_joined (λ es. Leads (IsDone node.ring) begins es (Ends mid)) (λ es. Leads (IsDone node.ring) (follows mid) es (Ends new))
+      (λ es. Leads {S = State} (IsDone node.ring) (begins >>= follows) es (Ends new))
+      (λ xs ys h g. leads_then (IsDone node.ring) begins follows mid (Ends new) xs ys h g) first later)
 
   pub went : {e : Option (List Entry)} (node'' : NodeConfig) (new : State) → turn ≡ Went → node'' ≡ node'
       → mid.last_reading ≡ begun.last_reading
-      → GrewSome (λ es. Leads {S = State} (IsDone node''.key)
+      → GrewSome (λ es. Leads {S = State} (IsDone node''.ring)
       (each_due node'' mid.last_reading (due_places mid.last_reading mid.tickets) mid) es (Ends new)) d e
       → GrewSome (λ es. IsTurn node old turn es new) a e
   went {e} node'' new is same_again kept later =
       turn_of new
-      (subst (λ (t : Turn). GrewSome (λ es. Leads {S = State} (IsDone node.key)
+      (subst (λ (t : Turn). GrewSome (λ es. Leads {S = State} (IsDone node.ring)
       (dues node (used old.last_reading reading) t mid) es (Ends new)) d e)
       (sym is ∙ ends)
-      (subst (λ (m : ℕ). GrewSome (λ es. Leads {S = State} (IsDone node.key)
+      (subst (λ (m : ℕ). GrewSome (λ es. Leads {S = State} (IsDone node.ring)
       (each_due node m (due_places m mid.tickets) mid) es (Ends new)) d e)
       (kept ∙ ap (λ (s : State). s.last_reading) same)
-      (subst (λ (n : NodeConfig). GrewSome (λ es. Leads {S = State} (IsDone n.key)
+      (subst (λ (n : NodeConfig). GrewSome (λ es. Leads {S = State} (IsDone n.ring)
       (each_due n mid.last_reading (due_places mid.last_reading mid.tickets) mid) es (Ends new)) d e)
       (same_again ∙ same_node) later)))
 
   pub stopped : turn ≡ Stopped → GrewSome (λ es. IsTurn node old turn es mid) a d
   stopped is =
       turn_of mid
-      (subst (λ (t : Turn). GrewSome (λ es. Leads {S = State} (IsDone node.key)
+      (subst (λ (t : Turn). GrewSome (λ es. Leads {S = State} (IsDone node.ring)
       (dues node (used old.last_reading reading) t mid) es (Ends mid)) d d)
       (sym is ∙ ends)
-      (some_of (λ es. Leads {S = State} (IsDone node.key) (Ends mid) es (Ends mid)) no_entry refl))
+      (some_of (λ es. Leads {S = State} (IsDone node.ring) (Ends mid) es (Ends mid)) no_entry refl))

@@ -129,6 +129,6 @@ attr_answer wishes.List = RALs
 -- the reply to a request about the attributes of the ticket at a place, as it is sent at this moment
 abbrev pub attr_message : NodeConfig → ℕ → Attributes → ℕ → AttrRequest → PlainMessage
 attr_message node now all place request =
-    stamped node.key now
+    stamped node.ring now
     (reply_message node.me request.number (attr_answer request.wish)
     (attr_reply all place request.ticket request.wish))

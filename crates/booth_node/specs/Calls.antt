@@ -41,7 +41,7 @@ IsCallOf node now name (StartsJob number expires) ok (calls.Start job ticket han
     ≡ job_of node name number expires)
     × (is_ok answer ≡ ok)
 IsCallOf node now name (Say to head part) ok (calls.Send peer bytes answer) =
-    (peer_of node.config to ≡ Some peer) × (bytes ≡ sealed node.key (sent_as node now head part))
+    (peer_of node.config to ≡ Some peer) × (bytes ≡ sealed node.ring (sent_as node now head part))
 IsCallOf node now name ask ok call = ⊥
 
 -- these calls are those acts, one for one
@@ -73,7 +73,7 @@ pub record IsBetweenMembers (node : NodeConfig) (peer : Peer) (bytes : List ℕ)
   pub place : ℕ
   pub message : PlainMessage
   pub there : peer_of node.config (Member place) ≡ Some peer
-  pub spelled : bytes ≡ sealed node.key message
+  pub spelled : bytes ≡ sealed node.ring message
   pub between : direction_of message.head.cmd ≡ BetweenMembers
   pub from : message.head.from ≡ node.me
 
@@ -110,7 +110,7 @@ pub record TellsWaiter (node : NodeConfig) (waiters : List (List Waiter)) (peer 
   pub message : PlainMessage
   pub waits : IsAmong waiter (waiting_at waiters place)
   pub to : waiter.from ≡ peer
-  pub spelled : bytes ≡ sealed node.key message
+  pub spelled : bytes ≡ sealed node.ring message
   pub outcome : IsOutcome node.me waiter message.head
   pub about : NamesTicket node place message.content
 
@@ -120,7 +120,7 @@ pub record IsToldIn (node : NodeConfig) (place : ℕ) (waiter : Waiter) (entries
   pub message : PlainMessage
   pub answer : Result (Unit {0}) Failed
   pub after : List Entry
-  pub whole : entries ≡ before ++ calls.Send waiter.from (sealed node.key message) answer ∷ after
+  pub whole : entries ≡ before ++ calls.Send waiter.from (sealed node.ring message) answer ∷ after
   pub outcome : IsOutcome node.me waiter message.head
   pub about : NamesTicket node place message.content
 
@@ -140,8 +140,8 @@ ReachesWaiters node waiters call = ⊥
 pub record LetsIn (node : NodeConfig) (old : State) (now : ℕ) (from : Peer) (message : PlainMessage)
     (entries : List Entry) (new : State) : Type 0 where
   pub bytes : List ℕ
-  pub let_in : verdict node.config node.key node.me now bytes ≡ Ok message
-  pub deeds : Leads (IsDone node.key) (react node old now (Ok (arrivals.Datagram from)) bytes) entries
+  pub let_in : verdict node.config node.ring node.me now bytes ≡ Ok message
+  pub deeds : Leads (IsDone node.ring) (react node old now (Ok (arrivals.Datagram from)) bytes) entries
       (Ends new)
 
 -- The calls of the arrival are these acts of the ticket at a place, and leave it with a view and with clients that
@@ -157,4 +157,4 @@ pub record ArrivalDoes (node : NodeConfig) (now place : ℕ) (setup : Setup) (ac
   pub ticket : slice_get after.tickets place ≡ Some (record { setup = setup; known = Automatic left.core.view })
   pub waiters : slice_get after.waiters place ≡ Some left.waiters
   pub holds : Holds left
-  pub follow : Leads (IsDone node.key) (dues node now Went after) deadlines (Ends new)
+  pub follow : Leads (IsDone node.ring) (dues node now Went after) deadlines (Ends new)

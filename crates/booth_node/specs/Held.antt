@@ -4,7 +4,7 @@ use Rattle.booth_conf.specs.declared.tickets.TicketConf.{TicketConf}
 use Rattle.booth_rec.specs.declared.record.Record.{Record}
 use Rattle.booth_rec.specs.Record.{IsInForce}
 use Rattle.booth_node.specs.Records.{Has, may_be_kept}
-use Rattle.booth_node.specs.World.{WorldEntry, World, members_of, entries_of, ticket_at, clock_at, last_time}
+use Rattle.booth_node.specs.World.{WorldEntry, World, members_of, entries_of, begins_with, ticket_at, clock_at, last_time}
 
 -- the next entry, where there is one, is not earlier
 abbrev pub IsBefore : ℕ → List WorldEntry → Type 0
@@ -24,7 +24,8 @@ pub record Moment (w : World) : Type 0 where
 -- the records that the member may have kept of the ticket at this moment
 abbrev pub may_at : (w : World) → ℕ → TicketConf → ℕ → Moment w → List Record
 may_at w place ticket m moment =
-    may_be_kept (ticket_at place ticket) (entries_of m moment.before) (entries_of m moment.after)
+    may_be_kept (ticket_at place ticket) (begins_with w m place) (entries_of m moment.before)
+    (entries_of m moment.after)
 
 -- the ticket at a place of the configuration
 abbrev pub IsTicket : World → ℕ → TicketConf → Type 0

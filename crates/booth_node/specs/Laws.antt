@@ -1,6 +1,7 @@
 -- Laws of turns, over every state and all bytes.
 use Rattle.std.specs.Prelude.{◌≡◌, ◌⊎◌, ◌<◌, ◌+◌, ℕ, List, [], ◌∷◌, ◌++◌, length, position, Option, Some, None, Result, Ok, Err}
 use Rattle.std.specs.List.{All}
+use Rattle.booth_keys.specs.declared.ring.Ring.{Ring}
 use Rattle.booth_base.specs.declared.address.Peer.{Peer}
 use Rattle.booth_base.specs.Tree.{Ends, Leads}
 use Rattle.booth_conf.specs.Config.{has_id}
@@ -45,7 +46,7 @@ abbrev pub KeepsItsTickets : Type 0
 KeepsItsTickets =
     (node : NodeConfig) (old new : State) (now : ℕ) (arrival : Result Arrival Failed) (bytes : List ℕ)
     (entries : List Entry) → AreSetUp node old
-    → Leads (IsDone node.key) (react node old now arrival bytes) entries (Ends new) → AreSetUp node new
+    → Leads (IsDone node.ring) (react node old now arrival bytes) entries (Ends new) → AreSetUp node new
 
 -- ---- what a datagram comes to
 
@@ -75,9 +76,9 @@ NothingRests =
 abbrev pub DropsAlone : Type 0
 DropsAlone =
     (node : NodeConfig) (old new : State) (now : ℕ) (from : Peer) (bytes : List ℕ) (fault : DropFault)
-    (entries : List Entry) → verdict node.config node.key node.me now bytes ≡ Err fault
-    → Leads (IsDone node.key) (react node old now (Ok (arrivals.Datagram from)) bytes) entries (Ends new)
-    → Leads (IsDone node.key) (dues node now Went (dropped (record old { last_reading = now }) fault))
+    (entries : List Entry) → verdict node.config node.ring node.me now bytes ≡ Err fault
+    → Leads (IsDone node.ring) (react node old now (Ok (arrivals.Datagram from)) bytes) entries (Ends new)
+    → Leads (IsDone node.ring) (dues node now Went (dropped (record old { last_reading = now }) fault))
     entries (Ends new)
 
 -- the drop counters after a verdict, and after an arrival
@@ -87,14 +88,14 @@ drops_by common (Ok message) = common.drops
 
 abbrev pub drops_after : NodeConfig → ℕ → Common → Result Arrival Failed → List ℕ → List ℕ
 drops_after node now common (Ok (arrivals.Datagram from)) bytes =
-    drops_by common (verdict node.config node.key node.me now bytes)
+    drops_by common (verdict node.config node.ring node.me now bytes)
 drops_after node now common answer bytes = common.drops
 
 -- A turn counts a fault exactly where its datagram has it, and no other.
 abbrev pub CountsEachFault : Type 0
 CountsEachFault =
     (node : NodeConfig) (old new : State) (now : ℕ) (arrival : Result Arrival Failed) (bytes : List ℕ)
-    (entries : List Entry) → Leads (IsDone node.key) (react node old now arrival bytes) entries (Ends new)
+    (entries : List Entry) → Leads (IsDone node.ring) (react node old now arrival bytes) entries (Ends new)
     → new.common.drops ≡ drops_after node now old.common arrival bytes
 
 -- ---- clients
@@ -108,8 +109,8 @@ pub record IsReplyTo (node : NodeConfig) (message : PlainMessage) (number : ℕ)
   pub reason : reply.head.reason ≡ 0
   pub from : reply.head.from ≡ node.me
 
--- These replies answer the message: one, or the parts of a list, numbered from this number on, of which each but the last
--- says that more follow.
+-- These replies answer the message: one, or the parts of a list, numbered from this number on, of which each but the
+-- last says that more follow.
 abbrev pub AreRepliesTo : NodeConfig → PlainMessage → ℕ → List PlainMessage → Type 0
 AreRepliesTo node message number [] = ⊥
 AreRepliesTo node message number (reply ∷ []) = IsReplyTo node message number reply
@@ -118,15 +119,15 @@ AreRepliesTo node message number (reply ∷ next ∷ replies) =
     × AreRepliesTo node message (number + 1) (next ∷ replies)
 
 -- these calls are the sends of these messages to this peer, in their order
-abbrev pub AreSends : Option (List ℕ) → Peer → List PlainMessage → List Entry → Type 0
-AreSends key to [] [] = Unit {0}
-AreSends key to (message ∷ messages) (calls.Send peer bytes answer ∷ entries) =
-    (peer ≡ to) × (bytes ≡ sealed key message) × AreSends key to messages entries
-AreSends key to messages entries = ⊥
+abbrev pub AreSends : Option Ring → Peer → List PlainMessage → List Entry → Type 0
+AreSends ring to [] [] = Unit {0}
+AreSends ring to (message ∷ messages) (calls.Send peer bytes answer ∷ entries) =
+    (peer ≡ to) × (bytes ≡ sealed ring message) × AreSends ring to messages entries
+AreSends ring to messages entries = ⊥
 
--- The last calls of the arrival are the replies, to who asked. Each other call of the turn that reaches a client tells one
--- that waits what became of its grant: before the replies one that waited when the turn began, after them one that waits
--- then.
+-- The last calls of the arrival are the replies, to who asked. Each other call of the turn that reaches a client
+-- tells one that waits what became of its grant: before the replies one that waited when the turn began, after them
+-- one that waits then.
 pub record IsAnswered (node : NodeConfig) (old : State) (now : ℕ) (from : Peer) (message : PlainMessage)
     (entries : List Entry) (new : State) : Type 0 where
   pub before : List Entry
@@ -135,11 +136,11 @@ pub record IsAnswered (node : NodeConfig) (old : State) (now : ℕ) (from : Peer
   pub deadlines : List Entry
   pub whole : entries ≡ before ++ sent ++ deadlines
   pub answers : AreRepliesTo node message 0 replies
-  pub sends : AreSends node.key from replies sent
+  pub sends : AreSends node.ring from replies sent
   pub waited : All (ReachesWaiters node old.waiters) before
   pub after : State
   pub waiting : All (ReachesWaiters node after.waiters) deadlines
-  pub follow : Leads (IsDone node.key) (dues node now Went after) deadlines (Ends new)
+  pub follow : Leads (IsDone node.ring) (dues node now Went after) deadlines (Ends new)
 
 -- Each client's request that is let in has its one reply in that turn, a list its parts.
 abbrev pub ClientsAreAnswered : Type 0
@@ -162,7 +163,7 @@ request_let_in (Ok message) = asked_by (direction_of message.head.cmd) message
 
 abbrev pub request_of : NodeConfig → ℕ → Result Arrival Failed → List ℕ → Option PlainMessage
 request_of node now (Ok (arrivals.Datagram from)) bytes =
-    request_let_in (verdict node.config node.key node.me now bytes)
+    request_let_in (verdict node.config node.ring node.me now bytes)
 request_of node now answer bytes = None
 
 -- In each other turn nothing reaches a client but the outcome of a grant, one that waited when the turn began.
@@ -170,7 +171,7 @@ abbrev pub OthersAreNotAnswered : Type 0
 OthersAreNotAnswered =
     (node : NodeConfig) (old new : State) (now : ℕ) (arrival : Result Arrival Failed) (bytes : List ℕ)
     (entries : List Entry) → AreSetUp node old
-    → Leads (IsDone node.key) (react node old now arrival bytes) entries (Ends new)
+    → Leads (IsDone node.ring) (react node old now arrival bytes) entries (Ends new)
     → request_of node now arrival bytes ≡ None → All (ReachesWaiters node old.waiters) entries
 
 -- No client that waits is forgotten: after each turn it waits for the same ticket still, or it was told in the turn
@@ -179,6 +180,6 @@ abbrev pub NobodyIsForgotten : Type 0
 NobodyIsForgotten =
     (node : NodeConfig) (old new : State) (now : ℕ) (arrival : Result Arrival Failed) (bytes : List ℕ)
     (entries : List Entry) → AreSetUp node old
-    → Leads (IsDone node.key) (react node old now arrival bytes) entries (Ends new)
+    → Leads (IsDone node.ring) (react node old now arrival bytes) entries (Ends new)
     → (place : ℕ) (waiter : Waiter) → IsAmong waiter (waiting_at old.waiters place)
     → IsAmong waiter (waiting_at new.waiters place) ⊎ IsToldIn node place waiter entries

@@ -13,8 +13,8 @@ abbrev pub with_first : List ℕ → List (List (List ℕ)) → List (List (List
 with_first line [] = (line ∷ []) ∷ []
 with_first line (part ∷ parts) = (line ∷ part) ∷ parts
 
--- Lines are cut into parts, each of as many whole lines, from the first, as a text holds. So many bytes of the first part
--- are taken.
+-- Lines are cut into parts, each of as many whole lines, from the first, as a text holds. So many bytes of the first
+-- part are taken.
 abbrev pub cut_lines : ℕ → List (List ℕ) → List (List (List ℕ))
 cut_lines taken [] = [] ∷ []
 cut_lines taken (line ∷ lines) =

@@ -1,6 +1,7 @@
 -- What a node does with an arrival and with its deadlines: the deeds of one turn, as a tree.
 use Rattle.std.specs.Prelude.{◌≡◌, ◌-◌, ◌^◌, ℕ, min, max, Bool, true, List, ◌∷◌, length, map, position, slice_get, Option, Some, None, Result, Ok, Err, is_ok, []}
 use Rattle.std.specs.List.{range_with_len}
+use Rattle.booth_keys.specs.declared.ring.Ring.{Ring}
 use Rattle.booth_base.specs.declared.address.Peer.{Peer}
 use Rattle.booth_base.specs.Tree.{Deeds, Ends, Does, Leads, ◌>>=◌, ◌>>◌, each, through}
 use Rattle.booth_conf.specs.Config.{ConfigSays, has_id}
@@ -57,17 +58,17 @@ pub data Ask : Type 0 where
   Keep : List ℕ → Record → Ask
   Start : Job → Ask
 
--- This entry is what was asked, with this answer: the bytes of a send are the message, sealed with the key where there
+-- This entry is what was asked, with this answer: the bytes of a send are the message, sealed with the ring where there
 -- is one.
-abbrev pub IsDone : Option (List ℕ) → Ask → Bool → Entry → Type 0
-IsDone key (Send peer message) ok (calls.Send to bytes answer) =
-    (to ≡ peer) × (bytes ≡ sealed key message) × Fits message × (ok ≡ is_ok answer)
-IsDone key (Keep name tried) ok (calls.Keep ticket rec answer) =
+abbrev pub IsDone : Option Ring → Ask → Bool → Entry → Type 0
+IsDone ring (Send peer message) ok (calls.Send to bytes answer) =
+    (to ≡ peer) × (bytes ≡ sealed ring message) × Fits message × (ok ≡ is_ok answer)
+IsDone ring (Keep name tried) ok (calls.Keep ticket rec answer) =
     (ticket ≡ name) × (rec ≡ tried) × (ok ≡ is_ok answer)
-IsDone key (Start job) ok (calls.Start number ticket handler local expires answer) =
+IsDone ring (Start job) ok (calls.Start number ticket handler local expires answer) =
     (record { number = number; ticket = ticket; handler = handler; local = local; expires = expires } ≡ job)
     × (ok ≡ is_ok answer)
-IsDone key ask ok entry = ⊥
+IsDone ring ask ok entry = ⊥
 
 -- ---- one ticket's deeds, among the others
 
@@ -83,7 +84,7 @@ peer_of config (whom.Client peer) = Some peer
 
 -- a message of a ticket, as it is sent at this moment
 abbrev pub sent_as : NodeConfig → ℕ → Head → TicketPart → PlainMessage
-sent_as node now head part = stamped node.key now (record { head = head; content = Ticket part })
+sent_as node now head part = stamped node.ring now (record { head = head; content = Ticket part })
 
 -- What an ask of a ticket leaves at the node: the answer that the ticket goes on with, and what is counted.
 pub record Answered : Type 0 where
@@ -161,9 +162,9 @@ pub data Action : Type 0 where
   Rests : Action
 
 -- messages are sent with their time, and sealed
-abbrev pub answers : Option (List ℕ) → ℕ → List PlainMessage → Action
-answers key now [] = Rests
-answers key now (message ∷ messages) = Answers (map (stamped key now) (message ∷ messages))
+abbrev pub answers : Option Ring → ℕ → List PlainMessage → Action
+answers ring now [] = Rests
+answers ring now (message ∷ messages) = Answers (map (stamped ring now) (message ∷ messages))
 
 abbrev pub asks : Option ℕ → Request → Action → Action
 asks None request other = other
@@ -184,10 +185,10 @@ abbrev pub requested : NodeConfig → ℕ → List TicketState → Common → Pl
     → Option (TicketPart × Request) → Action
 requested node now tickets common message None =
     attended node (attr_request_in message)
-    (answers node.key now (replies_to node now tickets common message))
+    (answers node.ring now (replies_to node now tickets common message))
 requested node now tickets common message (Some found) =
     asks (position (is_called found.0.ticket) node.config.tickets) found.1
-    (answers node.key now (replies_to node now tickets common message))
+    (answers node.ring now (replies_to node now tickets common message))
 
 abbrev pub hears : Option ℕ → Option ℕ → Head → TicketPart → Action
 hears (Some from) (Some ticket) head part = Hears from ticket head part
@@ -216,7 +217,7 @@ demanded node now tickets common from (Ok message) =
 -- what these bytes demand, by the gate's verdict
 abbrev pub action : NodeConfig → ℕ → List TicketState → Common → Peer → List ℕ → Action
 action node now tickets common from bytes =
-    demanded node now tickets common from (verdict node.config node.key node.me now bytes)
+    demanded node now tickets common from (verdict node.config node.ring node.me now bytes)
 
 -- the state once it is done what a client asks of the attributes of the ticket at a place
 abbrev pub after_attending : State → ℕ → AttrRequest → State
@@ -294,5 +295,5 @@ react node state now arrival bytes =
 abbrev pub IsTurn : NodeConfig → State → Turn → List Entry → State → Type 0
 IsTurn node old turn (calls.Next wait answer bytes ∷ calls.Now reading ∷ entries) new =
     (wait ≡ 100) × (turn ≡ turn_end answer)
-    × Leads (IsDone node.key) (react node old (used old.last_reading reading) answer bytes) entries (Ends new)
+    × Leads (IsDone node.ring) (react node old (used old.last_reading reading) answer bytes) entries (Ends new)
 IsTurn node old turn entries new = ⊥

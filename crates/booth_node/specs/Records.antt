@@ -1,7 +1,7 @@
 -- The records that a member may have kept of a ticket, by what it did.
 use Rattle.std.specs.Prelude.{◌≡◌, ◌⊎◌, ℕ, Bool, true, false, List, [], ◌∷◌, slice_get, unwrap_or, Option, None, bytes_eq, if◌then◌else◌, is_ok}
 use Rattle.booth_rec.specs.declared.record.Record.{Record}
-use Rattle.booth_rec.specs.Record.{no_record, record_or_none}
+use Rattle.booth_rec.specs.Record.{record_or_none}
 use Rattle.booth_host.specs.declared.entry.Entry.TheVariants as calls
 use Rattle.booth_node.specs.Session.{SessionEntry, Starts, Makes, IsCut, CutKeep}
 
@@ -45,7 +45,7 @@ with_next ticket may (IsCut (CutKeep name rec) ∷ entries) =
 with_next ticket may entries = may
 
 -- The records that a member, a site or an arbitrator, may have kept of a ticket, after some entries of it and before
--- others. At first it has kept nothing, which counts as a record of version 1; while its next entry is a keep of the
--- ticket, that record is one of them already.
-abbrev pub may_be_kept : TicketPlace → List SessionEntry → List SessionEntry → List Record
-may_be_kept ticket before after = with_next ticket (may_after_all ticket (no_record ∷ []) before) after
+-- others. At first it has the record that it begins with; while its next entry is a keep of the ticket, that record is
+-- one of them already.
+abbrev pub may_be_kept : TicketPlace → Record → List SessionEntry → List SessionEntry → List Record
+may_be_kept ticket first before after = with_next ticket (may_after_all ticket (first ∷ []) before) after

@@ -1,5 +1,6 @@
 -- What the code says of a reply that it makes.
 use Rattle.std.specs.Prelude.{◌≡◌, true, false, Bool, List, [], ◌∷◌, length, nat_le, ℕ, Option, Some, None, if◌then◌else◌}
+use Rattle.booth_keys.specs.declared.ring.Ring.{Ring}
 use Rattle.booth_wire.specs.declared.command.Cmd.{Cmd}
 use Rattle.booth_wire.specs.declared.codes.results.TheConstants.{SUCCESS, MORE}
 use Rattle.booth_wire.specs.Command.{kind_of}
@@ -21,11 +22,11 @@ abbrev pub reply_of : MadeReply → Reply
 reply_of reply = record { result = reply.result; content = content_of reply.body }
 
 -- where there is a reply, it stands in this frame with its time, sealed; and this says whether there is one
-abbrev pub IsWritten : Option (List ℕ) → ℕ → List PlainMessage → Bool → List ℕ → Type 0
-IsWritten key now [] written frame = written ≡ false
-IsWritten key now (reply ∷ []) written frame =
-    (written ≡ true) × (frame ≡ sealed key (stamped key now reply)) × Fits (stamped key now reply)
-IsWritten key now (reply ∷ next ∷ replies) written frame = ⊥
+abbrev pub IsWritten : Option Ring → ℕ → List PlainMessage → Bool → List ℕ → Type 0
+IsWritten ring now [] written frame = written ≡ false
+IsWritten ring now (reply ∷ []) written frame =
+    (written ≡ true) × (frame ≡ sealed ring (stamped ring now reply)) × Fits (stamped ring now reply)
+IsWritten ring now (reply ∷ next ∷ replies) written frame = ⊥
 
 -- the result of a part that has so many of these lines
 abbrev pub part_result : List (List ℕ) → ℕ → ℕ
@@ -38,8 +39,8 @@ pub record IsPartWritten (node : NodeConfig) (now : ℕ) (lines : List (List ℕ
   pub text : List ℕ
   pub part : IsPart lines count text
   pub written : frame
-      ≡ sealed node.key (stamped node.key now (part_message node.me request number (part_result lines count) text))
-  pub fits : Fits (stamped node.key now (part_message node.me request number (part_result lines count) text))
+      ≡ sealed node.ring (stamped node.ring now (part_message node.me request number (part_result lines count) text))
+  pub fits : Fits (stamped node.ring now (part_message node.me request number (part_result lines count) text))
 
 -- one or none as a list
 abbrev pub listed : {A : Type 0} → Option A → List A

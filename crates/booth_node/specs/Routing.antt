@@ -35,7 +35,7 @@ Attends node message made_action =
 
 -- what is demanded where this message is answered at once
 abbrev pub at_once : NodeConfig → ℕ → List TicketState → Common → PlainMessage → Action
-at_once node now tickets common message = answers node.key now (replies_to node now tickets common message)
+at_once node now tickets common message = answers node.ring now (replies_to node now tickets common message)
 
 -- the code names where a request goes in which this was found, however the node stands
 abbrev pub Requests : NodeConfig → PlainMessage → Option (TicketPart × Request) → Made → Type 0

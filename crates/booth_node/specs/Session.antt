@@ -52,7 +52,7 @@ did call = true
 -- a next with a wait of 100 ms begins a turn, then the clock is read, and then each deed of the reaction is done
 abbrev pub MayMake : Stand → Entry → Type 0
 MayMake (Doing node (Ends old)) (calls.Next wait answer bytes) = wait ≡ 100
-MayMake (Doing node (Does ask go)) call = IsDone node.key ask (did call) call
+MayMake (Doing node (Does ask go)) call = IsDone node.ring ask (did call) call
 MayMake (Hearing node old answer bytes) (calls.Now reading) = Unit {0}
 MayMake stand call = ⊥
 
@@ -65,7 +65,7 @@ after_call stand call = stand
 
 -- the call that comes next may be cut
 abbrev pub IsNextDeed : NodeConfig → Ask → CutCall → Type 0
-IsNextDeed node (Send peer message) (CutSend to bytes) = (to ≡ peer) × (bytes ≡ sealed node.key message) × Fits message
+IsNextDeed node (Send peer message) (CutSend to bytes) = (to ≡ peer) × (bytes ≡ sealed node.ring message) × Fits message
 IsNextDeed node (Keep name tried) (CutKeep ticket rec) = (ticket ≡ name) × (rec ≡ tried)
 IsNextDeed node (Start asked) (CutStart job) = job ≡ asked
 IsNextDeed node ask call = ⊥

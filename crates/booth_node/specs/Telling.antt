@@ -13,12 +13,13 @@ use Rattle.booth_node.specs.ReplyForms.{part_result}
 
 -- the messages by which a list of these lines is told, as they are sent at this moment
 abbrev pub list_messages : NodeConfig → ℕ → ℕ → List (List ℕ) → List PlainMessage
-list_messages node now request lines = map (stamped node.key now) (part_messages node.me request 0 (cut_lines 0 lines))
+list_messages node now request lines = map (stamped node.ring now) (part_messages node.me request 0 (cut_lines 0 lines))
 
 -- The host was led to send the first part of these lines, which has so many of them, as the reply of this number.
 pub record SendsPart {H : Type 0} (past : H → Option (List Entry)) (faults : H → ℕ) (node : NodeConfig) (now : ℕ)
     (lines : List (List ℕ)) (to : Peer) (request number count : ℕ) (old new : H) : Type 0 where
   pub text : List ℕ
   pub part : IsPart lines count text
-  pub led : Led past faults (IsDone node.key)
-      (sends_back to (stamped node.key now (part_message node.me request number (part_result lines count) text))) tt old new
+  pub led : Led past faults (IsDone node.ring)
+      (sends_back to (stamped node.ring now (part_message node.me request number (part_result lines count) text)))
+      tt old new

@@ -1,12 +1,14 @@
 -- Worlds: the sessions of all members of a cluster, in the order of true time.
-use Rattle.std.specs.Prelude.{◌≡◌, ◌⊎◌, ℕ, ◌<◌, ◌≤◌, ◌==◌, ◌++◌, Bool, true, if◌then◌else◌, List, [], ◌∷◌, length, slice_get, slice_index, Option, Some, Ok}
-use Rattle.std.specs.Option.{option_map_or}
+use Rattle.std.specs.Prelude.{◌≡◌, ◌⊎◌, ℕ, ◌<◌, ◌≤◌, ◌==◌, ◌++◌, Bool, true, false, if◌then◌else◌, List, [], ◌∷◌, length, slice_get, slice_index, Option, Some, Ok}
+use Rattle.std.specs.Option.{ForSome, option_map_or}
+use Rattle.booth_keys.specs.declared.ring.Ring.{Ring}
 use Rattle.booth_base.specs.declared.address.MemberId.{MemberId}
 use Rattle.booth_base.specs.declared.address.TheConstants.{NO_ONE}
-use Rattle.booth_base.specs.declared.times.Times.{Times}
 use Rattle.booth_conf.specs.Config.{ConfigSays}
 use Rattle.booth_conf.specs.declared.tickets.TicketConf.{TicketConf}
 use Rattle.booth_conf.specs.Sound.{IsSound}
+use Rattle.booth_rec.specs.declared.record.Record.{Record}
+use Rattle.booth_rec.specs.Record.{first_plain, is_second, no_record}
 use Rattle.booth_wire.specs.declared.command.Direction.TheVariants.{BetweenMembers}
 use Rattle.booth_wire.specs.Command.{direction_of}
 use Rattle.booth_wire.specs.PlainMessage.{PlainMessage}
@@ -15,27 +17,39 @@ use Rattle.booth_auth.specs.Verdict.{verdict}
 use Rattle.booth_host.specs.declared.host.Arrival.TheVariants as arrivals
 use Rattle.booth_host.specs.declared.entry.Entry.TheVariants as calls
 use Rattle.booth_node.specs.declared.node_config.NodeConfig.{NodeConfig}
-use Rattle.booth_node.specs.Clock.{Cluster, IsClock}
-use Rattle.booth_node.specs.Opening.{is_site_at}
+use Rattle.booth_node.specs.Clock.{IsClock}
 use Rattle.booth_node.specs.Reaction.{used}
 use Rattle.booth_node.specs.Session.{SessionEntry, Starts, Makes, IsCut, CutSend, Stand, Down, Hearing, AreSessions, after_entries}
 use Rattle.booth_node.specs.Records.{Has, TicketPlace, record_at, may_be_kept}
 
 -- ---- a world
 
--- What a member did at a true time, in whole milliseconds.
+-- What a member did at a true time, which is counted in ticks.
 pub record WorldEntry : Type 0 where
   pub member : ℕ
   pub time : ℕ
   pub what : SessionEntry
 
--- A configuration, a key or none, one clock for each member, all of one length, and the entries. Members are named by
--- their places in the configuration.
+-- What a member has when the world begins: whether it was of version 2 before, and the record of the ticket at each
+-- place.
+pub record Beginning : Type 0 where
+  pub second : Bool
+  pub records : ℕ → Record
+
+-- nothing was kept before, which counts as a record of version 1
+abbrev pub from_nothing : Beginning
+from_nothing = record { second = false; records = λ place. no_record }
+
+-- A configuration, a ring of keys or none, how many ticks of true time make a millisecond, one clock for each member,
+-- all of one length, what each member begins with, and the entries. Members are named by their places in the
+-- configuration.
 pub record World : Type 0 where
   pub config : ConfigSays
-  pub key : Option (List ℕ)
+  pub ring : Option Ring
+  pub ticks : ℕ
   pub span : ℕ
   pub clock : ℕ → List ℕ
+  pub begins : ℕ → Beginning
   pub entries : List WorldEntry
 
 abbrev pub members_of : World → ℕ
@@ -44,9 +58,9 @@ members_of w = length w.config.members
 abbrev pub id_at : World → ℕ → MemberId
 id_at w m = option_map_or (λ member. member.id) (slice_get w.config.members m) NO_ONE
 
--- the member at a place, with the configuration and the key of all, by the rules of version 2 or of version 1
+-- the member at a place, with the configuration and the ring of all, by the rules of version 2 or of version 1
 abbrev pub node_at : World → ℕ → Bool → NodeConfig
-node_at w m second = record { config = w.config; key = w.key; me = id_at w m; second = second }
+node_at w m second = record { config = w.config; ring = w.ring; me = id_at w m; second = second }
 
 -- the entries of one member, taken alone
 abbrev pub entries_of : ℕ → List WorldEntry → List SessionEntry
@@ -58,15 +72,9 @@ entries_of m (entry ∷ entries) =
 abbrev pub ticket_at : ℕ → TicketConf → TicketPlace
 ticket_at place ticket = record { place = place; name = ticket.name }
 
--- the cluster of a ticket with these times
-abbrev pub cluster_of : World → Times → Cluster
-cluster_of w times = record {
-  members = members_of w;
-  is_site = is_site_at w.config.members;
-  times = times;
-  span = w.span;
-  clock = w.clock;
-}
+-- the record of the ticket at a place that a member begins with
+abbrev pub begins_with : World → ℕ → ℕ → Record
+begins_with w m place = (w.begins m).records place
 
 -- this holds of each entry, with those before it
 abbrev pub AtEach : World → (List WorldEntry → WorldEntry → Type 0) → Type 0
@@ -89,7 +97,7 @@ pub record HasForm (w : World) : Type 0 where
 
 -- ---- its premises
 
--- a start is one of this member, with the one configuration and the one key or none, in either version
+-- a start is one of this member, with the one configuration and the one ring or none, in either version
 abbrev pub HasConfiguration : World → WorldEntry → SessionEntry → Type 0
 HasConfiguration w entry (Starts node reading records) = node ≡ node_at w entry.member node.second
 HasConfiguration w entry what = Unit {0}
@@ -106,18 +114,41 @@ ReadsClock w entry what = Unit {0}
 
 -- Each member has one clock through all its starts, which drifts within the bounds, and reads nothing else.
 pub record HasTrueClocks (w : World) : Type 0 where
+  pub ticking : 0 < w.ticks
   pub some : 0 < w.span
   pub long : (m : ℕ) → m < members_of w → length (w.clock m) ≡ w.span
-  pub clocks : (m : ℕ) → m < members_of w → IsClock (w.clock m)
+  pub clocks : (m : ℕ) → m < members_of w → IsClock w.ticks (w.clock m)
   pub read : AtEach w (λ before entry. ReadsClock w entry entry.what)
 
+-- an id is that of a member
+abbrev pub IsMemberId : World → MemberId → Type 0
+IsMemberId w id = (m : ℕ) × (m < members_of w) × (id_at w m ≡ id)
+
+-- A record holds nothing where its member's clock first reads this. Its lease, if there is one, is over. It is of
+-- version 1, and has nothing beside its term and its lease; or of version 2, of a member that was of version 2. What it
+-- is bound and promised to are members; and a promise, live or over, is of a term no later than its own, and was made
+-- after the abstention.
+pub record HoldsNothing (w : World) (m reading : ℕ) (kept : Record) : Type 0 where
+  pub over : ForSome kept.lease (λ lease. lease.until ≤ reading)
+  pub version : (kept ≡ first_plain kept.term kept.lease) ⊎ ((is_second kept ≡ true) × ((w.begins m).second ≡ true))
+  pub bound : ForSome kept.bound (λ id. IsMemberId w id)
+  pub promise : ForSome kept.promise
+      (λ promise. IsMemberId w promise.to × (promise.term ≤ kept.term) × (kept.abstain ≤ reading))
+
+-- no automatic ticket is held when the world begins; of a manual one a member begins with any record
+abbrev pub BeginsFree : World → Type 0
+BeginsFree w =
+    (m place : ℕ) (ticket : TicketConf) → slice_get w.config.tickets place ≡ Some ticket → ticket.manual ≡ false
+    → HoldsNothing w m (clock_at w m 0) (begins_with w m place)
+
 -- A start reads of each ticket a record that its member may have kept, a site or an arbitrator. So where the member
--- never started before, it reads none, or one that counts as none.
+-- never started in this world before, it reads that which it begins with.
 abbrev pub ReadsKept : World → List WorldEntry → WorldEntry → SessionEntry → Type 0
 ReadsKept w before entry (Starts node reading records) =
     (place : ℕ) (ticket : TicketConf) → slice_get w.config.tickets place ≡ Some ticket
     → Has
-    (may_be_kept (ticket_at place ticket) (entries_of entry.member before) (Starts node reading records ∷ []))
+    (may_be_kept (ticket_at place ticket) (begins_with w entry.member place) (entries_of entry.member before)
+    (Starts node reading records ∷ []))
     (record_at records place)
 ReadsKept w before entry what = Unit {0}
 
@@ -127,10 +158,10 @@ WasSecond [] = ⊥
 WasSecond (Starts node reading records ∷ entries) = (node.second ≡ true) ⊎ WasSecond entries
 WasSecond (entry ∷ entries) = WasSecond entries
 
--- a member that started in version 2 starts in it again
+-- a member that was of version 2 before, or started in it, starts in it again
 abbrev pub StaysSecond : World → List WorldEntry → WorldEntry → SessionEntry → Type 0
 StaysSecond w before entry (Starts node reading records) =
-    WasSecond (entries_of entry.member before) → node.second ≡ true
+    ((w.begins entry.member).second ≡ true) ⊎ WasSecond (entries_of entry.member before) → node.second ≡ true
 StaysSecond w before entry what = Unit {0}
 
 -- the bytes of a send; one that failed, or was cut, is one too
@@ -151,7 +182,7 @@ pub record WasSent (w : World) (before : List WorldEntry) (message : PlainMessag
 -- where the reading of a turn lets a member's message in, it was sent
 abbrev pub HearsSent : World → List WorldEntry → Stand → SessionEntry → Type 0
 HearsSent w before (Hearing node old (Ok (arrivals.Datagram from)) bytes) (Makes (calls.Now reading)) =
-    (message : PlainMessage) → verdict node.config node.key node.me (used old.last_reading reading) bytes ≡ Ok message
+    (message : PlainMessage) → verdict node.config node.ring node.me (used old.last_reading reading) bytes ≡ Ok message
     → direction_of message.head.cmd ≡ BetweenMembers → WasSent w before message
 HearsSent w before stand what = Unit {0}
 
@@ -159,13 +190,14 @@ HearsSent w before stand what = Unit {0}
 abbrev pub stand_after : ℕ → List WorldEntry → Stand
 stand_after m before = after_entries Down (entries_of m before)
 
--- A world has six premises. All members have the one configuration and the one key or none; clocks are true; records
--- return as they may have been kept; a member's sessions of version 1 come before its sessions of version 2; a member's
--- message that is let in was sent by that member, earlier, and may come to any member, any number of times or
--- never; and one daemon of each member runs at a time. All else is free: what clients ask, what fails, what is cut,
--- and when.
+-- A world has seven premises. What members begin with holds no automatic ticket; all members have the one configuration
+-- and the one ring or none; clocks are true; records return as they may have been kept; a member's sessions of version
+-- 1 come before its sessions of version 2; a member's message that is let in was sent by that member, earlier, and may
+-- come to any member, any number of times or never; and one daemon of each member runs at a time. All else is free:
+-- what clients ask, what fails, what is cut, and when.
 pub record IsWorld (w : World) : Type 0 where
   pub form : HasForm w
+  pub nothing_held : BeginsFree w
   pub one_configuration : AtEach w (λ before entry. HasConfiguration w entry entry.what)
   pub true_clocks : HasTrueClocks w
   pub records_return : AtEach w (λ before entry. ReadsKept w before entry entry.what)

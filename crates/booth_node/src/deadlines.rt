@@ -87,7 +87,7 @@ pub(crate) fn expire_each<H: Host>(
     requires others { (slot : ℕ) → All (λ gone. gone ≢ slot) due.now
         → slice_index_or wheel.old.deadlines slot None
         ≡ slice_index_or (map deadline_of table.old.tickets.items) slot None }
-    ensures led { Led H.past H.faults (IsDone table.old.node.key) (each_due table.old.node now due.now
+    ensures led { Led H.past H.faults (IsDone table.old.node.ring) (each_due table.old.node now due.now
         (state_with table.old now)) (state_with table.new now) host.old host.new }
     ensures timed { wheel.new.deadlines ≡ map deadline_of table.new.tickets.items }
     ensures last { wheel.new.last ≡ wheel.old.last }

@@ -62,14 +62,14 @@ fn peer_of(config: &Config, to: To) -> Option<Peer>
 // Seals a message about a ticket into the frame.
 fn write(node: &NodeConfig, head: &Head, part: &TicketPart, now: u64, frame: &mut Frame)
     requires kind { kind_of head.now.cmd ≡ Kind.Ticket }
-    ensures bytes { frame.new ≡ sealed node.now.key (sent_as node.now now head.now part.now) }
+    ensures bytes { frame.new ≡ sealed node.now.ring (sent_as node.now now head.now part.now) }
     ensures fits { Fits (sent_as node.now now head.now part.now) }
 {
     let message = Message {
         head: *head,
         body: Body::Ticket(part.copy()),
     };
-    seal(&message, node.key.as_ref(), now, frame);
+    seal(&message, node.ring.as_ref(), now, frame);
 }
 
 // Sends the frame to where a message goes, and counts that.
@@ -93,7 +93,7 @@ impl<'a, H: Host> NodeHands<'a, H> {
     // Says what stands in the frame.
     fn say_written(&mut self, to: To, head: &Head, part: &TicketPart)
         requires written { self.old.frame.now
-            ≡ sealed self.old.node.now.key (sent_as self.old.node.now self.old.now head.now part.now) }
+            ≡ sealed self.old.node.now.ring (sent_as self.old.node.now self.old.now head.now part.now) }
         requires fits { Fits (sent_as self.old.node.now self.old.now head.now part.now) }
         ensures host { self.new.host.ghost_name ≡ self.old.host.ghost_name }
         ensures counts { self.new.common.ghost_name ≡ self.old.common.ghost_name }
@@ -101,7 +101,7 @@ impl<'a, H: Host> NodeHands<'a, H> {
         ensures frame { self.new.frame.now ≡ self.old.frame.now }
         ensures same { (self.new.node.now ≡ self.old.node.now) × (self.new.now ≡ self.old.now)
             × (self.new.name.now ≡ self.old.name.now) }
-        ensures led { Led H.past H.faults (IsDone self.old.node.now.key)
+        ensures led { Led H.past H.faults (IsDone self.old.node.now.ring)
             (one_of self.old.node.now self.old.now self.old.name.now self.old.common.now (Say to head.now part.now))
             (record { ok = true; common = self.new.common.now }) self.old.host.now self.new.host.now }
     {
@@ -115,14 +115,14 @@ impl<'a, H: Host> NodeHands<'a, H> {
     fn say_anew(&mut self, to: To, head: &Head, part: &TicketPart)
         requires kind { kind_of head.now.cmd ≡ Kind.Ticket }
         ensures written { self.new.frame.now
-            ≡ sealed self.old.node.now.key (sent_as self.old.node.now self.old.now head.now part.now) }
+            ≡ sealed self.old.node.now.ring (sent_as self.old.node.now self.old.now head.now part.now) }
         ensures fits { Fits (sent_as self.old.node.now self.old.now head.now part.now) }
         ensures host { self.new.host.ghost_name ≡ self.old.host.ghost_name }
         ensures counts { self.new.common.ghost_name ≡ self.old.common.ghost_name }
         ensures buffer { self.new.frame.ghost_name ≡ self.old.frame.ghost_name }
         ensures same { (self.new.node.now ≡ self.old.node.now) × (self.new.now ≡ self.old.now)
             × (self.new.name.now ≡ self.old.name.now) }
-        ensures led { Led H.past H.faults (IsDone self.old.node.now.key)
+        ensures led { Led H.past H.faults (IsDone self.old.node.now.ring)
             (one_of self.old.node.now self.old.now self.old.name.now self.old.common.now (Say to head.now part.now))
             (record { ok = true; common = self.new.common.now }) self.old.host.now self.new.host.now }
     {
@@ -139,7 +139,7 @@ impl<'a, H: Host> Hands for NodeHands<'a, H> {
         (new.host.ghost_name ≡ old.host.ghost_name) × (new.common.ghost_name ≡ old.common.ghost_name)
         × (new.frame.ghost_name ≡ old.frame.ghost_name)
         × ((new.node.now ≡ old.node.now) × (new.now ≡ old.now) × (new.name.now ≡ old.name.now))
-        × Led H.past H.faults (IsDone old.node.now.key)
+        × Led H.past H.faults (IsDone old.node.now.ring)
         (one_of old.node.now old.now old.name.now old.common.now act.ask)
         (record { ok = act.ok; common = new.common.now }) old.host.now new.host.now };
 
@@ -188,7 +188,7 @@ fn befall<H: Host>(
     ensures host { hands.new.host.ghost_name ≡ hands.old.host.ghost_name }
     ensures counts { hands.new.common.ghost_name ≡ hands.old.common.ghost_name }
     ensures buffer { hands.new.frame.ghost_name ≡ hands.old.frame.ghost_name }
-    ensures led { Led H.past H.faults (IsDone hands.old.node.now.key)
+    ensures led { Led H.past H.faults (IsDone hands.old.node.now.ring)
         (lifted hands.old.node.now hands.old.now hands.old.name.now hands.old.common.now
         (befalls ticket.old (waiting_at waiters.old list) (spare_in waiters.old)
         (is_ready hands.old.node.now attrs.now list) job event.now hands.old.now))
@@ -236,7 +236,7 @@ pub(crate) fn act_at<H: Host>(
     ensures host { hands.new.host.ghost_name ≡ hands.old.host.ghost_name }
     ensures counts { hands.new.common.ghost_name ≡ hands.old.common.ghost_name }
     ensures buffer { hands.new.frame.ghost_name ≡ hands.old.frame.ghost_name }
-    ensures led { Led H.past H.faults (IsDone hands.old.node.now.key)
+    ensures led { Led H.past H.faults (IsDone hands.old.node.now.ring)
         (acts hands.old.node.now hands.old.now
         (state_of_parts tickets.old.items waiters.old attrs.now hands.old.common.now hands.old.now) place event.now)
         (state_of_parts tickets.new.items waiters.new attrs.now hands.new.common.now hands.old.now)

@@ -94,7 +94,7 @@ pub(crate) fn end_each<H: Host>(
 )
     requires early { now < 2 ^ 62 }
     requires timed { wheel.old.deadlines ≡ map deadline_of table.old.tickets.items }
-    ensures led { Led H.past H.faults (IsDone table.old.node.key) (each_over table.old.node now job service
+    ensures led { Led H.past H.faults (IsDone table.old.node.ring) (each_over table.old.node now job service
         (range_with_len 0 (length table.old.tickets.items)) (state_with table.old now)) (state_with table.new
         now) host.old host.new }
     ensures timed { wheel.new.deadlines ≡ map deadline_of table.new.tickets.items }

@@ -74,8 +74,8 @@ fn put_ticket(config: &Config, ticket: &Ticket, now: u64, text: &mut TextBuf)
     text.put(b"\n");
 }
 
-/// Makes the text of the first part of a list of these tickets, at this reading in ms: as many whole lines as it holds. The
-/// number of its lines.
+/// Makes the text of the first part of a list of these tickets, at this reading in ms: as many whole lines as it
+/// holds. The number of its lines.
 pub(crate) fn write_part(
     node: &NodeConfig,
     tickets: &[Ticket],

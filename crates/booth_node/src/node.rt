@@ -15,11 +15,11 @@ use crate::state::READINGS_END;
 use crate::tickets::TicketTable;
 use crate::{Common, Counters, NodeConfig};
 use booth_attr::Attrs;
-use booth_auth::Key;
 use booth_base::{MemberId, Peer};
 use booth_chain::Wheel;
 use booth_conf::Config;
 use booth_host::{Arrival, Datagram, Failed, Host};
+use booth_keys::Ring;
 use booth_rec::Record;
 use booth_ticket::{Service, Waiters};
 use std::alloc::{AllocError, Global};
@@ -54,14 +54,14 @@ pub struct Node {
 impl Node {
     ghost use Rattle.booth_node.specs.View.{node_config, state_of};
 
-    /// A node of this configuration, with this key where there is one, at the member with this id, with the record of
+    /// A node of this configuration, with this ring where there is one, at the member with this id, with the record of
     /// each ticket where one was kept. Its rules are those of version 2, whatever version a record is of.
     ///
     /// `now` is the reading of its start, in milliseconds since 1970.
     pub fn open(
         alloc: Global,
         config: Config,
-        key: Option<Key>,
+        ring: Option<Ring>,
         me: MemberId,
         records: &[Option<Record>],
         now: u64,
@@ -69,13 +69,13 @@ impl Node {
         requires member { IsSome (position (has_id me) config.members) }
         requires records { length records.now ≡ length config.tickets }
         ensures node { IfOk result (λ node.
-            node_config node ≡ record { config = config; key = key; me = me; second = true }) }
+            node_config node ≡ record { config = config; ring = ring; me = me; second = true }) }
         ensures state { IfOk result (λ node. state_of node
-            ≡ opened (record { config = config; key = key; me = me; second = true }) records.now now) }
+            ≡ opened (record { config = config; ring = ring; me = me; second = true }) records.now now) }
     {
         let node = NodeConfig {
             config,
-            key,
+            ring,
             me,
             second: true,
         };
@@ -128,7 +128,7 @@ impl Node {
 
     // Does what the datagram of this peer demands at this turn's moment.
     fn receive<H: Host>(&mut self, from: Peer, host: &mut H)
-        ensures led { Led H.past H.faults (IsDone (node_config self.old).key) (met (node_config self.old)
+        ensures led { Led H.past H.faults (IsDone (node_config self.old).ring) (met (node_config self.old)
             (state_of self.old).last_reading (state_of self.old) from (action (node_config self.old) (state_of
             self.old).last_reading (state_of self.old).tickets (state_of self.old).common from
             self.old.datagram)) (state_of self.new) host.old host.new }
@@ -143,7 +143,7 @@ impl Node {
 
     // A job of a handler is over at this turn's moment.
     fn end_jobs<H: Host>(&mut self, job: u64, service: Service, host: &mut H)
-        ensures led { Led H.past H.faults (IsDone (node_config self.old).key) (each_over (node_config
+        ensures led { Led H.past H.faults (IsDone (node_config self.old).ring) (each_over (node_config
             self.old) (state_of self.old).last_reading job service (all_places (state_of self.old)) (state_of
             self.old)) (state_of self.new) host.old host.new }
         ensures node { node_config self.new ≡ node_config self.old }
@@ -161,7 +161,7 @@ impl Node {
 
     // Does what an arrival demands at this turn's moment.
     fn arrive<H: Host>(&mut self, arrival: &Result<Arrival, Failed>, host: &mut H)
-        ensures led { Led H.past H.faults (IsDone (node_config self.old).key) (arrived (node_config
+        ensures led { Led H.past H.faults (IsDone (node_config self.old).ring) (arrived (node_config
             self.old) (state_of self.old).last_reading (state_of self.old) arrival.now self.old.datagram)
             (state_of self.new) host.old host.new }
         ensures node { node_config self.new ≡ node_config self.old }
@@ -182,7 +182,7 @@ impl Node {
 
     // What the tickets do whose deadlines have come at this turn's moment.
     fn expire<H: Host>(&mut self, host: &mut H)
-        ensures led { Led H.past H.faults (IsDone (node_config self.old).key) (each_due (node_config
+        ensures led { Led H.past H.faults (IsDone (node_config self.old).ring) (each_due (node_config
             self.old) (state_of self.old).last_reading (due_places (state_of self.old).last_reading (state_of
             self.old).tickets) (state_of self.old)) (state_of self.new) host.old host.new }
         ensures node { node_config self.new ≡ node_config self.old }

@@ -1,16 +1,18 @@
 //! What a node is set up with.
 ghost use Rattle.booth_auth.specs.Verdict.{verdict, Passes};
 
-use booth_auth::{DropFault, Key, gate};
+use booth_auth::{DropFault, gate};
 use booth_base::MemberId;
 use booth_conf::Config;
+use booth_keys::Ring;
 use booth_wire::Message;
 
-/// A member: the configuration that it shares, its key where there is one, its own id, and by which rules it goes.
+/// A member: the configuration that it shares, its ring of keys where there is one, its own id, and by which rules it
+/// goes.
 #[derive(Drop)]
 pub struct NodeConfig {
     pub config: Config,
-    pub key: Option<Key>,
+    pub ring: Option<Ring>,
     pub me: MemberId,
     /// Whether it follows the rules of version 2, by which promises are kept in records.
     pub second: bool,
@@ -19,8 +21,8 @@ pub struct NodeConfig {
 impl NodeConfig {
     /// The message of a datagram that is let in at this reading in ms, or why it is dropped.
     pub(crate) fn admit<'a>(&self, now: u64, bytes: &'a [u8]) -> Result<Message<'a>, DropFault>
-        ensures { Passes result (verdict self.now.config self.now.key self.now.me now bytes.now) }
+        ensures { Passes result (verdict self.now.config self.now.ring self.now.me now bytes.now) }
     {
-        gate(&self.config, self.key.as_ref(), self.me, now, bytes)
+        gate(&self.config, self.ring.as_ref(), self.me, now, bytes)
     }
 }

@@ -47,14 +47,14 @@ impl ReplyBuffer {
         message: &Message<'_>,
         now: u64,
     ) -> bool
-        ensures { IsWritten node.now.key now (answered node.now.me message.now.head.request
+        ensures { IsWritten node.now.ring now (answered node.now.me message.now.head.request
             (answer_of message.now.head.cmd) (reply_with (text_for node.now common.now message.now.head.cmd)
             message.now.head.cmd (content_of message.now.body))) result self.new.frame }
     {
         write_text(node, common, message.head.cmd, &mut self.text);
         match answer(node.me, message, self.text.bytes()) {
             Some(reply) => {
-                seal(&reply, node.key.as_ref(), now, &mut self.frame);
+                seal(&reply, node.ring.as_ref(), now, &mut self.frame);
                 true
             }
             None => false,
@@ -69,7 +69,7 @@ impl ReplyBuffer {
     {
         let count = write_part(node, tickets, now, &mut self.line, &mut self.text);
         let message = part_message(node.me, part, count >= tickets.len(), self.text.bytes());
-        seal(&message, node.key.as_ref(), now, &mut self.frame);
+        seal(&message, node.ring.as_ref(), now, &mut self.frame);
         count
     }
 
@@ -85,13 +85,13 @@ impl ReplyBuffer {
         requires { place < length attrs.old.lists }
         ensures attributes { attrs.new ≡ after_wish attrs.old place request.now.wish }
         ensures lists { length attrs.new.lists ≡ length attrs.old.lists }
-        ensures written { self.new.frame ≡ sealed node.now.key
+        ensures written { self.new.frame ≡ sealed node.now.ring
             (attr_message node.now now attrs.old place request.now) }
         ensures fits { Fits (attr_message node.now now attrs.old place request.now) }
     {
         write_pairs(attrs, place, &request.wish, &mut self.text);
         let made = attend(attrs, place, request, self.text.bytes());
         let message = reply_message(node.me, request.number, answer_cmd(&request.wish), made);
-        seal(&message, node.key.as_ref(), now, &mut self.frame);
+        seal(&message, node.ring.as_ref(), now, &mut self.frame);
     }
 }

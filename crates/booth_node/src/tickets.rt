@@ -55,7 +55,7 @@ impl TicketTable {
         requires early { now < 2 ^ 62 }
         requires may { IsSomeAnd (slice_get self.old.tickets.items place)
             (λ ticket. MayBefall ticket event.now now) }
-        ensures led { Led H.past H.faults (IsDone self.old.node.key) (acts self.old.node now (state_with
+        ensures led { Led H.past H.faults (IsDone self.old.node.ring) (acts self.old.node now (state_with
             self.old now) place event.now) (state_with self.new now) host.old host.new }
         ensures node { self.new.node ≡ self.old.node }
         ensures others { IsSetAt self.old.tickets.items place self.new.tickets.items }
@@ -116,7 +116,7 @@ impl TicketTable {
         requires member { from < length self.old.node.config.members }
         requires other { position (has_id self.old.node.me) self.old.node.config.members ≢ Some from }
         requires there { ticket < length self.old.tickets.items }
-        ensures led { Led H.past H.faults (IsDone self.old.node.key) (acts self.old.node now (accepted
+        ensures led { Led H.past H.faults (IsDone self.old.node.ring) (acts self.old.node now (accepted
             (state_with self.old now) from now) ticket (Event.Heard from head part)) (state_with self.new now)
             host.old host.new }
         ensures node { self.new.node ≡ self.old.node }
@@ -131,7 +131,7 @@ impl TicketTable {
     fn ask<H: Host>(&mut self, ticket: usize, request: Request, now: u64, host: &mut H)
         requires early { now < 2 ^ 62 }
         requires there { ticket < length self.old.tickets.items }
-        ensures led { Led H.past H.faults (IsDone self.old.node.key) (acts self.old.node now (state_with
+        ensures led { Led H.past H.faults (IsDone self.old.node.ring) (acts self.old.node now (state_with
             self.old now) ticket (Event.Asked request)) (state_with self.new now) host.old host.new }
         ensures node { self.new.node ≡ self.old.node }
         ensures others { IsSetAt self.old.tickets.items ticket self.new.tickets.items }
@@ -149,7 +149,7 @@ impl TicketTable {
         host: &mut H,
     )
         requires { ticket < length self.old.tickets.items }
-        ensures led { Led H.past H.faults (IsDone self.old.node.key) (met self.old.node now (state_with
+        ensures led { Led H.past H.faults (IsDone self.old.node.ring) (met self.old.node now (state_with
             self.old now) from (Attends ticket request.now)) (state_with self.new now) host.old host.new }
         ensures node { self.new.node ≡ self.old.node }
         ensures tickets { self.new.tickets.items ≡ self.old.tickets.items }
@@ -183,7 +183,7 @@ impl TicketTable {
 
     // Tells a list, part by part, to the request with this number.
     fn tell_list<H: Host>(&mut self, to: Peer, request: u32, now: u64, host: &mut H)
-        ensures led { Led H.past H.faults (IsDone self.old.node.key) (each (sends_back to)
+        ensures led { Led H.past H.faults (IsDone self.old.node.ring) (each (sends_back to)
             (list_messages self.old.node now request (list_lines self.old.node now self.old.tickets.items))) tt
             host.old host.new }
         ensures same { TellsAlone self.old self.new }
@@ -199,7 +199,7 @@ impl TicketTable {
     // Tells the one reply to a client's message, where it has one.
     fn tell_reply<H: Host>(&mut self, to: Peer, message: &Message<'_>, now: u64, host: &mut H)
         requires { is_list message.now.head.cmd ≡ false }
-        ensures led { Led H.past H.faults (IsDone self.old.node.key) (met self.old.node now (state_with
+        ensures led { Led H.past H.faults (IsDone self.old.node.ring) (met self.old.node now (state_with
             self.old now) to (at_once self.old.node now self.old.tickets.items self.old.common
             (plain_of message.now))) (state_with self.new now) host.old host.new }
         ensures same { TellsAlone self.old self.new }
@@ -212,7 +212,7 @@ impl TicketTable {
 
     // Answers a client's message at once, where it has an answer.
     fn answer<H: Host>(&mut self, to: Peer, message: &Message<'_>, now: u64, host: &mut H)
-        ensures led { Led H.past H.faults (IsDone self.old.node.key) (met self.old.node now (state_with
+        ensures led { Led H.past H.faults (IsDone self.old.node.ring) (met self.old.node now (state_with
             self.old now) to (at_once self.old.node now self.old.tickets.items self.old.common
             (plain_of message.now))) (state_with self.new now) host.old host.new }
         ensures same { TellsAlone self.old self.new }
@@ -234,7 +234,7 @@ impl TicketTable {
     ) -> Option<usize>
         requires early { now < 2 ^ 62 }
         requires other { message.now.head.from.0 == self.old.node.me.0 ≡ false }
-        ensures led { Led H.past H.faults (IsDone self.old.node.key) (met self.old.node now (state_with
+        ensures led { Led H.past H.faults (IsDone self.old.node.ring) (met self.old.node now (state_with
             self.old now) from (routed self.old.node now self.old.tickets.items self.old.common from
             (plain_of message.now) (direction_of message.now.head.cmd)))
             (state_with self.new now) host.old host.new }
@@ -277,7 +277,7 @@ impl TicketTable {
         host: &mut H,
     ) -> Option<usize>
         requires early { now < 2 ^ 62 }
-        ensures led { Led H.past H.faults (IsDone self.old.node.key) (met self.old.node now (state_with
+        ensures led { Led H.past H.faults (IsDone self.old.node.ring) (met self.old.node now (state_with
             self.old now) from (action self.old.node now self.old.tickets.items self.old.common from bytes.now))
             (state_with self.new now) host.old host.new }
         ensures node { self.new.node ≡ self.old.node }
@@ -297,7 +297,7 @@ impl TicketTable {
     pub fn expire<H: Host>(&mut self, place: usize, now: u64, host: &mut H)
         requires early { now < 2 ^ 62 }
         requires due { IsSomeAnd (slice_get self.old.tickets.items place) (λ ticket. IsDue ticket.known now) }
-        ensures led { Led H.past H.faults (IsDone self.old.node.key) (acts self.old.node now (state_with
+        ensures led { Led H.past H.faults (IsDone self.old.node.ring) (acts self.old.node now (state_with
             self.old now) place Event.Due) (state_with self.new now) host.old host.new }
         ensures node { self.new.node ≡ self.old.node }
         ensures others { IsSetAt self.old.tickets.items place self.new.tickets.items }
@@ -316,7 +316,7 @@ impl TicketTable {
     )
         requires early { now < 2 ^ 62 }
         requires there { place < length self.old.tickets.items }
-        ensures led { Led H.past H.faults (IsDone self.old.node.key) (acts self.old.node now (state_with
+        ensures led { Led H.past H.faults (IsDone self.old.node.ring) (acts self.old.node now (state_with
             self.old now) place (Event.Over job service)) (state_with self.new now) host.old host.new }
         ensures node { self.new.node ≡ self.old.node }
         ensures others { IsSetAt self.old.tickets.items place self.new.tickets.items }

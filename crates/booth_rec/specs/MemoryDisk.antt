@@ -13,7 +13,8 @@ memory_may_leave disk = MayLeave disk.first.items disk.calls.items
 -- time goes on from one to the other
 abbrev pub Passes : MemoryDisk → MemoryDisk → Type 0
 Passes old new = Elapses (length old.calls.items) (length new.calls.items)
-    (MightHaveLeft old.first.items old.calls.items) (MightHaveLeft new.first.items new.calls.items) (memory_may_leave new)
+    (MightHaveLeft old.first.items old.calls.items) (MightHaveLeft new.first.items new.calls.items)
+    (memory_may_leave new)
 
 -- so many calls were made that none passes
 abbrev pub IsOver : MemoryDisk → Type 0

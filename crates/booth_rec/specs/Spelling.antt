@@ -40,7 +40,8 @@ first_spelling kept = head 1 (if is_some kept.lease then 1 else 0) kept ++ zeros
 -- which of lease, bound and promise there are: 1, 2 and 4
 abbrev pub flags : Record → ℕ
 flags kept =
-    (if is_some kept.lease then 1 else 0) + (if is_some kept.bound then 2 else 0) + (if is_some kept.promise then 4 else 0)
+    (if is_some kept.lease then 1 else 0) + (if is_some kept.bound then 2 else 0)
+    + (if is_some kept.promise then 4 else 0)
 
 abbrev pub bound_field : Option MemberId → List ℕ
 bound_field None = word 0

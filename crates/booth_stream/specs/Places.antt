@@ -39,7 +39,8 @@ pub record GivesFrame (old : Option OpenLink) (peer : Peer) (bytes : List ℕ) (
   pub now : new ≡ Some (record link { rest = left })
 
 -- the first frame of one of the links
-pub record Gives (old : List (Option OpenLink)) (peer : Peer) (bytes : List ℕ) (new : List (Option OpenLink)) : Type 0 where
+pub record Gives (old : List (Option OpenLink)) (peer : Peer) (bytes : List ℕ) (new : List (Option OpenLink))
+    : Type 0 where
   pub place : ℕ
   pub before : Option OpenLink
   pub after : Option OpenLink

@@ -28,7 +28,8 @@ pub data Happening : Type 0 where
   Left : ℕ → Happening
 
 -- the first frame of the link that has this number
-pub record IsGiven (old : List (Option OpenLink)) (number : ℕ) (bytes : List ℕ) (new : List (Option OpenLink)) : Type 0 where
+pub record IsGiven (old : List (Option OpenLink)) (number : ℕ) (bytes : List ℕ) (new : List (Option OpenLink))
+    : Type 0 where
   pub place : ℕ
   pub link : OpenLink
   pub left : List ℕ
@@ -59,7 +60,8 @@ IsRun run places = Leads (replicate 16 None) run places
 abbrev pub polled_of : ℕ → List Happening → List ℕ
 polled_of n [] = []
 polled_of n (Polled (Ok (Opened m peer)) bytes ∷ earlier) = if m == n then [] else polled_of n earlier
-polled_of n (Polled (Ok (Bytes m)) bytes ∷ earlier) = if m == n then polled_of n earlier ++ bytes else polled_of n earlier
+polled_of n (Polled (Ok (Bytes m)) bytes ∷ earlier) =
+    if m == n then polled_of n earlier ++ bytes else polled_of n earlier
 polled_of n (Polled (Ok (Ended m)) bytes ∷ earlier) = polled_of n earlier
 polled_of n (Polled (Ok Quiet) bytes ∷ earlier) = polled_of n earlier
 polled_of n (Polled (Err fault) bytes ∷ earlier) = polled_of n earlier
@@ -112,15 +114,15 @@ frames_in (Pruned ∷ earlier) = frames_in earlier
 frames_in (Left number ∷ earlier) = frames_in earlier
 
 -- the happenings of one call: its polls, of which there is at most one, and the frames that it gave
-pub record AreOf (run : List Happening) (old new : List (Option OpenLink)) (calls : List LinkCall) (frames : List (List ℕ))
-    : Type 0 where
+pub record AreOf (run : List Happening) (old new : List (Option OpenLink)) (calls : List LinkCall)
+    (frames : List (List ℕ)) : Type 0 where
   pub leads : Leads old run new
   pub polls : polled_in run ≡ polls_in calls
   pub gives : frames_in run ≡ frames
 
 -- A next without a frame of a link is answered by its poll or by the host inside.
-pub data FitsNext (wait : ℕ) (calls : List LinkCall) (entries : List Entry) (answer : Result Arrival Failed) (bytes : List ℕ)
-    (frames : List (List ℕ)) : Type 0 where
+pub data FitsNext (wait : ℕ) (calls : List LinkCall) (entries : List Entry) (answer : Result Arrival Failed)
+    (bytes : List ℕ) (frames : List (List ℕ)) : Type 0 where
   OfLink : (peer : Peer) → frames ≡ bytes ∷ [] → answer ≡ Ok (Datagram peer) → entries ≡ []
       → FitsNext wait calls entries answer bytes frames
   Else : (polled : Result LinkEvent Failed) (piece : List ℕ) → frames ≡ [] → polls_in calls ≡ (polled, piece) ∷ []

@@ -98,9 +98,10 @@ EndsWrites old number wrotes.Fault writes calls answer new =
     (is_err answer ≡ true) × (calls ≡ writes ++ Close number ∷ []) × (new ≡ without number old)
 
 -- A link that is open to the peer is written to, or else the host inside sends.
-pub data IsSend (old : List (Option OpenLink)) (to : Peer) (bytes : List ℕ) (calls : List LinkCall) (entries : List Entry)
-    (answer : Result (Unit {0}) Failed) (new : List (Option OpenLink)) : Type 0 where
-  Linked : (number : ℕ) (wrote : Wrote) (writes : List LinkCall) → IsOpen old to number → Writes number bytes writes wrote
-      → EndsWrites old number wrote writes calls answer new → entries ≡ [] → IsSend old to bytes calls entries answer new
+pub data IsSend (old : List (Option OpenLink)) (to : Peer) (bytes : List ℕ) (calls : List LinkCall)
+    (entries : List Entry) (answer : Result (Unit {0}) Failed) (new : List (Option OpenLink)) : Type 0 where
+  Linked : (number : ℕ) (wrote : Wrote) (writes : List LinkCall) → IsOpen old to number
+      → Writes number bytes writes wrote → EndsWrites old number wrote writes calls answer new → entries ≡ []
+      → IsSend old to bytes calls entries answer new
   SentOn : All (IsNotOf to) old → calls ≡ [] → entries ≡ Send to bytes answer ∷ [] → new ≡ old
       → IsSend old to bytes calls entries answer new

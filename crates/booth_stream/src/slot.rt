@@ -81,7 +81,7 @@ impl Slot {
     {
         self.caller = None;
         self.cutter.restart();
-        self.piece.set(&[]);
+        self.piece.clear();
         self.taken = 0;
     }
 

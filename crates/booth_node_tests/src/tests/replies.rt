@@ -6,8 +6,8 @@ use super::files::FILES;
 use super::lines::S1;
 use super::script::{Fails, calls, check, check_turn, config_of, host, opened, text_named};
 use super::{frames, signed_frames};
-use booth_auth::Key;
 use booth_host::{Arrival, Failed};
+use booth_keys::{Key, Ring};
 use booth_node::{Counters, Node, Turn};
 use std::alloc::Global;
 use std::mem;
@@ -25,8 +25,8 @@ fn plain(rt: &impl Abort, alloc: Global, start: u64) -> Node {
     opened(rt, alloc, file, S1, &[None], start)
 }
 
-fn key(rt: &impl Abort) -> Key {
-    Key::read(b"secret-key").expect(rt, "a key")
+fn ring(rt: &impl Abort) -> Ring {
+    Ring::of(Key::read(b"secret-key").expect(rt, "a key"))
 }
 
 // S1 with the key, which starts at 0.
@@ -35,7 +35,7 @@ pub(super) fn keyed(rt: &impl Abort, alloc: Global) -> Node
 {
     let config = config_of(rt, alloc, KEYED_FILE, S1, 1);
     assert!(rt; config.members().len() > 1);
-    Node::open(alloc, config, Some(key(rt)), S1, &[None], 0).expect(rt, "memory")
+    Node::open(alloc, config, Some(ring(rt)), S1, &[None], 0).expect(rt, "memory")
 }
 
 fn play_plain(rt: &impl Abort, alloc: Global, start: u64, turns: &[&str]) {

@@ -48,7 +48,7 @@ loop-place-preserved g c =
           c.loop-place.place-index 0
           (state_of_parts c.args.table.now.tickets.items c.args.table.now.waiters c.args.table.now.attrs c.args.table.now.common c.args.now)
           c.loop-place-test.true c.loop-place.invariant.led
-          (subst (λ (n : NodeConfig). Led g.H.Host.past g.H.Host.faults (IsDone n.key) (acts n c.args.now
+          (subst (λ (n : NodeConfig). Led g.H.Host.past g.H.Host.faults (IsDone n.ring) (acts n c.args.now
           (state_of_parts c.loop-place.table.tickets.items c.loop-place.table.waiters c.loop-place.table.attrs
           c.loop-place.table.common c.args.now) place Due) (state_with c.expire.new.self c.args.now) c.loop-place.host c.expire.new.host)
           c.loop-place.invariant.node c.expire.ensures.led);

@@ -31,7 +31,7 @@ loop-place-preserved g c =
           (range_with_len 0 place) place
           (state_of_parts c.args.table.now.tickets.items c.args.table.now.waiters c.args.table.now.attrs c.args.table.now.common c.args.now)
           c.loop-place.invariant.led
-          (subst (λ (n : NodeConfig). Led g.H.Host.past g.H.Host.faults (IsDone n.key) (acts n c.args.now
+          (subst (λ (n : NodeConfig). Led g.H.Host.past g.H.Host.faults (IsDone n.ring) (acts n c.args.now
           (state_of_parts c.loop-place.table.tickets.items c.loop-place.table.waiters c.loop-place.table.attrs
           c.loop-place.table.common c.args.now) place (Over c.args.job c.args.service)) (state_with c.end_job.new.self c.args.now)
           c.loop-place.host c.end_job.new.host)

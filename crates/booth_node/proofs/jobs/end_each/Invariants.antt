@@ -7,7 +7,7 @@ use Rattle.booth_node.proofs.jobs.end_each.Given as goal
 
 abbrev pub invariant-loop-place : goal.invariant-loop-place
 invariant-loop-place g l = record {
-  led : Led g.H.Host.past g.H.Host.faults (IsDone l.fn.table.node.key)
+  led : Led g.H.Host.past g.H.Host.faults (IsDone l.fn.table.node.ring)
       (each_over l.fn.table.node l.now l.job l.service (range_with_len 0 l.place)
       (state_of_parts l.fn.table.tickets.items l.fn.table.waiters l.fn.table.attrs l.fn.table.common l.now))
       (state_of_parts l.table.tickets.items l.table.waiters l.table.attrs l.table.common l.now) l.fn.host l.host;

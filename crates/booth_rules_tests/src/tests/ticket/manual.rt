@@ -335,10 +335,12 @@ keep 1 bound S1 promise S1 1 1601203 abstain 601203
 keep 1 1 1600000 bound S1 promise S1 1 1601203 abstain 601203 failed
 send client 9: S1 RGnt 9 0 0 Asyn S1 1 600
 
-each 10 11 12 13 14 15 16 17 18 19 20 21 22 23 24 25 26 27 28 29 30 31 32 33 34 35 36 37 38 39 40 41: at 1000000 grant 4 of $
+each 10 11 12 13 14 15 16 17 18 19 20 21 22 23 24 25 26 27 28 29 30 31 32 33 34 35 36 37 38 39 40 41: \
+at 1000000 grant 4 of $
 send client $: S1 RGnt $ 0 0 Asyn S1 1 600
 
-each 42 43 44 45 46 47 48 49 50 51 52 53 54 55 56 57 58 59 60 61 62 63 64 65 66 67 68 69 70 71 72: at 1000000 grant 4 of $
+each 42 43 44 45 46 47 48 49 50 51 52 53 54 55 56 57 58 59 60 61 62 63 64 65 66 67 68 69 70 71 72: \
+at 1000000 grant 4 of $
 send client $: S1 RGnt $ 0 0 Asyn S1 1 600
 
 second S1 of 1 by hand

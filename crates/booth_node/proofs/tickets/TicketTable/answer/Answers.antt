@@ -15,7 +15,7 @@ returns-then-is_list-clause-led g c =
     let same = c.tell_list.ensures.same in
     let message = plain_of c.args.message.now in
     let state = state_with old c.args.now in
-    led_as (ap (λ replies. met old.node c.args.now state c.args.to (answers old.node.key c.args.now replies))
+    led_as (ap (λ replies. met old.node c.args.now state c.args.to (answers old.node.ring c.args.now replies))
     (sym (parts_reply old.node c.args.now old.tickets.items old.common message (sym c.is_list.ensures ∙ c.if-is_list.true)))) refl
     (told_met old.node c.args.now c.args.to message.head.request (list_lines old.node c.args.now old.tickets.items) state
     (state_with c.tell_list.new.self c.args.now)

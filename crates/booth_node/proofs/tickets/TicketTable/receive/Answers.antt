@@ -11,7 +11,7 @@ use Rattle.booth_node.proofs.tickets.TicketTable.receive.Goals as goal
 pub follow-requires-clause-other : goal.follow-requires-clause-other
 follow-requires-clause-other g c =
     let node = c.args.self.now.node in
-    ((lets_in node.config node.key node.me c.args.now c.args.bytes.now (plain_of c.in-Ok.message)).0 c.in-Ok.ensures).other
+    ((lets_in node.config node.ring node.me c.args.now c.args.bytes.now (plain_of c.in-Ok.message)).0 c.in-Ok.ensures).other
 
 pub returns-in-Err-clause-led : goal.returns-in-Err-clause-led
 returns-in-Err-clause-led g c =

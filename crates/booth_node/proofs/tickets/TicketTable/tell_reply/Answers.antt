@@ -16,8 +16,8 @@ returns-then-written-clause-led g c =
     let frame = c.answer-written.new.self.frame in
     let state = state_with old c.args.now in
     let all = one_reply old.node c.args.now old.tickets.items old.common message c.requires in
-    let written = subst (λ (b : Bool). IsWritten old.node.key c.args.now (replies_to old.node c.args.now old.tickets.items old.common message) b frame)
-    c.if-written.true (subst (λ (rs : List PlainMessage). IsWritten old.node.key c.args.now rs c.answer-written.result frame) (sym all) c.answer-written.ensures) in
+    let written = subst (λ (b : Bool). IsWritten old.node.ring c.args.now (replies_to old.node c.args.now old.tickets.items old.common message) b frame)
+    c.if-written.true (subst (λ (rs : List PlainMessage). IsWritten old.node.ring c.args.now rs c.answer-written.result frame) (sym all) c.answer-written.ensures) in
     meets_answer old.node c.args.now state c.args.to (replies_to old.node c.args.now old.tickets.items old.common message) frame written
     (λ reply is fits. led_last (is_ok c.send.result) (calls.Send c.args.to c.bytes.result.now c.send.result) (λ ok. state) c.send.ensures.past
     c.send.ensures.cause.later (refl, c.bytes.ensures.value ∙ is, fits, refl))
@@ -29,6 +29,6 @@ returns-else-written-clause-led g c =
     let frame = c.answer-written.new.self.frame in
     let state = state_with old c.args.now in
     let all = one_reply old.node c.args.now old.tickets.items old.common message c.requires in
-    let written = subst (λ (b : Bool). IsWritten old.node.key c.args.now (replies_to old.node c.args.now old.tickets.items old.common message) b frame)
-    c.if-written.false (subst (λ (rs : List PlainMessage). IsWritten old.node.key c.args.now rs c.answer-written.result frame) (sym all) c.answer-written.ensures) in
+    let written = subst (λ (b : Bool). IsWritten old.node.ring c.args.now (replies_to old.node c.args.now old.tickets.items old.common message) b frame)
+    c.if-written.false (subst (λ (rs : List PlainMessage). IsWritten old.node.ring c.args.now rs c.answer-written.result frame) (sym all) c.answer-written.ensures) in
     unanswered old.node c.args.now state c.args.to (replies_to old.node c.args.now old.tickets.items old.common message) frame written led_end
