@@ -33,6 +33,11 @@ cut_behind (first ∷ held) one bytes new all size =
     ∙ ap (λ (ds : List (Peer × List ℕ)). (first.from, take first.length bytes) ∷ ds)
     (cut_behind held one (drop first.length bytes) new rest size)
 
+-- as many wait as are held
+pub as_many : (held : List Held) (bytes : List ℕ) → length (cut_by held bytes) ≡ length held
+as_many [] bytes = refl
+as_many (first ∷ held) bytes = ap suc (as_many held (drop first.length bytes))
+
 pub waits_behind : (held : List Held) (one : Held) (given : ℕ) (bytes new : List ℕ) → given + total held ≡ length bytes
     → one.length ≡ length new → waits (held ++ one ∷ []) given (bytes ++ new) ≡ waits held given bytes ++ (one.from, new) ∷ []
 waits_behind held one given bytes new all size =

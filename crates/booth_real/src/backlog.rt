@@ -1,7 +1,7 @@
 //! Datagrams that were taken from the system before anybody asked for them, in the order in which they came.
 //!
 //! While a turn keeps thousands of records, answers come faster than the system holds them for one socket.
-ghost use Rattle.std.specs.Prelude.{◌≡◌, ◌≤◌, ◌+◌, ◌++◌, [], ◌∷◌, length, IfOk, IsTrue, vec_capacity, vec_len};
+ghost use Rattle.std.specs.Prelude.{◌≡◌, ◌≤◌, ◌+◌, ◌++◌, [], ◌∷◌, length, IfOk, IsFalse, IsTrue, vec_capacity, vec_len};
 ghost use Rattle.std.specs.List.{All};
 ghost use Rattle.std.specs.VecDeque.{deque_capacity};
 ghost use Rattle.booth_host.specs.declared.datagram.TheConstants.{DATAGRAM_BYTES};
@@ -59,7 +59,8 @@ impl Backlog {
 
     /// Whether there is room for one more, whatever its length.
     pub(crate) fn has_room(&self) -> bool
-        ensures { IsTrue result → HasRoom (vec_len self.now.bytes) (length self.now.held.items) }
+        ensures room { IsTrue result → HasRoom (vec_len self.now.bytes) (length self.now.held.items) }
+        ensures full { IsFalse result → HasRoom (vec_len self.now.bytes) (length self.now.held.items) → ⊥ }
     {
         self.bytes.len() <= BACKLOG_BYTES - DATAGRAM_BYTES && self.held.len() < BACKLOG_DATAGRAMS
     }

@@ -27,8 +27,8 @@ pub(crate) fn is_same(one: &Metadata, other: &Metadata) -> bool {
     one.dev() == other.dev() && one.ino() == other.ino()
 }
 
-/// Opens the regular file that has this name itself: a link to one is refused, and so is what is put in its place while it
-/// is opened. Nothing is opened that is no regular file, since to open a named pipe may wait for ever.
+/// Opens the regular file that has this name itself: a link to one is refused, and so is what is put in its place
+/// while it is opened. Nothing is opened that is no regular file, since to open a named pipe may wait for ever.
 pub(crate) fn open_named(rt: &HostRuntime, path: &str, how: &OpenOptions) -> io::Result<File> {
     let named = fs::symlink_metadata(rt, path)?;
     require_regular(&named)?;

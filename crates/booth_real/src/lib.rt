@@ -8,6 +8,7 @@ mod files;
 mod jobs;
 mod lines;
 mod lock;
+mod mail;
 mod programs;
 mod real_host;
 mod record_disk;

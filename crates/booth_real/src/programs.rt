@@ -50,8 +50,8 @@ fn file_name(name: &str) -> io::Result<FileName> {
     }
 }
 
-/// The first program of a handler's directory, or the next one behind a program, in byte order of their names. Names that
-/// begin with `.` are passed over.
+/// The first program of a handler's directory, or the next one behind a program, in byte order of their names. Names
+/// that begin with `.` are passed over.
 pub(crate) fn next_in_directory(
     rt: &HostRuntime,
     handler: &PathText,
@@ -76,8 +76,8 @@ fn add(path: &mut ProgramPath, text: &str) -> io::Result<()> {
     }
 }
 
-// The path of a handler's program: it itself, or the one of this name in its directory. A path is never looked for among
-// the directories of PATH.
+// The path of a handler's program: it itself, or the one of this name in its directory. A path is never looked for
+// among the directories of PATH.
 fn program_path(handler: &PathText, name: Option<&FileName>) -> io::Result<ProgramPath> {
     let mut path = ProgramPath::new();
     let first = path_of(handler)?;
@@ -122,9 +122,9 @@ fn printed_to(rt: &HostRuntime, error_stream: ErrorStream) -> Stdio {
     }
 }
 
-/// Starts the handler itself, or the program of this name in its directory. It has the handler's arguments, this process's
-/// environment with five variables more, an empty standard input, and this process's standard error, or nothing where that
-/// was closed, for all that it prints; no other file of this process is open in it.
+/// Starts the handler itself, or the program of this name in its directory. It has the handler's arguments, this
+/// process's environment with five variables more, an empty standard input, and this process's standard error, or
+/// nothing where that was closed, for all that it prints; no other file of this process is open in it.
 pub(crate) fn start(
     rt: &HostRuntime,
     job: &Job,

@@ -1,27 +1,28 @@
 //! The real host: a UDP socket, the system clock, files, child programs and the standard streams.
 //!
 //! It tells nothing of its calls, and it never answers `Stop`: a signal ends the process instead.
-ghost use Rattle.std.specs.Prelude.{◌≡◌, ◌≤◌, None, IfOk, vec_len};
-ghost use Rattle.booth_host.specs.Causes.{raised, HasCause, IsCounted};
-ghost use Rattle.booth_host.specs.declared.datagram.TheConstants.{DATAGRAM_BYTES};
+ghost use Rattle.std.specs.Prelude.{◌≡◌, ◌≤◌, ◌⊎◌, ◌∷◌, [], None, IfOk, IfSome, OnErr, OnOk};
+ghost use Rattle.booth_host.specs.Causes.{raised, HasCause, HasReadCause, IsCounted};
+ghost use Rattle.booth_host.specs.Past.{GrewBy};
+ghost use Rattle.booth_host.specs.declared.entry.Entry.{Entry};
+ghost use Rattle.booth_real.specs.Hearing.{BringsTo, IsOpenAt, hearing, turned_to};
+ghost use Rattle.booth_real.specs.Taking.{IsGiven, IsHandler, IsSame, TakesIn, waiting};
 
-use crate::backlog::Backlog;
 use crate::clocks::Clocks;
 use crate::files::contents;
 use crate::jobs::{Ended, Jobs, SIGNALLED};
 use crate::lock::take_lock;
+use crate::mail::{Mail, unopened};
 use crate::records::Records;
 use crate::socket::Socket;
 use crate::streams::{Standing, error_stream, hold_streams, write_to};
 use crate::telling::Telling;
-use crate::wake::Wake;
 use booth_base::{ByteText, Name, PathText, Peer};
-use booth_host::{Arrival, DATAGRAM_BYTES, Datagram, Failed, Host, Job, Place, ReadFault};
+use booth_host::{Arrival, Datagram, Failed, Host, Job, Place, ReadFault};
 use booth_rec::Record;
 use std::alloc::{AllocError, Global};
 use std::cell::Cell;
 use std::fs::File;
-use std::io::ErrorKind;
 use std::os::fd::RawFd;
 use std::rc::Rc;
 use std::time::Duration;
@@ -34,18 +35,11 @@ const SENDS: u32 = 32;
 #[derive(Drop)]
 pub struct RealHost {
     rt: HostRuntime,
-    socket: Option<Socket>,
-    /// The other file that ends the wait of a `next`.
-    wake: Wake,
+    mail: Mail,
     /// The directory of the kept records, once a place with one was opened.
     records: Option<Records>,
     clocks: Clocks,
     telling: Telling,
-    buffer: Vec<u8>,
-    /// What came while records were kept and messages were sent, at a place with records.
-    backlog: Backlog,
-    /// What a receive failed with meanwhile.
-    unreceived: Option<io::Error>,
     /// How many sends were made since what came was taken.
     sends: u32,
     /// The path of the configuration, once a place was opened.
@@ -56,18 +50,13 @@ pub struct RealHost {
     /// What stands in the places of standard streams that were closed.
     standing: Standing,
     faults: u64,
-    ghost size: { vec_len buffer ≡ DATAGRAM_BYTES },
-}
-
-// What is asked of a place that was not opened.
-fn unopened() -> io::Error {
-    io::Error::from(ErrorKind::NotConnected)
 }
 
 impl RealHost {
     /// The devices of the system, before anything is opened.
     pub fn new(rt: HostRuntime, alloc: Global) -> Result<RealHost, AllocError>
-        ensures unopened { IfOk result (λ host. host.socket ≡ None) }
+        ensures unopened { IfOk result (λ host. host.mail.socket ≡ None) }
+        ensures nothing { IfOk result (λ host. waiting host.mail.backlog ≡ []) }
         ensures unlocked { IfOk result (λ host. host.locked ≡ None) }
         ensures faultless { IfOk result (λ host. host.faults ≡ 0) }
     {
@@ -75,14 +64,10 @@ impl RealHost {
         let jobs = Jobs::new(alloc, error_stream(&standing));
         Ok(RealHost {
             rt,
-            socket: None,
-            wake: Wake::nothing(),
+            mail: Mail::new(alloc)?,
             records: None,
             clocks: Clocks::new(),
             telling: Telling::new(alloc),
-            buffer: vec![in alloc; 0; DATAGRAM_BYTES]?,
-            backlog: Backlog::new(alloc)?,
-            unreceived: None,
             sends: 0,
             conf_path: None,
             jobs,
@@ -92,32 +77,34 @@ impl RealHost {
         })
     }
 
-    /// From now on the wait of a `next` ends early, with `Quiet`, when this open file can be read, and then sets the mark;
-    /// where it is below 0, when a datagram is there alone. While the mark is set a `next` waits for nothing: who reads the
-    /// file unsets it. It opens nothing, and no fault comes of it.
+    /// From now on the wait of a `next` ends early, with `Quiet`, when this open file can be read, and then sets the
+    /// mark; where it is below 0, when a datagram is there alone. While the mark is set a `next` waits for nothing:
+    /// who reads the file unsets it. It opens nothing, and no fault comes of it.
     pub fn wake_on(&mut self, fd: RawFd, mark: Rc<Cell<bool>>)
-        ensures wake { self.new.wake.file ≡ fd }
+        ensures wake { self.new.mail.wake.file ≡ fd }
+        ensures socket { self.new.mail.socket ≡ self.old.mail.socket }
+        ensures backlog { self.new.mail.backlog ≡ self.old.mail.backlog }
         ensures faults { self.new.faults ≡ self.old.faults }
     {
-        self.wake = Wake::on(fd, mark);
+        self.mail.wake_on(fd, mark);
     }
 
-    /// Has `now` tell the clock that this directory of records keeps, also before it is opened. Where that cannot be had a
-    /// line on standard error says why, and no place with a directory is opened. It is no fault.
+    /// Has `now` tell the clock that this directory of records keeps, also before it is opened. Where that cannot be
+    /// had a line on standard error says why, and no place with a directory is opened. It is no fault.
     pub fn await_clock(&mut self, directory: &PathText)
         ensures faults { self.new.faults ≡ self.old.faults }
-        ensures socket { self.new.socket ≡ self.old.socket }
+        ensures mail { self.new.mail ≡ self.old.mail }
     {
         if let Err(error) = self.clocks.await_clock(&self.rt, directory) {
             self.tell_no_clock(&error);
         }
     }
 
-    /// Has `now` tell the clock that a daemon keeps in this directory of records. Where none kept it since the boot, or it
-    /// cannot be read, the answer is false, and a line on standard error says why. It is no fault.
+    /// Has `now` tell the clock that a daemon keeps in this directory of records. Where none kept it since the boot,
+    /// or it cannot be read, the answer is false, and a line on standard error says why. It is no fault.
     pub fn share_clock(&mut self, directory: &PathText) -> bool
         ensures faults { self.new.faults ≡ self.old.faults }
-        ensures socket { self.new.socket ≡ self.old.socket }
+        ensures mail { self.new.mail ≡ self.old.mail }
     {
         match self.clocks.share_clock(&self.rt, directory) {
             Ok(()) => true,
@@ -131,14 +118,14 @@ impl RealHost {
     /// Has each line on standard error begin with this name of a program, in place of that of the daemon.
     pub fn speak_as(&mut self, name: &'static str)
         ensures faults { self.new.faults ≡ self.old.faults }
-        ensures socket { self.new.socket ≡ self.old.socket }
+        ensures mail { self.new.mail ≡ self.old.mail }
     {
         self.telling.speak_as(name);
     }
 
     fn tell_no_clock(&mut self, error: &io::Error)
         ensures faults { self.new.faults ≡ self.old.faults }
-        ensures socket { self.new.socket ≡ self.old.socket }
+        ensures mail { self.new.mail ≡ self.old.mail }
     {
         let parts = [b"cannot tell the time of the records".as_slice()];
         self.telling.failed(&self.rt, &parts, error);
@@ -148,6 +135,7 @@ impl RealHost {
     fn fail(&mut self) -> Failed
         ensures one { self.new.faults ≡ raised self.old.faults }
         ensures later { self.old.faults ≤ self.new.faults }
+        ensures mail { self.new.mail ≡ self.old.mail }
     {
         self.faults = self.faults.saturating_add(1);
         Failed
@@ -157,6 +145,8 @@ impl RealHost {
     fn checked<T: Drop>(&mut self, answer: io::Result<T>) -> Result<T, Failed>
         ensures cause { HasCause self.old.faults self.new.faults result }
         ensures counted { IsCounted self.old.faults self.new.faults result }
+        ensures same { IsSame answer result }
+        ensures mail { self.new.mail ≡ self.old.mail }
     {
         match answer {
             Ok(value) => Ok(value),
@@ -166,24 +156,26 @@ impl RealHost {
 
     // Opens the socket, and then the directory and its clock where there is one. What was open before is let go first.
     fn open_place(&mut self, place: &Place) -> io::Result<()>
-        ensures { self.new.faults ≡ self.old.faults }
+        ensures faults { self.new.faults ≡ self.old.faults }
+        ensures opened { OnOk result (IsOpenAt place.now (hearing self.new.mail.socket)) }
+        ensures closed { OnErr result (self.new.mail.socket ≡ None) }
+        ensures forgotten { waiting self.new.mail.backlog ≡ [] }
     {
-        self.socket = None;
-        self.backlog.clear();
-        self.unreceived = None;
+        self.mail.close();
         self.records = None;
         self.conf_path = None;
         self.clocks.leave();
         let socket = Socket::open(&self.rt, place)?;
         self.open_records(&place.records)?;
-        self.socket = Some(socket);
+        self.mail.begin(socket);
         self.conf_path = Some(place.conf_path.copy());
         Ok(())
     }
 
     // Opens this directory and its clock; none where the path is empty.
     fn open_records(&mut self, directory: &PathText) -> io::Result<()>
-        ensures { self.new.faults ≡ self.old.faults }
+        ensures faults { self.new.faults ≡ self.old.faults }
+        ensures mail { self.new.mail ≡ self.old.mail }
     {
         if directory.as_str().is_empty() {
             return Ok(());
@@ -194,7 +186,8 @@ impl RealHost {
 
     // Tells time by the clock of this directory, which is locked.
     fn begin_clock(&mut self, directory: &PathText) -> io::Result<()>
-        ensures { self.new.faults ≡ self.old.faults }
+        ensures faults { self.new.faults ≡ self.old.faults }
+        ensures mail { self.new.mail ≡ self.old.mail }
     {
         let begun = self.clocks.begin(&self.rt, directory);
         if let Err(error) = &begun {
@@ -206,7 +199,8 @@ impl RealHost {
 
     // Keeps what the clock has reached, once a minute.
     fn keep_clock(&mut self)
-        ensures { self.new.faults ≡ self.old.faults }
+        ensures faults { self.new.faults ≡ self.old.faults }
+        ensures mail { self.new.mail ≡ self.old.mail }
     {
         let Some(records) = &self.records else {
             return;
@@ -217,7 +211,8 @@ impl RealHost {
     }
 
     fn start_job(&mut self, job: &Job) -> io::Result<()>
-        ensures { self.new.faults ≡ self.old.faults }
+        ensures faults { self.new.faults ≡ self.old.faults }
+        ensures mail { self.new.mail ≡ self.old.mail }
     {
         match &self.conf_path {
             Some(conf_path) => self.jobs.start(&self.rt, job, conf_path),
@@ -225,10 +220,12 @@ impl RealHost {
         }
     }
 
-    // How a job ended, where one did. Where the system does not tell, or a program could not be started behind another, it
-    // counts as one that a signal ended.
+    // How a job ended, where one did. Where the system does not tell, or a program could not be started behind
+    // another, it counts as one that a signal ended.
     fn ended_job(&mut self) -> Option<Arrival>
+        ensures handler { IfSome result IsHandler }
         ensures later { self.old.faults ≤ self.new.faults }
+        ensures mail { self.new.mail ≡ self.old.mail }
     {
         let Ended {
             job,
@@ -244,7 +241,8 @@ impl RealHost {
 
     // Says that a program of this ticket's handler could not be started or asked about.
     fn tell_unstarted(&mut self, ticket: &Name, error: &io::Error)
-        ensures { self.new.faults ≡ self.old.faults }
+        ensures faults { self.new.faults ≡ self.old.faults }
+        ensures mail { self.new.mail ≡ self.old.mail }
     {
         let parts = [
             b"cannot run the handler of ticket ".as_slice(),
@@ -255,7 +253,8 @@ impl RealHost {
 
     // Says that a receive failed, at a place with records: clients say what they miss themselves.
     fn tell_unreceived(&mut self, error: &io::Error)
-        ensures { self.new.faults ≡ self.old.faults }
+        ensures faults { self.new.faults ≡ self.old.faults }
+        ensures mail { self.new.mail ≡ self.old.mail }
     {
         if self.records.is_some() {
             self.telling.unreceived(&self.rt, error);
@@ -264,56 +263,37 @@ impl RealHost {
 
     // Says that a send failed, at a place with records.
     fn tell_unsent(&mut self, to: &Peer, error: &io::Error)
-        ensures { self.new.faults ≡ self.old.faults }
+        ensures faults { self.new.faults ≡ self.old.faults }
+        ensures mail { self.new.mail ≡ self.old.mail }
     {
         if self.records.is_some() {
             self.telling.unsent(&self.rt, to, error);
         }
     }
 
-    // The first that waits, and what a receive failed with behind them.
-    fn waiting(&mut self, into: &mut Datagram) -> Option<io::Result<Arrival>>
-        ensures { self.new.faults ≡ self.old.faults }
-    {
-        match self.backlog.give(into) {
-            Some(from) => Some(Ok(Arrival::Datagram(from))),
-            None => self.unreceived.take().map(Err),
-        }
-    }
-
-    fn receive(&mut self, wait_ms: u64, into: &mut Datagram) -> io::Result<Arrival>
-        ensures { self.new.faults ≡ self.old.faults }
-    {
-        into.set(&[]);
-        if let Some(answer) = self.waiting(into) {
-            if let Some(socket) = &self.socket {
-                socket.look_at(&self.wake);
-            }
-            return answer;
-        }
-        match &self.socket {
-            Some(socket) => socket.receive(wait_ms, &self.wake, &mut self.buffer, into),
-            None => Err(unopened()),
-        }
-    }
-
-    // Takes what came meanwhile, at a place with records: the system holds a few hundred datagrams, and what is lost is sent
-    // again only a time-out later.
+    // Takes what came meanwhile, at a place with records.
     fn take_in(&mut self)
-        ensures { self.new.faults ≡ self.old.faults }
+        ensures faults { self.new.faults ≡ self.old.faults }
+        ensures taken { TakesIn (hearing self.old.mail.socket) (waiting self.old.mail.backlog)
+            (waiting self.new.mail.backlog) }
+        ensures socket { self.new.mail.socket ≡ self.old.mail.socket }
     {
         self.sends = 0;
-        if self.records.is_none() || self.unreceived.is_some() {
+        if self.records.is_none() {
             return;
         }
-        if let Some(socket) = &self.socket {
-            self.unreceived = socket.drain(&mut self.buffer, &mut self.backlog).err();
+        self.mail.take_in();
+        if self.mail.is_full() {
+            self.telling.full(&self.rt);
         }
     }
 
     // The same once in many sends.
     fn take_in_behind(&mut self)
-        ensures { self.new.faults ≡ self.old.faults }
+        ensures faults { self.new.faults ≡ self.old.faults }
+        ensures taken { TakesIn (hearing self.old.mail.socket) (waiting self.old.mail.backlog)
+            (waiting self.new.mail.backlog) }
+        ensures socket { self.new.mail.socket ≡ self.old.mail.socket }
     {
         self.sends = self.sends.saturating_add(1);
         if self.sends >= SENDS {
@@ -321,17 +301,9 @@ impl RealHost {
         }
     }
 
-    fn post(&mut self, to: &Peer, bytes: &[u8]) -> io::Result<()>
-        ensures { self.new.faults ≡ self.old.faults }
-    {
-        match &mut self.socket {
-            Some(socket) => socket.send(&self.rt, to, bytes),
-            None => Err(unopened()),
-        }
-    }
-
     fn read_record(&mut self, ticket: &Name) -> io::Result<Option<Record>>
-        ensures { self.new.faults ≡ self.old.faults }
+        ensures faults { self.new.faults ≡ self.old.faults }
+        ensures mail { self.new.mail ≡ self.old.mail }
     {
         match &mut self.records {
             Some(records) => records.read(&self.rt, ticket),
@@ -340,7 +312,8 @@ impl RealHost {
     }
 
     fn write_record(&mut self, ticket: &Name, rec: &Record) -> io::Result<()>
-        ensures { self.new.faults ≡ self.old.faults }
+        ensures faults { self.new.faults ≡ self.old.faults }
+        ensures mail { self.new.mail ≡ self.old.mail }
     {
         match &mut self.records {
             Some(records) => records.write(&self.rt, ticket, rec),
@@ -354,23 +327,37 @@ impl Host for RealHost {
 
     ghost faults = { λ host. host.faults };
 
-    /// The directory of the records is made where it is missing, for its owner alone, in one that has to be there, and is
-    /// locked for this host until it opens another place or ends. It fails where another host holds the directory. A place
-    /// without a directory keeps no records. A place that has no address and no port either is that of a client: datagrams
-    /// come to it from the peer alone that it sent to last.
-    fn open(&mut self, place: &Place) -> Result<(), Failed> {
+    /// The directory of the records is made where it is missing, for its owner alone, in one that has to be there,
+    /// and is locked for this host until it opens another place or ends. It fails where another host holds the
+    /// directory. A place without a directory keeps no records. A place that has no address and no port either is
+    /// that of a client: datagrams come to it from the peer alone that it sent to last.
+    fn open(&mut self, place: &Place) -> Result<(), Failed>
+        ensures past { GrewBy None None
+            (Entry.Open place.now.local place.now.port place.now.records place.now.conf_path result ∷ []) }
+        ensures cause { HasCause self.old.faults self.new.faults result }
+        ensures opened { OnOk result (IsOpenAt place.now (hearing self.new.mail.socket)) }
+        ensures closed { OnErr result (self.new.mail.socket ≡ None) }
+        ensures forgotten { waiting self.new.mail.backlog ≡ [] }
+    {
         let answer = self.open_place(place);
         self.checked(answer)
     }
 
-    /// A job that is over comes before a datagram, and is not waited for.
-    fn next(&mut self, wait_ms: u64, into: &mut Datagram) -> Result<Arrival, Failed> {
+    /// A job that is over comes before a datagram, and is not waited for. Then comes what was taken in, the oldest
+    /// first.
+    fn next(&mut self, wait_ms: u64, into: &mut Datagram) -> Result<Arrival, Failed>
+        ensures past { GrewBy None None (Entry.Next wait_ms result into.new ∷ []) }
+        ensures cause { HasCause self.old.faults self.new.faults result }
+        ensures given { IsGiven (waiting self.old.mail.backlog) result into.new (waiting self.new.mail.backlog) }
+        ensures brings { IfOk result (λ arrival. BringsTo (hearing self.old.mail.socket) arrival) }
+        ensures socket { self.new.mail.socket ≡ self.old.mail.socket }
+    {
         self.keep_clock();
         if let Some(arrival) = self.ended_job() {
-            into.set(&[]);
+            into.clear();
             return Ok(arrival);
         }
-        let answer = self.receive(wait_ms, into);
+        let answer = self.mail.receive(wait_ms, into);
         if let Err(error) = &answer {
             self.tell_unreceived(error);
             // A failure may come at once, and a caller that goes on must not take the whole processor.
@@ -379,10 +366,14 @@ impl Host for RealHost {
         self.checked(answer)
     }
 
-    /// At a place with records it is the clock that their directory keeps, which no step of the wall clock touches; a line
-    /// on standard error tells of such a step. Elsewhere it is the wall clock. A clock that cannot be read stands still,
-    /// and no place with records is opened behind a wall clock that could not be.
-    fn now(&mut self) -> u64 {
+    /// At a place with records it is the clock that their directory keeps, which no step of the wall clock touches; a
+    /// line on standard error tells of such a step. Elsewhere it is the wall clock. A clock that cannot be read
+    /// stands still, and no place with records is opened behind a wall clock that could not be.
+    fn now(&mut self) -> u64
+        ensures past { GrewBy None None (Entry.Now result ∷ []) }
+        ensures later { self.old.faults ≤ self.new.faults }
+        ensures mail { self.new.mail ≡ self.old.mail }
+    {
         match self.clocks.now() {
             Ok(told) => {
                 if let Some(step) = told.step {
@@ -397,10 +388,19 @@ impl Host for RealHost {
         }
     }
 
-    /// It waits for no room: where the system has none, the send has failed. To a peer whose family is not that of this host's
-    /// address it goes by another socket, from another address of this machine, and fails where the machine has none.
-    fn send(&mut self, to: &Peer, bytes: &[u8]) -> Result<(), Failed> {
-        let answer = self.post(to, bytes);
+    /// It waits for no room: where the system has none, the send has failed. To a peer whose family is not that of
+    /// this host's address it goes by another socket, from another address of this machine, and fails where the
+    /// machine has none.
+    fn send(&mut self, to: &Peer, bytes: &[u8]) -> Result<(), Failed>
+        ensures past { GrewBy None None (Entry.Send to.now bytes.now result ∷ []) }
+        ensures cause { HasCause self.old.faults self.new.faults result }
+        ensures sent { OnOk result (hearing self.new.mail.socket ≡ turned_to to.now (hearing self.old.mail.socket)) }
+        ensures unsent { OnErr result ((hearing self.new.mail.socket ≡ hearing self.old.mail.socket)
+            ⊎ (hearing self.new.mail.socket ≡ turned_to to.now (hearing self.old.mail.socket))) }
+        ensures taken { TakesIn (hearing self.new.mail.socket) (waiting self.old.mail.backlog)
+            (waiting self.new.mail.backlog) }
+    {
+        let answer = self.mail.send(&self.rt, to, bytes);
         self.take_in_behind();
         if let Err(error) = &answer {
             self.tell_unsent(to, error);
@@ -408,7 +408,11 @@ impl Host for RealHost {
         self.checked(answer)
     }
 
-    fn kept(&mut self, ticket: &Name) -> Result<Option<Record>, Failed> {
+    fn kept(&mut self, ticket: &Name) -> Result<Option<Record>, Failed>
+        ensures past { GrewBy None None (Entry.Kept ticket.now result ∷ []) }
+        ensures cause { HasCause self.old.faults self.new.faults result }
+        ensures mail { self.new.mail ≡ self.old.mail }
+    {
         let answer = self.read_record(ticket);
         if let Err(error) = &answer {
             let parts = [
@@ -421,7 +425,13 @@ impl Host for RealHost {
     }
 
     /// Where it ends in another way than the ticket's keep before, a line on standard error says so.
-    fn keep(&mut self, ticket: &Name, rec: &Record) -> Result<(), Failed> {
+    fn keep(&mut self, ticket: &Name, rec: &Record) -> Result<(), Failed>
+        ensures past { GrewBy None None (Entry.Keep ticket.now rec.now result ∷ []) }
+        ensures cause { HasCause self.old.faults self.new.faults result }
+        ensures taken { TakesIn (hearing self.old.mail.socket) (waiting self.old.mail.backlog)
+            (waiting self.new.mail.backlog) }
+        ensures socket { self.new.mail.socket ≡ self.old.mail.socket }
+    {
         self.take_in();
         let answer = self.write_record(ticket, rec);
         self.take_in();
@@ -429,9 +439,14 @@ impl Host for RealHost {
         self.checked(answer)
     }
 
-    /// A program of the same ticket that runs on is ended first. It fails where no place is open, where the handler cannot be
-    /// started, and where that program cannot be ended, or one that was ended before is not yet over.
-    fn start(&mut self, job: &Job) -> Result<(), Failed> {
+    /// A program of the same ticket that runs on is ended first. It fails where no place is open, where the handler
+    /// cannot be started, and where that program cannot be ended, or one that was ended before is not yet over.
+    fn start(&mut self, job: &Job) -> Result<(), Failed>
+        ensures past { GrewBy None None
+            (Entry.Start job.now.number job.now.ticket job.now.handler job.now.local job.now.expires result ∷ []) }
+        ensures cause { HasCause self.old.faults self.new.faults result }
+        ensures mail { self.new.mail ≡ self.old.mail }
+    {
         let answer = self.start_job(job);
         if let Err(error) = &answer {
             self.tell_unstarted(&job.ticket, error);
@@ -440,7 +455,11 @@ impl Host for RealHost {
     }
 
     /// A regular file of up to 2^30 bytes is read, and no other.
-    fn read_file(&mut self, alloc: Global, path: &str) -> Result<ByteText, ReadFault> {
+    fn read_file(&mut self, alloc: Global, path: &str) -> Result<ByteText, ReadFault>
+        ensures past { GrewBy None None (Entry.ReadFile path.now result ∷ []) }
+        ensures cause { HasReadCause self.old.faults self.new.faults result }
+        ensures mail { self.new.mail ≡ self.old.mail }
+    {
         match contents(&self.rt, alloc, path) {
             Ok(bytes) => Ok(ByteText::from_vec(bytes)),
             Err(fault) => {
@@ -450,20 +469,32 @@ impl Host for RealHost {
         }
     }
 
-    /// The lock goes with the process, so a file that is left behind is no lock. The file is made
-    /// where it is missing, for its owner alone, and its directory is not; what is no regular file is not opened. The lock
-    /// that this host holds is given to it again; beside it, the lock of another file is a failure.
-    fn lock(&mut self, path: &str) -> Result<bool, Failed> {
+    /// The lock goes with the process, so a file that is left behind is no lock. The file is made where it is
+    /// missing, for its owner alone, and its directory is not; what is no regular file is not opened. The lock that
+    /// this host holds is given to it again; beside it, the lock of another file is a failure.
+    fn lock(&mut self, path: &str) -> Result<bool, Failed>
+        ensures past { GrewBy None None (Entry.Lock path.now result ∷ []) }
+        ensures cause { HasCause self.old.faults self.new.faults result }
+        ensures mail { self.new.mail ≡ self.old.mail }
+    {
         let answer = take_lock(&self.rt, &mut self.locked, path);
         self.checked(answer)
     }
 
-    fn out(&mut self, bytes: &[u8]) -> Result<(), Failed> {
+    fn out(&mut self, bytes: &[u8]) -> Result<(), Failed>
+        ensures past { GrewBy None None (Entry.Out bytes.now result ∷ []) }
+        ensures cause { HasCause self.old.faults self.new.faults result }
+        ensures mail { self.new.mail ≡ self.old.mail }
+    {
         let answer = write_to(&self.rt.stdout(), bytes);
         self.checked(answer)
     }
 
-    fn err(&mut self, bytes: &[u8]) -> Result<(), Failed> {
+    fn err(&mut self, bytes: &[u8]) -> Result<(), Failed>
+        ensures past { GrewBy None None (Entry.Err bytes.now result ∷ []) }
+        ensures cause { HasCause self.old.faults self.new.faults result }
+        ensures mail { self.new.mail ≡ self.old.mail }
+    {
         let answer = write_to(&self.rt.stderr(), bytes);
         self.checked(answer)
     }

@@ -205,8 +205,8 @@ impl Records {
         Ok(())
     }
 
-    /// The record that a ticket's file keeps, if it keeps one. Its bytes are doubted: of what failed before this process
-    /// nothing is known.
+    /// The record that a ticket's file keeps, if it keeps one. Its bytes are doubted: of what failed before this
+    /// process nothing is known.
     pub(crate) fn read(&mut self, rt: &HostRuntime, ticket: &Name) -> io::Result<Option<Record>> {
         let path = path_in(&self.directory, file_name(ticket)?.as_str())?;
         match open_file(rt, path.as_str()) {

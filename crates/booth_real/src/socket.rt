@@ -1,7 +1,9 @@
 //! The UDP socket, and addresses as the system has them.
-ghost use Rattle.std.specs.Prelude.{◌≡◌, ◌⊎◌, Some, None, IfOk, IsTrue, OnErr, OnOk, length};
+ghost use Rattle.std.specs.Prelude.{◌≡◌, ◌≤◌, ◌⊎◌, Some, None, IfOk, IsFalse, IsTrue, OnErr, OnOk, length};
 ghost use Rattle.booth_host.specs.declared.datagram.TheConstants.{DATAGRAM_BYTES};
-ghost use Rattle.booth_real.specs.Hearing.{Brings, Hears, IsToAsk, turned};
+ghost use Rattle.booth_real.specs.Hearing.{BringsTo, Hears, HearsAt, IsToAsk, turned};
+ghost use Rattle.booth_real.specs.Taking.{TakesIn, waiting};
+ghost use Rattle.booth_real.specs.declared.backlog.TheConstants.{BACKLOG_DATAGRAMS};
 ghost use Rattle.booth_real.specs.declared.socket.Takes.{Takes};
 
 use crate::backlog::{BACKLOG_DATAGRAMS, Backlog};
@@ -15,8 +17,8 @@ use std::io::ErrorKind;
 use std::net::{IpAddr, Ipv4Addr, Ipv6Addr, SocketAddr, UdpSocket};
 use std::os::fd::{AsRawFd, RawFd};
 
-/// The room that is asked for what was not sent and what was not received yet. The system gives as much of it as it allows
-/// (net.core.wmem_max and net.core.rmem_max), and twice that.
+/// The room that is asked for what was not sent and what was not received yet. The system gives as much of it as it
+/// allows (net.core.wmem_max and net.core.rmem_max), and twice that.
 const ROOM: i32 = 1 << 30;
 
 /// Whom a socket reaches.
@@ -62,20 +64,6 @@ pub(crate) struct Socket {
     beside: Option<UdpSocket>,
 }
 
-fn system_address(address: Address) -> IpAddr {
-    match address {
-        Address::V4(bytes) => IpAddr::V4(Ipv4Addr::from(bytes)),
-        Address::V6(bytes) => IpAddr::V6(Ipv6Addr::from(bytes)),
-    }
-}
-
-fn address_of(address: IpAddr) -> Address {
-    match address {
-        IpAddr::V4(address) => Address::V4(address.octets()),
-        IpAddr::V6(address) => Address::V6(address.octets()),
-    }
-}
-
 // Any address of the family of this one.
 fn any_beside(address: Address) -> IpAddr {
     match address {
@@ -89,17 +77,6 @@ fn widened(address: IpAddr) -> IpAddr {
     match address {
         IpAddr::V4(address) => IpAddr::V6(address.to_ipv6_mapped()),
         IpAddr::V6(address) => IpAddr::V6(address),
-    }
-}
-
-// An address that a socket of both families wrote.
-fn narrowed(address: IpAddr) -> IpAddr {
-    match address {
-        IpAddr::V4(address) => IpAddr::V4(address),
-        IpAddr::V6(address) => match address.to_ipv4_mapped() {
-            Some(address) => IpAddr::V4(address),
-            None => IpAddr::V6(address),
-        },
     }
 }
 
@@ -164,7 +141,7 @@ fn bind_to_ask(rt: &HostRuntime, peer: &Peer) -> io::Result<Socket>
 {
     let address = peer.address;
     let mut socket = bind(rt, any_beside(address), 0, reach_from(address))?;
-    let at = SocketAddr::new(system_address(address), peer.port);
+    let at = SocketAddr::new(address.to_ip(), peer.port);
     socket.udp.connect(at)?;
     socket.takes = Takes::Asked(Some(*peer));
     Ok(socket)
@@ -178,8 +155,8 @@ fn is_to_ask(place: &Place) -> bool
     place.local.is_none() && place.port == 0 && place.records.as_str().is_empty()
 }
 
-// A socket for sends to peers of this one's family, at a port of the system's choice. Nothing is received by it, so it has
-// the least room that there is for what comes.
+// A socket for sends to peers of this one's family, at a port of the system's choice. Nothing is received by it, so
+// it has the least room that there is for what comes.
 fn bind_to_send(rt: &HostRuntime, peer: &Peer) -> io::Result<UdpSocket> {
     let udp = bind_udp(rt, any_beside(peer.address), 0)?;
     ask_to_receive(&udp, 0);
@@ -223,15 +200,14 @@ fn asked(fd: RawFd) -> pollfd {
 
 impl Socket {
     /// A socket at this place. Where it has no address, the socket reaches peers of both families, and on a machine
-    /// without IPv6 those of IPv4. Where it has no port and no records either, it takes datagrams of the peer alone that
-    /// it sent to last.
+    /// without IPv6 those of IPv4. Where it has no port and no records either, it takes datagrams of the peer alone
+    /// that it sent to last.
     pub(crate) fn open(rt: &HostRuntime, place: &Place) -> io::Result<Socket>
-        ensures asks { IfOk result (λ socket. IsToAsk place.now → socket.takes ≡ Takes.Asked None) }
-        ensures others { IfOk result (λ socket. (IsToAsk place.now → ⊥) → socket.takes ≡ Takes.All) }
+        ensures { IfOk result (λ socket. HearsAt place.now socket.takes) }
     {
         if let Some(address) = place.local {
             let reach = reach_from(address);
-            return bind(rt, system_address(address), place.port, reach);
+            return bind(rt, address.to_ip(), place.port, reach);
         }
         let mut socket = bind_anywhere(rt, place.port)?;
         if is_to_ask(place) {
@@ -240,8 +216,8 @@ impl Socket {
         Ok(socket)
     }
 
-    // Has it take datagrams of this peer, where it takes those of one alone. That is by another socket, since one that was
-    // connected keeps its own address, by which not every peer is reached.
+    // Has it take datagrams of this peer, where it takes those of one alone. That is by another socket, since one
+    // that was connected keeps its own address, by which not every peer is reached.
     fn turn_to(&mut self, rt: &HostRuntime, peer: &Peer) -> io::Result<()>
         ensures ok { OnOk result (self.new.takes ≡ turned self.old.takes peer.now) }
         ensures err { OnErr result (self.new.takes ≡ self.old.takes) }
@@ -257,8 +233,8 @@ impl Socket {
         Ok(())
     }
 
-    // Waits for so many milliseconds, and no longer than until a datagram is there or the other file can be read, which is
-    // noted. It says whether a datagram may be there. One that a signal cuts short has ended.
+    // Waits for so many milliseconds, and no longer than until a datagram is there or the other file can be read,
+    // which is noted. It says whether a datagram may be there. One that a signal cuts short has ended.
     fn wait(&self, wait_ms: u64, wake: &Wake) -> bool {
         let mut asked = [asked(self.udp.as_raw_fd()), asked(wake.file())];
         let ready = poll(&mut asked, i32::try_from(wait_ms).unwrap_or(i32::MAX));
@@ -272,17 +248,17 @@ impl Socket {
     fn peer_at(&self, from: SocketAddr) -> Peer {
         let ip = match self.reach {
             Reach::V4 | Reach::V6 => from.ip(),
-            Reach::Both => narrowed(from.ip()),
+            Reach::Both => from.ip().to_canonical(),
         };
         Peer {
-            address: address_of(ip),
+            address: Address::from_ip(ip),
             port: from.port(),
         }
     }
 
     // A peer's address as the socket that sends to it writes it.
     fn address_to(&self, to: &Peer) -> SocketAddr {
-        let ip = system_address(to.address);
+        let ip = to.address.to_ip();
         let ip = match self.reach {
             Reach::V4 | Reach::V6 => ip,
             Reach::Both => widened(ip),
@@ -332,15 +308,17 @@ impl Socket {
     }
 
     // Whether it takes datagrams of one peer alone.
-    fn asks(&self) -> bool {
+    fn asks(&self) -> bool
+        ensures { IsFalse result → self.now.takes ≡ Takes.All }
+    {
         match self.takes {
             Takes::All => false,
             Takes::Asked(_) => true,
         }
     }
 
-    /// What comes within this time, through the buffer. It is Quiet where nothing came that it takes, a signal cut the call
-    /// short, or the other file can be read. Where that file is known to have something, nobody waits.
+    /// What comes within this time, through the buffer. It is Quiet where nothing came that it takes, a signal cut
+    /// the call short, or the other file can be read. Where that file is known to have something, nobody waits.
     pub(crate) fn receive(
         &self,
         wait_ms: u64,
@@ -348,7 +326,7 @@ impl Socket {
         buffer: &mut [u8],
         into: &mut Datagram,
     ) -> io::Result<Arrival>
-        ensures { IfOk result (λ arrival. Brings self.now.takes arrival) }
+        ensures { IfOk result (λ arrival. BringsTo (Some self.now.takes) arrival) }
     {
         if !wake.is_known() && !self.wait(wait_ms, wake) {
             return Ok(Arrival::Quiet);
@@ -371,31 +349,33 @@ impl Socket {
         self.wait(0, wake);
     }
 
-    /// Takes what the system holds for this socket, as far as there is room, and waits for nothing. It fails where a receive
-    /// does.
+    /// Takes what the system holds for this socket into the backlog, as far as there is room, and waits for nothing:
+    /// what there is no room for stays with the system. It fails where a receive does. One who asks a peer takes
+    /// nothing in.
+    #[tactic(auto, using(crate::proofs::WaitingLemmas::as_many))]
     pub(crate) fn drain(&self, buffer: &mut [u8], backlog: &mut Backlog) -> io::Result<()>
         requires { length buffer.old ≡ DATAGRAM_BYTES }
-        ensures { length buffer.new ≡ DATAGRAM_BYTES }
+        ensures buffer { length buffer.new ≡ DATAGRAM_BYTES }
+        ensures behind { TakesIn (Some self.now.takes) (waiting backlog.old) (waiting backlog.new) }
+        ensures bounded { length (waiting backlog.new) ≤ BACKLOG_DATAGRAMS }
     {
-        for _ in 0..BACKLOG_DATAGRAMS {
+        if self.asks() {
+            return Ok(());
+        }
+        'taking: for _ in 0..BACKLOG_DATAGRAMS {
             if !backlog.has_room() {
                 return Ok(());
             }
             match self.udp.recv_from(buffer) {
-                Ok((count, from)) => {
-                    let from = self.peer_at(from);
-                    if self.takes.hears(&from) {
-                        backlog.put(&from, &buffer[..count]);
-                    }
-                }
+                Ok((count, from)) => backlog.put(&self.peer_at(from), &buffer[..count]),
                 Err(error) => return self.unreceived(error).map(|_| ()),
             }
         }
         Ok(())
     }
 
-    /// Gives these bytes to the network. It fails where there is no room, and to a peer of the other family where the system
-    /// has no socket of that one.
+    /// Gives these bytes to the network. It fails where there is no room, and to a peer of the other family where the
+    /// system has no socket of that one.
     pub(crate) fn send(&mut self, rt: &HostRuntime, to: &Peer, bytes: &[u8]) -> io::Result<()>
         ensures sent { OnOk result (self.new.takes ≡ turned self.old.takes to.now) }
         ensures unsent { OnErr result

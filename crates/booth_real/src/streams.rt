@@ -21,7 +21,8 @@ pub(crate) enum ErrorStream {
     Closed,
 }
 
-// A file in the place of the first standard stream that is closed. It can only be read, so that a write fails as before.
+// A file in the place of the first standard stream that is closed. It can only be read, so that a write fails as
+// before.
 fn hold_stream(rt: &HostRuntime) -> Option<File> {
     let file = File::open(rt, "/dev/null").ok()?;
     if file.as_raw_fd() <= STANDARD_ERROR {
@@ -31,8 +32,8 @@ fn hold_stream(rt: &HostRuntime) -> Option<File> {
     }
 }
 
-/// Fills the places of standard streams that were closed. A file of this process that got such a number would be a handler's
-/// standard error.
+/// Fills the places of standard streams that were closed. A file of this process that got such a number would be a
+/// handler's standard error.
 pub(crate) fn hold_streams(rt: &HostRuntime) -> Standing {
     [hold_stream(rt), hold_stream(rt), hold_stream(rt)]
 }

@@ -47,6 +47,7 @@ pub(crate) struct Telling {
     limit: Limit,
     sends: Paced,
     receives: Paced,
+    fulls: Paced,
 }
 
 impl Limit {
@@ -124,6 +125,7 @@ impl Telling {
             limit: Limit { since: 0, lines: 0 },
             sends: Paced::new(),
             receives: Paced::new(),
+            fulls: Paced::new(),
         }
     }
 
@@ -204,6 +206,14 @@ impl Telling {
     pub(crate) fn unreceived(&mut self, rt: &HostRuntime, error: &io::Error) {
         if let Some(passed) = self.receives.due(now()) {
             let line = failed_line(&[b"cannot receive"], error);
+            self.say(rt, with_passed(line, passed));
+        }
+    }
+
+    /// Says that more comes than there is room for, where that goes on.
+    pub(crate) fn full(&mut self, rt: &HostRuntime) {
+        if let Some(passed) = self.fulls.due(now()) {
+            let line = line_of(&[b"more datagrams come than there is room for"]);
             self.say(rt, with_passed(line, passed));
         }
     }

@@ -3,6 +3,7 @@
 //! What fails of the system ends the test. No host is dropped but where that lets go of something: the process ends
 //! with its test, and a proof that one is dropped is long.
 mod asking;
+mod backlog;
 mod clocks;
 mod devices;
 mod families;

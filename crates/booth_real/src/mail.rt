@@ -1,0 +1,149 @@
+//! The datagrams of a host: its socket, and what it took of it before anybody asked.
+ghost use Rattle.std.specs.Prelude.{◌≡◌, ◌⊎◌, [], None, Some, IfOk, IfSome, MatchOption, OnErr, OnOk, vec_len};
+ghost use Rattle.booth_host.specs.declared.datagram.TheConstants.{DATAGRAM_BYTES};
+ghost use Rattle.booth_real.specs.Hearing.{BringsTo, hearing, turned_to};
+ghost use Rattle.booth_real.specs.Taking.{IsGiven, TakesIn, WaitsFor, waiting};
+
+use crate::backlog::Backlog;
+use crate::socket::Socket;
+use crate::wake::Wake;
+use booth_base::Peer;
+use booth_host::{Arrival, DATAGRAM_BYTES, Datagram};
+use std::alloc::{AllocError, Global};
+use std::cell::Cell;
+use std::io;
+use std::io::ErrorKind;
+use std::os::fd::RawFd;
+use std::rc::Rc;
+
+/// A socket once a place is open, and what waits.
+#[derive(Drop)]
+pub(crate) struct Mail {
+    socket: Option<Socket>,
+    /// The other file that ends the wait of a receive.
+    wake: Wake,
+    buffer: Vec<u8>,
+    /// What came before anybody asked for it.
+    backlog: Backlog,
+    /// What a receive failed with meanwhile.
+    unreceived: Option<io::Error>,
+    ghost size: { vec_len buffer ≡ DATAGRAM_BYTES },
+    ghost heard: { WaitsFor (hearing socket) (waiting backlog) },
+}
+
+/// What is asked of a place that was not opened.
+pub(crate) fn unopened() -> io::Error {
+    io::Error::from(ErrorKind::NotConnected)
+}
+
+impl Mail {
+    /// No socket, and all memory for what waits.
+    pub(crate) fn new(alloc: Global) -> Result<Mail, AllocError>
+        ensures closed { IfOk result (λ mail. mail.socket ≡ None) }
+        ensures nothing { IfOk result (λ mail. waiting mail.backlog ≡ []) }
+    {
+        Ok(Mail {
+            socket: None,
+            wake: Wake::nothing(),
+            buffer: vec![in alloc; 0; DATAGRAM_BYTES]?,
+            backlog: Backlog::new(alloc)?,
+            unreceived: None,
+        })
+    }
+
+    /// Has this file end a wait, and notes in the mark that it can be read.
+    pub(crate) fn wake_on(&mut self, file: RawFd, mark: Rc<Cell<bool>>)
+        ensures wake { self.new.wake.file ≡ file }
+        ensures socket { self.new.socket ≡ self.old.socket }
+        ensures backlog { self.new.backlog ≡ self.old.backlog }
+    {
+        self.wake = Wake::on(file, mark);
+    }
+
+    /// Lets go of the socket, and forgets what waits.
+    pub(crate) fn close(&mut self)
+        ensures closed { self.new.socket ≡ None }
+        ensures nothing { waiting self.new.backlog ≡ [] }
+        ensures wake { self.new.wake ≡ self.old.wake }
+    {
+        self.socket = None;
+        self.backlog.clear();
+        self.unreceived = None;
+    }
+
+    /// Begins with this socket. Nothing of it waits.
+    pub(crate) fn begin(&mut self, socket: Socket)
+        ensures hears { hearing self.new.socket ≡ Some socket.takes }
+        ensures nothing { waiting self.new.backlog ≡ [] }
+        ensures wake { self.new.wake ≡ self.old.wake }
+    {
+        self.close();
+        self.socket = Some(socket);
+    }
+
+    // The first that waits, and what a receive failed with behind them.
+    fn give(&mut self, into: &mut Datagram) -> Option<io::Result<Arrival>>
+        ensures given { MatchOption result
+            ((waiting self.old.backlog ≡ []) × (waiting self.new.backlog ≡ []))
+            (λ answer. IsGiven (waiting self.old.backlog) answer into.new (waiting self.new.backlog)) }
+        ensures brings { IfSome result (λ answer. IfOk answer (λ arrival. BringsTo (hearing self.old.socket) arrival)) }
+        ensures socket { self.new.socket ≡ self.old.socket }
+    {
+        match self.backlog.give(into) {
+            Some(from) => Some(Ok(Arrival::Datagram(from))),
+            None => self.unreceived.take().map(Err),
+        }
+    }
+
+    /// The first that waits; or what a receive failed with meanwhile; or what comes within this time.
+    pub(crate) fn receive(&mut self, wait_ms: u64, into: &mut Datagram) -> io::Result<Arrival>
+        ensures given { IsGiven (waiting self.old.backlog) result into.new (waiting self.new.backlog) }
+        ensures brings { IfOk result (λ arrival. BringsTo (hearing self.old.socket) arrival) }
+        ensures socket { self.new.socket ≡ self.old.socket }
+    {
+        into.clear();
+        if let Some(answer) = self.give(into) {
+            if let Some(socket) = &self.socket {
+                socket.look_at(&self.wake);
+            }
+            return answer;
+        }
+        match &self.socket {
+            Some(socket) => socket.receive(wait_ms, &self.wake, &mut self.buffer, into),
+            None => Err(unopened()),
+        }
+    }
+
+    /// Takes what the system holds, as far as there is room: it holds a few hundred datagrams, and what is lost is sent
+    /// again only a time-out later. After a receive that failed nothing is taken before that was told.
+    pub(crate) fn take_in(&mut self)
+        ensures taken { TakesIn (hearing self.old.socket) (waiting self.old.backlog) (waiting self.new.backlog) }
+        ensures socket { self.new.socket ≡ self.old.socket }
+        ensures wake { self.new.wake ≡ self.old.wake }
+    {
+        if self.unreceived.is_some() {
+            return;
+        }
+        if let Some(socket) = &self.socket {
+            self.unreceived = socket.drain(&mut self.buffer, &mut self.backlog).err();
+        }
+    }
+
+    /// Whether there is no room for one more datagram.
+    pub(crate) fn is_full(&self) -> bool {
+        !self.backlog.has_room()
+    }
+
+    /// Gives these bytes to the network.
+    pub(crate) fn send(&mut self, rt: &HostRuntime, to: &Peer, bytes: &[u8]) -> io::Result<()>
+        ensures sent { OnOk result (hearing self.new.socket ≡ turned_to to.now (hearing self.old.socket)) }
+        ensures unsent { OnErr result ((hearing self.new.socket ≡ hearing self.old.socket)
+            ⊎ (hearing self.new.socket ≡ turned_to to.now (hearing self.old.socket))) }
+        ensures backlog { self.new.backlog ≡ self.old.backlog }
+    {
+        match &mut self.socket {
+            Some(socket) => socket.send(rt, to, bytes),
+            None => Err(unopened()),
+        }
+    }
+}
