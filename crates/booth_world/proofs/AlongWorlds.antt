@@ -1,5 +1,5 @@
 -- What holds of each entry of a world, shown along its list; and clocks that read the true time.
-use Rattle.std.proofs.Common.{◌≡◌, ℕ, zero, suc, ◌<◌, ◌≤◌, Bool, true, false, not, ◌&&◌, List, [], ◌∷◌, ◌++◌, refl, sym, ap, subst, ◌∙◌, inl, inr, arith, if◌then◌else◌}
+use Rattle.std.proofs.Common.{◌≡◌, ℕ, zero, suc, ◌<◌, ◌≤◌, Bool, true, false, not, ◌&&◌, List, [], ◌∷◌, ◌++◌, refl, sym, ap, subst, ◌∙◌, inl, inr, arith, if◌then◌else◌, ◌⊎◌, ⊎_elim}
 use Rattle.std.specs.Prelude.{slice_index, slice_get, map, ◌*◌, ◌==◌, Some, Result, Ok}
 use Rattle.std.specs.List.{range_with_len}
 use Rattle.std.proofs.lemmas.List.FromFn.{length-range_with_len, get_or-range_with_len, get_or-map-range_with_len}
@@ -92,15 +92,25 @@ none_second m (e ∷ es) first was =
     by_member true is rest was = by_what e.what is rest was
     by_member false is rest was = rest was
 
--- where no session is of version 2, versions rise
-pub versions_first : (w : World) → are_first w.entries ≡ true → AtEach w (λ before entry. StaysSecond w before entry entry.what)
-versions_first w first before after entry whole = by_what entry.what
+-- a member that begins with nothing and has not started was not of version 2
+pub never_second : {A : Type 0} → (false ≡ true) ⊎ ⊥ → A
+never_second (inl e) = absurd (cc)
+never_second (inr n) = absurd n
+
+-- where no session is of version 2, and none was before, versions rise
+pub versions_first : (w : World) → ((m : ℕ) → (w.begins m).second ≡ false) → are_first w.entries ≡ true → AtEach w (λ before entry. StaysSecond w before entry entry.what)
+versions_first w bare first before after entry whole = by_what entry.what
   where
+    not_both : false ≡ true → ⊥
+    not_both e = cc
+
     none : WasSecond (entries_of entry.member before) → ⊥
     none = none_second entry.member before (first_before before (entry ∷ after) (ap are_first (sym whole) ∙ first))
 
     by_what : (what : SessionEntry) → StaysSecond w before entry what
-    by_what (Starts node reading records) = λ was. absurd (none was)
+    by_what (Starts node reading records) = λ was. ⊎_elim
+        (λ (second : (w.begins entry.member).second ≡ true). absurd (not_both (sym (bare entry.member) ∙ second)))
+        (λ (started : WasSecond (entries_of entry.member before)). absurd (none started)) was
     by_what (Makes call) = tt
     by_what (IsCut call) = tt
 
@@ -108,7 +118,7 @@ versions_first w first before after entry whole = by_what entry.what
 pub reads_true : (n t : ℕ) → t < n → slice_index (range_with_len 0 n) t ≡ t
 reads_true n t below = omega (arith, get_or-range_with_len 0 n t 0 below)
 
-pub true_clock : (n : ℕ) → n ≤ 1000000 → IsClock (range_with_len 0 n)
+pub true_clock : (n : ℕ) → n ≤ 1000000 → IsClock 1 (range_with_len 0 n)
 true_clock n few = record {
   rises = λ a b ab h. omega (arith, reads_true n a (omega (arith, length-range_with_len 0 n)), reads_true n b (omega (arith, length-range_with_len 0 n)));
   not_slow = λ a b ab h. omega (arith, reads_true n a (omega (arith, length-range_with_len 0 n)), reads_true n b (omega (arith, length-range_with_len 0 n)));

@@ -9,9 +9,8 @@ use Rattle.booth_rec.specs.declared.record.Promise.{Promise as ViewPromise}
 use Rattle.booth_raft.specs.declared.view.Rule.TheVariants as rules
 use Rattle.booth_raft.specs.declared.view.View.{View}
 use Rattle.booth_raft.specs.Outcome.{keeping}
-use Rattle.booth_node.specs.Clock.{Cluster}
 use Rattle.booth_world.specs.Facts.{Has, Facts}
-use Rattle.booth_world.specs.States.{KeptRecord, Promise, MemberState}
+use Rattle.booth_world.specs.States.{KeptRecord, Promise, MemberState, Cluster}
 use Rattle.booth_world.specs.Rounds.{promising}
 use Rattle.booth_world.specs.Leases.{MayLease, not_to}
 use Rattle.booth_world.specs.Steps.{Promises, Learns, May}

@@ -20,9 +20,8 @@ use Rattle.booth_raft.specs.declared.view.Waiting.{Waiting}
 use Rattle.booth_raft.specs.Facts.{RoundFits}
 use Rattle.booth_raft.specs.Members.{is_candidate, is_leader}
 use Rattle.booth_raft.specs.Outcome.{Outcome, quiet, saying}
-use Rattle.booth_node.specs.Clock.{Cluster, HasClocks}
 use Rattle.booth_world.specs.Facts.{Facts}
-use Rattle.booth_world.specs.States.{MemberState}
+use Rattle.booth_world.specs.States.{MemberState, Cluster, HasClocks}
 use Rattle.booth_world.specs.Steps.{MemberStep, member_after, facts_after}
 use Rattle.booth_world.specs.MemberRuns.{IsMemberRun, member_after_all, facts_after_all}
 use Rattle.booth_world.specs.Agreement.{seat, records_in, IsAsked, Agrees}
@@ -182,7 +181,7 @@ pub steps_of_one : StepsOfOneAreSteps
 steps_of_one c w m steps below all = lifts c w m (w.member m) steps below refl all
 
 pub good_world : (c : Cluster) → HasClocks c → (steps : List WorldStep) → IsRun c (opening c) steps → Good c (world_of c steps)
-good_world c clocks steps run = run_good c clocks (opening c) steps (opening_good c clocks.some) run
+good_world c clocks steps run = run_good c clocks (opening c) steps (opening_good c clocks) run
 
 -- a lease lasts
 lasts : (c : Cluster) (w : WorldState) (a : Caller) → IsMember c w a → 0 < c.times.expire

@@ -3,7 +3,7 @@ use Rattle.std.proofs.Common.{◌≡◌, ◌⊎◌, ⊎_elim, inl, inr, ℕ, Lis
 use Rattle.std.specs.Prelude.{Bool, true, Option, Some, None}
 use Rattle.booth_wire.specs.declared.message.Say.TheVariants as says
 use Rattle.booth_raft.specs.declared.view.View.{View}
-use Rattle.booth_node.specs.Clock.{Cluster, reads}
+use Rattle.booth_world.specs.States.{Cluster, reads}
 use Rattle.booth_world.specs.Facts.{Has}
 use Rattle.booth_world.specs.Gives.{Mark, Given}
 use Rattle.booth_world.specs.Cores.{CoreEntry, TimePasses, ReadsTime, CallsCore, HasAnswer, Stops, StartsWith, CorePlace, Cores, opening_cores, Cast, has_given, call_given, answer_given, after_call, after_answer, entered, cores_after, mark_in}
@@ -139,7 +139,7 @@ module _ (c : Cluster) (cast : Cast) where
     pub places : (m : ℕ) → IsUp (cores.place m) → HasRead P m (cores.place m)
     pub marks : (mark : Mark) → Has cores.marks mark → P mark.member mark.at × (mark.reading ≡ reads c mark.member mark.at)
 
-  pub opening_read : (P : ℕ → ℕ → Type 0) → AreRead P (opening_cores c)
+  pub opening_read : (P : ℕ → ℕ → Type 0) → AreRead P (opening_cores c cast)
   opening_read P = record { places = λ m up. absurd up; marks = λ mark h. absurd h }
 
   given_read : (P : ℕ → ℕ → Type 0) (cores : Cores) (m : ℕ) (second : Bool) (given : Given) → AreRead P cores → HasRead P m (cores.place m)

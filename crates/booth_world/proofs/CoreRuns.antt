@@ -10,9 +10,8 @@ use Rattle.booth_raft.specs.declared.view.View.{View}
 use Rattle.booth_raft.specs.declared.view.Waiting.{Waiting}
 use Rattle.booth_raft.specs.Facts.{TriesOf, ViewFacts}
 use Rattle.booth_raft.specs.GainReleaseLost.{free_record}
-use Rattle.booth_node.specs.Clock.{Cluster, HasClocks, reads}
 use Rattle.booth_world.specs.Facts.{Has, Release}
-use Rattle.booth_world.specs.States.{KeptRecord, WorldState, opening}
+use Rattle.booth_world.specs.States.{KeptRecord, WorldState, opening, Cluster, HasClocks, reads}
 use Rattle.booth_world.specs.Steps.{WorldStep, IsRun, world_of}
 use Rattle.booth_world.specs.Held.{IsHeldBy, Held, AreApart, IsApart, GivesBackLease, ReleasedBetween}
 use Rattle.booth_world.specs.Agreement.{record_in}
@@ -117,11 +116,11 @@ pub record Runs (c : Cluster) (cast : Cast) (early late : List CoreEntry) (i : C
   pub run_all : IsRun c (opening c) (first ++ more)
   pub early_holds : CoresHold c cast (early_cores c cast early) (world_of c first)
   pub late_holds : CoresHold c cast (late_cores c cast early late) (world_of c (first ++ more))
-  pub all_second : AreSecondFrom c cast i.clocks i.is_cast (opening_cores c) early → AreSecondFrom c cast i.clocks i.is_cast (early_cores c cast early) late → AreSecond (first ++ more)
+  pub all_second : AreSecondFrom c cast i.clocks i.is_cast (opening_cores c cast) early → AreSecondFrom c cast i.clocks i.is_cast (early_cores c cast early) late → AreSecond (first ++ more)
 
 pub runs_of : (c : Cluster) (cast : Cast) (early late : List CoreEntry) (i : CoreCourse c cast early late) → Runs c cast early late i
 runs_of c cast early late i =
-    let one = enter_all c cast i.clocks i.is_cast (opening_cores c) early [] tt (opens c cast i.clocks i.is_cast) i.enters_early in
+    let one = enter_all c cast i.clocks i.is_cast (opening_cores c cast) early [] tt (opens c cast i.clocks i.is_cast) i.enters_early in
     let two = enter_all c cast i.clocks i.is_cast (early_cores c cast early) late one.more one.run one.holds i.enters_late in record {
       first = one.more;
       more = two.more;
@@ -210,7 +209,7 @@ tried_is_highest c cast entries course m below view is waits waiting k h =
     let facts = place.view_facts view is in
     let tried = tries_term (setup_in cast (early_cores c cast entries) m) view waits.rule waits.tried (facts.tried waits waiting) in
     let z = kept_of cast.id_of (w.member m).may k (subst (λ (l : List Record). Has l k) (sym place.same_may) h) in
-    let good = (run_good c course.clocks (opening c) r.first (opening_good c course.clocks.some) r.run_first).each m in
+    let good = (run_good c course.clocks (opening c) r.first (opening_good c course.clocks) r.run_first).each m in
     let most : z.0.term ≤ (w.member m).term = good.term agrees.up z.0 z.1 in
     let own : view.term ≡ (w.member m).term = agrees.term in
     let same : z.0.term ≡ k.term = ap (λ (q : Record). q.term) z.2 in
@@ -272,9 +271,9 @@ later_core c cast early late course es ls s t other k n l m kl nl hs ht =
     let r = runs_of c cast early late course in
     let w = world_of c r.first in
     let z = world_of c (r.first ++ r.more) in
-    let none_up : UpSecond (opening_cores c) = λ m view e. absurd (none_is view e) in
-    let early_up = up_after c cast course.clocks course.is_cast (opening_cores c) early none_up es in
-    let second = r.all_second (second_from c cast course.clocks course.is_cast (opening_cores c) early none_up es course.enters_early)
+    let none_up : UpSecond (opening_cores c cast) = λ m view e. absurd (none_is view e) in
+    let early_up = up_after c cast course.clocks course.is_cast (opening_cores c cast) early none_up es in
+    let second = r.all_second (second_from c cast course.clocks course.is_cast (opening_cores c cast) early none_up es course.enters_early)
     (second_from c cast course.clocks course.is_cast (early_cores c cast early) late early_up ls course.enters_late) in
     let a = held_by c cast (early_cores c cast early) w s k r.early_holds hs in
     let b = held_by c cast (late_cores c cast early late) z t n r.late_holds ht in

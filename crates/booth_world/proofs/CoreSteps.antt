@@ -13,9 +13,8 @@ use Rattle.booth_raft.specs.StartAndLearn.{started}
 use Rattle.booth_raft.proofs.HeardLemmas.{start_facts, hear_good}
 use Rattle.booth_raft.proofs.KeptLemmas.{ask_good, finish_good, release_good, renew_good}
 use Rattle.booth_raft.proofs.DueLemmas.{due_now_good, greeted_facts, noted_facts}
-use Rattle.booth_node.specs.Clock.{Cluster, HasClocks, reads}
 use Rattle.booth_world.specs.Facts.{Has, Round, Answer, Gain, Release, Facts}
-use Rattle.booth_world.specs.States.{MemberState, WorldState, opening, put}
+use Rattle.booth_world.specs.States.{MemberState, WorldState, opening, put, Cluster, HasClocks, reads}
 use Rattle.booth_world.specs.Lives.{reading_clock, crashing}
 use Rattle.booth_world.specs.Steps.{WorldStep, ReadsClock, Crashes, MemberDoes, Passes, IsRun, AreSecond, after_steps, world_of}
 use Rattle.booth_world.specs.Agreement.{IsSeated, records_in, Agrees}
@@ -107,7 +106,7 @@ append_none [] = refl
 append_none (x ∷ a) = ap (λ (l : List WorldStep). x ∷ l) (append_none a)
 
 module _ (c : Cluster) (cast : Cast) (clocks : HasClocks c) (is_cast : IsCast c cast) where
-  pub opens : CoresHold c cast (opening_cores c) (opening c)
+  pub opens : CoresHold c cast (opening_cores c cast) (opening c)
   opens = record {
     same_now = refl;
     each = λ m below. record {

@@ -14,9 +14,8 @@ use Rattle.booth_raft.specs.declared.view.Rule.TheVariants as rules
 use Rattle.booth_raft.specs.declared.view.View.{View}
 use Rattle.booth_raft.specs.Members.{is_candidate, is_leader, is_promised_elsewhere}
 use Rattle.booth_raft.specs.Outcome.{Outcome, quiet}
-use Rattle.booth_node.specs.Clock.{Cluster, HasClocks}
 use Rattle.booth_world.specs.Facts.{Has, Facts}
-use Rattle.booth_world.specs.States.{Pledge, KeptRecord, MemberState}
+use Rattle.booth_world.specs.States.{Pledge, KeptRecord, MemberState, Cluster, HasClocks}
 use Rattle.booth_world.specs.Steps.{Starts}
 use Rattle.booth_world.specs.Agreement.{seat, version_in, bound_kept, promise_kept, abstain_kept, bound_in, promise_in, record_in, Agrees}
 use Rattle.booth_base.specs.Times.{promise_of}

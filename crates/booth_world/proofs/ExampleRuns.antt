@@ -6,19 +6,20 @@ use native.Mathlib.Decide.{ℕ_discrete}
 use Rattle.booth_base.specs.declared.address.MemberId.{MemberId}
 use Rattle.booth_base.specs.declared.name.Name.{Name}
 use Rattle.booth_world.specs.Calls.{IsMember}
-use Rattle.booth_node.specs.Clock.{Cluster, HasClocks, IsClock}
+use Rattle.booth_node.specs.Clock.{IsClock}
 use Rattle.booth_world.specs.Facts.{Has, Round, Answer, Release}
-use Rattle.booth_world.specs.States.{KeptRecord, Promise, WorldState, opening}
+use Rattle.booth_world.specs.States.{KeptRecord, Promise, WorldState, opening, Cluster, HasClocks}
 use Rattle.booth_world.specs.Steps.{WorldStep, IsRun, happens, after_steps, world_of}
 use Rattle.booth_world.specs.Held.{Held}
 use Rattle.booth_world.specs.Examples.{ahead, behind, exact, clock_of, three, unleased, won_by, first_round, second_round, third_round, first_release, granted, renewed, released, granted_elsewhere, crashed_and_started, start, id_of_place, first_caller}
 use Rattle.booth_world.proofs.Lists.{new_or_old, none_is, some_same}
+use Rattle.booth_world.proofs.WorldGood.{bare_well}
 
 -- ---- clocks
 
 -- readings that are at most one above the true time, and never below it, are a clock's
 near_clock : (readings : List ℕ) → length readings ≡ 8
-    → ((t : ℕ) → t < 8 → (t ≤ slice_index readings t) × (slice_index readings t ≤ t + 1)) → IsClock readings
+    → ((t : ℕ) → t < 8 → (t ≤ slice_index readings t) × (slice_index readings t ≤ t + 1)) → IsClock 1 readings
 near_clock readings long near = record {
   rises = λ a b ab h. by_order a b ab h (ℕ_discrete a b);
   not_slow = λ a b ab h. let x = near a (omega (arith, long)) in let y = near b (omega (arith, long)) in omega (arith, x.0, x.1, y.0, y.1);
@@ -75,14 +76,14 @@ each_long zero = refl
 each_long (suc zero) = refl
 each_long (suc (suc m)) = refl
 
-pub each_clock : (m : ℕ) → IsClock (clock_of m)
+pub each_clock : (m : ℕ) → IsClock 1 (clock_of m)
 unfolding near_all
 each_clock zero = near_clock ahead refl ahead_near
 each_clock (suc zero) = near_clock behind refl behind_near
 each_clock (suc (suc m)) = near_clock exact refl exact_near
 
 pub three_clocks : HasClocks three
-three_clocks = record { some = omega arith; long = λ m h. each_long m; clocks = λ m h. each_clock m }
+three_clocks = record { ticking = omega arith; some = omega arith; long = λ m h. each_long m; clocks = λ m h. each_clock m; begins = λ m. bare_well 3 _ }
 
 -- ---- parts of conditions
 

@@ -12,11 +12,12 @@ use Rattle.booth_ticket.specs.Automatic.{come_due, hear, hear_message, tick}
 use Rattle.booth_node.specs.Session.{AreSessions, Down}
 use Rattle.booth_node.specs.World.{HasForm, HasConfiguration, HasTrueClocks, entries_of, members_of, AtEach, HearsSent, ReadsKept, stand_after}
 use Rattle.booth_node.specs.Held.{Moment}
-use Rattle.booth_world.specs.Premises.{Premise, OneConfiguration, TrueClocks, RecordsReturn, VersionsRise, MembersSpeak, OneDaemon, Meets, IsWorldBut, TwoHold}
+use Rattle.booth_world.specs.Premises.{Premise, OneConfiguration, TrueClocks, RecordsReturn, VersionsRise, MembersSpeak, OneDaemon, Meets, IsWorldBut, TwoHold, NothingHeld}
 use Rattle.booth_world.specs.WorldExamples.{site_one, site_two, arbitrator, three_members, at, sends, port_of, web, lease, grant_it, asks_votes, votes}
 use Rattle.booth_world.specs.VersionExamples.{with_a_falling_version}
 use Rattle.booth_world.proofs.AlongWorlds.{◌&◌, at_each, reads_true, only_web, from_client, from_member, is_read_below}
 use Rattle.booth_world.proofs.WorldParts.{three_sound, has_form, exact_clocks, asks_votes_fit, votes_fit, is_open_fits, asks_state_fits}
+use Rattle.booth_world.proofs.Beginnings.{none_holds}
 
 session_one : AreSessions Down (entries_of 0 with_a_falling_version.entries)
 unfolding header word padded_to carry_out keep_once tell tell_each tell_one say_each say_to acquire_for follow_request release_for reply come_due hear hear_message tick
@@ -281,6 +282,7 @@ form =
     & tt)
 
 meets : (premise : Premise) → premise ≢ VersionsRise → Meets with_a_falling_version premise
+meets NothingHeld other = none_holds with_a_falling_version (λ m place. refl)
 meets OneConfiguration other = configured
 meets TrueClocks other = clocks
 meets RecordsReturn other = records

@@ -14,11 +14,12 @@ use Rattle.booth_node.specs.Session.{AreSessions, Down}
 use Rattle.booth_node.specs.World.{HasForm, entries_of}
 use Rattle.booth_node.specs.Held.{Moment}
 use Rattle.std.proofs.lemmas.List.FromFn.{length-range_with_len, length-map-range_with_len}
-use Rattle.booth_world.specs.Premises.{Premise, OneConfiguration, TrueClocks, RecordsReturn, VersionsRise, MembersSpeak, OneDaemon, Meets, IsWorldBut, TwoHold}
+use Rattle.booth_world.specs.Premises.{Premise, OneConfiguration, TrueClocks, RecordsReturn, VersionsRise, MembersSpeak, OneDaemon, Meets, IsWorldBut, TwoHold, NothingHeld}
 use Rattle.booth_world.specs.WorldExamples.{site_one, site_two, arbitrator, at, sends, port_of, web, lease, grant_it, asks_votes, votes}
 use Rattle.booth_world.specs.PremiseExamples.{with_a_fast_clock, AreTrueBut}
 use Rattle.booth_world.proofs.AlongWorlds.{◌&◌, at_each, versions_first, reads_true, only_web, from_client, from_member, is_read_below, reads_double, is_double_below, true_clock}
 use Rattle.booth_world.proofs.WorldParts.{three_sound, has_form, asks_votes_fit, votes_fit, is_open_fits, asks_state_fits}
+use Rattle.booth_world.proofs.Beginnings.{none_holds}
 
 first_session : AreSessions Down (entries_of 0 with_a_fast_clock.entries)
 unfolding header word padded_to carry_out keep_once tell tell_each tell_one say_each say_to acquire_for follow_request release_for reply come_due hear hear_message tick
@@ -160,6 +161,7 @@ messages =
     & tt)
 
 meets : (premise : Premise) → premise ≢ TrueClocks → Meets with_a_fast_clock premise
+meets NothingHeld other = none_holds with_a_fast_clock (λ m place. refl)
 meets OneConfiguration other =
     at_each with_a_fast_clock _ (refl
     & refl
@@ -223,7 +225,7 @@ meets RecordsReturn other =
     & tt
     & tt
     & tt)
-meets VersionsRise other = versions_first with_a_fast_clock refl
+meets VersionsRise other = versions_first with_a_fast_clock (λ m. refl) refl
 meets MembersSpeak other = messages
 meets OneDaemon other = one_daemon
 
@@ -331,7 +333,7 @@ others_are_true = record {
     long (suc zero) below = length-map-range_with_len (λ (time : ℕ). 2 * time) 0 60000
     long (suc (suc m)) below = length-range_with_len 0 60000
 
-    clocks : (m : ℕ) → m < 3 → m ≢ 1 → IsClock (with_a_fast_clock.clock m)
+    clocks : (m : ℕ) → m < 3 → m ≢ 1 → IsClock 1 (with_a_fast_clock.clock m)
     clocks zero below other = true_clock 60000 (omega arith)
     clocks (suc zero) below other = absurd (other refl)
     clocks (suc (suc m)) below other = true_clock 60000 (omega arith)

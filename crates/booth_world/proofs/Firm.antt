@@ -5,9 +5,8 @@ use Rattle.std.proofs.Common.{◌≡◌, ◌≢◌, ◌⊎◌, ℕ, ◌+◌, ◌
 use Rattle.std.specs.Prelude.{Option, Some, None, if◌then◌else◌}
 use Rattle.std.specs.Option.{ForSome}
 use native.Mathlib.Nat.{le_of_eq}
-use Rattle.booth_node.specs.Clock.{Cluster, HasClocks, promise_time}
 use Rattle.booth_world.specs.Facts.{Has, Round, Answer, Release, Facts}
-use Rattle.booth_world.specs.States.{Pledge, KeptRecord, MemberState, WorldState, opening}
+use Rattle.booth_world.specs.States.{Pledge, KeptRecord, MemberState, WorldState, opening, Cluster, HasClocks, promise_time}
 use Rattle.booth_world.specs.Rounds.{new_answer}
 use Rattle.booth_world.specs.Leases.{pledge_of, MayKeep}
 use Rattle.booth_world.specs.Lives.{pledge_at_start}

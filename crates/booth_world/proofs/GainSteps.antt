@@ -11,9 +11,8 @@ use Rattle.booth_raft.specs.declared.view.View.{View}
 use Rattle.booth_raft.specs.declared.view.Waiting.{Waiting}
 use Rattle.booth_raft.specs.Members.{is_same, is_majority}
 use Rattle.booth_raft.specs.Outcome.{Outcome}
-use Rattle.booth_node.specs.Clock.{Cluster}
 use Rattle.booth_world.specs.Facts.{Has, Answer, Gain, Facts}
-use Rattle.booth_world.specs.States.{KeptRecord, MemberState}
+use Rattle.booth_world.specs.States.{KeptRecord, MemberState, Cluster}
 use Rattle.booth_world.specs.Steps.{Gains, TriesKeep}
 use Rattle.booth_world.specs.Agreement.{seat, record_in, records_in, HasAnswered, IsOpen, IsTried, IsAsked, Agrees}
 use Rattle.booth_world.specs.Gives.{mark_of}

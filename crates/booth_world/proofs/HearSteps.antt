@@ -25,9 +25,8 @@ use Rattle.booth_raft.specs.declared.view.Rule.TheVariants as rules
 use Rattle.booth_raft.specs.declared.view.Waiting.{Waiting}
 use Rattle.booth_raft.specs.Members.{is_candidate, is_leader, is_follower, is_same}
 use Rattle.booth_raft.specs.Outcome.{Outcome, keeping, quiet, saying}
-use Rattle.booth_node.specs.Clock.{Cluster}
 use Rattle.booth_world.specs.Facts.{Has, Round, Release, Facts}
-use Rattle.booth_world.specs.States.{KeptRecord, Promise, MemberState}
+use Rattle.booth_world.specs.States.{KeptRecord, Promise, MemberState, Cluster}
 use Rattle.booth_world.specs.Rounds.{new_promise, new_answer, promising}
 use Rattle.booth_world.specs.Leases.{pledge_of, MayLease, trying, cleared}
 use Rattle.booth_world.specs.Steps.{Promises, Answers, TriesKeep, Clears}

@@ -5,7 +5,7 @@ use Rattle.booth_base.specs.Tree.{Does}
 use Rattle.booth_rec.specs.declared.record.Record.{Record}
 use Rattle.booth_raft.specs.declared.view.View.{View}
 use Rattle.booth_raft.specs.declared.view.Waiting.{Waiting}
-use Rattle.booth_node.specs.Clock.{Cluster}
+use Rattle.booth_world.specs.States.{Cluster}
 use Rattle.booth_world.specs.Facts.{Has, Release}
 use Rattle.booth_world.specs.Cores.{CoreEntry, opening_cores, Cast, cores_after}
 use Rattle.booth_world.specs.CoreLaws.{CoreCourse, early_cores, late_cores, IsReleaseIn}
@@ -21,9 +21,9 @@ use Rattle.booth_world.proofs.HostSteps.{HostsHold, follow_all, opens_hosts, hos
 pub hosts_hold_one : HostsHoldOne
 hosts_hold_one c cast entries course s t hs ht =
     let clocks = course.clocks in
-    let f = follow_all c cast clocks course.is_cast (opening_hosts c) (opening_cores c) entries (opens_hosts c cast clocks course.is_cast) course.hosted_early in
-    let cores = cores_after c cast (opening_cores c) f.0 in
-    let hosts = hosts_after c cast (opening_hosts c) entries in
+    let f = follow_all c cast clocks course.is_cast (opening_hosts c cast) (opening_cores c cast) entries (opens_hosts c cast clocks course.is_cast) course.hosted_early in
+    let cores = cores_after c cast (opening_cores c cast) f.0 in
+    let hosts = hosts_after c cast (opening_hosts c cast) entries in
     cores_hold_one c cast f.0 (record { clocks = clocks; is_cast = course.is_cast; enters_early = f.1; enters_late = tt }) s t
     (hs.0, host_held c cast hosts cores s hs.0 f.2 hs.1)
     (ht.0, host_held c cast hosts cores t ht.0 f.2 ht.1)
@@ -42,8 +42,8 @@ record Followed (c : Cluster) (cast : Cast) (early late : List HostEntry) : Type
 followed : (c : Cluster) (cast : Cast) (early late : List HostEntry) → HostCourse c cast early late → Followed c cast early late
 followed c cast early late course =
     let clocks = course.clocks in
-    let f = follow_all c cast clocks course.is_cast (opening_hosts c) (opening_cores c) early (opens_hosts c cast clocks course.is_cast) course.hosted_early in
-    let g = follow_all c cast clocks course.is_cast (early_hosts c cast early) (cores_after c cast (opening_cores c) f.0) late f.2 course.hosted_late in record {
+    let f = follow_all c cast clocks course.is_cast (opening_hosts c cast) (opening_cores c cast) early (opens_hosts c cast clocks course.is_cast) course.hosted_early in
+    let g = follow_all c cast clocks course.is_cast (early_hosts c cast early) (cores_after c cast (opening_cores c cast) f.0) late f.2 course.hosted_late in record {
       first = f.0;
       second = g.0;
       course = record { clocks = clocks; is_cast = course.is_cast; enters_early = f.1; enters_late = g.1 };

@@ -2,7 +2,7 @@
 use Rattle.std.proofs.Common.{◌≡◌, ◌≢◌, ◌⊎◌, ⊎_elim, inl, inr, ℕ, ◌<◌, Bool, true, List, [], ◌∷◌, ◌++◌, refl, sym, ap, ◌∙◌, subst}
 use Rattle.std.specs.Prelude.{Option, Some, IsSomeAnd}
 use Rattle.booth_base.specs.Tree.{Ends, Does}
-use Rattle.booth_node.specs.Clock.{Cluster}
+use Rattle.booth_world.specs.States.{Cluster}
 use Rattle.booth_world.specs.Facts.{Release}
 use Rattle.booth_world.specs.Cores.{Cast}
 use Rattle.booth_world.specs.Turns.{TicketAsk, Keeps, Sends, AsksElse, TurnTree}

@@ -11,9 +11,8 @@ use Rattle.booth_raft.specs.declared.view.View.{View}
 use Rattle.booth_raft.specs.declared.view.Waiting.{Waiting}
 use Rattle.booth_raft.specs.StartAndLearn.{started}
 use Rattle.booth_raft.proofs.HeardLemmas.{start_facts}
-use Rattle.booth_node.specs.Clock.{Cluster, HasClocks, reads}
 use Rattle.booth_world.specs.Facts.{Has, Release}
-use Rattle.booth_world.specs.States.{put}
+use Rattle.booth_world.specs.States.{put, Cluster, HasClocks, reads}
 use Rattle.booth_world.specs.Gives.{Given, may_answered}
 use Rattle.booth_world.specs.Rules.{MemberMessage}
 use Rattle.booth_world.specs.Cores.{CoreEntry, TimePasses, ReadsTime, HasAnswer, Stops, StartsWith, CorePlace, Cores, opening_cores, Cast, IsCast, MayEnter, has_given, answer_given, after_answer, entered, AreEntered, cores_after}
@@ -402,7 +401,7 @@ module _ (c : Cluster) (cast : Cast) (clocks : HasClocks c) (is_cast : IsCast c 
             (start_more (StartsIn entries) (StartsIn (entry ∷ entries)) (λ second s. inr s) rest.0 rest.5),
       )
 
-  pub opens_hosts : HostsHold c cast (opening_hosts c) (opening_cores c)
+  pub opens_hosts : HostsHold c cast (opening_hosts c cast) (opening_cores c cast)
   opens_hosts = record {
     same_now = refl;
     each = λ m below. record {

@@ -13,9 +13,8 @@ use Rattle.booth_raft.specs.declared.view.Rule.TheVariants as rules
 use Rattle.booth_raft.specs.declared.view.View.{View}
 use Rattle.booth_raft.specs.Members.{is_leader}
 use Rattle.booth_raft.specs.Outcome.{Outcome}
-use Rattle.booth_node.specs.Clock.{Cluster, HasClocks, promise_time}
 use Rattle.booth_world.specs.Facts.{Has, Round, Release, Facts}
-use Rattle.booth_world.specs.States.{KeptRecord, Promise, MemberState}
+use Rattle.booth_world.specs.States.{KeptRecord, Promise, MemberState, Cluster, HasClocks, promise_time}
 use Rattle.booth_world.specs.Rounds.{new_round, new_answer, promising, KeepsAnswer, with_answer}
 use Rattle.booth_world.specs.Leases.{pledge_of}
 use Rattle.booth_world.specs.Steps.{MemberStep, Elects, Renews, Promises, Answers, HasKept, Releases}

@@ -1,17 +1,16 @@
 -- In a world of version 2 the later of two holders has the later term.
 use Rattle.std.proofs.Common.{◌≡◌, ◌≢◌, ℕ, ◌+◌, ◌<◌, ◌≤◌, List, ◌++◌, sym, ap, ◌∙◌, subst, ⊎_elim, arith}
-use Rattle.std.specs.Prelude.{Some}
+use Rattle.std.specs.Prelude.{Option, Some, IsSomeAnd}
 use Rattle.booth_rec.specs.declared.record.Lease.{Lease}
-use Rattle.booth_node.specs.Clock.{Cluster, HasClocks, reads, promise_time}
 use Rattle.booth_world.specs.Facts.{Round}
-use Rattle.booth_world.specs.States.{KeptRecord, WorldState, opening}
+use Rattle.booth_world.specs.States.{KeptRecord, WorldState, opening, Cluster, HasClocks, reads, promise_time}
 use Rattle.booth_world.specs.Steps.{WorldStep, IsRun, AreSecond, after_steps}
 use Rattle.booth_world.specs.Held.{IsHeldBy}
 use Rattle.booth_world.proofs.Lists.{some_same}
 use Rattle.booth_world.proofs.Invariant.{Freed, LeaseGood, Good}
 use Rattle.booth_world.proofs.Majority.{majorities_share}
 use Rattle.booth_world.proofs.Later.{Later, run_later, run_first, run_second, after-append}
-use Rattle.booth_world.proofs.Holders.{times_apart, lease_in_force}
+use Rattle.booth_world.proofs.Holders.{times_apart, lease_in_force, force_good}
 use Rattle.booth_world.proofs.WorldGood.{opening_good, run_good}
 use Rattle.booth_world.proofs.Firm.{IsEarlier, Firm, opening_firm, run_firm}
 
@@ -48,6 +47,12 @@ later_term c clocks w z s t gw gz firm later other tm l m lg mg m_force =
     second.over))
     (firm.ordered a b p.1 q.1 member (λ e. other (sym a_site ∙ (e ∙ b_site))))
 
+-- the lease of a record in force is
+force_of : (o : Option Lease) (reading : ℕ) (l : Lease) → IsSomeAnd o (λ l. reading < l.until) → o ≡ Some l → reading < l.until
+force_of o reading l force is =
+    let q = lease_in_force o reading force in
+    subst (λ (y : Lease). reading < y.until) (some_same q.0 l (sym q.1 ∙ is)) q.2
+
 pub runs_rise :
     (c : Cluster) → HasClocks c → (early late : List WorldStep) → IsRun c (opening c) (early ++ late) → AreSecond (early ++ late)
     → (s t : ℕ) → s ≢ t → (k n : KeptRecord) (first second : Lease) → k.lease ≡ Some first → n.lease ≡ Some second
@@ -58,11 +63,11 @@ runs_rise c clocks early late run are s t other k n l m kl nl hs ht =
     let z = after_steps c (opening c) (early ++ late) in
     let first = run_first c (opening c) early late run in
     let second = run_second c (opening c) early late run in
-    let gw = run_good c clocks (opening c) early (opening_good c clocks.some) first in
-    let gz = run_good c clocks (opening c) (early ++ late) (opening_good c clocks.some) run in
+    let gw = run_good c clocks (opening c) early (opening_good c clocks) first in
+    let gz = run_good c clocks (opening c) (early ++ late) (opening_good c clocks) run in
     let on : Later w z = subst (λ (y : WorldState). Later w y) (sym (after-append c (opening c) early late)) (run_later c w late second) in
-    let force = lease_in_force n.lease (reads c t z.now) ht.in_force in
-    let same : force.0 ≡ m = some_same force.0 m (sym force.1 ∙ nl) in
-    later_term c clocks w z s t gw gz (run_firm c clocks (opening c) (early ++ late) (opening_good c clocks.some) (opening_firm c) run are) on other ht.below l m
-    ((gw.each s).lease k hs.may l kl) ((gz.each t).lease n ht.may m nl)
-    (subst (λ (y : Lease). reads c t z.now < y.until) same force.2)
+    let held_early : reads c s w.now < l.until = force_of k.lease (reads c s w.now) l hs.in_force kl in
+    let held_late : reads c t z.now < m.until = force_of n.lease (reads c t z.now) m ht.in_force nl in
+    later_term c clocks w z s t gw gz (run_firm c clocks (opening c) (early ++ late) (opening_good c clocks) (opening_firm c) run are) on other ht.below l m
+    (force_good c clocks w s gw hs.below k hs.may l kl held_early) (force_good c clocks z t gz ht.below n ht.may m nl held_late)
+    held_late

@@ -3,13 +3,12 @@ use Rattle.std.proofs.Common.{◌≡◌, ℕ, ◌≤◌, List, [], ◌∷◌, Bo
 use Rattle.std.specs.Prelude.{Option, Some, None, if◌then◌else◌}
 use native.Mathlib.Nat.{le_of_eq, le_refl}
 use Rattle.booth_rec.specs.declared.record.Lease.{Lease}
-use Rattle.booth_node.specs.Clock.{Cluster}
 use Rattle.booth_world.specs.Facts.{Has, Round, Answer, Gain, Facts}
-use Rattle.booth_world.specs.States.{Pledge, Promise, IsWithin, KeptRecord, MemberState}
+use Rattle.booth_world.specs.States.{Pledge, Promise, IsWithin, KeptRecord, MemberState, Cluster}
 use Rattle.booth_world.specs.Leases.{IsWon, MayLease, pledge_of, MayKeep}
 use Rattle.booth_world.specs.Steps.{Gains, TriesKeep, HasKept}
 use Rattle.booth_world.proofs.Lists.{new_or_old, none_is, some_same}
-use Rattle.booth_world.proofs.Invariant.{Covers, StateGuard, Guard, Stands, PromiseGood, LeaseGood, MemberGood, LeaseFact, FactsGood}
+use Rattle.booth_world.proofs.Invariant.{Covers, StateGuard, Guard, Stands, PromiseGood, LeaseGood, IsOverOrGood, MemberGood, LeaseFact, FactsGood}
 use Rattle.booth_world.proofs.Stays.{Stays, Law, facts_stay, not_up, stands_by}
 
 -- gain
@@ -26,7 +25,10 @@ gains c now f m x r ms i g below may =
       within = j.within;
       pledges = j.pledges;
       answers = j.answers;
-      lease = λ z hz l e. let q = j.lease z hz l e in record { gained = q.gained; fact = inr q.fact; site = q.site; term = q.term; until = q.until; above = q.above };
+      lease = λ z hz l e. ⊎_elim
+          (λ (over : l.until ≤ y.reading). inl over)
+          (λ (q : LeaseGood c f.leases f.releases k l). inr (record { gained = q.gained; fact = inr q.fact; site = q.site; term = q.term; until = q.until; above = q.above }))
+          (j.lease z hz l e);
     } in
     record {
       self = more m x i;
@@ -52,20 +54,20 @@ gains c now f m x r ms i g below may =
 -- keep
 kept_lease :
     (c : Cluster) (now : ℕ) (f : Facts) (m : ℕ) (x : MemberState) (o : Option Lease) (l : Lease)
-    → MemberGood c now f m x → MayLease c f x o → o ≡ Some l → LeaseGood c f.leases f.releases m l
+    → MemberGood c now f m x → MayLease c f x o → o ≡ Some l → IsOverOrGood c f.leases f.releases m x.reading l
 kept_lease c now f m x None l i may e = absurd (none_is l e)
-kept_lease c now f m x (Some q) l i may e = subst (λ (y : Lease). LeaseGood c f.leases f.releases m y) (some_same q l e) (⊎_elim
+kept_lease c now f m x (Some q) l i may e = subst (λ (y : Lease). IsOverOrGood c f.leases f.releases m x.reading y) (some_same q l e) (⊎_elim
     (λ (old : (k : KeptRecord) × Has x.may k × (k.lease ≡ Some q)). i.lease old.0 old.1 q old.2)
     (λ (won : IsWon c f x q).
     let r = i.round won.gained.round won.open_round in
-    record {
+    inr (record {
       gained = won.gained;
       fact = won.fact;
       site = r.site;
       term = ap (λ (y : Lease). y.term) won.same;
       until = ap (λ (y : Lease). y.until) won.same;
       above = λ z h z_site. let n = r.above z h z_site in let t = ap (λ (y : Lease). y.term) won.same in omega arith;
-    })
+    }))
     may)
 
 -- the pledge that is kept is the member's
@@ -107,7 +109,7 @@ joins c now f m x k rest i g may part =
       };
       term = λ up. new_or_old (λ (z : KeptRecord). z.term ≤ x.term) k rest (le_of_eq may.own_term) (λ y hy. i.term up y (part y hy));
       round = i.round;
-      lease = new_or_old (λ (z : KeptRecord). (l : Lease) → z.lease ≡ Some l → LeaseGood c f.leases f.releases m l) k rest (λ l e. kept_lease c now f m x k.lease l i may.lease e) (λ y hy. i.lease y (part y hy));
+      lease = new_or_old (λ (z : KeptRecord). (l : Lease) → z.lease ≡ Some l → IsOverOrGood c f.leases f.releases m x.reading l) k rest (λ l e. kept_lease c now f m x k.lease l i may.lease e) (λ y hy. i.lease y (part y hy));
       promise = i.promise;
       within = i.within;
       pledges = record {

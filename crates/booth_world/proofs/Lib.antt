@@ -44,6 +44,7 @@ pub mod NodeTurns
 pub mod NodeArrivals
 pub mod HostRuns
 pub mod WorldSteps
+pub mod Beginnings
 pub mod WorldEntries
 pub mod WorldHosts
 pub mod WorldRuns
@@ -65,3 +66,13 @@ pub mod FastClockRuns
 pub mod PromisesKeptRuns
 pub mod FallingVersionRuns
 pub mod OneHolds
+pub mod OneGoesOn
+pub mod TellerTexts
+pub mod TellerRules
+pub mod TellerTickets
+pub mod TellerClaims
+pub mod TellerLists
+pub mod TellerNodes
+pub mod TellerMembers
+pub mod TellerWorlds
+pub mod KeptLaws

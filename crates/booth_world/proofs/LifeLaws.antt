@@ -1,14 +1,13 @@
 -- Learning a term, crashing, starting and the passing of time keep what holds.
-use Rattle.std.proofs.Common.{◌≡◌, ℕ, ◌<◌, ◌≤◌, List, [], ◌∷◌, Bool, true, false, refl, sym, ap, ◌∙◌, subst, inl, inr, length, arith}
+use Rattle.std.proofs.Common.{◌≡◌, ℕ, ◌<◌, ◌≤◌, List, [], ◌∷◌, Bool, true, false, refl, sym, ap, ◌∙◌, subst, inl, inr, length, arith, ⊎_elim}
 use Rattle.std.specs.Prelude.{Option, Some, None}
 use native.Mathlib.Nat.{le_of_eq, le_refl}
-use Rattle.booth_node.specs.Clock.{Cluster, HasClocks, reads}
 use Rattle.booth_world.specs.Facts.{Answer, Release, Facts}
-use Rattle.booth_world.specs.States.{Pledge, Promise, IsWithin, KeptRecord, MemberState, WorldState}
+use Rattle.booth_world.specs.States.{Pledge, Promise, IsWithin, KeptRecord, MemberState, WorldState, Cluster, HasClocks, reads}
 use Rattle.booth_world.specs.Lives.{pledge_at_start, MayStart, starting}
 use Rattle.booth_world.specs.Steps.{Learns, Crashes, Starts, ReadsClock, Passes, MayStep, happens}
 use Rattle.booth_world.proofs.Lists.{none_is}
-use Rattle.booth_world.proofs.Invariant.{Covers, StateGuard, RecordsCover, Guard, Stands, PromiseGood, PledgesGood, Good}
+use Rattle.booth_world.proofs.Invariant.{Covers, StateGuard, RecordsCover, Guard, Stands, PromiseGood, PledgesGood, Good, LeaseGood}
 use Rattle.booth_world.proofs.Stays.{Law, facts_stay, only_one, not_up, stands_by, stands_beside}
 
 pub learns : (c : Cluster) (now : ℕ) (f : Facts) (m : ℕ) (x : MemberState) (term : ℕ) → Law c now f m x (Learns term)
@@ -128,7 +127,10 @@ reads_clock c clocks now f m x i g below may =
       may = i.may;
       term = i.term;
       round = i.round;
-      lease = i.lease;
+      lease = λ k h l e. ⊎_elim
+          (λ (over : l.until ≤ x.reading). inl (omega arith))
+          (λ (q : LeaseGood c f.leases f.releases m l). inr q)
+          (i.lease k h l e);
       promise = λ p e. let q = i.promise p e in let l = q.rested in record { within = q.within; rested = omega arith };
       within = i.within;
       pledges = record {

@@ -1,6 +1,7 @@
 -- The calls of a node log are those of a session, also where its last turn stopped.
 use Rattle.std.proofs.Common.{◌≡◌, ℕ, Bool, List, [], ◌∷◌, ◌++◌, refl, sym, ap, subst}
 use Rattle.std.specs.Prelude.{Option}
+use Rattle.booth_keys.specs.declared.ring.Ring.{Ring}
 use Rattle.booth_base.specs.Tree.{Deeds, Ends, Does, Leads}
 use Rattle.booth_host.specs.declared.entry.Entry.{Entry}
 use Rattle.booth_host.specs.declared.entry.Entry.TheVariants as calls
@@ -24,25 +25,25 @@ path_join stand mid last (x ∷ xs) ys p q =
     ((p.0.0, rest.0), rest.1)
 
 -- a deed says itself what it was answered
-says_so : (key : Option (List ℕ)) (ask : Ask) (ok : Bool) (call : Entry) → IsDone key ask ok call → ok ≡ did call
-says_so key (Send peer message) ok (calls.Send to bytes answer) d = d.3
-says_so key (Keep name tried) ok (calls.Keep ticket rec answer) d = d.2
-says_so key (Start job) ok (calls.Start number ticket handler local expires answer) d = d.1
-says_so key (Send peer message) ok call d = absurd d
-says_so key (Keep name tried) ok call d = absurd d
-says_so key (Start job) ok call d = absurd d
+says_so : (ring : Option Ring) (ask : Ask) (ok : Bool) (call : Entry) → IsDone ring ask ok call → ok ≡ did call
+says_so ring (Send peer message) ok (calls.Send to bytes answer) d = d.3
+says_so ring (Keep name tried) ok (calls.Keep ticket rec answer) d = d.2
+says_so ring (Start job) ok (calls.Start number ticket handler local expires answer) d = d.1
+says_so ring (Send peer message) ok call d = absurd d
+says_so ring (Keep name tried) ok call d = absurd d
+says_so ring (Start job) ok call d = absurd d
 
-deeds_path : (node : NodeConfig) (deeds left : Deeds Ask State) (entries : List Entry) → Leads (IsDone node.key) deeds entries left
+deeds_path : (node : NodeConfig) (deeds left : Deeds Ask State) (entries : List Entry) → Leads (IsDone node.ring) deeds entries left
     → IsPath (Doing node deeds) (made entries) (Doing node left)
 deeds_path node deeds left [] leads = (tt, ap (λ (t : Deeds Ask State). Doing node t) (sym leads))
 deeds_path node (Ends state) left (call ∷ entries) leads = absurd leads
 deeds_path node (Does ask go) left (call ∷ entries) leads =
-    let ok : leads.0 ≡ did call = says_so node.key ask leads.0 call leads.1 in
+    let ok : leads.0 ≡ did call = says_so node.ring ask leads.0 call leads.1 in
     let rest = deeds_path node (go (did call)) left entries
-    (subst (λ (b : Bool). Leads (IsDone node.key) (go b) entries left) ok leads.2) in
-    ((doable node ask go call (subst (λ (b : Bool). IsDone node.key ask b call) ok leads.1), rest.0), rest.1)
+    (subst (λ (b : Bool). Leads (IsDone node.ring) (go b) entries left) ok leads.2) in
+    ((doable node ask go call (subst (λ (b : Bool). IsDone node.ring ask b call) ok leads.1), rest.0), rest.1)
   where
-    doable : (n : NodeConfig) (a : Ask) (g : Bool → Deeds Ask State) (c : Entry) → IsDone n.key a (did c) c → MayMake (Doing n (Does a g)) c
+    doable : (n : NodeConfig) (a : Ask) (g : Bool → Deeds Ask State) (c : Entry) → IsDone n.ring a (did c) c → MayMake (Doing n (Does a g)) c
     doable n a g c d = d
 
 turn_path : (node : NodeConfig) (old new : State) (turn : Turn) (entries : List Entry) → IsTurn node old turn entries new

@@ -3,7 +3,7 @@ use Rattle.std.proofs.Common.{Bool, false, [], refl, inl, arith}
 use Rattle.booth_base.specs.Tree.{Ends, Does}
 use Rattle.booth_base.specs.declared.name.Name.{Name}
 use Rattle.booth_raft.specs.declared.view.View.{View}
-use Rattle.booth_node.specs.Clock.{HasClocks}
+use Rattle.booth_world.specs.States.{HasClocks}
 use Rattle.booth_world.specs.Cores.{IsCast}
 use Rattle.booth_world.specs.CoreLaws.{CoreCourse, CoreHolds, early_cores}
 use Rattle.booth_world.specs.Rules.{Asks, Greets, lease_rules}
@@ -12,9 +12,10 @@ use Rattle.booth_rec.specs.Record.{no_record}
 use Rattle.booth_world.specs.HostLaws.{HostCourse, HostHolds, early_hosts}
 use Rattle.booth_world.specs.LoneExamples.{lone, lone_cast, lone_lease, lone_grant, lone_restart, lone_turn}
 use Rattle.booth_world.proofs.ExampleRuns.{same_place, each_clock, inactive}
+use Rattle.booth_world.proofs.WorldGood.{bare_well}
 
 lone_clocks : HasClocks lone
-lone_clocks = record { some = omega arith; long = λ m h. refl; clocks = λ m h. each_clock 2 }
+lone_clocks = record { ticking = omega arith; some = omega arith; long = λ m h. refl; clocks = λ m h. each_clock 2; begins = λ m. bare_well 1 _ }
 
 lone_is_cast : (ticket : Name) → IsCast lone (lone_cast ticket)
 lone_is_cast ticket = record {

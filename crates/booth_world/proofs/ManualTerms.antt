@@ -5,7 +5,6 @@ use Rattle.booth_base.specs.Tree.{Deeds, Ends, Does}
 use Rattle.booth_chain.proofs.NodesLemmas.{same_or_not}
 use Rattle.booth_conf.specs.declared.tickets.TicketConf.{TicketConf}
 use Rattle.booth_rec.specs.declared.record.Record.{Record}
-use Rattle.booth_rec.specs.Record.{no_record}
 use Rattle.booth_host.specs.declared.entry.Entry.{Entry}
 use Rattle.booth_host.specs.declared.entry.Entry.TheVariants as calls
 use Rattle.booth_wire.specs.declared.message.Setup.{Setup}
@@ -16,7 +15,9 @@ use Rattle.booth_node.specs.Opening.{known_at_start, opened, opened_by, setup_of
 use Rattle.booth_node.specs.Reaction.{Ask, Send, Keep, Start, react, used}
 use Rattle.booth_node.specs.Records.{Has, TicketPlace, record_at, may_after, may_after_all, may_after_keep, with_next}
 use Rattle.booth_node.specs.Session.{CutCall, MayMake, MayBeCut, CutKeep, CutNext, CutNow, CutSend, CutStart, SessionEntry, Starts, Makes, IsCut, Stand, Down, Doing, Hearing, MayDo, AreSessions, after_call, after_entry, after_entries}
-use Rattle.booth_node.specs.World.{HasConfiguration, ReadsKept, WorldEntry, World, members_of, entries_of, node_at, stand_after, ticket_at, IsWorld}
+use Rattle.booth_node.specs.World.{HasConfiguration, ReadsKept, WorldEntry, World, members_of, entries_of, node_at, stand_after, ticket_at, IsWorld, begins_with}
+use Rattle.booth_ticket.specs.Ticket.{Known, Automatic, Manual}
+use Rattle.booth_world.specs.Kept.{IsOfKind, RestsInKind, StandsInKind}
 use Rattle.booth_world.specs.Worlds.{IsLater}
 use Rattle.booth_world.proofs.ManualKeeps.{IsHigh, IsPlaced, KeepsHigh, keeps_lower, turn_keeps}
 use Rattle.booth_world.proofs.WorldEntries.{started_at, started_is}
@@ -228,8 +229,11 @@ module _ (w : World) (is_world : IsWorld w) (place : ℕ) (ticket : TicketConf) 
   abbrev own : TicketPlace
   own = ticket_at place ticket
 
+  abbrev start : Record
+  start = begins_with w m place
+
   abbrev may_of : List WorldEntry → List Record
-  may_of before = may_after_all own (no_record ∷ []) (entries_of m before)
+  may_of before = may_after_all own (start ∷ []) (entries_of m before)
 
   abbrev Least : ℕ → List WorldEntry → Type 0
   Least term before = IsLeast own term (stand_after m before) (may_of before)
@@ -262,7 +266,7 @@ module _ (w : World) (is_world : IsWorld w) (place : ℕ) (ticket : TicketConf) 
       by_what (Starts node reading records) config kept many =
           let node_is : node ≡ node_at w m node.second = config ∙ ap (λ (n : ℕ). node_at w n node.second) is in
           let all : length records ≡ length w.config.tickets = many ∙ ap (λ (n : NodeConfig). length n.config.tickets) node_is in (
-            subst (λ (n : ℕ). Has (may_after_all own (no_record ∷ []) (entries_of n before)) (record_at records place)) is (kept place ticket there),
+            subst (λ (n : ℕ). Has (may_after_all own (begins_with w n place ∷ []) (entries_of n before)) (record_at records place)) is (kept place ticket there),
             subst (λ (n : NodeConfig). IsPlaced ticket.name place (record_at records place).term (opened n records reading).tickets) (sym node_is)
                 (opened_so node.second reading records all),
           )
@@ -283,7 +287,7 @@ module _ (w : World) (is_world : IsWorld w) (place : ℕ) (ticket : TicketConf) 
           ∙ append_none (entries_of m before) in (
             term,
             omega arith,
-            subst (λ (xs : List SessionEntry). IsLeast own term (after_entries Down xs) (may_after_all own (no_record ∷ []) xs)) (sym same) x,
+            subst (λ (xs : List SessionEntry). IsLeast own term (after_entries Down xs) (may_after_all own (start ∷ []) xs)) (sym same) x,
           )
       by_member (inl is) =
           let all : entries_of m (before ++ e ∷ []) ≡ entries_of m before ++ e.what ∷ [] =
@@ -299,8 +303,8 @@ module _ (w : World) (is_world : IsWorld w) (place : ℕ) (ticket : TicketConf) 
             r.1,
             subst (λ (s : Stand). IsLeast own r.0 s (may_of (before ++ e ∷ []))) (sym (stand_own m before e is))
                 (subst (λ (rs : List Record). IsLeast own r.0 (after_entry (stand_after m before) e.what) rs)
-                (sym (ap (λ (xs : List SessionEntry). may_after_all own (no_record ∷ []) xs) all
-                ∙ may_join own (no_record ∷ []) (entries_of m before) (e.what ∷ []))) r.2),
+                (sym (ap (λ (xs : List SessionEntry). may_after_all own (start ∷ []) xs) all
+                ∙ may_join own (start ∷ []) (entries_of m before) (e.what ∷ []))) r.2),
           )
 
   steps : (between before after : List WorldEntry) (term : ℕ) → w.entries ≡ before ++ (between ++ after) → Least term before
@@ -316,12 +320,12 @@ module _ (w : World) (is_world : IsWorld w) (place : ℕ) (ticket : TicketConf) 
         subst (λ (es : List WorldEntry). Least rest.0 es) (append_both before (e ∷ []) between) rest.2,
       )
 
-  first : Least 0 []
+  first : Least start.term []
   first = record {
-    lowest = no_record;
+    lowest = start;
     one = inl refl;
     is = omega arith;
-    least = λ k h. omega arith;
+    least = λ k h. ⊎_elim (λ (e : start ≡ k). subst (λ (r : Record). start.term ≤ r.term) e (omega arith)) (λ (n : ⊥). absurd n) h;
     high = tt;
   }
 
@@ -342,7 +346,7 @@ module _ (w : World) (is_world : IsWorld w) (place : ℕ) (ticket : TicketConf) 
       → ((k : Record) → Has (may_at w place ticket m early) k → term ≤ k.term)
       → (k : Record) → Has (may_at w place ticket m late) k → term ≤ k.term
   manual_terms_hold early late between later term least k h =
-      let at_early = steps early.before [] early.after 0 early.whole first in
+      let at_early = steps early.before [] early.after start.term early.whole first in
       let x : Least at_early.0 early.before = at_early.2 in
       let low : term ≤ x.lowest.term =
       least x.lowest (some_after own x.lowest (may_of early.before) (entries_of m early.after) x.one) in
@@ -354,3 +358,23 @@ module _ (w : World) (is_world : IsWorld w) (place : ℕ) (ticket : TicketConf) 
       let is : x.lowest.term ≤ at_early.0 = x.is in
       let rises : at_early.0 ≤ at_late.0 = at_late.1 in
       omega (arith, low, high, is, rises)
+
+  -- where it rests, it stands as a manual ticket
+  pub stands_by_hand : (moment : Moment w) → RestsInKind place ticket (stand_after m moment.before)
+  stands_by_hand moment =
+      let at_moment = steps moment.before [] moment.after start.term moment.whole first in
+      by_stand at_moment.0 (stand_after m moment.before) at_moment.2.high
+    where
+      by_known : (term : ℕ) (known : Known) → IsHigh term known → IsOfKind true known
+      by_known term (Automatic view) h = absurd h
+      by_known term (Manual known) h = tt
+
+      placed : (term : ℕ) (state : State) → IsPlaced ticket.name place term state.tickets → StandsInKind place ticket state
+      placed term state at =
+          (at.ticket, at.own, subst (λ (b : Bool). IsOfKind b at.ticket.known) (sym by_hand) (by_known term at.ticket.known at.high))
+
+      by_stand : (term : ℕ) (stand : Stand) → IsHighAt own term stand → RestsInKind place ticket stand
+      by_stand term Down h = tt
+      by_stand term (Doing node (Ends state)) h = placed term state h
+      by_stand term (Doing node (Does ask go)) h = tt
+      by_stand term (Hearing node old answer bytes) h = placed term old h

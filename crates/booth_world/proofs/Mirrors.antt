@@ -99,10 +99,10 @@ module _ (node : NodeConfig) (s : Setup) where
   -- What is sent says truly whether there is a key; and where it is a member's message about this ticket, the host's
   -- tree has said it, but for its stamp.
   pub record IsSpoken (sent : List MemberMessage) (message : PlainMessage) : Type 0 where
-    pub truly : message.head.auth ≡ is_some node.key
+    pub truly : message.head.auth ≡ is_some node.ring
     pub spoken : (part : TicketPart) → direction_of message.head.cmd ≡ BetweenMembers → message.content ≡ Ticket part
         → part.ticket ≡ s.ticket
-        → (head : Head) × (now : ℕ) × (message.head ≡ stamped_head (is_some node.key) now head)
+        → (head : Head) × (now : ℕ) × (message.head ≡ stamped_head (is_some node.ring) now head)
         × Has sent (record { sender = s.place; head = head; part = part })
 
   pub spoken_more : (sent sent' : List MemberMessage) (message : PlainMessage) → SentMore sent sent' → IsSpoken sent message → IsSpoken sent' message

@@ -69,7 +69,7 @@ pub record IsLetIn (node : NodeConfig) (r : Result PlainMessage DropFault) (memb
 
 -- a reply says truly whether there is a key, and is no member's message
 abbrev pub IsReply : NodeConfig → PlainMessage → Type 0
-IsReply node message = (message.head.auth ≡ is_some node.key) × (direction_of message.head.cmd ≡ BetweenMembers → ⊥)
+IsReply node message = (message.head.auth ≡ is_some node.ring) × (direction_of message.head.cmd ≡ BetweenMembers → ⊥)
 
 abbrev pub AreReplies : NodeConfig → List PlainMessage → Type 0
 AreReplies node [] = Unit {0}
@@ -100,28 +100,28 @@ not_between : (d : Direction) → d ≡ ToClient → d ≡ BetweenMembers → �
 not_between d is e = cc
 
 module _ (node : NodeConfig) (now : ℕ) (tickets : List TicketState) (common : Common) (r : Result PlainMessage DropFault) where
-  from_messages : (messages : List PlainMessage) → AreReplies node (map (stamped node.key now) messages)
-      → Comes node r (answers node.key now messages)
+  from_messages : (messages : List PlainMessage) → AreReplies node (map (stamped node.ring now) messages)
+      → Comes node r (answers node.ring now messages)
   from_messages [] all = tt
   from_messages (message ∷ messages) all = all
 
   of_answer : (request : ℕ) (cmd : Option Cmd) (made : Option Reply) → IsToClient cmd
-      → AreReplies node (map (stamped node.key now) (answered node.me request cmd made))
+      → AreReplies node (map (stamped node.ring now) (answered node.me request cmd made))
   of_answer request None made client = tt
   of_answer request (Some cmd) None client = tt
   of_answer request (Some cmd) (Some made) client = ((refl, not_between (direction_of cmd) client), tt)
 
   of_parts : (request number : ℕ) (parts : List (List (List ℕ)))
-      → AreReplies node (map (stamped node.key now) (part_messages node.me request number parts))
+      → AreReplies node (map (stamped node.ring now) (part_messages node.me request number parts))
   of_parts request number [] = tt
   of_parts request number (part ∷ []) = ((refl, not_between (direction_of cmds.RLst) refl), tt)
   of_parts request number (part ∷ next ∷ parts) =
       ((refl, not_between (direction_of cmds.RLst) refl), of_parts request (number + 1) (next ∷ parts))
 
-  from_reply : (message : PlainMessage) → Comes node r (answers node.key now (replies_to node now tickets common message))
+  from_reply : (message : PlainMessage) → Comes node r (answers node.ring now (replies_to node now tickets common message))
   from_reply message = from_messages (replies_to node now tickets common message) (by_list (is_list message.head.cmd))
     where
-      by_list : (b : Bool) → AreReplies node (map (stamped node.key now)
+      by_list : (b : Bool) → AreReplies node (map (stamped node.ring now)
           (if b then part_messages node.me message.head.request 0 (cut_lines 0 (list_lines node now tickets))
           else answered node.me message.head.request (answer_of message.head.cmd)
           (reply_with (text_for node common message.head.cmd) message.head.cmd message.content)))
@@ -129,17 +129,17 @@ module _ (node : NodeConfig) (now : ℕ) (tickets : List TicketState) (common : 
       by_list false = of_answer message.head.request (answer_of message.head.cmd) _ (to_client message.head.cmd)
 
   from_ask : (place : Option ℕ) (request : Request) (message : PlainMessage)
-      → Comes node r (asks place request (answers node.key now (replies_to node now tickets common message)))
+      → Comes node r (asks place request (answers node.ring now (replies_to node now tickets common message)))
   from_ask None request message = from_reply message
   from_ask (Some place) request message = tt
 
   from_attend : (place : Option ℕ) (request : AttributeAsking) (message : PlainMessage)
-      → Comes node r (attends place request (answers node.key now (replies_to node now tickets common message)))
+      → Comes node r (attends place request (answers node.ring now (replies_to node now tickets common message)))
   from_attend None request message = from_reply message
   from_attend (Some place) request message = tt
 
   from_attended : (message : PlainMessage) (found : Option AttributeAsking)
-      → Comes node r (attended node found (answers node.key now (replies_to node now tickets common message)))
+      → Comes node r (attended node found (answers node.ring now (replies_to node now tickets common message)))
   from_attended message None = from_reply message
   from_attended message (Some request) = from_attend _ request message
 
@@ -506,15 +506,15 @@ module _ (s : Setup) (place : ℕ) (node : NodeConfig) (now : ℕ) (all : s.memb
   abbrev pub HearsGood : Result Arrival Failed → List ℕ → Type 0
   HearsGood (Ok (arrivals.Datagram from)) bytes =
       (member : ℕ) (head : Head) (part : TicketPart)
-      → IsLetIn node (verdict node.config node.key node.me now bytes) member place head part → Unstamped member head part
+      → IsLetIn node (verdict node.config node.ring node.me now bytes) member place head part → Unstamped member head part
   HearsGood answer bytes = Unit {0}
 
   pub reacts : (old : State) (view : View) (answer : Result Arrival Failed) (bytes : List ℕ) → IsPlacedAt s place view old.tickets
       → IsFew old.common → HearsGood answer bytes → IsTurnOf view (react node old now answer bytes)
   reacts old view (Ok (arrivals.Datagram from)) bytes at few good =
-      meets (turn_end (Ok (arrivals.Datagram from))) (verdict node.config node.key node.me now bytes) (record old { last_reading = now }) view from
+      meets (turn_end (Ok (arrivals.Datagram from))) (verdict node.config node.ring node.me now bytes) (record old { last_reading = now }) view from
       (action node now old.tickets old.common from bytes) at refl few
-      (comes node now old.tickets old.common (verdict node.config node.key node.me now bytes) from (verdict node.config node.key node.me now bytes) refl)
+      (comes node now old.tickets old.common (verdict node.config node.ring node.me now bytes) from (verdict node.config node.ring node.me now bytes) refl)
       good
   reacts old view (Ok (arrivals.Handler job status)) bytes at few good = ends_so (turn_end (Ok (arrivals.Handler job status))) job (service_of status) (record old { last_reading = now }) view at refl few
   reacts old view (Ok arrivals.Quiet) bytes at few good = nothing (turn_end (Ok arrivals.Quiet)) (record old { last_reading = now }) view at refl few

@@ -14,6 +14,7 @@ use Rattle.booth_world.specs.Premises.{HoldsAt}
 use Rattle.booth_world.specs.WorldExamples.{alone, one_holds, grant_it, lease, web}
 use Rattle.booth_world.proofs.AlongWorlds.{at_each, versions_first, reads_true, only_web, from_client, is_read_below}
 use Rattle.booth_world.proofs.WorldParts.{one_sound, has_form, exact_clocks}
+use Rattle.booth_world.proofs.Beginnings.{none_holds}
 
 one_form : HasForm one_holds
 one_form = has_form one_holds one_sound ((omega arith, omega arith, omega arith), ((omega arith, omega arith, omega arith), ((omega arith, omega arith, omega arith), ((omega arith, omega arith, omega arith), ((omega arith, omega arith, omega arith), tt)))))
@@ -39,10 +40,11 @@ one_hears = at_each one_holds _ (tt, (tt, (from_client grant_it _ refl refl _, (
 pub one_is_world : IsWorld one_holds
 one_is_world = record {
   form = one_form;
+  nothing_held = none_holds one_holds (λ m place. refl);
   one_configuration = at_each one_holds _ (refl, (tt, (tt, (tt, (tt, tt)))));
   true_clocks = one_clocks;
   records_return = one_reads;
-  versions_rise = versions_first one_holds refl;
+  versions_rise = versions_first one_holds (λ m. refl) refl;
   members_speak = one_hears;
   one_daemon = one_daemon;
 }

@@ -10,11 +10,12 @@ use Rattle.booth_ticket.specs.Automatic.{come_due, hear, hear_message, tick}
 use Rattle.booth_node.specs.Session.{AreSessions, Down}
 use Rattle.booth_node.specs.World.{HasForm, entries_of}
 use Rattle.booth_node.specs.Held.{Moment}
-use Rattle.booth_world.specs.Premises.{Premise, OneConfiguration, TrueClocks, RecordsReturn, VersionsRise, MembersSpeak, OneDaemon, Meets, IsWorldBut, TwoHold}
+use Rattle.booth_world.specs.Premises.{Premise, OneConfiguration, TrueClocks, RecordsReturn, VersionsRise, MembersSpeak, OneDaemon, Meets, IsWorldBut, TwoHold, NothingHeld}
 use Rattle.booth_world.specs.WorldExamples.{site_one, site_two, two_sites, web, lease}
-use Rattle.booth_world.specs.PremiseExamples.{with_foreign_records, with_forged_votes}
+use Rattle.booth_world.specs.PremiseExamples.{with_foreign_records, with_leases_at_first, with_forged_votes}
 use Rattle.booth_world.proofs.AlongWorlds.{◌&◌, at_each, versions_first, reads_true, only_web, is_read_below}
 use Rattle.booth_world.proofs.WorldParts.{two_sound, has_form, exact_clocks, asks_votes_fit, is_open_fits}
+use Rattle.booth_world.proofs.Beginnings.{none_holds}
 
 -- ---- records that were never kept
 
@@ -24,10 +25,11 @@ foreign_daemons (suc zero) below = (refl, tt)
 foreign_daemons (suc (suc m)) below = absurd (omega (arith, below))
 
 foreign_meets : (premise : Premise) → premise ≢ RecordsReturn → Meets with_foreign_records premise
+foreign_meets NothingHeld other = none_holds with_foreign_records (λ m place. refl)
 foreign_meets OneConfiguration other = at_each with_foreign_records _ (refl, (refl, tt))
 foreign_meets TrueClocks other = exact_clocks two_sites _ (sym (reads_true 60000 0 (omega arith)), (sym (reads_true 60000 0 (omega arith)), tt))
 foreign_meets RecordsReturn other = absurd (other refl)
-foreign_meets VersionsRise other = versions_first with_foreign_records refl
+foreign_meets VersionsRise other = versions_first with_foreign_records (λ m. refl) refl
 foreign_meets MembersSpeak other = at_each with_foreign_records _ (tt, (tt, tt))
 foreign_meets OneDaemon other = foreign_daemons
 
@@ -58,6 +60,49 @@ foreign_two = record {
   second_holds = (lease 1 6000, (omega arith, inl refl, is_read_below 60000 5999 6000 (omega arith) (omega arith)));
 }
 
+-- ---- leases with which sites begin
+
+first_clocks : Meets with_leases_at_first TrueClocks
+first_clocks =
+    let clocks = foreign_meets TrueClocks (λ e. cc) in
+    record { ticking = clocks.ticking; some = clocks.some; long = clocks.long; clocks = clocks.clocks; read = clocks.read }
+
+first_meets : (premise : Premise) → premise ≢ NothingHeld → Meets with_leases_at_first premise
+first_meets NothingHeld other = absurd (other refl)
+first_meets OneConfiguration other = at_each with_leases_at_first _ (refl, (refl, tt))
+first_meets TrueClocks other = first_clocks
+first_meets RecordsReturn other = at_each with_leases_at_first _ (only_web _ (inl refl), (only_web _ (inl refl), tt))
+first_meets VersionsRise other = versions_first with_leases_at_first (λ m. refl) refl
+first_meets MembersSpeak other = at_each with_leases_at_first _ (tt, (tt, tt))
+first_meets OneDaemon other = foreign_daemons
+
+pub first_but : IsWorldBut NothingHeld with_leases_at_first
+first_but = (has_form with_leases_at_first two_sound ((omega arith, omega arith, omega arith), ((omega arith, omega arith, omega arith), tt)), first_meets)
+
+abbrev first_moment : Moment with_leases_at_first
+first_moment = record {
+  before = with_leases_at_first.entries;
+  after = [];
+  time = 5999;
+  whole = refl;
+  since = omega arith;
+  until = tt;
+  within = omega arith;
+}
+
+pub first_two : TwoHold with_leases_at_first
+first_two = record {
+  place = 0;
+  ticket = web;
+  automatic = (refl, refl);
+  moment = first_moment;
+  first = 0;
+  second = 1;
+  two = λ e. cc;
+  first_holds = (lease 1 6000, (omega arith, inl refl, is_read_below 60000 5999 6000 (omega arith) (omega arith)));
+  second_holds = (lease 1 6000, (omega arith, inl refl, is_read_below 60000 5999 6000 (omega arith) (omega arith)));
+}
+
 -- ---- forged votes
 
 first_session : AreSessions Down (entries_of 0 with_forged_votes.entries)
@@ -74,6 +119,7 @@ forged_daemons (suc zero) below = second_session
 forged_daemons (suc (suc m)) below = absurd (omega (arith, below))
 
 forged_meets : (premise : Premise) → premise ≢ MembersSpeak → Meets with_forged_votes premise
+forged_meets NothingHeld other = none_holds with_forged_votes (λ m place. refl)
 forged_meets OneConfiguration other =
     at_each with_forged_votes _ (refl
     & refl
@@ -134,7 +180,7 @@ forged_meets RecordsReturn other =
     & tt
     & tt
     & tt)
-forged_meets VersionsRise other = versions_first with_forged_votes refl
+forged_meets VersionsRise other = versions_first with_forged_votes (λ m. refl) refl
 forged_meets MembersSpeak other = absurd (other refl)
 forged_meets OneDaemon other = forged_daemons
 

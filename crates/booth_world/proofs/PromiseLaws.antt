@@ -5,9 +5,8 @@ use Rattle.std.specs.Option.{ForSome}
 use Rattle.std.proofs.lemmas.Bool.Decides.{nat_tests}
 use native.Mathlib.Nat.{le_of_eq, le_refl}
 use native.Mathlib.Decide.{ℕ_discrete}
-use Rattle.booth_node.specs.Clock.{Cluster, promise_time}
 use Rattle.booth_world.specs.Facts.{Has, Round, Answer, Release, Facts}
-use Rattle.booth_world.specs.States.{Pledge, Promise, MemberState}
+use Rattle.booth_world.specs.States.{Pledge, Promise, MemberState, Cluster, promise_time}
 use Rattle.booth_world.specs.Rounds.{MayPromise, MayAddAnswer, round_left, new_promise, new_answer}
 use Rattle.booth_world.specs.Steps.{Promises, Answers, member_after}
 use Rattle.booth_world.proofs.Lists.{new_or_old, none_is, some_same}

@@ -15,8 +15,9 @@ use Rattle.booth_node.specs.Held.{Moment}
 use Rattle.booth_world.specs.Premises.{HoldsAt}
 use Rattle.booth_world.specs.WorldExamples.{site_one, site_two, arbitrator, three_members, at, sends, port_of, web, lease, grant_it, asks_votes, votes}
 use Rattle.booth_world.specs.VersionExamples.{granted_before, begins_to_keep, answers_at_once, promises_kept}
-use Rattle.booth_world.proofs.AlongWorlds.{◌&◌, at_each, reads_true, only_web, from_client, from_member, is_read_below}
+use Rattle.booth_world.proofs.AlongWorlds.{◌&◌, at_each, reads_true, only_web, from_client, from_member, is_read_below, never_second}
 use Rattle.booth_world.proofs.WorldParts.{three_sound, has_form, exact_clocks, asks_votes_fit, votes_fit, is_open_fits, asks_state_fits}
+use Rattle.booth_world.proofs.Beginnings.{none_holds}
 
 session_one : AreSessions Down (entries_of 0 promises_kept.entries)
 unfolding header word padded_to carry_out keep_once tell tell_each tell_one say_each say_to acquire_for follow_request release_for reply come_due hear hear_message tick
@@ -242,9 +243,9 @@ form =
 
 versions : AtEach promises_kept (λ before entry. StaysSecond promises_kept before entry entry.what)
 versions =
-    at_each promises_kept _ ((λ was. absurd was)
-    & (λ was. absurd was)
-    & (λ was. absurd was)
+    at_each promises_kept _ ((λ was. never_second was)
+    & (λ was. never_second was)
+    & (λ was. never_second was)
     & tt
     & tt
     & tt
@@ -283,6 +284,7 @@ versions =
 pub is_world : IsWorld promises_kept
 is_world = record {
   form = form;
+  nothing_held = none_holds promises_kept (λ m place. refl);
   one_configuration = configured;
   true_clocks = clocks;
   records_return = records;

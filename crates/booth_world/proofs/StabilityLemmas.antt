@@ -10,9 +10,8 @@ use Rattle.booth_wire.specs.declared.message.TicketPart.{TicketPart}
 use Rattle.booth_raft.specs.declared.view.Rule.{Rule}
 use Rattle.booth_raft.specs.declared.view.Rule.TheVariants as rules
 use Rattle.booth_raft.specs.declared.view.View.{View}
-use Rattle.booth_node.specs.Clock.{Cluster}
 use Rattle.booth_world.specs.Facts.{Has, Round, Answer, Release, Facts}
-use Rattle.booth_world.specs.States.{MemberState, WorldState}
+use Rattle.booth_world.specs.States.{MemberState, WorldState, Cluster}
 use Rattle.booth_world.specs.Steps.{MemberStep, WorldStep, Elects, Renews, Promises, Answers, Gains, TriesKeep, HasKept, Releases, Clears, Learns, Crashes, Starts, ReadsClock, MemberDoes, Passes, member_after, facts_after, happens, IsRun, AreSecond, after_steps, world_of}
 use Rattle.booth_world.specs.Agreement.{IsSeated, IsAsked, Agrees}
 use Rattle.booth_world.specs.Messages.{IsFact}

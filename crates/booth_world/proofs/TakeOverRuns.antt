@@ -15,6 +15,7 @@ use Rattle.booth_node.specs.Held.{Moment}
 use Rattle.booth_world.specs.Premises.{HoldsAt}
 use Rattle.booth_world.specs.WorldExamples.{site_one, site_two, arbitrator, three_members, at, sends, port_of, web, lease, grant_it, revoke_it, asks_votes, votes, tells_lease, is_cut_sending}
 use Rattle.booth_world.specs.TakeOverExample.{taken_over, it_is_granted, its_holder_crashes, another_takes_it_over}
+use Rattle.booth_world.proofs.Beginnings.{none_holds}
 use Rattle.booth_world.proofs.AlongWorlds.{◌&◌, at_each, versions_first, reads_true, only_web, from_client, from_member, is_read_below}
 use Rattle.booth_world.proofs.WorldParts.{three_sound, has_form, exact_clocks, asks_votes_fit, votes_fit, is_open_fits, tells_lease_fits, asks_state_fits}
 
@@ -326,6 +327,7 @@ messages =
 pub taken_over_is_world : IsWorld taken_over
 taken_over_is_world = record {
   form = form;
+  nothing_held = none_holds taken_over (λ m place. refl);
   one_configuration =
       at_each taken_over _ (refl
       & refl
@@ -368,7 +370,7 @@ taken_over_is_world = record {
       & tt);
   true_clocks = clocks;
   records_return = records;
-  versions_rise = versions_first taken_over refl;
+  versions_rise = versions_first taken_over (λ m. refl) refl;
   members_speak = messages;
   one_daemon = one_daemon;
 }

@@ -25,9 +25,8 @@ use Rattle.booth_raft.specs.Notes.{noted}
 use Rattle.booth_raft.proofs.KeptLemmas.{ask_good, finish_good, release_good, renew_good}
 use Rattle.booth_raft.proofs.DueLemmas.{due_now_good, greeted_facts, noted_facts}
 use Rattle.booth_raft.proofs.HeardLemmas.{hear_good}
-use Rattle.booth_node.specs.Clock.{Cluster}
 use Rattle.booth_world.specs.Facts.{Has, Release}
-use Rattle.booth_world.specs.States.{put}
+use Rattle.booth_world.specs.States.{put, Cluster}
 use Rattle.booth_world.specs.Gives.{Given, may_after, may_answered}
 use Rattle.booth_world.specs.Rules.{MemberMessage, CoreCall, Asks, Hears, Greets, MeetsDeadline, MakesNote, RenewsLease, GivesBack, lease_call}
 use Rattle.booth_world.specs.Cores.{CoreEntry, CallsCore, HasAnswer, CorePlace, Cores, Cast, MayCallAlone, MayCallCore, MayEnter, said_more, has_given, call_given, after_call, answer_given, after_answer, entered, AreEntered, cores_after}

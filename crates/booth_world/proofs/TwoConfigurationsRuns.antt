@@ -10,11 +10,12 @@ use Rattle.booth_ticket.specs.Automatic.{come_due, hear, hear_message, tick}
 use Rattle.booth_node.specs.Session.{AreSessions, Down}
 use Rattle.booth_node.specs.World.{HasForm, entries_of}
 use Rattle.booth_node.specs.Held.{Moment}
-use Rattle.booth_world.specs.Premises.{Premise, OneConfiguration, TrueClocks, RecordsReturn, VersionsRise, MembersSpeak, OneDaemon, Meets, IsWorldBut, TwoHold}
+use Rattle.booth_world.specs.Premises.{Premise, OneConfiguration, TrueClocks, RecordsReturn, VersionsRise, MembersSpeak, OneDaemon, Meets, IsWorldBut, TwoHold, NothingHeld}
 use Rattle.booth_world.specs.WorldExamples.{two_sites, web, lease, grant_it}
 use Rattle.booth_world.specs.PremiseExamples.{with_two_configurations}
 use Rattle.booth_world.proofs.AlongWorlds.{◌&◌, at_each, versions_first, reads_true, only_web, from_client, is_read_below}
 use Rattle.booth_world.proofs.WorldParts.{two_sound, has_form, exact_clocks}
+use Rattle.booth_world.proofs.Beginnings.{none_holds}
 
 first_session : AreSessions Down (entries_of 0 with_two_configurations.entries)
 unfolding header word padded_to carry_out keep_once tell tell_each tell_one say_each say_to acquire_for follow_request release_for reply come_due hear hear_message tick
@@ -75,6 +76,7 @@ messages =
     & tt)
 
 meets : (premise : Premise) → premise ≢ OneConfiguration → Meets with_two_configurations premise
+meets NothingHeld other = none_holds with_two_configurations (λ m place. refl)
 meets OneConfiguration other = absurd (other refl)
 meets TrueClocks other =
     exact_clocks two_sites _ (sym (reads_true 60000 0 (omega arith))
@@ -100,7 +102,7 @@ meets RecordsReturn other =
     & tt
     & tt
     & tt)
-meets VersionsRise other = versions_first with_two_configurations refl
+meets VersionsRise other = versions_first with_two_configurations (λ m. refl) refl
 meets MembersSpeak other = messages
 meets OneDaemon other = one_daemon
 

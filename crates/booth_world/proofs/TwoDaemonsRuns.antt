@@ -11,11 +11,12 @@ use Rattle.booth_ticket.specs.Automatic.{come_due, hear, hear_message, tick}
 use Rattle.booth_node.specs.Session.{AreSessions, Down}
 use Rattle.booth_node.specs.World.{HasForm, entries_of}
 use Rattle.booth_node.specs.Held.{Moment}
-use Rattle.booth_world.specs.Premises.{Premise, OneConfiguration, TrueClocks, RecordsReturn, VersionsRise, MembersSpeak, OneDaemon, Meets, IsWorldBut, TwoHold}
+use Rattle.booth_world.specs.Premises.{Premise, OneConfiguration, TrueClocks, RecordsReturn, VersionsRise, MembersSpeak, OneDaemon, Meets, IsWorldBut, TwoHold, NothingHeld}
 use Rattle.booth_world.specs.WorldExamples.{site_one, site_two, arbitrator, three_members, at, sends, port_of, web, lease, grant_it, asks_votes, votes}
 use Rattle.booth_world.specs.PremiseExamples.{with_two_daemons, daemon_starts, votes_for_one, votes_for_two, HasTwoDaemons}
 use Rattle.booth_world.proofs.AlongWorlds.{◌&◌, at_each, versions_first, reads_true, only_web, from_client, from_member, is_read_below}
 use Rattle.booth_world.proofs.WorldParts.{three_sound, has_form, exact_clocks, asks_votes_fit, votes_fit, is_open_fits, asks_state_fits}
+use Rattle.booth_world.proofs.Beginnings.{none_holds}
 
 first_session : AreSessions Down (entries_of 0 with_two_daemons.entries)
 unfolding header word padded_to carry_out keep_once tell tell_each tell_one say_each say_to acquire_for follow_request release_for reply come_due hear hear_message tick
@@ -121,6 +122,7 @@ messages =
     & tt)
 
 meets : (premise : Premise) → premise ≢ OneDaemon → Meets with_two_daemons premise
+meets NothingHeld other = none_holds with_two_daemons (λ m place. refl)
 meets OneConfiguration other =
     at_each with_two_daemons _ (refl
     & refl
@@ -217,7 +219,7 @@ meets RecordsReturn other =
     & tt
     & tt
     & tt)
-meets VersionsRise other = versions_first with_two_daemons refl
+meets VersionsRise other = versions_first with_two_daemons (λ m. refl) refl
 meets MembersSpeak other = messages
 meets OneDaemon other = absurd (other refl)
 

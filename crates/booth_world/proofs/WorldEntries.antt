@@ -18,14 +18,14 @@ use Rattle.booth_raft.specs.StartAndLearn.{started}
 use Rattle.booth_ticket.specs.Saying.{others}
 use Rattle.booth_ticket.specs.Ticket.{TicketState}
 use Rattle.booth_node.specs.declared.node_config.NodeConfig.{NodeConfig}
-use Rattle.booth_node.specs.Clock.{HasClocks, reads}
+use Rattle.booth_world.specs.States.{HasClocks, reads}
 use Rattle.booth_node.specs.Opening.{setup_of, started_from, start_reading, known_at_start, opened, opened_by}
 use Rattle.booth_host.specs.declared.host.Job.{Job}
 use Rattle.booth_node.specs.Reaction.{Ask, Send, Keep, Start, used, react}
 use Rattle.booth_node.specs.Records.{may_after_keep, may_after, record_at}
 use Rattle.booth_node.specs.Session.{CutCall, CutNext, CutNow, CutSend, CutKeep, CutStart, Starts, Makes, IsCut, Stand, Down, Doing, Hearing, MayMake, after_call, MayBeCut}
 use Rattle.booth_node.specs.State.{State}
-use Rattle.booth_node.specs.World.{World, members_of, node_at, clock_at, HasTrueClocks}
+use Rattle.booth_node.specs.World.{World, members_of, node_at, clock_at, HasTrueClocks, HoldsNothing, begins_with}
 use Rattle.booth_world.specs.Facts.{Has, Release}
 use Rattle.booth_world.specs.Turns.{Keeps, TurnTree, turn_tree}
 use Rattle.booth_world.specs.Hosts.{BeginsTurn, DoesAsk, Halts, Boots, HostPlace, Hosts, pending_in, pending, MayBegin, MayCome, begun, hosted, hosts_after}
@@ -38,6 +38,7 @@ use Rattle.booth_world.proofs.NodeTurns.{IsPlacedAt}
 use Rattle.booth_world.proofs.NodeArrivals.{IsTurnOf, HearsGood, reacts}
 use Rattle.booth_world.proofs.HostRuns.{of_both}
 use Rattle.booth_world.proofs.WorldSteps.{Trace, Frees, IsTrace, Setting, same_bytes, other_bytes, cluster, setup_at, cast, own_ticket, own_place_is, own_below, Doings, StandsAt, Shows, Steps, rests_so, then_says, moved_one, keeps_own, starts_own}
+use Rattle.booth_world.proofs.Beginnings.{begins_well}
 
 when_true : {A : Type 0} (b : Bool) (x y : A) → b ≡ true → (if b then x else y) ≡ x
 when_true true x y e = refl
@@ -129,8 +130,14 @@ revoked w place ticket setting m second below term term' same tree deeds says to
     (has_others (members_of w))
 
 module _ (w : World) (clocks : HasTrueClocks w) (place : ℕ) (ticket : TicketConf) (setting : Setting w place ticket) where
-  pub has_clocks : HasClocks (cluster w place ticket setting)
-  has_clocks = record { some = clocks.some; long = clocks.long; clocks = clocks.clocks }
+  pub has_clocks : ((m : ℕ) → HoldsNothing w m (clock_at w m 0) (begins_with w m place)) → HasClocks (cluster w place ticket setting)
+  has_clocks free = record {
+    ticking = clocks.ticking;
+    some = clocks.some;
+    long = clocks.long;
+    clocks = clocks.clocks;
+    begins = λ m. begins_well w place ticket setting m (clock_at w m 0) (begins_with w m place) (free m);
+  }
 
   abbrev pub read_by : ℕ → ℕ → ℕ
   read_by m time = reads (cluster w place ticket setting) m time

@@ -12,7 +12,6 @@ use Rattle.booth_conf.specs.Config.{has_id}
 use Rattle.booth_conf.specs.Lookups.{is_called}
 use Rattle.booth_conf.specs.declared.tickets.TicketConf.{TicketConf}
 use Rattle.booth_rec.specs.declared.record.Record.{Record}
-use Rattle.booth_rec.specs.Record.{no_record}
 use Rattle.booth_wire.specs.declared.command.Direction.TheVariants.{BetweenMembers}
 use Rattle.booth_wire.specs.declared.message.FrameFault.{FrameFault}
 use Rattle.booth_wire.specs.declared.message.Head.{Head}
@@ -33,7 +32,7 @@ use Rattle.booth_node.specs.Reaction.{Send, Keep, Start, used}
 use Rattle.booth_node.specs.Records.{Has as Holds, TicketPlace, may_after, may_after_all, record_at}
 use Rattle.booth_node.specs.Session.{CutSend, SessionEntry, Starts, Makes, IsCut, Stand, Down, Doing, Hearing, MayMake, MayDo, after_call, after_entry, AreSessions, after_entries}
 use Rattle.booth_node.specs.State.{State}
-use Rattle.booth_node.specs.World.{WorldEntry, World, members_of, id_at, node_at, entries_of, last_time, HasConfiguration, ReadsClock, ReadsKept, WasSecond, StaysSecond, IsSend, WasSent, HearsSent, stand_after, IsWorld}
+use Rattle.booth_node.specs.World.{WorldEntry, World, members_of, id_at, node_at, entries_of, last_time, HasConfiguration, ReadsClock, ReadsKept, WasSecond, StaysSecond, IsSend, WasSent, HearsSent, stand_after, IsWorld, begins_with}
 use Rattle.booth_world.specs.Facts.{Has, Release}
 use Rattle.booth_world.specs.Rules.{MemberMessage}
 use Rattle.booth_world.specs.Turns.{Keeps, TurnTree}
@@ -108,10 +107,10 @@ stand_own m before e is =
     ap (λ (xs : List SessionEntry). after_entries Down xs) (entries_join m before (e ∷ []) ∙ ap (λ (xs : List SessionEntry). entries_of m before ++ xs) (entry_own m e [] is))
     ∙ after_entries_join Down (entries_of m before) (e.what ∷ [])
 
-second_own : (m : ℕ) (before : List WorldEntry) (e : WorldEntry) → e.member ≡ m → is_second_at m (before ++ e ∷ []) ≡ second_after (is_second_at m before) e.what
-second_own m before e is =
-    ap (λ (xs : List SessionEntry). second_after_all false xs) (entries_join m before (e ∷ []) ∙ ap (λ (xs : List SessionEntry). entries_of m before ++ xs) (entry_own m e [] is))
-    ∙ second_join false (entries_of m before) (e.what ∷ [])
+second_own : (w : World) (m : ℕ) (before : List WorldEntry) (e : WorldEntry) → e.member ≡ m → is_second_at w m (before ++ e ∷ []) ≡ second_after (is_second_at w m before) e.what
+second_own w m before e is =
+    ap (λ (xs : List SessionEntry). second_after_all (w.begins m).second xs) (entries_join m before (e ∷ []) ∙ ap (λ (xs : List SessionEntry). entries_of m before ++ xs) (entry_own m e [] is))
+    ∙ second_join (w.begins m).second (entries_of m before) (e.what ∷ [])
 
 pub append_none : {A : Type 0} (xs : List A) → xs ++ [] ≡ xs
 append_none [] = refl
@@ -136,7 +135,7 @@ same_message r a b e f = cc
 
 module _ (w : World) (is_world : IsWorld w) (place : ℕ) (ticket : TicketConf) (setting : Setting w place ticket) where
   abbrev pub may_of : ℕ → List WorldEntry → List Record
-  may_of m before = may_after_all (own_ticket w place ticket setting) (no_record ∷ []) (entries_of m before)
+  may_of m before = may_after_all (own_ticket w place ticket setting) (begins_with w m place ∷ []) (entries_of m before)
 
   abbrev pub after_hosts : Hosts → List HostEntry → Hosts
   after_hosts hosts entries = hosts_after (cluster w place ticket setting) (cast w place ticket setting) hosts entries
@@ -150,7 +149,7 @@ module _ (w : World) (is_world : IsWorld w) (place : ℕ) (ticket : TicketConf) 
 
   -- The hosts stand where these entries of the world leave its members.
   pub record Shadows (before : List WorldEntry) (hosts : Hosts) : Type 0 where
-    pub each : (m : ℕ) → m < members_of w → Shows w place ticket setting m (is_second_at m before) (stand_after m before) (may_of m before) hosts.now (hosts.place m) hosts.sent
+    pub each : (m : ℕ) → m < members_of w → Shows w place ticket setting m (is_second_at w m before) (stand_after m before) (may_of m before) hosts.now (hosts.place m) hosts.sent
     pub said : (entry : WorldEntry) → Holds before entry → (bytes : List ℕ) → IsSend entry.what bytes → (message : PlainMessage)
         → decoded bytes ≡ Ok message → IsSaidBy hosts.sent entry.member message
     pub coming : (m : ℕ) → m < members_of w → (kept : Record) (go : Bool → TurnTree) → (hosts.place m).tree ≡ Some (Does (Keeps kept) go)
@@ -160,15 +159,15 @@ module _ (w : World) (is_world : IsWorld w) (place : ℕ) (ticket : TicketConf) 
 
   sealed_said : (m : ℕ) (second : Bool) → m < members_of w → (node : NodeConfig) (message' message : PlainMessage) (bytes : List ℕ) (known sent : List MemberMessage)
       → node ≡ node_at w m second → SentMore known sent → IsSpoken (node_at w m second) (setup_at w place ticket setting m second) known message'
-      → bytes ≡ sealed node.key message' → Fits message' → decoded bytes ≡ Ok message → IsSaidBy sent m message
+      → bytes ≡ sealed node.ring message' → Fits message' → decoded bytes ≡ Ok message → IsSaidBy sent m message
   sealed_said m second below node message' message bytes known sent node_is more spoken bytes_are fits read part between is named =
-      let truly : message'.head.auth ≡ is_some node.key = spoken.truly ∙ ap (λ (n : NodeConfig). is_some n.key) (sym node_is) in
+      let truly : message'.head.auth ≡ is_some node.ring = spoken.truly ∙ ap (λ (n : NodeConfig). is_some n.ring) (sym node_is) in
       let same : message' ≡ message =
-      same_message (decoded bytes) message' message (ap decoded bytes_are ∙ sealed_read node.key message' fits truly) read in
+      same_message (decoded bytes) message' message (ap decoded bytes_are ∙ sealed_read node.ring message' fits truly) read in
       let q = spoken.spoken part (ap (λ (l : PlainMessage). direction_of l.head.cmd) same ∙ between)
       (ap (λ (l : PlainMessage). l.content) same ∙ is) named in (
         q.0,
-        is_some w.key,
+        is_some w.ring,
         q.1,
         ap (λ (l : PlainMessage). l.head) (sym same) ∙ q.2,
         subst (λ (n : ℕ). Has sent (record { sender = n; head = q.0; part = part })) (own_place_is w place ticket setting m second below) (more _ q.3),
@@ -207,13 +206,13 @@ module _ (w : World) (is_world : IsWorld w) (place : ℕ) (ticket : TicketConf) 
       → ((entry : WorldEntry) → Holds before entry → entry.member < members_of w)
       → (sent : List MemberMessage) → sent ≡ hosts.sent
       → (member : ℕ) (head : Head) (part : TicketPart)
-      → IsLetIn (node_at w m second) (verdict w.config w.key (id_at w m) moment bytes) member place head part
+      → IsLetIn (node_at w m second) (verdict w.config w.ring (id_at w m) moment bytes) member place head part
       → (plain : Head) × (auth : Bool) × (time : ℕ) × (head ≡ stamped_head auth time plain)
       × Has sent (record { sender = member; head = plain; part = part }) × (plain.from ≡ id_at w member)
   hears_so m second before hosts node old from bytes reading moment shadow node_is used_so heard members sent same member head part x =
-      let let_in : verdict node.config node.key node.me (used old.last_reading reading) bytes ≡ Ok x.message =
-      ap (λ (n : NodeConfig). verdict n.config n.key n.me (used old.last_reading reading) bytes) node_is
-      ∙ ap (λ (t : ℕ). verdict w.config w.key (id_at w m) t bytes) used_so ∙ x.let_in in
+      let let_in : verdict node.config node.ring node.me (used old.last_reading reading) bytes ≡ Ok x.message =
+      ap (λ (n : NodeConfig). verdict n.config n.ring n.me (used old.last_reading reading) bytes) node_is
+      ∙ ap (λ (t : ℕ). verdict w.config w.ring (id_at w m) t bytes) used_so ∙ x.let_in in
       let was : WasSent w before x.message = heard x.message let_in x.between in
       let q = shadow.said was.entry was.earlier was.bytes was.sent x.message was.same part x.between x.content_is (named_so part x.about) in
       let at : position (has_id (id_at w was.entry.member)) w.config.members ≡ Some member =
@@ -260,13 +259,12 @@ module _ (w : World) (is_world : IsWorld w) (place : ℕ) (ticket : TicketConf) 
     reads_here second call r = tt
 
     -- a member that is in version 2 stays in it
-    stays_so : (second started : Bool) → (hosts.place e.member).second ≡ second → second ≡ is_second_at e.member before
-        → (WasSecond (entries_of e.member before) → started ≡ true) → (hosts.place e.member).second ≡ true → started ≡ true
+    stays_so : (second started : Bool) → (hosts.place e.member).second ≡ second → second ≡ is_second_at w e.member before
+        → (((w.begins e.member).second ≡ true) ⊎ WasSecond (entries_of e.member before) → started ≡ true) → (hosts.place e.member).second ≡ true → started ≡ true
     stays_so second started same is stays was =
-        ⊎_elim (λ (never : false ≡ true). absurd cc) stays
-        (was_second false (entries_of e.member before) (sym is ∙ (sym same ∙ was)))
+        stays (was_second (w.begins e.member).second (entries_of e.member before) (sym is ∙ (sym same ∙ was)))
 
-    steps_for : (second : Bool) (stand : Stand) (what : SessionEntry) → second ≡ is_second_at e.member before
+    steps_for : (second : Bool) (stand : Stand) (what : SessionEntry) → second ≡ is_second_at w e.member before
         → Shows w place ticket setting e.member second stand (may_of e.member before) e.time (hosts.place e.member) hosts.sent
         → MayDo stand what → HasConfiguration w e what → ReadsClock w e what → ReadsKept w before e what → StaysSecond w before e what
         → HearsSent w before stand what
@@ -371,9 +369,9 @@ module _ (w : World) (is_world : IsWorld w) (place : ℕ) (ticket : TicketConf) 
       sessions_at Down (entries_of e.member before) (entries_of e.member after) e.what
       (subst (λ (xs : List SessionEntry). AreSessions Down xs) mine (is_world.one_daemon e.member below)) in
       let passed_hosts : Hosts = record hosts { now = e.time } in
-      let shown = shows_more w place ticket setting e.member (is_second_at e.member before) (stand_after e.member before) (may_of e.member before) hosts.now e.time
+      let shown = shows_more w place ticket setting e.member (is_second_at w e.member before) (stand_after e.member before) (may_of e.member before) hosts.now e.time
       (hosts.place e.member) hosts.sent hosts.sent later (λ l h. h) (shadow.each e.member below) in
-      let steps = steps_for before e hosts shadow below within members (is_second_at e.member before) (stand_after e.member before) e.what refl shown may_do
+      let steps = steps_for before e hosts shadow below within members (is_second_at w e.member before) (stand_after e.member before) e.what refl shown may_do
       (is_world.one_configuration before after e whole) (is_world.true_clocks.read before after e whole)
       (is_world.records_return before after e whole) (is_world.versions_rise before after e whole) (is_world.members_speak before after e whole) in
       let last : Hosts = after_hosts passed_hosts steps.entries in
@@ -383,7 +381,7 @@ module _ (w : World) (is_world : IsWorld w) (place : ℕ) (ticket : TicketConf) 
         now_is = steps.own.same_now;
         shadow = record {
           each = λ m m_below. by_member m m_below (same_or_not e.member m) later last steps.own.same_now steps.own.others steps.own.still_sent
-              (subst (λ (n : ℕ). Shows w place ticket setting e.member (second_after (is_second_at e.member before) e.what) (after_entry (stand_after e.member before) e.what)
+              (subst (λ (n : ℕ). Shows w place ticket setting e.member (second_after (is_second_at w e.member before) e.what) (after_entry (stand_after e.member before) e.what)
               (may_after (own_ticket w place ticket setting) (may_of e.member before) e.what) n (last.place e.member) last.sent) (sym steps.own.same_now) steps.here);
           said = λ entry h bytes is message read. ⊎_elim
               (λ (old : Holds before entry). λ part between content named.
@@ -391,7 +389,7 @@ module _ (w : World) (is_world : IsWorld w) (place : ℕ) (ticket : TicketConf) 
               (q.0, q.1, q.2, q.3, steps.own.still_sent _ q.4))
               (λ (new : e ≡ entry). subst (λ (x : WorldEntry). IsSaidBy last.sent x.member message) new
               (λ part between content named.
-              let q = send_said e.member (is_second_at e.member before) below (stand_after e.member before) e.what (may_of e.member before) e.time (hosts.place e.member) hosts.sent
+              let q = send_said e.member (is_second_at w e.member before) below (stand_after e.member before) e.what (may_of e.member before) e.time (hosts.place e.member) hosts.sent
               shown may_do bytes (subst (λ (x : WorldEntry). IsSend x.what bytes) (sym new) is) message read part between content named in
               (q.0, q.1, q.2, q.3, steps.own.still_sent _ q.4)))
               (in_either before e entry h);
@@ -400,7 +398,7 @@ module _ (w : World) (is_world : IsWorld w) (place : ℕ) (ticket : TicketConf) 
               (subst (λ (s : Stand). IsNextAt ticket.name s kept)
               (sym (last_own before e))
               (coming_own (stand_after e.member before) (stands_last Down (entries_of e.member before)) e.what hosts.sent (hosts.place e.member) (last.place e.member) last.sent kept go
-              e.member (second_after (is_second_at e.member before) e.what) may_do (last_is (entries_of e.member before) Down Down (inr refl)) steps.here.stands steps.at_cut
+              e.member (second_after (is_second_at w e.member before) e.what) may_do (last_is (entries_of e.member before) Down Down (inr refl)) steps.here.stands steps.at_cut
               (λ is_old. shadow.coming e.member below kept go is_old)
               (subst (λ (k : ℕ). (last.place k).tree ≡ Some (Does (Keeps kept) go)) (sym own) is))))
               (λ (other : e.member ≢ m). subst (λ (xs : List SessionEntry). IsComing ticket.name xs kept) (sym (other_last m before e other))
@@ -414,23 +412,23 @@ module _ (w : World) (is_world : IsWorld w) (place : ℕ) (ticket : TicketConf) 
     where
       by_member : (m : ℕ) → m < members_of w → (e.member ≡ m) ⊎ (e.member ≢ m) → hosts.now ≤ e.time → (last : Hosts) → last.now ≡ e.time
           → ((k : ℕ) → k ≢ e.member → last.place k ≡ hosts.place k) → SentMore hosts.sent last.sent
-          → Shows w place ticket setting e.member (second_after (is_second_at e.member before) e.what) (after_entry (stand_after e.member before) e.what)
+          → Shows w place ticket setting e.member (second_after (is_second_at w e.member before) e.what) (after_entry (stand_after e.member before) e.what)
           (may_after (own_ticket w place ticket setting) (may_of e.member before) e.what) last.now (last.place e.member) last.sent
-          → Shows w place ticket setting m (is_second_at m (before ++ e ∷ [])) (stand_after m (before ++ e ∷ [])) (may_of m (before ++ e ∷ [])) last.now (last.place m) last.sent
+          → Shows w place ticket setting m (is_second_at w m (before ++ e ∷ [])) (stand_after m (before ++ e ∷ [])) (may_of m (before ++ e ∷ [])) last.now (last.place m) last.sent
       by_member m m_below (inl own) later last same_now others more here =
-          subst (λ (d : Stand). Shows w place ticket setting m (is_second_at m (before ++ e ∷ [])) d (may_of m (before ++ e ∷ [])) last.now (last.place m) last.sent) (sym (stand_own m before e own))
+          subst (λ (d : Stand). Shows w place ticket setting m (is_second_at w m (before ++ e ∷ [])) d (may_of m (before ++ e ∷ [])) last.now (last.place m) last.sent) (sym (stand_own m before e own))
           (subst (λ (b : Bool). Shows w place ticket setting m b (after_entry (stand_after m before) e.what) (may_of m (before ++ e ∷ [])) last.now (last.place m) last.sent)
-          (sym (second_own m before e own))
-          (subst (λ (rs : List Record). Shows w place ticket setting m (second_after (is_second_at m before) e.what) (after_entry (stand_after m before) e.what) rs last.now (last.place m) last.sent)
-          (sym (ap (λ (xs : List SessionEntry). may_after_all (own_ticket w place ticket setting) (no_record ∷ []) xs)
+          (sym (second_own w m before e own))
+          (subst (λ (rs : List Record). Shows w place ticket setting m (second_after (is_second_at w m before) e.what) (after_entry (stand_after m before) e.what) rs last.now (last.place m) last.sent)
+          (sym (ap (λ (xs : List SessionEntry). may_after_all (own_ticket w place ticket setting) (begins_with w m place ∷ []) xs)
           (entries_join m before (e ∷ []) ∙ ap (λ (xs : List SessionEntry). entries_of m before ++ xs) (entry_own m e [] own))
-          ∙ may_join (own_ticket w place ticket setting) (no_record ∷ []) (entries_of m before) (e.what ∷ [])))
-          (subst (λ (k : ℕ). Shows w place ticket setting k (second_after (is_second_at k before) e.what) (after_entry (stand_after k before) e.what)
+          ∙ may_join (own_ticket w place ticket setting) (begins_with w m place ∷ []) (entries_of m before) (e.what ∷ [])))
+          (subst (λ (k : ℕ). Shows w place ticket setting k (second_after (is_second_at w k before) e.what) (after_entry (stand_after k before) e.what)
           (may_after (own_ticket w place ticket setting) (may_of k before) e.what) last.now (last.place k) last.sent) own here)))
       by_member m m_below (inr other) later last same_now others more here =
-          subst (λ (xs : List SessionEntry). Shows w place ticket setting m (second_after_all false xs) (after_entries Down xs)
-          (may_after_all (own_ticket w place ticket setting) (no_record ∷ []) xs) last.now (last.place m) last.sent) (sym (other_last m before e other))
-          (subst (λ (p : HostPlace). Shows w place ticket setting m (is_second_at m before) (stand_after m before) (may_of m before) last.now p last.sent)
+          subst (λ (xs : List SessionEntry). Shows w place ticket setting m (second_after_all (w.begins m).second xs) (after_entries Down xs)
+          (may_after_all (own_ticket w place ticket setting) (begins_with w m place ∷ []) xs) last.now (last.place m) last.sent) (sym (other_last m before e other))
+          (subst (λ (p : HostPlace). Shows w place ticket setting m (is_second_at w m before) (stand_after m before) (may_of m before) last.now p last.sent)
           (sym (others m (λ same. other (sym same))))
-          (shows_more w place ticket setting m (is_second_at m before) (stand_after m before) (may_of m before) hosts.now last.now (hosts.place m) hosts.sent last.sent
+          (shows_more w place ticket setting m (is_second_at w m before) (stand_after m before) (may_of m before) hosts.now last.now (hosts.place m) hosts.sent last.sent
           (subst (λ (n : ℕ). hosts.now ≤ n) (sym same_now) later) more (shadow.each m m_below)))

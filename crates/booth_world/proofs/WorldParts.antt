@@ -91,6 +91,7 @@ pub exact_clocks : (members : List Member) (entries : List WorldEntry)
     → Along (λ before entry. ReadsClock (world_with members entries) entry entry.what) [] entries
     → HasTrueClocks (world_with members entries)
 exact_clocks members entries read = record {
+  ticking = omega arith;
   some = omega arith;
   long = λ m below. length-range_with_len 0 60000;
   clocks = λ m below. true_clock 60000 (omega arith);

@@ -7,18 +7,18 @@ use Rattle.booth_conf.specs.Config.{has_id}
 use Rattle.booth_conf.specs.declared.tickets.TicketConf.{TicketConf}
 use Rattle.booth_rec.specs.declared.record.Lease.{Lease}
 use Rattle.booth_rec.specs.declared.record.Record.{Record}
-use Rattle.booth_rec.specs.Record.{no_record, IsInForce}
+use Rattle.booth_rec.specs.Record.{IsInForce}
 use Rattle.booth_wire.specs.declared.message.Setup.{Setup}
 use Rattle.booth_host.specs.declared.entry.Entry.TheVariants as calls
 use Rattle.booth_node.specs.declared.node_config.NodeConfig.{NodeConfig}
 use Rattle.booth_node.specs.State.{State}
 use Rattle.booth_world.specs.Rules.{MemberMessage}
-use Rattle.booth_node.specs.Clock.{reads}
+use Rattle.booth_world.specs.States.{reads}
 use Rattle.booth_node.specs.Opening.{is_site_at}
 use Rattle.booth_node.specs.Reaction.{Ask, Send, Keep, Start}
 use Rattle.booth_node.specs.Records.{Has as Holds, may_after_keep, may_after, may_after_all, with_next}
 use Rattle.booth_node.specs.Session.{CutKeep, SessionEntry, Starts, Makes, IsCut, Stand, Down, Doing, Hearing, MayDo, after_entry, AreSessions}
-use Rattle.booth_node.specs.World.{WorldEntry, World, members_of, entries_of, last_time, stand_after, IsWorld, IsSecondStart, IsSecondWorld, cluster_of}
+use Rattle.booth_node.specs.World.{WorldEntry, World, members_of, entries_of, last_time, stand_after, IsWorld, IsSecondStart, IsSecondWorld, begins_with, id_at, clock_at}
 use Rattle.booth_node.specs.Held.{IsBefore, Moment, may_at, HoldsBy, Holds as HoldsIt}
 use Rattle.booth_world.specs.Facts.{Has, Release}
 use Rattle.booth_world.specs.Held.{AreApart, GivesBackLease}
@@ -36,6 +36,9 @@ use Rattle.booth_world.proofs.HostRuns.{hosted_join, after_join, released_join}
 use Rattle.booth_world.proofs.WorldSteps.{Trace, Frees, Reads, Begins, StartsIt, IsTrace, Setting, equal_bytes, cluster, setup_at, cast, own_ticket, own_place_is, Shows, shows_more}
 use Rattle.booth_world.proofs.WorldEntries.{has_clocks}
 use Rattle.booth_world.proofs.WorldHosts.{has_here, entries_join, sessions_at, stand_own, last_of, append_none, may_of, after_hosts, Shadows, Extends, one_step}
+use Rattle.booth_world.specs.Clusters.{cluster_of, kept_at}
+use Rattle.booth_world.specs.Agreement.{record_in}
+use Rattle.booth_world.proofs.Beginnings.{kept_back}
 
 pub append_both : {A : Type 0} (xs ys zs : List A) → (xs ++ ys) ++ zs ≡ xs ++ (ys ++ zs)
 append_both [] ys zs = refl
@@ -64,7 +67,7 @@ some_one before (e ∷ entries) P Q gives (inr later) =
 
 module _ (w : World) (is_world : IsWorld w) (place : ℕ) (ticket : TicketConf) (setting : Setting w place ticket) where
   abbrev pub Opening : Hosts
-  Opening = opening_hosts (cluster w place ticket setting)
+  Opening = opening_hosts (cluster w place ticket setting) (cast w place ticket setting)
 
   -- one of these entries, which follow on the others, left this trace
   abbrev pub IsLeftIn : List WorldEntry → List WorldEntry → Trace → Type 0
@@ -120,9 +123,14 @@ module _ (w : World) (is_world : IsWorld w) (place : ℕ) (ticket : TicketConf) 
       next_later (x ∷ es) now is all =
           subst (λ (n : ℕ). n ≤ x.time) (last_of 0 before e ∙ sym is) (is_world.form.in_order (before ++ e ∷ []) (es ++ after) x all)
 
+  begins_so : (m : ℕ) → record_in (id_at w) (kept_at w (begins_with w m place)) ∷ [] ≡ begins_with w m place ∷ []
+  begins_so m =
+      ap (λ (r : Record). r ∷ []) (kept_back w place ticket setting m (clock_at w m 0) (begins_with w m place)
+      (is_world.nothing_held m place ticket setting.there setting.automatic))
+
   opening_shadow : Shadows w is_world place ticket setting [] Opening
   opening_shadow = record {
-    each = λ m below. record { same_second = refl; same_may = refl; time = 0; past = omega arith; read = refl; stands = tt };
+    each = λ m below. record { same_second = refl; same_may = begins_so m; time = 0; past = omega arith; read = refl; stands = tt };
     said = λ entry h bytes is message read. absurd h;
     coming = λ m below kept go is. absurd (none_is (Does (Keeps kept) go) is);
   }
@@ -152,7 +160,7 @@ module _ (w : World) (is_world : IsWorld w) (place : ℕ) (ticket : TicketConf) 
         hosted_all = hosted_join (cluster w place ticket setting) (cast w place ticket setting) hosts x.entries (LetsPass time ∷ []) x.hosted_all ((on, within), tt);
         now_is = ap (λ (h : Hosts). h.now) joined;
         shadow = subst (λ (h : Hosts). Shadows w is_world place ticket setting before h) (sym joined) (record {
-          each = λ m below. shows_more w place ticket setting m (is_second_at m before) (stand_after m before) (may_of w is_world place ticket setting m before) last.now time (last.place m) last.sent last.sent
+          each = λ m below. shows_more w place ticket setting m (is_second_at w m before) (stand_after m before) (may_of w is_world place ticket setting m before) last.now time (last.place m) last.sent last.sent
               on (λ l h. h) (x.shadow.each m below);
           said = x.shadow.said;
           coming = x.shadow.coming;
@@ -275,7 +283,7 @@ module _ (w : World) (is_world : IsWorld w) (place : ℕ) (ticket : TicketConf) 
           in_pending (hosts.place m).tree (hosts.place m).may k
           (subst (λ (rs : List Record). Has rs k) (sym (shadow.each m below).same_may) (has_here (may_of w is_world place ticket setting m moment.before) k g))
       by_next (x ∷ xs) is g =
-          next_covers m (is_second_at m moment.before) (stand_after m moment.before) x xs (may_of w is_world place ticket setting m moment.before) hosts.now (hosts.place m) hosts.sent k
+          next_covers m (is_second_at w m moment.before) (stand_after m moment.before) x xs (may_of w is_world place ticket setting m moment.before) hosts.now (hosts.place m) hosts.sent k
           (shadow.each m below)
           (sessions_at Down (entries_of m moment.before) xs x
           (subst (λ (es : List SessionEntry). AreSessions Down es)
@@ -308,7 +316,7 @@ module _ (w : World) (is_world : IsWorld w) (place : ℕ) (ticket : TicketConf) 
       let r = reached moment in
       let hosts : Hosts = after_hosts w is_world place ticket setting Opening r.entries in
       hosts_hold_one (cluster w place ticket setting) (cast w place ticket setting) r.entries
-      (record { clocks = has_clocks w is_world.true_clocks place ticket setting; is_cast = is_cast; hosted_early = r.hosted_all; hosted_late = tt })
+      (record { clocks = has_clocks w is_world.true_clocks place ticket setting (λ m. is_world.nothing_held m place ticket setting.there setting.automatic); is_cast = is_cast; hosted_early = r.hosted_all; hosted_late = tt })
       s t (by_s.0, holds_so moment s hosts r.now_is r.shadow by_s.0 by_s.1) (by_t.0, holds_so moment t hosts r.now_is r.shadow by_t.0 by_t.1)
 
   gave_back : (s : ℕ) (kept : Record) (z : Release) (earlier : List WorldEntry) (entry : WorldEntry)
@@ -329,7 +337,7 @@ module _ (w : World) (is_world : IsWorld w) (place : ℕ) (ticket : TicketConf) 
 
   pub are_apart : (early late : Moment w) (between : List WorldEntry) → IsLater w early late between → (s t : ℕ) → s ≢ t → (kept : Record)
       → HoldsBy w place ticket s early kept → HoldsIt w place ticket t late
-      → AreApart (cluster_of w ticket.times) early.time late.time ⊎ ReleasedIn w ticket s kept early.before between
+      → AreApart (cluster_of w place ticket) early.time late.time ⊎ ReleasedIn w ticket s kept early.before between
   are_apart early late between later s t ne kept by_s by_t =
       let r = reached early in
       let hosts : Hosts = after_hosts w is_world place ticket setting Opening r.entries in
@@ -341,7 +349,7 @@ module _ (w : World) (is_world : IsWorld w) (place : ℕ) (ticket : TicketConf) 
       (subst (λ (n : ℕ). AreApart (cluster w place ticket setting) n last.now) r.now_is apart)))
       (λ x. inr (some_so early.before between _ _ (λ earlier entry rel. gave_back s kept x.0 earlier entry rel x.2) (q.released x.0 x.1)))
       (hosts_are_apart (cluster w place ticket setting) (cast w place ticket setting) r.entries q.entries
-      (record { clocks = has_clocks w is_world.true_clocks place ticket setting; is_cast = is_cast; hosted_early = r.hosted_all; hosted_late = q.hosted_all })
+      (record { clocks = has_clocks w is_world.true_clocks place ticket setting (λ m. is_world.nothing_held m place ticket setting.there setting.automatic); is_cast = is_cast; hosted_early = r.hosted_all; hosted_late = q.hosted_all })
       s t ne kept (holds_so early s hosts r.now_is r.shadow kept by_s) (by_t.0, holds_so late t last q.now_is q.shadow by_t.0 by_t.1))
 
   -- ---- version 2 alone
@@ -371,7 +379,7 @@ module _ (w : World) (is_world : IsWorld w) (place : ℕ) (ticket : TicketConf) 
       let whole : w.entries ≡ early.before ++ (between ++ late.after) =
       late.whole ∙ ap (λ (es : List WorldEntry). es ++ late.after) later.entries ∙ append_both early.before between late.after in
       later_host (cluster w place ticket setting) (cast w place ticket setting) r.entries q.entries
-      (record { clocks = has_clocks w is_world.true_clocks place ticket setting; is_cast = is_cast; hosted_early = r.hosted_all; hosted_late = q.hosted_all })
+      (record { clocks = has_clocks w is_world.true_clocks place ticket setting (λ m. is_world.nothing_held m place ticket setting.there setting.automatic); is_cast = is_cast; hosted_early = r.hosted_all; hosted_late = q.hosted_all })
       (all_boots_second r.entries (λ v h. left_second all [] early.before early.after early.whole v (r.started v h)))
       (all_boots_second q.entries (λ v h. left_second all early.before between late.after whole v (q.started v h)))
       s t ne kept other first second is_first is_second
@@ -438,12 +446,12 @@ module _ (w : World) (is_world : IsWorld w) (place : ℕ) (ticket : TicketConf) 
       by_tree (Some (Ends view)) is g = of_may k g
       by_tree (Some (Does (Keeps kept) go)) is (inr g) = of_may k g
       by_tree (Some (Does (Keeps kept) go)) is (inl e) =
-          let some = some_after_all (no_record ∷ []) (entries_of s early.before) (no_record, inl refl) in
+          let some = some_after_all (begins_with w s place ∷ []) (entries_of s early.before) (begins_with w s place, inl refl) in
           let there : Has (hosts.place s).may some.0 =
           subst (λ (rs : List Record). Has rs some.0) (sym ((reached early).shadow.each s below).same_may) some.1 in
           let low = of_may some.0 there in
           let high = next_is_highest (cluster w place ticket setting) (cast w place ticket setting) (reached early).entries
-          (record { clocks = has_clocks w is_world.true_clocks place ticket setting; is_cast = is_cast; hosted_early = (reached early).hosted_all; hosted_late = tt })
+          (record { clocks = has_clocks w is_world.true_clocks place ticket setting (λ m. is_world.nothing_held m place ticket setting.there setting.automatic); is_cast = is_cast; hosted_early = (reached early).hosted_all; hosted_late = tt })
           s below kept go is some.0 (in_pending (hosts.place s).tree (hosts.place s).may some.0 there) in
           let same : kept.term ≡ k.term = ap (λ (r : Record). r.term) e in
           omega (arith, low, high, same)
@@ -458,5 +466,5 @@ module _ (w : World) (is_world : IsWorld w) (place : ℕ) (ticket : TicketConf) 
       let q = reached_later early late between hosts later r.now_is r.shadow in
       let last : Hosts = after_hosts w is_world place ticket setting hosts q.entries in
       host_terms (cluster w place ticket setting) (cast w place ticket setting) r.entries q.entries
-      (record { clocks = has_clocks w is_world.true_clocks place ticket setting; is_cast = is_cast; hosted_early = r.hosted_all; hosted_late = q.hosted_all })
+      (record { clocks = has_clocks w is_world.true_clocks place ticket setting (λ m. is_world.nothing_held m place ticket setting.there setting.automatic); is_cast = is_cast; hosted_early = r.hosted_all; hosted_late = q.hosted_all })
       s term below (at_host early s term below least) k (covers late s below last q.shadow k h)

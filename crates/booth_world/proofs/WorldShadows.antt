@@ -141,13 +141,13 @@ worlds_have_shadows w is_world place ticket automatic moment =
     let c = cluster w place ticket setting in
     let k = cast w place ticket setting in
     let r = reached w is_world place ticket setting moment in
-    let hosts = after_hosts w is_world place ticket setting (opening_hosts c) r.entries in
-    let clocks = has_clocks w is_world.true_clocks place ticket setting in
+    let hosts = after_hosts w is_world place ticket setting (opening_hosts c k) r.entries in
+    let clocks = has_clocks w is_world.true_clocks place ticket setting (λ m. is_world.nothing_held m place ticket setting.there setting.automatic) in
     let seated = is_cast w is_world place ticket setting in
-    let f = follow_all c k clocks seated (opening_hosts c) (opening_cores c) r.entries (opens_hosts c k clocks seated) r.hosted_all in
-    let cores = cores_after c k (opening_cores c) f.0 in
+    let f = follow_all c k clocks seated (opening_hosts c k) (opening_cores c k) r.entries (opens_hosts c k clocks seated) r.hosted_all in
+    let cores = cores_after c k (opening_cores c k) f.0 in
     let runs = runs_of c k f.0 [] (record { clocks = clocks; is_cast = seated; enters_early = f.1; enters_late = tt }) in
-    let are = all_read c k (ReadsIn r.entries) (opening_cores c) f.0 (opening_read c k (ReadsIn r.entries)) f.4 in
+    let are = all_read c k (ReadsIn r.entries) (opening_cores c k) f.0 (opening_read c k (ReadsIn r.entries)) f.4 in
     record {
       steps = runs.first;
       run = runs.run_first;
@@ -165,10 +165,10 @@ worlds_have_shadows w is_world place ticket automatic moment =
           (has_here (records_of w (world_of c runs.first) m) kept h)));
       knows = λ m below resting rests.
           knows_at w is_world place ticket setting moment hosts r.shadow cores (world_of c runs.first) f.2 runs.early_holds m below
-          (is_second_at m moment.before) (r.shadow.each m below).same_second (stand_after m moment.before) (r.shadow.each m below).stands resting rests;
+          (is_second_at w m moment.before) (r.shadow.each m below).same_second (stand_after m moment.before) (r.shadow.each m below).stands resting rests;
       releases = λ release h.
           ⊎_elim (λ (none : ⊥). absurd none) (λ in_entries. r.released release (f.3 release in_entries))
-          (all_released c k clocks seated (opening_cores c) f.0 [] release tt (opens c k clocks seated) f.1
+          (all_released c k clocks seated (opening_cores c k) f.0 [] release tt (opens c k clocks seated) f.1
           (subst (λ (rs : List Release). Has rs release) runs.early_holds.same_releases h));
       rounds = λ round h.
           let q = runs.early_holds.marked.rounds round h in

@@ -9,15 +9,14 @@ use Rattle.booth_wire.specs.declared.message.Setup.{Setup}
 use Rattle.booth_raft.specs.declared.view.View.{View}
 use Rattle.booth_raft.specs.Sound.{IsSound}
 use Rattle.booth_node.specs.declared.node_config.NodeConfig.{NodeConfig}
-use Rattle.booth_node.specs.Clock.{Cluster, reads}
 use Rattle.booth_node.specs.Opening.{setup_of}
 use Rattle.booth_node.specs.Reaction.{Ask, Send, Keep, Start}
 use Rattle.booth_node.specs.Records.{TicketPlace, may_after_keep}
 use Rattle.booth_node.specs.Session.{SessionEntry, Starts, Stand, Down, Doing, Hearing}
 use Rattle.booth_node.specs.State.{State}
-use Rattle.booth_node.specs.World.{World, members_of, id_at, node_at, clock_at, cluster_of, ticket_at}
+use Rattle.booth_node.specs.World.{World, members_of, id_at, node_at, clock_at, ticket_at}
 use Rattle.booth_world.specs.Facts.{Release}
-use Rattle.booth_world.specs.States.{put}
+use Rattle.booth_world.specs.States.{put, Cluster, reads}
 use Rattle.booth_world.specs.Rules.{MemberMessage}
 use Rattle.booth_world.specs.Cores.{Cast}
 use Rattle.booth_world.specs.Turns.{Keeps, Sends, AsksElse, TurnTree}
@@ -33,6 +32,7 @@ use Rattle.booth_world.proofs.NodeTrees.{IsFew}
 use Rattle.booth_world.proofs.NodeTurns.{IsPlacedAt, Over}
 use Rattle.booth_world.proofs.HostRuns.{IsOf, of_none, of_both, says, AreSaid, all_said, at_ask}
 use Rattle.std.proofs.lemmas.Slice.Eq.{bytes_eq-Decides}
+use Rattle.booth_world.specs.Clusters.{cluster_of}
 
 -- ---- what entries leave behind
 
@@ -82,7 +82,7 @@ other_bytes a b ne = by_test (bytes_eq a b) refl
 
 module _ (w : World) (place : ℕ) (ticket : TicketConf) (setting : Setting w place ticket) where
   abbrev pub cluster : Cluster
-  cluster = cluster_of w ticket.times
+  cluster = cluster_of w place ticket
 
   abbrev pub setup_at : ℕ → Bool → Setup
   setup_at m second = setup_of (node_at w m second) place ticket

@@ -10,12 +10,11 @@ use Rattle.booth_raft.specs.declared.view.Rule.{Rule}
 use Rattle.booth_raft.specs.declared.view.Rule.TheVariants as rules
 use Rattle.booth_raft.specs.declared.view.View.{View}
 use Rattle.booth_raft.specs.Members.{is_candidate, is_leader}
-use Rattle.booth_node.specs.Clock.{Cluster, promise_time}
 use Rattle.booth_world.specs.Facts.{Has, Round, Answer, Facts}
 use Rattle.booth_world.specs.Rounds.{new_promise}
 use Rattle.booth_world.specs.Leases.{pledge_of}
 use Rattle.booth_world.specs.Messages.{ReleaseSaid}
-use Rattle.booth_world.specs.States.{Pledge, KeptRecord, Promise, IsWithin, MemberState}
+use Rattle.booth_world.specs.States.{Pledge, KeptRecord, Promise, IsWithin, MemberState, Cluster, promise_time}
 
 -- ---- the names of members
 

@@ -9,9 +9,8 @@ use Rattle.booth_raft.specs.Facts.{ViewFacts}
 use Rattle.booth_raft.specs.Members.{is_leader}
 use Rattle.booth_raft.specs.RoundsAndAnswers.{MayAnswer}
 use Rattle.booth_raft.specs.Sound.{IsSound}
-use Rattle.booth_node.specs.Clock.{Cluster, HasClocks}
 use Rattle.booth_world.specs.Facts.{Has, Facts}
-use Rattle.booth_world.specs.States.{MemberState, WorldState, opening}
+use Rattle.booth_world.specs.States.{MemberState, WorldState, opening, Cluster, HasClocks}
 use Rattle.booth_world.specs.Rounds.{MayPromise}
 use Rattle.booth_world.specs.Steps.{MemberStep, WorldStep, IsRun, after_steps, world_of}
 use Rattle.booth_world.specs.MemberRuns.{IsMemberRun, member_after_all, facts_after_all, world_steps}

@@ -5,7 +5,7 @@ use Rattle.booth_rec.specs.declared.record.Record.{Record}
 use Rattle.booth_rec.specs.Record.{IsInForce}
 use Rattle.booth_raft.specs.declared.view.Rule.{Rule}
 use Rattle.booth_raft.specs.declared.view.Rule.TheVariants as rules
-use Rattle.booth_node.specs.Clock.{Cluster, HasClocks, reads}
+use Rattle.booth_world.specs.States.{Cluster, HasClocks, reads}
 use Rattle.booth_world.specs.Facts.{Has, Release}
 use Rattle.booth_world.specs.Held.{AreApart, GivesBackLease}
 use Rattle.booth_world.specs.Cores.{CoreEntry, HasAnswer, StartsWith, Cores, opening_cores, Cast, IsCast, entered, AreEntered, cores_after}
@@ -48,11 +48,11 @@ CoreHolds c cores s = (k : Record) × CoreHoldsBy c cores s k
 pub record CoreCourse (c : Cluster) (cast : Cast) (early late : List CoreEntry) : Type 0 where
   pub clocks : HasClocks c
   pub is_cast : IsCast c cast
-  pub enters_early : AreEntered c cast (opening_cores c) early
-  pub enters_late : AreEntered c cast (cores_after c cast (opening_cores c) early) late
+  pub enters_early : AreEntered c cast (opening_cores c cast) early
+  pub enters_late : AreEntered c cast (cores_after c cast (opening_cores c cast) early) late
 
 abbrev pub early_cores : Cluster → Cast → List CoreEntry → Cores
-early_cores c cast early = cores_after c cast (opening_cores c) early
+early_cores c cast early = cores_after c cast (opening_cores c cast) early
 
 abbrev pub late_cores : Cluster → Cast → List CoreEntry → List CoreEntry → Cores
 late_cores c cast early late = cores_after c cast (early_cores c cast early) late

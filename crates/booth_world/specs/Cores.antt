@@ -1,10 +1,9 @@
 -- Entries of the lease cores of one ticket, at all members, and where they leave each: the records
 -- that may be kept, what was said and what was released are counted from the entries alone.
-use Rattle.std.specs.Prelude.{◌≡◌, ℕ, ◌<◌, ◌≤◌, List, [], ◌∷◌, Bool, true, false, Option, Some, None, IsTrue, IsSomeAnd}
+use Rattle.std.specs.Prelude.{◌≡◌, ℕ, ◌<◌, ◌≤◌, List, [], ◌∷◌, Bool, true, Option, Some, None, IsTrue, IsSomeAnd}
 use Rattle.std.specs.Option.{ForSome}
 use Rattle.booth_base.specs.declared.address.MemberId.{MemberId}
 use Rattle.booth_rec.specs.declared.record.Record.{Record}
-use Rattle.booth_rec.specs.Record.{no_record}
 use Rattle.booth_wire.specs.declared.message.Say.{Say}
 use Rattle.booth_wire.specs.declared.message.Say.TheVariants as says
 use Rattle.booth_wire.specs.declared.message.Setup.{Setup}
@@ -12,10 +11,9 @@ use Rattle.booth_raft.specs.declared.view.View.{View}
 use Rattle.booth_raft.specs.Members.{is_leader}
 use Rattle.booth_raft.specs.Notes.{MayNote}
 use Rattle.booth_raft.specs.Sound.{IsSound}
-use Rattle.booth_node.specs.Clock.{Cluster, reads}
 use Rattle.booth_world.specs.Facts.{Has, Release}
-use Rattle.booth_world.specs.States.{put}
-use Rattle.booth_world.specs.Agreement.{AreIds, IsSeated}
+use Rattle.booth_world.specs.States.{put, Cluster, reads}
+use Rattle.booth_world.specs.Agreement.{AreIds, IsSeated, record_in}
 use Rattle.booth_world.specs.Rules.{MemberMessage, CoreCall, Asks, Hears, MakesNote, RenewsLease, GivesBack, lease_rules}
 use Rattle.booth_world.specs.Gives.{Mark, Given, given_by, may_answered, releases_answered}
 
@@ -50,16 +48,6 @@ pub record Cores : Type 0 where
   pub releases : List Release
   pub marks : List Mark
 
--- nobody has started, and nothing is kept; a first start may be of either version
-abbrev pub opening_cores : Cluster → Cores
-opening_cores c = record {
-  now = 0;
-  place = λ m. record { view = None; second = false; reading = reads c m 0; at = 0; may = no_record ∷ [] };
-  said = [];
-  releases = [];
-  marks = [];
-}
-
 -- Who stands at the places: their ids, and their setups, each for a session of version 2 and for one of version 1.
 pub record Cast : Type 0 where
   pub id_of : ℕ → MemberId
@@ -69,6 +57,22 @@ pub record IsCast (c : Cluster) (cast : Cast) : Type 0 where
   pub ids : AreIds c.members cast.id_of
   pub seated : (m : ℕ) → m < c.members → (second : Bool) → IsSeated c cast.id_of m second (cast.setup m second)
   pub sound : (m : ℕ) → m < c.members → (second : Bool) → IsSound (cast.setup m second)
+
+-- Nobody has started: each has what it begins with.
+abbrev pub opening_cores : Cluster → Cast → Cores
+opening_cores c cast = record {
+  now = 0;
+  place = λ m. record {
+    view = None;
+    second = (c.begins m).second;
+    reading = reads c m 0;
+    at = 0;
+    may = record_in cast.id_of (c.begins m).kept ∷ [];
+  };
+  said = [];
+  releases = [];
+  marks = [];
+}
 
 -- ---- what may come next
 

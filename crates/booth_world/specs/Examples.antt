@@ -5,10 +5,9 @@ use Rattle.booth_base.specs.declared.name.Name.{Name}
 use Rattle.booth_rec.specs.Record.{no_record}
 use Rattle.booth_wire.specs.declared.message.Setup.{Setup}
 use Rattle.booth_raft.specs.StartAndLearn.{started}
-use Rattle.booth_node.specs.Clock.{Cluster}
 use Rattle.booth_world.specs.Calls.{Caller}
 use Rattle.booth_world.specs.Facts.{Round, Release}
-use Rattle.booth_world.specs.States.{KeptRecord, none_kept}
+use Rattle.booth_world.specs.States.{KeptRecord, none_kept, Cluster, begins_bare}
 use Rattle.booth_world.specs.Steps.{WorldStep, Elects, Renews, Promises, Answers, Gains, TriesKeep, HasKept, Releases, Clears, Learns, Crashes, Starts, ReadsClock, MemberDoes, Passes}
 
 -- ---- three members, whose clocks differ by all that the drift allows over so short a time
@@ -33,8 +32,10 @@ three = record {
   members = 3;
   is_site = λ m. nat_lt m 2;
   times = record { expire = 2; after = 1; timeout = 1; retries = 1; renewal = 1 };
+  ticks = 1;
   span = 8;
   clock = clock_of;
+  begins = λ m. begins_bare;
 }
 
 -- ---- what they do

@@ -9,9 +9,8 @@ use Rattle.booth_raft.specs.declared.view.Rule.TheVariants as rules
 use Rattle.booth_raft.specs.declared.view.View.{View}
 use Rattle.booth_raft.specs.declared.view.Waiting.{Waiting}
 use Rattle.booth_raft.specs.Outcome.{Outcome}
-use Rattle.booth_node.specs.Clock.{Cluster}
 use Rattle.booth_world.specs.Facts.{Has, Round, Answer, Gain, Release, Facts}
-use Rattle.booth_world.specs.States.{MemberState}
+use Rattle.booth_world.specs.States.{MemberState, Cluster}
 use Rattle.booth_world.specs.Steps.{MemberStep}
 use Rattle.booth_world.specs.MemberRuns.{IsMemberRun, member_after_all, facts_after_all, AreStartsOf}
 use Rattle.booth_world.specs.Agreement.{records_in, Agrees}

@@ -5,7 +5,7 @@ use Rattle.booth_rec.specs.declared.record.Lease.{Lease}
 use Rattle.booth_rec.specs.declared.record.Record.{Record}
 use Rattle.booth_rec.specs.Record.{IsInForce}
 use Rattle.booth_wire.specs.declared.command.Cmd.TheVariants.{Revk}
-use Rattle.booth_node.specs.Clock.{Cluster, HasClocks, reads}
+use Rattle.booth_world.specs.States.{Cluster, HasClocks, reads}
 use Rattle.booth_world.specs.Facts.{Has, Release}
 use Rattle.booth_world.specs.Held.{AreApart, GivesBackLease}
 use Rattle.booth_world.specs.Cores.{Cast, IsCast}
@@ -61,11 +61,11 @@ HostHolds c hosts s = (k : Record) × HostHoldsBy c hosts s k
 pub record HostCourse (c : Cluster) (cast : Cast) (early late : List HostEntry) : Type 0 where
   pub clocks : HasClocks c
   pub is_cast : IsCast c cast
-  pub hosted_early : AreHosted c cast (opening_hosts c) early
-  pub hosted_late : AreHosted c cast (hosts_after c cast (opening_hosts c) early) late
+  pub hosted_early : AreHosted c cast (opening_hosts c cast) early
+  pub hosted_late : AreHosted c cast (hosts_after c cast (opening_hosts c cast) early) late
 
 abbrev pub early_hosts : Cluster → Cast → List HostEntry → Hosts
-early_hosts c cast early = hosts_after c cast (opening_hosts c) early
+early_hosts c cast early = hosts_after c cast (opening_hosts c cast) early
 
 abbrev pub late_hosts : Cluster → Cast → List HostEntry → List HostEntry → Hosts
 late_hosts c cast early late = hosts_after c cast (early_hosts c cast early) late

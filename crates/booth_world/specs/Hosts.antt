@@ -4,12 +4,11 @@ use Rattle.std.specs.Prelude.{◌≡◌, ℕ, ◌<◌, ◌≤◌, List, [], ◌�
 use Rattle.std.specs.Option.{ForSome}
 use Rattle.booth_base.specs.Tree.{Ends, Does}
 use Rattle.booth_rec.specs.declared.record.Record.{Record}
-use Rattle.booth_rec.specs.Record.{no_record}
 use Rattle.booth_wire.specs.declared.message.Setup.{Setup}
 use Rattle.booth_raft.specs.declared.view.View.{View}
-use Rattle.booth_node.specs.Clock.{Cluster, reads}
 use Rattle.booth_world.specs.Facts.{Has}
-use Rattle.booth_world.specs.States.{put}
+use Rattle.booth_world.specs.States.{put, Cluster, reads}
+use Rattle.booth_world.specs.Agreement.{record_in}
 use Rattle.booth_world.specs.Rules.{MemberMessage, lease_rules}
 use Rattle.booth_world.specs.Cores.{Cast}
 use Rattle.booth_world.specs.Turns.{TicketAsk, Keeps, Sends, TurnTree, Plan, turn_tree, MayTurn}
@@ -41,11 +40,16 @@ pub record Hosts : Type 0 where
   pub place : ℕ → HostPlace
   pub sent : List MemberMessage
 
--- nobody has started, and nothing is kept
-abbrev pub opening_hosts : Cluster → Hosts
-opening_hosts c = record {
+-- nobody has started: each has what it begins with
+abbrev pub opening_hosts : Cluster → Cast → Hosts
+opening_hosts c cast = record {
   now = 0;
-  place = λ m. record { tree = None; second = false; reading = reads c m 0; may = no_record ∷ [] };
+  place = λ m. record {
+    tree = None;
+    second = (c.begins m).second;
+    reading = reads c m 0;
+    may = record_in cast.id_of (c.begins m).kept ∷ [];
+  };
   sent = [];
 }
 

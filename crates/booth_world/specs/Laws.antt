@@ -1,8 +1,7 @@
 -- The laws of a ticket's world, over every list of steps from the opening state.
 use Rattle.std.specs.Prelude.{◌≡◌, ◌≢◌, ◌⊎◌, ◌++◌, ℕ, ◌<◌, Some, List}
 use Rattle.booth_rec.specs.declared.record.Lease.{Lease}
-use Rattle.booth_node.specs.Clock.{Cluster, HasClocks}
-use Rattle.booth_world.specs.States.{KeptRecord, opening}
+use Rattle.booth_world.specs.States.{KeptRecord, opening, Cluster, HasClocks}
 use Rattle.booth_world.specs.Steps.{WorldStep, IsRun, AreSecond, world_of}
 use Rattle.booth_world.specs.Held.{IsHeldBy, Held, ReleasedBetween, IsApart, IsAtLeast}
 

@@ -2,9 +2,8 @@
 -- and what it changes.
 use Rattle.std.specs.Prelude.{◌≡◌, ◌⊎◌, ℕ, ◌+◌, ◌<◌, ◌&&◌, true, if◌then◌else◌, not, ◌==◌, nat_lt, Option, Some, None, List, [], ◌∷◌}
 use Rattle.booth_rec.specs.declared.record.Lease.{Lease}
-use Rattle.booth_node.specs.Clock.{Cluster}
 use Rattle.booth_world.specs.Facts.{Has, Round, Answer, Gain, Release, Facts, IsMajority}
-use Rattle.booth_world.specs.States.{Pledge, KeptRecord, Promise, MemberState}
+use Rattle.booth_world.specs.States.{Pledge, KeptRecord, Promise, MemberState, Cluster}
 
 -- ---- a gain
 -- The open round gives a lease where a majority answered it and the lease would not be over

@@ -9,6 +9,7 @@ pub mod Held
 pub mod MemberRuns
 pub mod Messages
 pub mod Agreement
+pub mod Clusters
 pub mod Rules
 pub mod Gives
 pub mod Calls
@@ -20,6 +21,8 @@ pub mod Hosts
 pub mod HostLaws
 pub mod Revocations
 pub mod Worlds
+pub mod Tellers
+pub mod Kept
 pub mod Shadows
 pub mod Laws
 pub mod Examples

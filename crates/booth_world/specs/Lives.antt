@@ -1,9 +1,8 @@
 -- The kinds of step by which a member learns a term, crashes and starts, and by which time passes:
 -- for each its condition, and what it changes.
 use Rattle.std.specs.Prelude.{◌≡◌, ℕ, ◌+◌, ◌<◌, ◌≤◌, Bool, true, false, Option, Some, None, [], ◌∷◌}
-use Rattle.booth_node.specs.Clock.{Cluster, promise_time, reads}
 use Rattle.booth_world.specs.Facts.{Has}
-use Rattle.booth_world.specs.States.{Pledge, KeptRecord, MemberState, WorldState}
+use Rattle.booth_world.specs.States.{Pledge, KeptRecord, MemberState, WorldState, Cluster, promise_time, reads}
 
 -- ---- a term is learnt
 -- A member takes a term above its own: it answered nobody in it, and its round is closed.

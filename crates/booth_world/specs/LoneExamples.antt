@@ -5,7 +5,7 @@ use Rattle.booth_base.specs.declared.name.Name.{Name}
 use Rattle.booth_rec.specs.declared.record.Record.{Record}
 use Rattle.booth_rec.specs.Record.{first_plain, no_record}
 use Rattle.booth_raft.specs.declared.view.View.{View}
-use Rattle.booth_node.specs.Clock.{Cluster}
+use Rattle.booth_world.specs.States.{Cluster, begins_bare}
 use Rattle.booth_world.specs.Rules.{Asks, Greets, GivesBack}
 use Rattle.booth_world.specs.Cores.{CoreEntry, ReadsTime, CallsCore, HasAnswer, Stops, StartsWith, Cast}
 use Rattle.booth_world.specs.Turns.{Keeps, Plan, Rests, Calls, Waits}
@@ -17,8 +17,10 @@ lone = record {
   members = 1;
   is_site = λ m. true;
   times = three.times;
+  ticks = 1;
   span = 8;
   clock = λ m. exact;
+  begins = λ m. begins_bare;
 }
 
 abbrev pub lone_cast : Name → Cast

@@ -1,8 +1,7 @@
 -- Steps of one member, one after the other, while nothing else happens.
 use Rattle.std.specs.Prelude.{Bool, ℕ, List, [], ◌∷◌}
-use Rattle.booth_node.specs.Clock.{Cluster}
 use Rattle.booth_world.specs.Facts.{Facts}
-use Rattle.booth_world.specs.States.{MemberState}
+use Rattle.booth_world.specs.States.{MemberState, Cluster}
 use Rattle.booth_world.specs.Steps.{MemberStep, WorldStep, MemberDoes, May, member_after, facts_after, IsStartOf}
 
 -- each step may be done where it stands

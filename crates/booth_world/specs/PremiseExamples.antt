@@ -1,5 +1,5 @@
 -- For each premise a world that meets the others, and in which two hold at one moment.
-use Rattle.std.specs.Prelude.{◌≡◌, ◌≢◌, ◌<◌, ℕ, zero, suc, ◌*◌, List, [], ◌∷◌, ◌++◌, length, map, Some, None}
+use Rattle.std.specs.Prelude.{◌≡◌, ◌≢◌, ◌<◌, ℕ, zero, suc, ◌*◌, List, [], ◌∷◌, ◌++◌, length, map, false, Some, None}
 use Rattle.std.specs.List.{range_with_len}
 use Rattle.booth_conf.specs.declared.members.Member.{Member}
 use Rattle.booth_node.specs.Clock.{IsClock}
@@ -58,6 +58,13 @@ with_a_lost_record = world_with three_members (
     ∷ at 15010 0 (reads 15010)
     ∷ at 15010 0 (keeps (lease 1 21000))
     ∷ [])
+
+-- ---- without 'nothing held'
+
+-- each of two sites begins with a record of a lease that is in force, and starts from it
+abbrev pub with_leases_at_first : World
+with_leases_at_first =
+    record with_foreign_records { begins = λ m. record { second = false; records = λ place. lease 1 6000 } }
 
 -- ---- without 'members speak'
 
@@ -155,7 +162,7 @@ with_a_fast_clock = world_by one_is_fast three_members (
 -- the clock of each other member is true, and all that is read is what clocks read
 pub record AreTrueBut (broken : ℕ) (w : World) : Type 0 where
   pub long : (m : ℕ) → m < members_of w → length (w.clock m) ≡ w.span
-  pub clocks : (m : ℕ) → m < members_of w → m ≢ broken → IsClock (w.clock m)
+  pub clocks : (m : ℕ) → m < members_of w → m ≢ broken → IsClock w.ticks (w.clock m)
   pub read : AtEach w (λ before entry. ReadsClock w entry entry.what)
 
 -- ---- without 'one daemon'

@@ -1,11 +1,12 @@
--- The six premises of a world, by name, and what it is to need one.
+-- The seven premises of a world, by name, and what it is to need one.
 use Rattle.std.specs.Prelude.{◌≡◌, ◌≢◌, ℕ, ◌<◌}
 use Rattle.booth_conf.specs.declared.tickets.TicketConf.{TicketConf}
 use Rattle.booth_node.specs.Session.{Down, AreSessions}
-use Rattle.booth_node.specs.World.{World, members_of, entries_of, AtEach, HasForm, HasConfiguration, HasTrueClocks, ReadsKept, StaysSecond, HearsSent, stand_after}
+use Rattle.booth_node.specs.World.{World, members_of, entries_of, AtEach, HasForm, BeginsFree, HasConfiguration, HasTrueClocks, ReadsKept, StaysSecond, HearsSent, stand_after}
 use Rattle.booth_node.specs.Held.{Moment, IsAutomatic, Holds}
 
 pub data Premise : Type 0 where
+  NothingHeld : Premise
   OneConfiguration : Premise
   TrueClocks : Premise
   RecordsReturn : Premise
@@ -15,6 +16,7 @@ pub data Premise : Type 0 where
 
 -- the world meets the premise
 abbrev pub Meets : World → Premise → Type 0
+Meets w NothingHeld = BeginsFree w
 Meets w OneConfiguration = AtEach w (λ before entry. HasConfiguration w entry entry.what)
 Meets w TrueClocks = HasTrueClocks w
 Meets w RecordsReturn = AtEach w (λ before entry. ReadsKept w before entry entry.what)

@@ -2,9 +2,8 @@
 -- and what it changes. The clock is the stepping member's last reading.
 use Rattle.std.specs.Prelude.{◌≡◌, ◌≢◌, ◌⊎◌, ℕ, ◌+◌, ◌<◌, ◌≤◌, ◌&&◌, true, if◌then◌else◌, ◌==◌, nat_eq, Option, Some, None, ◌∷◌}
 use Rattle.std.specs.Option.{ForSome}
-use Rattle.booth_node.specs.Clock.{Cluster, promise_time}
 use Rattle.booth_world.specs.Facts.{Has, Round, Answer, Release, Facts}
-use Rattle.booth_world.specs.States.{Pledge, KeptRecord, Promise, MemberState}
+use Rattle.booth_world.specs.States.{Pledge, KeptRecord, Promise, MemberState, Cluster, promise_time}
 
 -- the round that a member opens now
 abbrev pub new_round : ℕ → MemberState → ℕ → Round

@@ -1,5 +1,5 @@
 -- Every world has a shadow: at each moment, for each automatic ticket, a list of the world's steps.
-use Rattle.std.specs.Prelude.{◌≡◌, ◌≢◌, ◌⊎◌, ◌++◌, ℕ, ◌<◌, Bool, false, List, [], ◌∷◌, slice_get, Ok, Some, None}
+use Rattle.std.specs.Prelude.{◌≡◌, ◌≢◌, ◌⊎◌, ◌++◌, ℕ, ◌<◌, Bool, List, [], ◌∷◌, slice_get, Ok, Some, None}
 use Rattle.booth_base.specs.Tree.{Deeds, Ends, Does}
 use Rattle.booth_conf.specs.declared.tickets.TicketConf.{TicketConf}
 use Rattle.booth_rec.specs.declared.record.Record.{Record}
@@ -16,8 +16,9 @@ use Rattle.booth_node.specs.Reaction.{Ask, Send, Keep, Start}
 use Rattle.booth_node.specs.Records.{Has}
 use Rattle.booth_node.specs.Session.{SessionEntry, Starts, Makes, IsCut, Stand, Down, Doing, Hearing, after_entry}
 use Rattle.booth_node.specs.State.{State}
-use Rattle.booth_node.specs.World.{WorldEntry, World, members_of, id_at, node_at, entries_of, IsSend, stand_after, IsWorld, cluster_of}
+use Rattle.booth_node.specs.World.{WorldEntry, World, members_of, id_at, node_at, entries_of, IsSend, stand_after, IsWorld}
 use Rattle.booth_node.specs.Held.{Moment, IsAutomatic, may_at, Holds}
+use Rattle.booth_world.specs.Clusters.{cluster_of}
 use Rattle.booth_world.specs.Agreement.{records_in, Agrees}
 use Rattle.booth_world.specs.Facts.{Round, Answer, Release, Has as HasFact}
 use Rattle.booth_world.specs.Held.{Held}
@@ -103,9 +104,9 @@ abbrev pub second_after_all : Bool → List SessionEntry → Bool
 second_after_all second [] = second
 second_after_all second (entry ∷ entries) = second_after_all (second_after second entry) entries
 
--- whether the member's last session is of version 2; one that never started counts as in version 1
-abbrev pub is_second_at : ℕ → List WorldEntry → Bool
-is_second_at m before = second_after_all false (entries_of m before)
+-- whether the member's last session is of version 2; at first it is as it was before
+abbrev pub is_second_at : World → ℕ → List WorldEntry → Bool
+is_second_at w m before = second_after_all (w.begins m).second (entries_of m before)
 
 -- ---- the shadow
 
@@ -122,7 +123,7 @@ pub record Knows (w : World) (place : ℕ) (ticket : TicketConf) (m : ℕ) (rest
       ≡ Some (record { setup = setup_of (node_at w m (state.member m).second) place ticket; known = Automatic view })
   pub none_waits : view.waiting ≡ None
   pub reading : resting.last_reading ≡ (state.member m).reading
-  pub agrees : Agrees (cluster_of w ticket.times) (id_at w) state.facts m view (state.member m)
+  pub agrees : Agrees (cluster_of w place ticket) (id_at w) state.facts m view (state.member m)
 
 -- Steps from the opening state up to this moment. After them each member's last session is of the version of its last
 -- start; the records that a member may have kept are the entries', and that which the member's turn is to keep next;
@@ -132,30 +133,30 @@ pub record Knows (w : World) (place : ℕ) (ticket : TicketConf) (m : ℕ) (rest
 -- or answered, or a term released; and the ticket is held at each member that holds it.
 pub record HasShadow (w : World) (place : ℕ) (ticket : TicketConf) (moment : Moment w) : Type 0 where
   pub steps : List WorldStep
-  pub run : IsRun (cluster_of w ticket.times) (opening (cluster_of w ticket.times)) steps
-  pub now : (world_of (cluster_of w ticket.times) steps).now ≡ moment.time
+  pub run : IsRun (cluster_of w place ticket) (opening (cluster_of w place ticket)) steps
+  pub now : (world_of (cluster_of w place ticket) steps).now ≡ moment.time
   pub versions : (m : ℕ) → m < members_of w
-      → ((world_of (cluster_of w ticket.times) steps).member m).second ≡ is_second_at m moment.before
+      → ((world_of (cluster_of w place ticket) steps).member m).second ≡ is_second_at w m moment.before
   pub records : (m : ℕ) → m < members_of w → (kept : Record) → Has (may_at w place ticket m moment) kept
-      → Has (records_of w (world_of (cluster_of w ticket.times) steps) m) kept
+      → Has (records_of w (world_of (cluster_of w place ticket) steps) m) kept
   pub no_more : (m : ℕ) → m < members_of w → (kept : Record)
-      → Has (records_of w (world_of (cluster_of w ticket.times) steps) m) kept
+      → Has (records_of w (world_of (cluster_of w place ticket) steps) m) kept
       → Has (may_at w place ticket m moment) kept ⊎ IsComing ticket.name (entries_of m moment.before) kept
   pub knows : (m : ℕ) → m < members_of w → (resting : State) → RestsIn (stand_after m moment.before) resting
-      → Knows w place ticket m resting (world_of (cluster_of w ticket.times) steps)
-  pub releases : (release : Release) → HasFact (world_of (cluster_of w ticket.times) steps).facts.releases release
+      → Knows w place ticket m resting (world_of (cluster_of w place ticket) steps)
+  pub releases : (release : Release) → HasFact (world_of (cluster_of w place ticket) steps).facts.releases release
       → AtSome [] moment.before
       (λ before entry.
       GivesTermBack w ticket.name entry.member entry.time (stand_after entry.member (before ++ entry ∷ [])) entry.what
       release)
-  pub rounds : (round : Round) → HasFact (world_of (cluster_of w ticket.times) steps).facts.rounds round
+  pub rounds : (round : Round) → HasFact (world_of (cluster_of w place ticket) steps).facts.rounds round
       → IsReadIn moment.before round.site round.opened round.at
-  pub answers : (answer : Answer) → HasFact (world_of (cluster_of w ticket.times) steps).facts.answers answer
+  pub answers : (answer : Answer) → HasFact (world_of (cluster_of w place ticket) steps).facts.answers answer
       → IsReadIn moment.before answer.member answer.reading answer.at
   pub said : (m : ℕ) (message : PlainMessage) (part : TicketPart) → IsSentIn ticket.name moment.before m message part
-      → IsFact (id_at w) (world_of (cluster_of w ticket.times) steps).facts m message.head part message.head.cmd
+      → IsFact (id_at w) (world_of (cluster_of w place ticket) steps).facts m message.head part message.head.cmd
   pub held : (m : ℕ) → Holds w place ticket m moment
-      → Held (cluster_of w ticket.times) (world_of (cluster_of w ticket.times) steps) m
+      → Held (cluster_of w place ticket) (world_of (cluster_of w place ticket) steps) m
 
 abbrev pub WorldsHaveShadows : Type 0
 WorldsHaveShadows =

@@ -6,9 +6,8 @@ use Rattle.booth_wire.specs.declared.command.Cmd.{Cmd}
 use Rattle.booth_wire.specs.declared.message.Head.{Head}
 use Rattle.booth_wire.specs.declared.message.TicketPart.{TicketPart}
 use Rattle.booth_raft.specs.declared.view.View.{View}
-use Rattle.booth_node.specs.Clock.{Cluster}
 use Rattle.booth_world.specs.Facts.{Facts}
-use Rattle.booth_world.specs.States.{MemberState, WorldState}
+use Rattle.booth_world.specs.States.{MemberState, WorldState, Cluster}
 use Rattle.booth_world.specs.Lives.{reading_clock}
 use Rattle.booth_world.specs.Steps.{WorldStep, ReadsClock, MemberDoes, Passes, happens, IsRun, after_steps, world_of, AreSecond}
 use Rattle.booth_world.specs.Agreement.{Agrees}

@@ -1,8 +1,10 @@
 -- The state of one automatic ticket in a whole cluster.
-use Rattle.std.specs.Prelude.{ℕ, ◌<◌, Bool, false, if◌then◌else◌, ◌==◌, Option, None, List, [], ◌∷◌}
+use Rattle.std.specs.Prelude.{◌≡◌, ℕ, ◌<◌, ◌≤◌, Bool, false, if◌then◌else◌, ◌==◌, Option, None, List, [], ◌∷◌, length, slice_index}
 use Rattle.std.specs.Option.{ForSome}
+use Rattle.booth_base.specs.Times.{promise_of}
+use Rattle.booth_base.specs.declared.times.Times.{Times}
 use Rattle.booth_rec.specs.declared.record.Lease.{Lease}
-use Rattle.booth_node.specs.Clock.{Cluster, reads}
+use Rattle.booth_node.specs.Clock.{IsClock}
 use Rattle.booth_world.specs.Facts.{Round, Facts, no_facts}
 
 -- What an answer promises to a site: it is live at readings below `until`.
@@ -38,6 +40,58 @@ pub record KeptRecord : Type 0 where
 abbrev pub none_kept : KeptRecord
 none_kept = record { term = 0; lease = None; pledge = None }
 
+-- ---- the cluster
+
+-- What a member begins with: whether it was of version 2 before, and its record.
+pub record TicketBeginning : Type 0 where
+  pub second : Bool
+  pub kept : KeptRecord
+
+-- nothing was kept before
+abbrev pub begins_bare : TicketBeginning
+begins_bare = record { second = false; kept = none_kept }
+
+-- The cluster of one automatic ticket. Its members are the places below `members`; sites can hold the ticket, and
+-- arbitrators only answer. A member has one clock, through all its restarts; `span` is how long the clocks are, and
+-- `ticks` how many of their true times make a millisecond.
+pub record Cluster : Type 0 where
+  pub members : ℕ
+  pub is_site : ℕ → Bool
+  pub times : Times
+  pub ticks : ℕ
+  pub span : ℕ
+  pub clock : ℕ → List ℕ
+  pub begins : ℕ → TicketBeginning
+
+-- what a member's clock reads at a true time
+abbrev pub reads : Cluster → ℕ → ℕ → ℕ
+reads c m time = slice_index (c.clock m) time
+
+-- how long an answer binds its member
+abbrev pub promise_time : Cluster → ℕ
+promise_time c = promise_of c.times
+
+-- What a member may begin with at this reading: a lease, if there is one, is over; a record of version 2 is of a
+-- member that was of version 2, names members alone, and its promise is of a term at most its own and was made after
+-- its abstention. The promise may be live.
+pub record BeginsWell (members reading : ℕ) (beginning : TicketBeginning) : Type 0 where
+  pub over : ForSome beginning.kept.lease (λ lease. lease.until ≤ reading)
+  pub first : beginning.second ≡ false → beginning.kept.pledge ≡ None
+  pub named : ForSome beginning.kept.pledge (λ pledge. IsWithin members pledge.bound pledge.promise)
+  pub rested : ForSome beginning.kept.pledge
+      (λ pledge. ForSome pledge.promise
+      (λ promise. (promise.term ≤ beginning.kept.term) × (pledge.abstain ≤ reading)))
+
+-- each member has a clock, and all clocks have one length, of at least 1; and each begins well
+pub record HasClocks (c : Cluster) : Type 0 where
+  pub ticking : 0 < c.ticks
+  pub some : 0 < c.span
+  pub long : (m : ℕ) → m < c.members → length (c.clock m) ≡ c.span
+  pub clocks : (m : ℕ) → m < c.members → IsClock c.ticks (c.clock m)
+  pub begins : (m : ℕ) → BeginsWell c.members (reads c m 0) (c.begins m)
+
+-- ---- the state
+
 -- A member: whether it is up; whether its session, or its last one while it is down, is of version 2 (`second`); its
 -- last reading, and the true time of it; its term; what it is pledged to, as in `Pledge`; the records that it may have
 -- kept; and the round that it has open.
@@ -58,19 +112,19 @@ pub record WorldState : Type 0 where
   pub member : ℕ → MemberState
   pub facts : Facts
 
--- A member that never started: it is down, and has kept nothing. It counts as in version 1, so its first start may be
--- of either version.
+-- A member that has not started: it is down, and has what it begins with. Where it was of version 1, its first start
+-- may be of either version.
 abbrev pub unstarted : Cluster → ℕ → MemberState
 unstarted c m = record {
   up = false;
-  second = false;
+  second = (c.begins m).second;
   reading = reads c m 0;
   at = 0;
   term = 0;
   bound = None;
   promise = None;
   abstain = 0;
-  may = none_kept ∷ [];
+  may = (c.begins m).kept ∷ [];
   round = None;
 }
 

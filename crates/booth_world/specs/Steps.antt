@@ -1,8 +1,7 @@
 -- What may happen next to a ticket in a cluster, and lists of it.
 use Rattle.std.specs.Prelude.{◌≡◌, ℕ, ◌+◌, ◌<◌, Bool, true, List, [], ◌∷◌}
-use Rattle.booth_node.specs.Clock.{Cluster}
 use Rattle.booth_world.specs.Facts.{Round, Release, Facts}
-use Rattle.booth_world.specs.States.{KeptRecord, Promise, MemberState, WorldState, opening, put}
+use Rattle.booth_world.specs.States.{KeptRecord, Promise, MemberState, WorldState, opening, put, Cluster}
 use Rattle.booth_world.specs.Rounds.{new_round, MayElect, electing, MayRenew, renewing, with_round, MayPromise, promising, MayAddAnswer, new_answer, with_answer}
 use Rattle.booth_world.specs.Leases.{MayGain, with_gain, MayKeep, trying, having, MayRelease, releasing, with_release, MayClear, clearing}
 use Rattle.booth_world.specs.Lives.{MayLearn, learning, crashing, MayStart, starting, MayPass, reading_clock}

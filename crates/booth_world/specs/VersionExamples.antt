@@ -11,7 +11,7 @@ use Rattle.booth_world.specs.WorldExamples.{site_one, site_two, arbitrator, conf
 -- a member starts in version 2
 abbrev pub starts_again : Member → ℕ → Option Record → SessionEntry
 starts_again member reading kept =
-    Starts (record { config = config_with three_members; key = None; me = member.id; second = true }) reading
+    Starts (record { config = config_with three_members; ring = None; me = member.id; second = true }) reading
     (kept ∷ [])
 
 -- the record of a term, without a lease, of a member that promised to a site until a reading, and abstained until

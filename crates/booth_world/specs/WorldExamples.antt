@@ -19,7 +19,7 @@ use Rattle.booth_auth.specs.Sealed.{sealed}
 use Rattle.booth_host.specs.declared.host.Arrival.TheVariants as arrivals
 use Rattle.booth_host.specs.declared.entry.Entry.TheVariants as calls
 use Rattle.booth_node.specs.Session.{SessionEntry, Starts, Makes, IsCut, CutSend, CutKeep}
-use Rattle.booth_node.specs.World.{World, WorldEntry}
+use Rattle.booth_node.specs.World.{World, WorldEntry, from_nothing}
 
 -- ---- a configuration
 
@@ -66,13 +66,15 @@ config_with members = record {
 abbrev pub exact_clock : List ℕ
 exact_clock = range_with_len 0 60000
 
--- these members, without a key, and clocks of a minute
+-- these members, without keys, and clocks of a minute
 abbrev pub world_by : (ℕ → List ℕ) → List Member → List WorldEntry → World
 world_by clock members entries = record {
   config = config_with members;
-  key = None;
+  ring = None;
+  ticks = 1;
   span = 60000;
   clock = clock;
+  begins = λ m. from_nothing;
   entries = entries;
 }
 
@@ -88,7 +90,7 @@ at time place what = record { member = place; time = time; what = what }
 -- a member starts in version 1, with one record or none
 abbrev pub starts : List Member → Member → ℕ → Option Record → SessionEntry
 starts members member reading kept =
-    Starts (record { config = config_with members; key = None; me = member.id; second = false }) reading (kept ∷ [])
+    Starts (record { config = config_with members; ring = None; me = member.id; second = false }) reading (kept ∷ [])
 
 -- a turn begins with a datagram, and then the clock is read
 abbrev pub hears : Peer → PlainMessage → SessionEntry
@@ -177,6 +179,17 @@ is_open site number reading = says site.id reading RGnt 1 0 ASYN NO_ONE number 0
 
 abbrev pub alone : List Member
 alone = site_one ∷ []
+
+-- it begins with the record of a lease that is over, and starts from it; when it may answer itself, a client asks, and
+-- it keeps the next term beside that lease, and then a lease of that term
+abbrev pub one_goes_on : World
+one_goes_on = record (world_with alone (
+    at 0 0 (starts alone site_one 0 (Some (lease 7 0)))
+    ∷ at 7000 0 (hears client grant_it)
+    ∷ at 7000 0 (reads 7000)
+    ∷ at 7001 0 (keeps (record (lease 7 0) { term = 8 }))
+    ∷ at 7002 0 (keeps (lease 8 13000))
+    ∷ [])) { begins = λ m. record { second = false; records = λ place. lease 7 0 } }
 
 -- it starts without a record; when it may answer itself, a client asks, and it keeps a term, and then a lease
 abbrev pub one_holds : World

@@ -12,8 +12,9 @@ use Rattle.booth_node.specs.Log.{IsNodeLog, IsStoppedLog}
 use Rattle.booth_node.specs.State.{State}
 use Rattle.booth_node.specs.Session.{SessionEntry, Makes, Stand, Doing, AreSessions, after_entries}
 use Rattle.booth_node.specs.Records.{Has}
-use Rattle.booth_node.specs.World.{WorldEntry, World, members_of, stand_after, IsWorld, IsSecondWorld, cluster_of}
+use Rattle.booth_node.specs.World.{WorldEntry, World, members_of, stand_after, IsWorld, IsSecondWorld}
 use Rattle.booth_node.specs.Held.{Moment, IsTicket, IsAutomatic, may_at, HoldsBy, Holds}
+use Rattle.booth_world.specs.Clusters.{cluster_of}
 use Rattle.booth_world.specs.Held.{AreApart}
 use Rattle.booth_world.specs.Revocations.{GoesOnToRevoke, AtSome}
 
@@ -59,7 +60,7 @@ WorldsAreApart =
     → (early late : Moment w) (between : List WorldEntry) → IsLater w early late between
     → (s t : ℕ) → s ≢ t → (kept : Record)
     → HoldsBy w place ticket s early kept → Holds w place ticket t late
-    → AreApart (cluster_of w ticket.times) early.time late.time ⊎ ReleasedIn w ticket s kept early.before between
+    → AreApart (cluster_of w place ticket) early.time late.time ⊎ ReleasedIn w ticket s kept early.before between
 
 -- where each record that a member may have kept of a ticket has at least a term, so has each one later
 abbrev pub TermsNeverFallIn : World → Type 0

@@ -5,19 +5,18 @@ ghost use Rattle.booth_world.specs.Calls.{IsMember};
 ghost use Rattle.booth_world.specs.CoreLaws.{CoreCourse, CoreHolds, early_cores};
 ghost use Rattle.booth_world.specs.HostLaws.{HostCourse, HostHolds, early_hosts};
 ghost use Rattle.booth_world.specs.LoneExamples.{lone, lone_cast, lone_grant, lone_restart, lone_turn};
-ghost use Rattle.booth_node.specs.Clock.{HasClocks};
 ghost use Rattle.booth_world.specs.Examples.{three, granted, renewed, released, granted_elsewhere, crashed_and_started, start, first_caller};
 ghost use Rattle.booth_world.specs.Held.{Held};
 ghost use Rattle.booth_node.specs.Held.{Moment};
 ghost use Rattle.booth_world.specs.Shadows.{HasShadow};
 ghost use Rattle.booth_node.specs.World.{IsWorld, entries_of};
 ghost use Rattle.booth_node.specs.Session.{AreSessions, Down};
-ghost use Rattle.booth_world.specs.Premises.{OneConfiguration, TrueClocks, RecordsReturn, VersionsRise, MembersSpeak, OneDaemon, IsWorldBut, TwoHold, HoldsAt, PremisesAreNeeded};
+ghost use Rattle.booth_world.specs.Premises.{NothingHeld, OneConfiguration, TrueClocks, RecordsReturn, VersionsRise, MembersSpeak, OneDaemon, IsWorldBut, TwoHold, HoldsAt, PremisesAreNeeded};
 ghost use Rattle.booth_world.specs.TakeOverExample.{taken_over};
-ghost use Rattle.booth_world.specs.PremiseExamples.{with_foreign_records, with_a_lost_record, with_forged_votes, with_two_configurations, with_a_fast_clock, with_two_daemons, AreTrueBut, HasTwoDaemons, daemon_starts, votes_for_one, votes_for_two};
+ghost use Rattle.booth_world.specs.PremiseExamples.{with_foreign_records, with_leases_at_first, with_a_lost_record, with_forged_votes, with_two_configurations, with_a_fast_clock, with_two_daemons, AreTrueBut, HasTwoDaemons, daemon_starts, votes_for_one, votes_for_two};
 ghost use Rattle.booth_world.specs.VersionExamples.{promises_kept, with_a_falling_version};
-ghost use Rattle.booth_world.specs.WorldExamples.{one_holds, web};
-ghost use Rattle.booth_world.specs.States.{opening};
+ghost use Rattle.booth_world.specs.WorldExamples.{one_goes_on, one_holds, web};
+ghost use Rattle.booth_world.specs.States.{opening, HasClocks};
 ghost use Rattle.booth_world.specs.Steps.{IsRun, world_of};
 
 /// Among three members, whose clocks are at the limits of drift, a ticket is granted, renewed,
@@ -59,6 +58,18 @@ pub fn lone_host_holds()
 pub fn foreign_records_are_held()
     ensures others { IsWorldBut RecordsReturn with_foreign_records }
     ensures two_hold { TwoHold with_foreign_records }
+{}
+
+/// Without the premise that nothing is held at first: two sites begin with leases in force.
+pub fn leases_at_first_are_held()
+    ensures others { IsWorldBut NothingHeld with_leases_at_first }
+    ensures two_hold { TwoHold with_leases_at_first }
+{}
+
+/// A member that is alone begins with the record of a lease that is over, and holds its ticket by the next term.
+pub fn one_member_goes_on()
+    ensures world { IsWorld one_goes_on }
+    ensures holds { HoldsAt one_goes_on 0 web 0 12999 }
 {}
 
 /// A member that is alone starts, is asked by a client for its ticket, and holds it.

@@ -2,10 +2,12 @@
 ghost use Rattle.booth_world.specs.Calls.{CallsAreSteps, PromisesWhereItMayAnswer, StepsOfOneAreSteps};
 ghost use Rattle.booth_world.specs.CoreLaws.{CoreTermsNeverFall, CoresAreApart, CoresHoldOne, LaterCoreHasLaterTerm};
 ghost use Rattle.booth_world.specs.HostLaws.{HostTermsNeverFall, HostsAreApart, HostsHoldOne, LaterHostHasLaterTerm};
+ghost use Rattle.booth_world.specs.Kept.{FailedKeepsSayNothing, TicketsKeepTheirKinds};
 ghost use Rattle.booth_world.specs.Laws.{HasOneHolder, HoldersAreApart, KeptTermsNeverFall, LaterHolderHasLaterTerm};
 ghost use Rattle.booth_world.specs.Rules.{lease_rules};
 ghost use Rattle.booth_world.specs.Stability.{AgreementStays, CallsLeadOn, MembersStay, RunsAppend};
 ghost use Rattle.booth_world.specs.Shadows.{WorldsHaveShadows};
+ghost use Rattle.booth_world.specs.Tellers.{ClaimsLast, TellersAreApart, WhoTellsHasKept, WhoTellsHolds};
 ghost use Rattle.booth_world.specs.Worlds.{CutSessionsAreSessions, LogsAreSessions, StoppedLogsAreSessions};
 ghost use Rattle.booth_world.specs.Worlds.{LaterHoldersHaveLaterTerms, WorldTermsNeverFall, WorldsAreApart, WorldsHoldOne};
 
@@ -33,6 +35,28 @@ pub fn terms()
 pub fn later_terms()
     ensures steps { LaterHolderHasLaterTerm }
     ensures worlds { LaterHoldersHaveLaterTerms }
+{}
+
+/// What a member tells of itself as the holder of an automatic ticket is so: just before, it may have
+/// kept a record whose lease bears it out. So while that is not over, it holds the ticket, and no
+/// other member does. And where two members tell it, the one after the other, acquire-after lies
+/// between, or the first gave its lease back in between.
+pub fn tellers()
+    ensures kept { WhoTellsHasKept }
+    ensures holds { WhoTellsHolds }
+    ensures apart { TellersAreApart }
+    ensures last { ClaimsLast }
+{}
+
+/// After a keep that failed a step of the lease rules keeps nothing and says nothing.
+pub fn failed_keeps_say_nothing()
+    ensures { FailedKeepsSayNothing }
+{}
+
+/// Where a member rests between two turns, each of its tickets is of the kind that the configuration
+/// gives it.
+pub fn tickets_keep_their_kinds()
+    ensures { TicketsKeepTheirKinds }
 {}
 
 /// A log of a node's turns is part of a session of a world.

@@ -33,7 +33,8 @@ fn await_clock(alloc: Global, words: &[String], host: &mut RealHost) {
 
 fn run(rt: HostRuntime, alloc: Global) -> Result<Outcome, AllocError> {
     let words = words(&rt, alloc)?;
-    // (the host comes first: it fills the places of standard streams that were closed, so that no file of the links has one)
+    // (the host comes first: it fills the places of standard streams that were closed, so that no file of the links
+    // has one)
     let mut host = RealHost::new(rt, alloc)?;
     await_clock(alloc, &words, &mut host);
     let mut links = RealLinks::new(rt, alloc)?;

@@ -1,0 +1,46 @@
+-- The cluster of one automatic ticket of a world.
+use Rattle.std.specs.Prelude.{ℕ, Option, Some, None, position, unwrap_or, if◌then◌else◌}
+use Rattle.booth_base.specs.declared.address.MemberId.{MemberId}
+use Rattle.booth_conf.specs.Config.{has_id}
+use Rattle.booth_conf.specs.declared.tickets.TicketConf.{TicketConf}
+use Rattle.booth_rec.specs.declared.record.Promise.{Promise as IdPromise}
+use Rattle.booth_rec.specs.declared.record.Record.{Record}
+use Rattle.booth_rec.specs.Record.{is_second}
+use Rattle.booth_node.specs.Opening.{is_site_at}
+use Rattle.booth_node.specs.World.{World, members_of, begins_with}
+use Rattle.booth_world.specs.States.{Promise, KeptRecord, Cluster}
+
+-- the place of the member with an id
+abbrev pub place_of : World → MemberId → ℕ
+place_of w id = unwrap_or (position (has_id id) w.config.members) 0
+
+abbrev pub bound_at : World → Option MemberId → Option ℕ
+bound_at w None = None
+bound_at w (Some id) = Some (place_of w id)
+
+abbrev pub promise_at : World → Option IdPromise → Option Promise
+promise_at w None = None
+promise_at w (Some promise) =
+    Some (record { to = place_of w promise.to; term = promise.term; until = promise.until })
+
+-- a record by the places of the members that it names: one of version 2 has a pledge
+abbrev pub kept_at : World → Record → KeptRecord
+kept_at w kept = record {
+  term = kept.term;
+  lease = kept.lease;
+  pledge = if is_second kept
+      then Some (record { bound = bound_at w kept.bound; promise = promise_at w kept.promise; abstain = kept.abstain })
+      else None;
+}
+
+-- the cluster of the ticket at a place
+abbrev pub cluster_of : World → ℕ → TicketConf → Cluster
+cluster_of w place ticket = record {
+  members = members_of w;
+  is_site = is_site_at w.config.members;
+  times = ticket.times;
+  ticks = w.ticks;
+  span = w.span;
+  clock = w.clock;
+  begins = λ m. record { second = (w.begins m).second; kept = kept_at w (begins_with w m place) };
+}

@@ -1,0 +1,181 @@
+-- What a member tells of itself as the holder of an automatic ticket, and what it may have kept then.
+use Rattle.std.specs.Prelude.{◌≡◌, ◌≢◌, ◌⊎◌, ◌++◌, ℕ, ◌<◌, ◌≤◌, ◌+◌, ◌-◌, ◌*◌, ◌/◌, ◌%◌, min, List, [], ◌∷◌, decimal, slice_get, Ok, IsSomeAnd}
+use Rattle.booth_base.specs.declared.address.Address.{Address}
+use Rattle.booth_base.specs.declared.address.MemberId.{MemberId}
+use Rattle.booth_base.specs.Address.{printed}
+use Rattle.booth_conf.specs.declared.tickets.TicketConf.{TicketConf}
+use Rattle.booth_rec.specs.declared.record.Record.{Record}
+use Rattle.booth_wire.specs.declared.codes.results.TheConstants.{SUCCESS}
+use Rattle.booth_wire.specs.declared.command.Cmd.TheVariants.{RGnt, RLst}
+use Rattle.booth_wire.specs.declared.message.Head.{Head}
+use Rattle.booth_wire.specs.declared.message.TicketPart.{TicketPart}
+use Rattle.booth_wire.specs.PlainMessage.{PlainMessage, Text, Ticket}
+use Rattle.booth_wire.specs.Reading.{decoded}
+use Rattle.booth_host.specs.declared.host.Job.{Job}
+use Rattle.booth_host.specs.declared.entry.Entry.TheVariants as calls
+use Rattle.booth_raft.specs.Numbers.{seconds_left}
+use Rattle.booth_node.specs.Jobs.{address_in}
+use Rattle.booth_node.specs.Records.{Has}
+use Rattle.booth_node.specs.Session.{SessionEntry, Makes, IsCut, CutStart}
+use Rattle.booth_node.specs.World.{WorldEntry, World, id_at, clock_at, IsSend, IsWorld}
+use Rattle.booth_node.specs.Held.{Moment, IsAutomatic, may_at, Holds}
+use Rattle.booth_world.specs.Clusters.{cluster_of}
+use Rattle.booth_world.specs.Held.{AreApart}
+use Rattle.booth_world.specs.Worlds.{IsLater, ReleasedIn}
+
+-- ---- what is told
+
+-- What is told of a lease. A message is known by its head, which bears the time at which it was sent.
+pub data Claim : Type 0 where
+  -- a client is told that its grant was done
+  IsGranted : (head : Head) → Claim
+  -- a message says that so many seconds are left
+  HasLeft : (head : Head) (seconds : ℕ) → Claim
+  -- a handler is told that the lease ends in this second of the member's clock
+  EndsIn : (second : ℕ) → Claim
+  -- a list says that it ends in the second of which these are the digits
+  IsListed : (digits : List ℕ) → Claim
+
+-- a message that is sent at this reading of its member's clock bears it, in whole seconds and millionths of one
+abbrev pub IsSentAt : Head → ℕ → Type 0
+IsSentAt head reading = (head.secs ≡ min (reading / 1000) 4294967295) × (head.usecs ≡ reading % 1000 * 1000)
+
+-- A lease with this end bears the claim out. It ends after the message was sent. Seconds that are left are rounded up,
+-- and the second in which a lease ends is rounded down.
+abbrev pub BearsOut : Claim → ℕ → Type 0
+BearsOut (IsGranted head) until = (reading : ℕ) × IsSentAt head reading × (reading < until)
+BearsOut (HasLeft head seconds) until =
+    (reading : ℕ) × IsSentAt head reading × (reading < until) × (seconds ≡ seconds_left until reading)
+BearsOut (EndsIn second) until = until / 1000 ≡ second
+BearsOut (IsListed digits) until = decimal (until / 1000) ≡ digits
+
+-- ---- who tells it
+
+-- The message is about the ticket. It tells that a grant was done; or it names this member as the ticket's leader, with
+-- seconds left. Members and clients are told so alike, by whatever command.
+abbrev pub PartTells : List ℕ → MemberId → Head → TicketPart → Claim → Type 0
+PartTells name me head part (IsGranted same) =
+    (part.ticket ≡ name) × (head ≡ same) × (head.cmd ≡ RGnt) × (head.result ≡ SUCCESS)
+PartTells name me head part (HasLeft same seconds) =
+    (part.ticket ≡ name) × (head ≡ same) × (part.leader ≡ me) × (part.valid_for ≡ seconds) × (0 < seconds)
+PartTells name me head part claim = ⊥
+
+abbrev pub MessageTells : List ℕ → MemberId → PlainMessage → Claim → Type 0
+MessageTells name me message claim =
+    (part : TicketPart) × (message.content ≡ Ticket part) × PartTells name me message.head part claim
+
+-- a handler is started for a lease that its member has, and told its end; 0 says that there is none
+abbrev pub JobTells : List ℕ → Job → Claim → Type 0
+JobTells name job (EndsIn second) = (job.ticket ≡ name) × (job.expires ≡ second) × (0 < second)
+JobTells name job claim = ⊥
+
+-- none of these bytes is this one
+abbrev pub HasNone : ℕ → List ℕ → Type 0
+HasNone b [] = Unit {0}
+HasNone b (x ∷ xs) = (x ≢ b) × HasNone b xs
+
+-- nothing stands before a line, or a line end
+abbrev pub EndsLine : List ℕ → Type 0
+EndsLine before = (before ≡ []) ⊎ ((earlier : List ℕ) × (before ≡ earlier ++ 10 ∷ []))
+
+-- This is a line of the text, without its line end.
+pub record HasLine (text line : List ℕ) : Type 0 where
+  pub before : List ℕ
+  pub after : List ℕ
+  pub whole : text ≡ before ++ (line ++ 10 ∷ after)
+  pub begins : EndsLine before
+  pub single : HasNone 10 line
+
+-- A list, or a part of one, has a line of the ticket with this address as its owner's.
+abbrev pub ListTells : List ℕ → Address → PlainMessage → Claim → Type 0
+ListTells name address message (IsListed digits) =
+    (text : List ℕ) × (message.head.cmd ≡ RLst) × (message.content ≡ Text text)
+    × HasLine text (name ++ 32 ∷ (printed address ++ 32 ∷ digits))
+ListTells name address message claim = ⊥
+
+-- the entry starts this job; one that failed, or was cut, is one too
+abbrev pub IsStart : SessionEntry → Job → Type 0
+IsStart (Makes (calls.Start number ticket handler local expires answer)) job =
+    record { number = number; ticket = ticket; handler = handler; local = local; expires = expires } ≡ job
+IsStart (IsCut (CutStart started)) job = started ≡ job
+IsStart what job = ⊥
+
+-- the entry sends a message that tells so, or a list that does
+abbrev pub SendTells : List ℕ → MemberId → Address → SessionEntry → Claim → Type 0
+SendTells name me address what claim =
+    (bytes : List ℕ) × (message : PlainMessage) × IsSend what bytes × (decoded bytes ≡ Ok message)
+    × (MessageTells name me message claim ⊎ ListTells name address message claim)
+
+-- the entry starts a job that is told so
+abbrev pub StartTells : List ℕ → SessionEntry → Claim → Type 0
+StartTells name what claim = (job : Job) × IsStart what job × JobTells name job claim
+
+-- the address of the member at a place
+abbrev pub address_at : World → ℕ → Address
+address_at w m = address_in (slice_get w.config.members m)
+
+-- by this entry its member tells of itself as the ticket's holder
+abbrev pub Tells : World → TicketConf → WorldEntry → Claim → Type 0
+Tells w ticket entry claim =
+    SendTells ticket.name (id_at w entry.member) (address_at w entry.member) entry.what claim
+    ⊎ StartTells ticket.name entry.what claim
+
+-- ---- the laws
+
+-- the next entry of the world is this one
+abbrev pub IsNext : {w : World} → Moment w → WorldEntry → Type 0
+IsNext moment entry = (after : List WorldEntry) × (moment.after ≡ entry ∷ after)
+
+-- the claim is not over at what the member's clock reads: each end that bears it out is above that
+abbrev pub IsLive : (w : World) → ℕ → Moment w → Claim → Type 0
+IsLive w m moment claim = (until : ℕ) → BearsOut claim until → clock_at w m moment.time < until
+
+-- A claim is not over at readings below what it says itself: below the second in which a lease is told to end; for a
+-- message, up to the reading that it bears, with the seconds that it says are left, but for one.
+pub record ClaimsLast : Type 0 where
+  pub ends_in : (w : World) (m : ℕ) (moment : Moment w) (second : ℕ) → clock_at w m moment.time < 1000 * second
+      → IsLive w m moment (EndsIn second)
+  pub has_left : (w : World) (m : ℕ) (moment : Moment w) (head : Head) (seconds : ℕ) → head.secs < 4294967295
+      → clock_at w m moment.time ≤ 1000 * head.secs + head.usecs / 1000 + 1000 * (seconds - 1)
+      → IsLive w m moment (HasLeft head seconds)
+  pub granted : (w : World) (m : ℕ) (moment : Moment w) (head : Head) → head.secs < 4294967295
+      → clock_at w m moment.time ≤ 1000 * head.secs + head.usecs / 1000 → IsLive w m moment (IsGranted head)
+
+-- just before a member tells of itself as the holder, it may have kept a record whose lease bears that out
+abbrev pub TellersHaveKeptIn : World → Type 0
+TellersHaveKeptIn w =
+    (place : ℕ) (ticket : TicketConf) → IsAutomatic w place ticket
+    → (moment : Moment w) (entry : WorldEntry) → IsNext moment entry → (claim : Claim) → Tells w ticket entry claim
+    → (kept : Record) × Has (may_at w place ticket entry.member moment) kept
+    × IsSomeAnd kept.lease (λ lease. BearsOut claim lease.until)
+
+abbrev pub WhoTellsHasKept : Type 0
+WhoTellsHasKept = (w : World) → IsWorld w → TellersHaveKeptIn w
+
+-- so it holds the ticket there, while the claim is not over, and no other does
+abbrev pub TellersHoldIn : World → Type 0
+TellersHoldIn w =
+    (place : ℕ) (ticket : TicketConf) → IsAutomatic w place ticket
+    → (moment : Moment w) (entry : WorldEntry) → IsNext moment entry → (claim : Claim) → Tells w ticket entry claim
+    → IsLive w entry.member moment claim
+    → Holds w place ticket entry.member moment
+    × ((other : ℕ) → Holds w place ticket other moment → entry.member ≡ other)
+
+abbrev pub WhoTellsHolds : Type 0
+WhoTellsHolds = (w : World) → IsWorld w → TellersHoldIn w
+
+-- Where one member tells of itself as the holder, and another later, and neither claim is over as it is told, then
+-- acquire-after lies between, or the first gave its lease back in between. So they never tell it at one moment.
+abbrev pub TellersAreApartIn : World → Type 0
+TellersAreApartIn w =
+    (place : ℕ) (ticket : TicketConf) → IsAutomatic w place ticket
+    → (early late : Moment w) (between : List WorldEntry) → IsLater w early late between
+    → (first second : WorldEntry) → IsNext early first → IsNext late second → first.member ≢ second.member
+    → (claim other : Claim) → Tells w ticket first claim → Tells w ticket second other
+    → IsLive w first.member early claim → IsLive w second.member late other
+    → AreApart (cluster_of w place ticket) early.time late.time
+    ⊎ ((kept : Record) × IsSomeAnd kept.lease (λ lease. BearsOut claim lease.until)
+    × ReleasedIn w ticket first.member kept early.before between)
+
+abbrev pub TellersAreApart : Type 0
+TellersAreApart = (w : World) → IsWorld w → TellersAreApartIn w
