@@ -23,9 +23,10 @@ pub data Service : Type 0 where
   Started : Service
   Over : Service
 
--- What the last list shows, with the end that the last list of this site told and the latest end that one told; whether
--- the end was asked for; what the program was run for last, and that run's number; the service, and the reading at which
--- it was over; the reading of the first of the kills that were made last; the last reading; whether the follower left.
+-- What the last list shows, with the end that the last list of this site told and the latest end that one told;
+-- whether the end was asked for; what the program was run for last, and that run's number; the service, and the
+-- reading at which it was over; the reading of the first of the kills that were made last; the last reading; whether
+-- the follower left.
 pub record Known : Type 0 where
   pub here : Bool
   pub end : ℕ

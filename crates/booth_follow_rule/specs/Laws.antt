@@ -21,7 +21,8 @@ pub record IsHeld (m : Margins) (reading : ℕ) (now : Known) : Type 0 where
   pub here : now.here ≡ true
   pub in_time : reading + m.margin < now.end
 
--- why a service that was started is ended: the end was asked for, its run told that it is none, or the ticket is not held
+-- why a service that was started is ended: the end was asked for, its run told that it is none, or the ticket is not
+-- held
 abbrev pub IsDue : Margins → ℕ → Option RunEnd → Known → Type 0
 IsDue m reading how now = (now.asked ≡ true) ⊎ ((how ≡ Some Failed) ⊎ (IsHeld m reading now → ⊥))
 
@@ -38,8 +39,8 @@ IsStopLet m reading how now None = Unit {0}
 IsStopLet m reading how now (Some Start) = IsDue m reading how now × (reading + m.kill < now.end)
 IsStopLet m reading how now last = ⊥
 
--- A kill: there is no time to stop; or the stop failed, or its time is over; or a kill is made once more. What an earlier
--- follower may have left has no end that was told.
+-- A kill: there is no time to stop; or the stop failed, or its time is over; or a kill is made once more. What an
+-- earlier follower may have left has no end that was told.
 abbrev pub IsKillLet : Margins → ℕ → Option RunEnd → Known → Option Word → Type 0
 IsKillLet m reading how now (Some Start) = IsDue m reading how now × (now.end ≤ reading + m.kill)
 IsKillLet m reading how now (Some Stop) =
@@ -80,8 +81,9 @@ abbrev pub IsRowLet : Margins → Known → Row → Type 0
 IsRowLet m k row =
     IsLet m row.at.reading (end_of k.number row.at.heard) k.service (known_at k row) row.deed
 
--- Each deed of a follower is let by what is known, and where one is due it is not left out. So a start is made only where
--- the last list shows this site, for longer than the margin, and a stop or a kill was done and no start made since.
+-- Each deed of a follower is let by what is known, and where one is due it is not left out. So a start is made only
+-- where the last list shows this site, for longer than the margin, and a stop or a kill was done and no start made
+-- since.
 pub record DeedsAreLet : Type 0 where
   pub rows : (m : Margins) (moments : List Moment) → AllRows (IsRowLet m) nothing_known (rows_of m moments)
   pub deeds : (m : Margins) (moments : List Moment) → map (λ row. row.deed) (rows_of m moments) ≡ follow_deeds m moments
@@ -128,8 +130,8 @@ abbrev pub HasTold : ℕ → List Row → Type 0
 HasTold until [] = ⊥
 HasTold until (row ∷ rows) = (row.at.heard ≡ news.List (Here until)) ⊎ HasTold until rows
 
--- This site is known as the holder where the last list shows it, until that end; and the latest end, where there is one, is
--- one that a list told.
+-- This site is known as the holder where the last list shows it, until that end; and the latest end, where there is
+-- one, is one that a list told.
 pub record KnowsWhatIsHeard : Type 0 where
   pub last : (rows : List Row) → (known_from nothing_known rows).here ≡ true →
       last_shown None rows ≡ Some (Here (known_from nothing_known rows).end)

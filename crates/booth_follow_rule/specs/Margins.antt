@@ -16,16 +16,16 @@ least_kill = 1000
 abbrev pub rest : ℕ
 rest = 5000
 
--- The times that are asked for. The default of the margin is half of what is left of a lease at its renewal, and that of
--- the kill half of the margin.
+-- The times that are asked for. The default of the margin is half of what is left of a lease at its renewal, and that
+-- of the kill half of the margin.
 abbrev pub margins_with : ℕ → Option ℕ → Margins
 margins_with margin kill = record { margin = margin; kill = unwrap_or kill (margin / 2); pause = rest }
 
 abbrev pub margins_of : ℕ → ℕ → Option ℕ → Option ℕ → Margins
 margins_of expire renewal margin kill = margins_with (unwrap_or margin ((expire - renewal) / 2)) kill
 
--- A lease that is renewed has more than the margin left until the next renewal is over; a stop has time before the kill,
--- and the kill has time.
+-- A lease that is renewed has more than the margin left until the next renewal is over; a stop has time before the
+-- kill, and the kill has time.
 pub record Fits (expire renewal : ℕ) (m : Margins) : Type 0 where
   pub renewed : m.margin + slack + renewal ≤ expire
   pub stop : m.kill < m.margin
@@ -35,4 +35,5 @@ pub record Fits (expire renewal : ℕ) (m : Margins) : Type 0 where
 abbrev pub HasFault : ℕ → ℕ → Margins → MarginFault → Type 0
 HasFault expire renewal m MarginTooLong = expire < m.margin + slack + renewal
 HasFault expire renewal m KillTooLong = (m.margin + slack + renewal ≤ expire) × (m.margin ≤ m.kill)
-HasFault expire renewal m KillTooShort = (m.margin + slack + renewal ≤ expire) × (m.kill < m.margin) × (m.kill < least_kill)
+HasFault expire renewal m KillTooShort =
+    (m.margin + slack + renewal ≤ expire) × (m.kill < m.margin) × (m.kill < least_kill)

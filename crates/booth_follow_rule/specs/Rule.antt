@@ -28,7 +28,8 @@ moved (Stopping by) until = Stopping until
 moved stage until = stage
 
 abbrev pub hears : State → News → State
-hears s (news.List (Here until)) = record { here = true; until = until; asked = s.asked; run = s.run; stage = moved s.stage until }
+hears s (news.List (Here until)) =
+    record { here = true; until = until; asked = s.asked; run = s.run; stage = moved s.stage until }
 hears s (news.List Elsewhere) = record { here = false; until = s.until; asked = s.asked; run = s.run; stage = s.stage }
 hears s news.Stop = record { here = s.here; until = s.until; asked = true; run = s.run; stage = s.stage }
 hears s news.Nothing = s

@@ -1,4 +1,5 @@
-//! The rule by which a service follows its ticket: when it is started, stopped and killed. No clock, no program, no list.
+//! The rule by which a service follows its ticket: when it is started, stopped and killed. No clock, no program, no
+//! list.
 #![tactic(auto)]
 
 mod follower;

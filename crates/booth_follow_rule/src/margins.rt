@@ -44,8 +44,8 @@ fn is_too_long(expire: u64, renewal: u64, margin: u64) -> bool
 }
 
 impl Margins {
-    /// The times for a ticket with this `expire` and this time between two renewals. Where they are not given, the margin is
-    /// half of what is left of a lease at its renewal, and the time of a kill half of the margin.
+    /// The times for a ticket with this `expire` and this time between two renewals. Where they are not given, the
+    /// margin is half of what is left of a lease at its renewal, and the time of a kill half of the margin.
     pub fn choose(
         expire: u64,
         renewal: u64,

@@ -1,6 +1,7 @@
 -- A service's calls from their parts.
 use Rattle.std.specs.Prelude.{Option, None, Ok, Err}
 use Rattle.std.proofs.Common.{◌≡◌, ◌++◌, ℕ, List, [], ◌∷◌, refl, sym, ap, subst}
+use Rattle.booth_keys.specs.declared.ring.Ring.{Ring}
 use Rattle.booth_conf.specs.Config.{ConfigSays}
 use Rattle.booth_follow_rule.specs.declared.margins.Margins.{Margins}
 use Rattle.booth_following.specs.declared.choosing.FollowFault.{FollowFault}
@@ -18,7 +19,7 @@ use Rattle.booth_stages.specs.declared.outcome.Ended.{Ended}
 use Rattle.booth_stages.specs.declared.outcome.Outcome.{Outcome}
 use Rattle.booth_stages.specs.declared.outcome.Outcome.TheVariants as outs
 use Rattle.booth_stages.specs.Configuration.{IsConfigRead, IsUnreadOutcome}
-use Rattle.booth_stages.specs.Keys.{IsKeyRead, IsKeylessOutcome}
+use Rattle.booth_stages.specs.Keys.{IsRingRead, IsKeylessOutcome}
 use Rattle.booth_stages.specs.Texts.{not_followed_text, out_of_memory_text}
 use Rattle.booth_followers.specs.Service.{EndsAs, FollowsConfig, FollowsKey, FollowsMargins, IsFollowAnswered, IsFollowLog, IsService, IsStarted, daemon_of}
 use Rattle.booth_followers.specs.Service.{Fitted, Keyed, Keyless, Read, Roomless, Serving, SetOut, Unfollowed, Unread}
@@ -52,30 +53,30 @@ opened conf f outcome said socket serves =
 
 -- ---- the memory
 
-module _ (asked : FollowWords) (config : ConfigSays) (key : Option (List ℕ)) (margins : Margins) where
+module _ (asked : FollowWords) (config : ConfigSays) (ring : Option Ring) (margins : Margins) where
   pub no_room : (ended : Ended) {a : Option (List Entry)} → ended.outcome ≡ outs.OutOfMemory → ended.said ≡ out_of_memory_text →
-      GrewSome (FollowsKey asked config key margins ended.outcome ended.said) a a
+      GrewSome (FollowsKey asked config ring margins ended.outcome ended.said) a a
   no_room ended out is =
-      some_of (FollowsKey asked config key margins ended.outcome ended.said) no_entry
-      (subst (λ outcome. FollowsKey asked config key margins outcome ended.said []) (sym out) (Roomless (is, refl)))
+      some_of (FollowsKey asked config ring margins ended.outcome ended.said) no_entry
+      (subst (λ outcome. FollowsKey asked config ring margins outcome ended.said []) (sym out) (Roomless (is, refl)))
 
   pub set_out : (f : Following) (outcome : Outcome) (said : List ℕ) {a b : Option (List Entry)} →
-      IsFollowing key asked.ticket (daemon_of asked config) asked.program margins f →
-      GrewSome (IsStarted asked.conf f outcome said) a b → GrewSome (FollowsKey asked config key margins outcome said) a b
+      IsFollowing ring asked.ticket (daemon_of asked config) asked.program margins f →
+      GrewSome (IsStarted asked.conf f outcome said) a b → GrewSome (FollowsKey asked config ring margins outcome said) a b
   set_out f outcome said is starts =
-      some_weaker (IsStarted asked.conf f outcome said) (FollowsKey asked config key margins outcome said)
+      some_weaker (IsStarted asked.conf f outcome said) (FollowsKey asked config ring margins outcome said)
       (λ es h. SetOut (record { f = f; is = is; starts = h })) starts
 
 -- ---- the key
 
 module _ (asked : FollowWords) (config : ConfigSays) (margins : Margins) where
-  pub with_key : (key : Option (List ℕ)) (outcome : Outcome) (said : List ℕ) {a b c : Option (List Entry)} →
-      GrewSome (IsKeyRead config.authfile (Ok key)) a b → GrewSome (FollowsKey asked config key margins outcome said) b c →
+  pub with_key : (ring : Option Ring) (outcome : Outcome) (said : List ℕ) {a b c : Option (List Entry)} →
+      GrewSome (IsRingRead config.authfile (Ok ring)) a b → GrewSome (FollowsKey asked config ring margins outcome said) b c →
       GrewSome (FollowsMargins asked config margins outcome said) a c
-  with_key key outcome said read follows =
-      some_joined (IsKeyRead config.authfile (Ok key)) (FollowsKey asked config key margins outcome said) (FollowsMargins asked config margins outcome said)
+  with_key ring outcome said read follows =
+      some_joined (IsRingRead config.authfile (Ok ring)) (FollowsKey asked config ring margins outcome said) (FollowsMargins asked config margins outcome said)
       (λ xs ys h k. Keyed (record {
-        key = key;
+        ring = ring;
         text = h.0;
         holds = h.1;
         rest = ys;
@@ -83,10 +84,10 @@ module _ (asked : FollowWords) (config : ConfigSays) (margins : Margins) where
         here = k;
       })) read follows
 
-  pub without_key : (ended : Ended) {a b : Option (List Entry)} → GrewSome (IsKeyRead config.authfile (Err ended)) a b →
+  pub without_key : (ended : Ended) {a b : Option (List Entry)} → GrewSome (IsRingRead config.authfile (Err ended)) a b →
       GrewSome (FollowsMargins asked config margins ended.outcome ended.said) a b
   without_key ended read =
-      some_weaker (IsKeyRead config.authfile (Err ended)) (FollowsMargins asked config margins ended.outcome ended.said) (λ es h. Keyless h) read
+      some_weaker (IsRingRead config.authfile (Err ended)) (FollowsMargins asked config margins ended.outcome ended.said) (λ es h. Keyless h) read
 
 -- ---- the margins and the configuration
 

@@ -31,8 +31,8 @@ pub record AskToFollow (words : List (List ℕ)) : Type 0 where
   pub asked : FollowWords
   pub asks : AsksFollow words asked
 
--- Usage comes only for words that are not taken, BadWord exactly where that word is the first refused, and PrintFault only
--- where help or the version was asked for.
+-- Usage comes only for words that are not taken, BadWord exactly where that word is the first refused, and PrintFault
+-- only where help or the version was asked for.
 abbrev pub FitsFollowWords : List (List ℕ) → Outcome → Type 0
 FitsFollowWords words (Usage None) = verb_in BoothFollow words ≡ None
 FitsFollowWords words (Usage (Some kind)) = IsUntaken BoothFollow words kind

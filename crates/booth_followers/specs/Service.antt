@@ -1,5 +1,6 @@
 -- The calls of a service that was asked for, up to where its outcome is decided, and what is then said.
 use Rattle.std.specs.Prelude.{◌≡◌, ◌++◌, ℕ, List, [], ◌∷◌, Option, None, Ok, Err, codes}
+use Rattle.booth_keys.specs.declared.ring.Ring.{Ring}
 use Rattle.booth_base.specs.declared.address.Peer.{Peer}
 use Rattle.booth_conf.specs.Config.{ConfigSays}
 use Rattle.booth_conf.specs.Says.{Says}
@@ -17,7 +18,7 @@ use Rattle.booth_words.specs.declared.asking.FollowWords.{FollowWords}
 use Rattle.booth_stages.specs.declared.outcome.Outcome.{Outcome}
 use Rattle.booth_stages.specs.declared.outcome.Outcome.TheVariants as outs
 use Rattle.booth_stages.specs.Configuration.{IsUnread}
-use Rattle.booth_stages.specs.Keys.{HasKey, IsKeyless, key_calls}
+use Rattle.booth_stages.specs.Keys.{HasRing, IsKeyless, key_calls}
 use Rattle.booth_stages.specs.Texts.{not_followed_text, out_of_memory_text, unopened_text}
 
 -- ---- how it ends
@@ -43,12 +44,14 @@ IsSocketless conf outs.OpenFault said entries = (said ≡ unopened_text)
 IsSocketless conf outcome said entries = ⊥
 
 -- it was opened at any address and port, under this configuration, and then the service followed its ticket
-pub record IsServing (conf : List ℕ) (f : Following) (outcome : Outcome) (said : List ℕ) (entries : List Entry) : Type 0 where
+pub record IsServing (conf : List ℕ) (f : Following) (outcome : Outcome) (said : List ℕ) (entries : List Entry)
+    : Type 0 where
   pub rest : List Entry
   pub whole : entries ≡ Open None 0 [] conf (Ok tt) ∷ rest
   pub serves : IsService f outcome said rest
 
-pub data IsStarted (conf : List ℕ) (f : Following) (outcome : Outcome) (said : List ℕ) (entries : List Entry) : Type 0 where
+pub data IsStarted (conf : List ℕ) (f : Following) (outcome : Outcome) (said : List ℕ) (entries : List Entry)
+    : Type 0 where
   Socketless : IsSocketless conf outcome said entries → IsStarted conf f outcome said entries
   Serving : IsServing conf f outcome said entries → IsStarted conf f outcome said entries
 
@@ -59,10 +62,10 @@ abbrev pub daemon_of : FollowWords → ConfigSays → Peer
 daemon_of asked config = record { address = asked.site; port = config.port }
 
 -- a following of what was asked for, and its calls
-pub record IsSetOut (asked : FollowWords) (config : ConfigSays) (key : Option (List ℕ)) (margins : Margins)
+pub record IsSetOut (asked : FollowWords) (config : ConfigSays) (ring : Option Ring) (margins : Margins)
     (outcome : Outcome) (said : List ℕ) (entries : List Entry) : Type 0 where
   pub f : Following
-  pub is : IsFollowing key asked.ticket (daemon_of asked config) asked.program margins f
+  pub is : IsFollowing ring asked.ticket (daemon_of asked config) asked.program margins f
   pub starts : IsStarted asked.conf f outcome said entries
 
 -- there was no memory
@@ -71,21 +74,21 @@ IsRoomless outs.OutOfMemory said entries = (said ≡ out_of_memory_text) × (ent
 IsRoomless outcome said entries = ⊥
 
 -- what follows the key
-pub data FollowsKey (asked : FollowWords) (config : ConfigSays) (key : Option (List ℕ)) (margins : Margins)
+pub data FollowsKey (asked : FollowWords) (config : ConfigSays) (ring : Option Ring) (margins : Margins)
     (outcome : Outcome) (said : List ℕ) (entries : List Entry) : Type 0 where
-  Roomless : IsRoomless outcome said entries → FollowsKey asked config key margins outcome said entries
-  SetOut : IsSetOut asked config key margins outcome said entries →
-      FollowsKey asked config key margins outcome said entries
+  Roomless : IsRoomless outcome said entries → FollowsKey asked config ring margins outcome said entries
+  SetOut : IsSetOut asked config ring margins outcome said entries →
+      FollowsKey asked config ring margins outcome said entries
 
 -- the key was read, where one is set, and then these calls were made
 pub record IsKeyed (asked : FollowWords) (config : ConfigSays) (margins : Margins) (outcome : Outcome) (said : List ℕ)
     (entries : List Entry) : Type 0 where
-  pub key : Option (List ℕ)
+  pub ring : Option Ring
   pub text : List ℕ
-  pub holds : HasKey config.authfile text key
+  pub holds : HasRing config.authfile text ring
   pub rest : List Entry
   pub whole : entries ≡ key_calls config.authfile text ++ rest
-  pub here : FollowsKey asked config key margins outcome said rest
+  pub here : FollowsKey asked config ring margins outcome said rest
 
 -- what follows margins that fit
 pub data FollowsMargins (asked : FollowWords) (config : ConfigSays) (margins : Margins) (outcome : Outcome)
@@ -103,8 +106,8 @@ IsUnfollowed asked config (outs.NotFollowed fault) said entries =
 IsUnfollowed asked config outcome said entries = ⊥
 
 -- the margins fit, and then these calls were made
-pub record IsFitted (asked : FollowWords) (config : ConfigSays) (outcome : Outcome) (said : List ℕ) (entries : List Entry)
-    : Type 0 where
+pub record IsFitted (asked : FollowWords) (config : ConfigSays) (outcome : Outcome) (said : List ℕ)
+    (entries : List Entry) : Type 0 where
   pub margins : Margins
   pub chosen : IsChosen config asked.ticket asked.site asked.margin asked.kill margins
   pub here : FollowsMargins asked config margins outcome said entries

@@ -37,10 +37,10 @@ fn run_words<H: Host>(alloc: Global, words: &[String], host: &mut H) -> Ended
 
 /// Runs `booth-follow` with these words, of which the first is the name that it was run by, over this host.
 ///
-/// It reads the configuration, sees that the ticket can be followed at this site with these margins, reads the key where
-/// `authfile` is set, and opens a socket. Then the service follows its ticket: the daemon of this site is asked for the
-/// list once a second, and the program is run with `start`, `stop` or `kill` behind its arguments, until the host says
-/// `Stop`.
+/// It reads the configuration, sees that the ticket can be followed at this site with these margins, reads the key
+/// where `authfile` is set, and opens a socket. Then the service follows its ticket: the daemon of this site is asked
+/// for the list once a second, and the program is run with `start`, `stop` or `kill` behind its arguments, until the
+/// host says `Stop`.
 pub fn booth_follow<H: Host>(alloc: Global, words: &[String], host: &mut H) -> Outcome
     // Where the host tells its calls: exactly these, by how the run ended.
     ensures past { GrewSome (IsFollowRun (map string_bytes words.now) result) (H.past host.old) (H.past host.new) }

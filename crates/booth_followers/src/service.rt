@@ -7,13 +7,13 @@ ghost use Rattle.booth_stages.specs.Outcomes.{HasBlame};
 ghost use Rattle.booth_followers.specs.Service.{EndsAs, FollowsConfig, FollowsKey, FollowsMargins, IsFollowAnswered};
 ghost use Rattle.booth_followers.specs.Service.{IsFollowLog, IsService, IsStarted};
 
-use booth_auth::Key;
 use booth_base::{PathText, Peer};
 use booth_conf::Config;
 use booth_follow_rule::Margins;
 use booth_following::{FollowEnd, Following, Room, follow, margins_for};
 use booth_host::{Failed, Host, Place};
-use booth_stages::{Ended, ErrorLine, Outcome, read_config, read_key, texts};
+use booth_keys::Ring;
+use booth_stages::{Ended, ErrorLine, Outcome, read_config, read_ring, texts};
 use booth_words::FollowWords;
 use std::alloc::Global;
 
@@ -88,11 +88,11 @@ fn set_out<H: Host>(
     alloc: Global,
     asked: FollowWords,
     config: Config,
-    key: Option<Key>,
+    ring: Option<Ring>,
     margins: Margins,
     host: &mut H,
 ) -> Ended
-    ensures past { GrewSome (FollowsKey asked config key margins result.outcome result.said)
+    ensures past { GrewSome (FollowsKey asked config ring margins result.outcome result.said)
         (H.past host.old) (H.past host.new) }
     ensures served { IsFollowAnswered result.outcome }
     ensures blame { HasBlame result.outcome (H.faults host.old) (H.faults host.new) }
@@ -105,7 +105,7 @@ fn set_out<H: Host>(
     let Ok(mut room) = Room::new(alloc) else {
         return Ended::out_of_memory();
     };
-    let Ok(f) = Following::new(alloc, key, asked.ticket, to, asked.program, margins) else {
+    let Ok(f) = Following::new(alloc, ring, asked.ticket, to, asked.program, margins) else {
         return Ended::out_of_memory();
     };
     start(asked.conf, &f, &mut room, host)
@@ -125,8 +125,8 @@ fn follow_with<H: Host>(
     ensures blame { HasBlame result.outcome (H.faults host.old) (H.faults host.new) }
     ensures later { H.faults host.old ≤ H.faults host.new }
 {
-    match read_key(alloc, &config, host) {
-        Ok(key) => set_out(alloc, asked, config, key, margins, host),
+    match read_ring(alloc, &config, host) {
+        Ok(ring) => set_out(alloc, asked, config, ring, margins, host),
         Err(ended) => ended,
     }
 }

@@ -1,16 +1,20 @@
 -- The runs are the rule's, and the lists authentic.
-use Rattle.std.proofs.Common.{◌≡◌, ◌==◌, ℕ, Bool, true, false, List, [], ◌∷◌, map, Option, Some, None, Result, Ok, Err, cond, refl, ap, ◌*◌, ◌/◌, decimal, arith, sym, ◌∙◌}
+use Rattle.std.proofs.Common.{◌≡◌, ◌==◌, ◌||◌, ℕ, Bool, true, false, List, [], ◌∷◌, map, Option, Some, None, Result, Ok, Err, cond, refl, ap, ◌*◌, ◌/◌, decimal, arith, sym, subst, ◌∙◌, ◌⊎◌, inl, inr}
 use Rattle.std.proofs.lemmas.Bool.{eqb-true, eq-eqb}
 use Rattle.std.proofs.lemmas.Fmt.{decimal_injective}
 use Rattle.std.proofs.lemmas.List.{append_cancel_left}
 use Rattle.booth_following.proofs.LineLemmas.{few_seconds}
 use Rattle.booth_wire.specs.declared.command.Cmd.TheVariants.{RLst}
+use Rattle.booth_wire.specs.declared.codes.results.TheConstants.{MORE, SUCCESS}
 use Rattle.booth_wire.specs.declared.message.FrameFault.{FrameFault}
 use Rattle.booth_wire.specs.Command.{code_of}
 use Rattle.booth_wire.specs.PlainMessage.{Bare, Ticket, Attr, Text, Content, PlainMessage}
 use Rattle.booth_wire.specs.Reading.{decoded}
 use Rattle.booth_wire.proofs.ByteLemmas.{and_split}
 use Rattle.booth_auth.specs.Verdict.{is_signed}
+use Rattle.booth_follow_rule.specs.declared.news.News.{News}
+use Rattle.booth_follow_rule.specs.declared.news.News.TheVariants as news
+use Rattle.booth_follow_rule.specs.declared.news.Shown.{Shown}
 use Rattle.booth_follow_rule.specs.declared.state.FollowDeed.{FollowDeed}
 use Rattle.booth_follow_rule.proofs.KnownLemmas.{deeds_let}
 use Rattle.booth_follow_rule.proofs.TimeLemmas.{in_time}
@@ -18,8 +22,9 @@ use Rattle.booth_follow_rule.specs.Rule.{deeds_from}
 use Rattle.booth_following.specs.declared.following.Following.{Following}
 use Rattle.booth_following.specs.declared.following.Seat.{Seat}
 use Rattle.booth_following.specs.Asking.{number_of}
-use Rattle.booth_following.specs.Hearing.{is_answer, list_text, text_in, text_read}
+use Rattle.booth_following.specs.Hearing.{IsTold, is_answer, is_of_list, is_whole, part_in, part_of, part_read}
 use Rattle.booth_following.specs.Laws.{EndsAreNoLater, IsAuthentic, ListsAreAuthentic, TurnsFollowTheRule}
+use Rattle.booth_following.specs.Lists.{IsShownIn, Part, TellsOf}
 use Rattle.booth_following.specs.Turns.{Turn, deed_of, deeds_of, first_seat, moment_of, seat_after}
 
 -- ---- the rule's runs
@@ -41,24 +46,47 @@ follow_rule = record {
 -- ---- lists
 
 -- a test under which something is found
-passed : (test : Bool) (then : Option (List ℕ)) (r : List ℕ) → cond test then None ≡ Some r → (test ≡ true) × (then ≡ Some r)
-passed true then r h = (refl, h)
-passed false then r h = absurd cc
+passed : (test : Bool) (then : Option Part) (part : Part) → cond test then None ≡ Some part → (test ≡ true) × (then ≡ Some part)
+passed true then part h = (refl, h)
+passed false then part h = absurd cc
 
-some_text : (content : Content) (text : List ℕ) → list_text content ≡ Some text → content ≡ Text text
-some_text (Text other) text h = let same : other ≡ text = cc in ap (λ (t : List ℕ). Text t) same
-some_text Bare text h = absurd cc
-some_text (Ticket part) text h = absurd cc
-some_text (Attr part) text h = absurd cc
+-- what is found is of this text, and the whole list or not
+record IsFound (whole : Bool) (content : Content) (part : Part) : Type 0 where
+  tells : content ≡ Text part.text
+  is_whole : part.whole ≡ whole
 
-authentic : (f : Following) (asked : ℕ) (bytes : List ℕ) (read : Result PlainMessage FrameFault) (text : List ℕ) → decoded bytes ≡ read →
-    text_read f asked bytes read ≡ Some text → (m : PlainMessage) × IsAuthentic f asked bytes m text
-authentic f asked bytes (Ok m) text is h =
-    let signed = passed (is_signed f.key m.head bytes) _ text h in
-    let answer = passed (is_answer f asked m) _ text signed.1 in
+found : (whole : Bool) (content : Content) (part : Part) → part_of whole content ≡ Some part → IsFound whole content part
+found whole (Text text) part h =
+    let same : record { whole = whole; text = text } ≡ part = cc in
+    record { tells = ap (λ (p : Part). Text p.text) same; is_whole = ap (λ (p : Part). p.whole) (sym same) }
+found whole Bare part h = absurd cc
+found whole (Ticket ticket) part h = absurd cc
+found whole (Attr attr) part h = absurd cc
+
+either : (a b : Bool) → (a || b) ≡ true → (a ≡ true) ⊎ (b ≡ true)
+either true b h = inl refl
+either false b h = inr h
+
+of_list : (a b : Bool) (code : ℕ) → (code == SUCCESS) ≡ a → (code == MORE) ≡ b → (a ≡ true) ⊎ (b ≡ true) → (code ≡ SUCCESS) ⊎ (code ≡ MORE)
+of_list a b code success more (inl e) = inl (eqb-true code SUCCESS (success ∙ e))
+of_list a b code success more (inr e) = inr (eqb-true code MORE (more ∙ e))
+
+result_of : (code : ℕ) → is_of_list code ≡ true → (code ≡ SUCCESS) ⊎ (code ≡ MORE)
+result_of code h = of_list (code == SUCCESS) (code == MORE) code refl refl (either (code == SUCCESS) (code == MORE) h)
+
+of_result : (code : ℕ) → (code ≡ SUCCESS) ⊎ (code ≡ MORE) → is_of_list code ≡ true
+of_result code (inl e) = ap is_of_list e
+of_result code (inr e) = ap is_of_list e
+
+authentic : (f : Following) (asked : ℕ) (bytes : List ℕ) (read : Result PlainMessage FrameFault) (part : Part) → decoded bytes ≡ read →
+    part_read f asked bytes read ≡ Some part → (m : PlainMessage) × IsAuthentic f asked bytes m part
+authentic f asked bytes (Ok m) part is h =
+    let signed = passed (is_signed f.ring m.head bytes) _ part h in
+    let answer = passed (is_answer f asked m) _ part signed.1 in
     let command = and_split (code_of m.head.cmd == code_of RLst) _ answer.0 in
     let number = and_split (m.head.request == number_of asked) _ command.1 in
-    let last = and_split (m.head.from.0 == f.me.0) _ number.1 in (
+    let last = and_split (m.head.from.0 == f.me.0) _ number.1 in
+    let is_found = found (is_whole m) m.content part answer.1 in (
       m,
       record {
         read = is;
@@ -66,23 +94,41 @@ authentic f asked bytes (Ok m) text is h =
         answer = eqb-true _ _ command.0;
         number = eqb-true _ _ number.0;
         from = eqb-true _ _ last.0;
-        done = eqb-true _ _ last.1;
-        tells = some_text m.content text answer.1;
+        of_list = result_of m.head.result last.1;
+        tells = is_found.tells;
+        whole = is_found.is_whole;
       },
     )
-authentic f asked bytes (Err fault) text is h = absurd cc
+authentic f asked bytes (Err fault) part is h = absurd cc
 
-only : (f : Following) (asked : ℕ) (bytes text : List ℕ) → text_in f asked bytes ≡ Some text → (m : PlainMessage) × IsAuthentic f asked bytes m text
-unfolding text_in
-only f asked bytes text h = authentic f asked bytes (decoded bytes) text refl h
+only : (f : Following) (asked : ℕ) (bytes : List ℕ) (part : Part) → part_in f asked bytes ≡ Some part → (m : PlainMessage) × IsAuthentic f asked bytes m part
+unfolding part_in
+only f asked bytes part h = authentic f asked bytes (decoded bytes) part refl h
 
-all : (f : Following) (asked : ℕ) (bytes text : List ℕ) (m : PlainMessage) → IsAuthentic f asked bytes m text → text_in f asked bytes ≡ Some text
-unfolding text_in
-all f asked bytes text m is =
-    rw (is.read, is.signed, eq-eqb _ _ is.answer, eq-eqb _ _ is.number, eq-eqb _ _ is.from, eq-eqb _ _ is.done, is.tells) refl
+all : (f : Following) (asked : ℕ) (bytes : List ℕ) (part : Part) (m : PlainMessage) → IsAuthentic f asked bytes m part → part_in f asked bytes ≡ Some part
+unfolding part_in
+all f asked bytes part m is =
+    rw (is.read, is.signed, eq-eqb _ _ is.answer, eq-eqb _ _ is.number, eq-eqb _ _ is.from, of_result m.head.result is.of_list, is.tells, is.whole) refl
+
+-- what shows something is a part that tells of the ticket
+shown_by : (f : Following) (read : Option Part) (shown : Shown) → IsTold f read (news.List shown) →
+    (part : Part) × (read ≡ Some part) × TellsOf f.ticket part × IsShownIn f.line part.text shown
+shown_by f (Some part) shown told = (part, refl, told.0, told.1)
+shown_by f None shown told = absurd cc
+
+no_news : (f : Following) (part : Part) (heard : News) → IsTold f (Some part) heard → (TellsOf f.ticket part → ⊥) → heard ≡ news.Nothing
+no_news f part (news.List shown) told untold = absurd (untold told.0)
+no_news f part (news.End run how) told untold = absurd told
+no_news f part news.Stop told untold = absurd told
+no_news f part news.Nothing told untold = refl
 
 pub lists : ListsAreAuthentic
-lists = record { only = only; all = all }
+lists = record {
+  only = only;
+  all = all;
+  shows = λ f asked bytes shown heard. shown_by f (part_in f asked bytes) shown heard;
+  silent = λ f asked bytes part heard told is untold. no_news f part heard (subst (λ (read : Option Part). IsTold f read heard) is told) untold;
+}
 
 pub no_later : EndsAreNoLater
 no_later start line end until few is told =

@@ -12,16 +12,14 @@ behind_is start line rest until whole told = append_cancel_left start rest (deci
 pub few_seconds : (start line : List ℕ) (until : ℕ) → (told : IsLine start line until) → told.seconds < 2 ^ 64
 few_seconds start line until told = let millis : until ≡ told.seconds * 1000 = told.millis in let small : until < 2 ^ 64 = told.small in omega arith
 
--- the line of a place, whatever is read past the last
-pub line_at : (lines : List (List ℕ)) (start line : List ℕ) (place until : ℕ) → place < length lines → line ≡ get_or lines place line →
-    IsLine start line until → IsLine start (get_or lines place []) until
-line_at lines start line place until lt is told =
-    subst (λ (l : List ℕ). IsLine start l until) (is ∙ get_or_default lines place line [] lt) told
+-- what holds of the line of a place holds, whatever is read past the last
+pub line_at : (P : List ℕ → Type 0) (lines : List (List ℕ)) (line : List ℕ) (place : ℕ) → place < length lines → line ≡ get_or lines place line →
+    P line → P (get_or lines place [])
+line_at P lines line place lt is holds = subst P (is ∙ get_or_default lines place line [] lt) holds
 
-pub line_of : (lines : List (List ℕ)) (start line : List ℕ) (place until : ℕ) → place < length lines → line ≡ get_or lines place line →
-    IsLine start (get_or lines place []) until → IsLine start line until
-line_of lines start line place until lt is told =
-    subst (λ (l : List ℕ). IsLine start l until) (sym (is ∙ get_or_default lines place line [] lt)) told
+pub line_of : (P : List ℕ → Type 0) (lines : List (List ℕ)) (line : List ℕ) (place : ℕ) → place < length lines → line ≡ get_or lines place line →
+    P (get_or lines place []) → P line
+line_of P lines line place lt is holds = subst P (sym (is ∙ get_or_default lines place line [] lt)) holds
 
 -- the seconds times 1000, where they fit
 pub told_until : (start line rest : List ℕ) (seconds : ℕ) (until : Option ℕ) → line ≡ start ++ rest → rest ≡ decimal seconds → seconds < 2 ^ 64 →

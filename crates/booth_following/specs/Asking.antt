@@ -28,4 +28,4 @@ list_request start = record {
 
 -- the bytes that are sent at this reading
 abbrev pub request_bytes : Following → ℕ → List ℕ
-request_bytes f start = sealed f.key (stamped f.key start (list_request start))
+request_bytes f start = sealed f.ring (stamped f.ring start (list_request start))

@@ -40,7 +40,8 @@ abbrev pub margins_in : TicketConf → Option ℕ → Option ℕ → Margins
 margins_in conf margin kill = margins_of conf.times.expire conf.times.renewal margin kill
 
 -- The ticket is there and automatic, a site has the address, and the margins fit.
-pub record IsChosen (config : ConfigSays) (ticket : List ℕ) (site : Address) (margin kill : Option ℕ) (m : Margins) : Type 0 where
+pub record IsChosen (config : ConfigSays) (ticket : List ℕ) (site : Address) (margin kill : Option ℕ) (m : Margins)
+    : Type 0 where
   pub conf : TicketConf
   pub there : ticket_called config ticket ≡ Some conf
   pub at : has_site config site ≡ true
@@ -49,7 +50,8 @@ pub record IsChosen (config : ConfigSays) (ticket : List ℕ) (site : Address) (
   pub fits : Fits conf.times.expire conf.times.renewal m
 
 -- the margins of a ticket that is there and automatic, at a site, have this fault
-pub record IsUnfit (config : ConfigSays) (ticket : List ℕ) (site : Address) (margin kill : Option ℕ) (fault : MarginFault) : Type 0 where
+pub record IsUnfit (config : ConfigSays) (ticket : List ℕ) (site : Address) (margin kill : Option ℕ)
+    (fault : MarginFault) : Type 0 where
   pub conf : TicketConf
   pub there : ticket_called config ticket ≡ Some conf
   pub at : has_site config site ≡ true
@@ -70,5 +72,7 @@ HasFault config ticket site margin kill faults.NotSite =
 HasFault config ticket site margin kill faults.IsManual = IsByHand config ticket site
 HasFault config ticket site margin kill faults.MarginTooLong =
     IsUnfit config ticket site margin kill margin_faults.MarginTooLong
-HasFault config ticket site margin kill faults.KillTooLong = IsUnfit config ticket site margin kill margin_faults.KillTooLong
-HasFault config ticket site margin kill faults.KillTooShort = IsUnfit config ticket site margin kill margin_faults.KillTooShort
+HasFault config ticket site margin kill faults.KillTooLong =
+    IsUnfit config ticket site margin kill margin_faults.KillTooLong
+HasFault config ticket site margin kill faults.KillTooShort =
+    IsUnfit config ticket site margin kill margin_faults.KillTooShort

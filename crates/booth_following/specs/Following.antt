@@ -1,5 +1,6 @@
 -- What is followed.
 use Rattle.std.specs.Prelude.{◌≡◌, ℕ, List, Option}
+use Rattle.booth_keys.specs.declared.ring.Ring.{Ring}
 use Rattle.booth_base.specs.declared.address.Peer.{Peer}
 use Rattle.booth_base.specs.Address.{id_of}
 use Rattle.booth_follow_rule.specs.declared.margins.Margins.{Margins}
@@ -8,9 +9,9 @@ use Rattle.booth_following.specs.declared.programs.Programs.{Programs}
 use Rattle.booth_following.specs.Lists.{line_start}
 
 -- made of these, for the site at the address at which its daemon listens
-pub record IsFollowing (key : Option (List ℕ)) (ticket : List ℕ) (to : Peer) (programs : Programs) (margins : Margins)
+pub record IsFollowing (ring : Option Ring) (ticket : List ℕ) (to : Peer) (programs : Programs) (margins : Margins)
     (f : Following) : Type 0 where
-  pub key_is : f.key ≡ key
+  pub key_is : f.ring ≡ ring
   pub ticket_is : f.ticket ≡ ticket
   pub to_is : f.to ≡ to
   pub me_is : f.me ≡ record { 0 = id_of to.address }

@@ -1,6 +1,6 @@
 -- What an arrival tells a follower.
-use Rattle.std.specs.Prelude.{◌≡◌, ◌==◌, ◌&&◌, ℕ, zero, pos, ℤ, Bool, List, Option, Some, None, Result, Ok, Err, if◌then◌else◌}
-use Rattle.booth_wire.specs.declared.codes.results.TheConstants.{SUCCESS}
+use Rattle.std.specs.Prelude.{◌≡◌, ◌==◌, ◌&&◌, ◌||◌, ℕ, zero, pos, ℤ, Bool, List, Option, Some, None, Result, Ok, Err, if◌then◌else◌}
+use Rattle.booth_wire.specs.declared.codes.results.TheConstants.{MORE, SUCCESS}
 use Rattle.booth_wire.specs.declared.command.Cmd.TheVariants.{RLst}
 use Rattle.booth_wire.specs.declared.message.FrameFault.{FrameFault}
 use Rattle.booth_wire.specs.Command.{code_of}
@@ -14,41 +14,51 @@ use Rattle.booth_follow_rule.specs.declared.news.News.{News}
 use Rattle.booth_follow_rule.specs.declared.news.News.TheVariants as news
 use Rattle.booth_follow_rule.specs.declared.news.RunEnd.{RunEnd}
 use Rattle.booth_follow_rule.specs.declared.news.RunEnd.TheVariants.{Done, Failed}
-use Rattle.booth_follow_rule.specs.declared.news.Shown.{Shown}
 use Rattle.booth_following.specs.declared.following.Following.{Following}
 use Rattle.booth_following.specs.Asking.{number_of}
-use Rattle.booth_following.specs.Lists.{IsShownIn}
+use Rattle.booth_following.specs.Lists.{IsShownIn, Part, TellsOf}
 
 -- ---- lists
 
--- this site's answer to the request for a list that was sent at a reading
+-- the result of each part of a list: More, and 0 of the last one
+abbrev pub is_of_list : ℕ → Bool
+is_of_list result = (result == SUCCESS) || (result == MORE)
+
+-- a part that this site answers to the request for a list that was sent at a reading
 abbrev pub is_answer : Following → ℕ → PlainMessage → Bool
 is_answer f asked m =
     (code_of m.head.cmd == code_of RLst)
-    && ((m.head.request == number_of asked) && ((m.head.from.0 == f.me.0) && (m.head.result == SUCCESS)))
+    && ((m.head.request == number_of asked) && ((m.head.from.0 == f.me.0) && is_of_list m.head.result))
 
-abbrev pub list_text : Content → Option (List ℕ)
-list_text (Text text) = Some text
-list_text content = None
+-- the part is the whole list: the first is the last
+abbrev pub is_whole : PlainMessage → Bool
+is_whole m = (m.head.options == 0) && (m.head.result == SUCCESS)
 
-abbrev pub text_read : Following → ℕ → List ℕ → Result PlainMessage FrameFault → Option (List ℕ)
-text_read f asked bytes (Ok m) =
-    if is_signed f.key m.head bytes then (if is_answer f asked m then list_text m.content else None) else None
-text_read f asked bytes (Err fault) = None
+abbrev pub part_of : Bool → Content → Option Part
+part_of whole (Text text) = Some (record { whole = whole; text = text })
+part_of whole content = None
 
--- The text of the list that these bytes are: they spell a message, it has the MAC where there is a key, and it is this
+abbrev pub part_read : Following → ℕ → List ℕ → Result PlainMessage FrameFault → Option Part
+part_read f asked bytes (Ok m) =
+    if is_signed f.ring m.head bytes
+    then (if is_answer f asked m then part_of (is_whole m) m.content else None) else None
+part_read f asked bytes (Err fault) = None
+
+-- The part of a list that these bytes are: they spell a message, it has the MAC where there is a key, and it is this
 -- site's answer.
-unfoldable pub text_in : Following → ℕ → List ℕ → Option (List ℕ)
-text_in f asked bytes = text_read f asked bytes (decoded bytes)
+unfoldable pub part_in : Following → ℕ → List ℕ → Option Part
+part_in f asked bytes = part_read f asked bytes (decoded bytes)
 
--- what a text shows of the ticket, where there is one
-abbrev pub IsTold : Following → Option (List ℕ) → News → Type 0
-IsTold f (Some text) heard = (shown : Shown) × (heard ≡ news.List shown) × IsShownIn f.line text shown
+-- What a part tells: what its text shows of the ticket, where it tells of that, and else nothing.
+abbrev pub IsTold : Following → Option Part → News → Type 0
+IsTold f (Some part) (news.List shown) = TellsOf f.ticket part × IsShownIn f.line part.text shown
+IsTold f (Some part) news.Nothing = TellsOf f.ticket part → ⊥
+IsTold f (Some part) heard = ⊥
 IsTold f None heard = heard ≡ news.Nothing
 
 -- what a datagram's bytes tell who asked at this reading
 abbrev pub IsHeard : Following → Option ℕ → List ℕ → News → Type 0
-IsHeard f (Some asked) bytes heard = IsTold f (text_in f asked bytes) heard
+IsHeard f (Some asked) bytes heard = IsTold f (part_in f asked bytes) heard
 IsHeard f None bytes heard = heard ≡ news.Nothing
 
 -- ---- arrivals
@@ -57,7 +67,8 @@ abbrev pub how_of : ℤ → RunEnd
 how_of (pos zero) = Done
 how_of status = Failed
 
--- What an arrival tells. A run that could not be begun is told in its place as one that failed, but not in that of the end.
+-- What an arrival tells. A run that could not be begun is told in its place as one that failed, but not in that of
+-- the end.
 abbrev pub IsNews : Following → Option ℕ → Option ℕ → Result Arrival DeviceFailed → List ℕ → News → Type 0
 IsNews f asked failed (Ok Stop) bytes heard = heard ≡ news.Stop
 IsNews f asked (Some run) answer bytes heard = heard ≡ news.End run Failed

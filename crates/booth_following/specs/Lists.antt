@@ -1,5 +1,5 @@
 -- What a daemon's list shows of a ticket.
-use Rattle.std.specs.Prelude.{◌≡◌, ◌<◌, ◌*◌, ◌^◌, ◌++◌, ◌==◌, ℕ, List, [], codes, decimal, length, get_or, Option, Some, None}
+use Rattle.std.specs.Prelude.{◌≡◌, ◌<◌, ◌*◌, ◌^◌, ◌++◌, ◌==◌, ◌⊎◌, ℕ, Bool, true, List, [], codes, decimal, length, get_or, Option, Some, None}
 use Rattle.std.specs.List.{slice_split}
 use Rattle.booth_base.specs.declared.address.Address.{Address}
 use Rattle.booth_base.specs.Address.{printed}
@@ -10,7 +10,8 @@ use Rattle.booth_follow_rule.specs.declared.news.Shown.TheVariants.{Here, Elsewh
 abbrev pub line_start : List ℕ → Address → List ℕ
 line_start ticket local = ticket ++ (codes " " ++ (printed local ++ codes " "))
 
--- The line that begins so tells an end in whole seconds, which are left out below a second: so it is no later than that.
+-- The line that begins so tells an end in whole seconds, which are left out below a second: so it is no later than
+-- that.
 pub record IsLine (start line : List ℕ) (until : ℕ) : Type 0 where
   pub seconds : ℕ
   pub spelled : line ≡ start ++ decimal seconds
@@ -23,9 +24,29 @@ lines_of text = slice_split (λ b. b == 0x0A) text
 
 -- The text shows this site until an end, where one of its lines tells it; and where none does, another or nobody.
 abbrev pub IsShownIn : List ℕ → List ℕ → Shown → Type 0
-IsShownIn start text (Here until) = (place : ℕ) × (place < length (lines_of text)) × IsLine start (get_or (lines_of text) place []) until
+IsShownIn start text (Here until) =
+    (place : ℕ) × (place < length (lines_of text)) × IsLine start (get_or (lines_of text) place []) until
 IsShownIn start text Elsewhere =
     (place until : ℕ) → place < length (lines_of text) → IsLine start (get_or (lines_of text) place []) until → ⊥
+
+-- a line of the ticket, whoever holds it: first its name and a blank
+abbrev pub IsOf : List ℕ → List ℕ → Type 0
+IsOf ticket line = (rest : List ℕ) × (line ≡ ticket ++ (codes " " ++ rest))
+
+abbrev pub HasLine : List ℕ → List ℕ → Type 0
+HasLine ticket text = (place : ℕ) × (place < length (lines_of text)) × IsOf ticket (get_or (lines_of text) place [])
+
+-- ---- parts
+
+-- a part of a list: whether it is the whole list, and its text
+pub record Part : Type 0 where
+  pub whole : Bool
+  pub text : List ℕ
+
+-- It tells of the ticket: the whole list does, also where it has no line of the ticket, and another part where it has
+-- one.
+abbrev pub TellsOf : List ℕ → Part → Type 0
+TellsOf ticket part = (part.whole ≡ true) ⊎ HasLine ticket part.text
 
 -- ---- in the code
 

@@ -73,7 +73,8 @@ asked_after false reading asked = asked
 abbrev pub turn_calls : Following → Seat → Turn → List Entry
 turn_calls f seat t =
     Next 100 t.answer t.bytes ∷ Now t.reading
-    ∷ (run_calls f (deed_of seat t) t.started ++ ask_calls f (asks (deed_of seat t) seat.asked t.reading) t.reading t.sent)
+    ∷ (run_calls f (deed_of seat t) t.started
+    ++ ask_calls f (asks (deed_of seat t) seat.asked t.reading) t.reading t.sent)
 
 abbrev pub seat_after : Seat → Turn → Seat
 seat_after seat t = record {

@@ -42,5 +42,5 @@ pub(crate) fn put_request(f: &Following, start: u64, frame: &mut Frame)
     ensures { frame.new ≡ request_bytes f.now start }
 {
     let message = list_request(start);
-    booth_auth::seal(&message, f.key.as_ref(), start, frame);
+    booth_auth::seal(&message, f.ring.as_ref(), start, frame);
 }

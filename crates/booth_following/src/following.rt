@@ -7,17 +7,17 @@ ghost use Rattle.booth_following.specs.Following.{IsFollowing};
 
 use crate::lines::TicketLine;
 use crate::programs::Programs;
-use booth_auth::Key;
 use booth_base::{MemberId, Name, Peer};
 use booth_follow_rule::{Follower, Margins};
 use booth_host::Datagram;
+use booth_keys::Ring;
 use booth_wire::Frame;
 use std::alloc::{AllocError, Global};
 
 /// A ticket, the daemon of this site, and the service that follows the ticket here.
 #[derive(Drop)]
 pub struct Following {
-    pub(crate) key: Option<Key>,
+    pub(crate) ring: Option<Ring>,
     pub(crate) ticket: Name,
     /// Where the daemon of this site listens.
     pub(crate) to: Peer,
@@ -33,17 +33,17 @@ impl Following {
     /// The service of these programs follows the ticket at the site whose daemon listens there.
     pub fn new(
         alloc: Global,
-        key: Option<Key>,
+        ring: Option<Ring>,
         ticket: Name,
         to: Peer,
         programs: Programs,
         margins: Margins,
     ) -> Result<Following, AllocError>
-        ensures { IfOk result (IsFollowing key ticket to programs margins) }
+        ensures { IfOk result (IsFollowing ring ticket to programs margins) }
     {
         let line = TicketLine::new(alloc, &ticket, &to.address)?;
         Ok(Following {
-            key,
+            ring,
             ticket,
             me: to.address.id(),
             to,

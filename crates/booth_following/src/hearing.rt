@@ -1,17 +1,44 @@
 //! What an arrival tells a follower.
-ghost use Rattle.std.specs.Prelude.{◌≡◌, option_map};
+ghost use Rattle.std.specs.Prelude.{◌≡◌, MatchBool};
 ghost use Rattle.booth_wire.specs.PlainMessage.{content_of, plain_of};
 ghost use Rattle.booth_follow_rule.specs.declared.news.News.{News};
-ghost use Rattle.booth_following.specs.Hearing.{IsHeard, IsNews, is_answer, failed_left, how_of, list_text, text_in};
+ghost use Rattle.booth_following.specs.Hearing.{IsHeard, IsNews, failed_left, how_of, is_answer, is_of_list, is_whole, part_in, part_of};
+ghost use Rattle.booth_following.specs.Lists.{TellsOf};
 
 use crate::asking::number_of;
 use crate::following::{Following, Seat};
+use crate::lines::has_line;
 use booth_auth::is_signed;
+use booth_base::Name;
 use booth_follow_rule::{News, RunEnd};
 use booth_host::{Arrival, Datagram, Failed};
 use booth_wire::{Body, Cmd, Message, decode, results};
+use std::marker::Model;
 
-// Whether a message is this site's answer to the request that was sent at a reading.
+// A part of a list.
+#[derive(Drop)]
+struct Part<'a> {
+    /// Whether it is the whole list.
+    whole: bool,
+    text: &'a [u8],
+}
+
+impl<'a> Model for Part<'a> {
+    ghost use Rattle.booth_following.specs.Lists.{Part as PlainPart};
+
+    ghost Value = { PlainPart };
+
+    ghost view = { λ part. record { whole = part.whole; text = part.text.now } };
+}
+
+// Whether an answer of this result is a part of a list.
+fn is_of_list(code: u32) -> bool
+    ensures { result ≡ is_of_list code }
+{
+    code == results::SUCCESS || code == results::MORE
+}
+
+// Whether a message is a part that this site answers to the request that was sent at a reading.
 fn is_answer(f: &Following, asked: u64, message: &Message<'_>) -> bool
     ensures { result ≡ is_answer f.now asked (plain_of message.now) }
 {
@@ -19,35 +46,49 @@ fn is_answer(f: &Following, asked: u64, message: &Message<'_>) -> bool
     head.cmd.code() == Cmd::RLst.code()
         && head.request == number_of(asked)
         && head.from.0 == f.me.0
-        && head.result == results::SUCCESS
+        && is_of_list(head.result)
 }
 
-fn list_text<'a>(body: &Body<'a>) -> Option<&'a [u8]>
-    ensures { option_map (λ text. text.now) result ≡ list_text (content_of body.now) }
+// Whether it is the first part and the last.
+fn is_whole(message: &Message<'_>) -> bool
+    ensures { result ≡ is_whole (plain_of message.now) }
+{
+    message.head.options == 0 && message.head.result == results::SUCCESS
+}
+
+fn part_of<'a>(whole: bool, body: &Body<'a>) -> Option<Part<'a>>
+    ensures { result ≡ part_of whole (content_of body.now) }
 {
     match body {
-        Body::Text(text) => Some(text),
+        Body::Text(text) => Some(Part { whole, text }),
         Body::Bare | Body::Ticket(_) | Body::Attr(_) => None,
     }
 }
 
-// The text of the list that these bytes are, if they are this site's answer.
-#[tactic(auto, unfolding(crate::specs::Hearing::text_in))]
-fn text_in<'a>(f: &Following, asked: u64, bytes: &'a [u8]) -> Option<&'a [u8]>
-    ensures { option_map (λ text. text.now) result ≡ text_in f.now asked bytes.now }
+// The part of a list that these bytes are, if they are this site's answer.
+#[tactic(auto, unfolding(crate::specs::Hearing::part_in))]
+fn part_in<'a>(f: &Following, asked: u64, bytes: &'a [u8]) -> Option<Part<'a>>
+    ensures { result ≡ part_in f.now asked bytes.now }
 {
     match decode(bytes) {
         Ok(message) => {
-            if !is_signed(f.key.as_ref(), &message.head, bytes) {
+            if !is_signed(f.ring.as_ref(), &message.head, bytes) {
                 return None;
             }
             if !is_answer(f, asked, &message) {
                 return None;
             }
-            list_text(&message.body)
+            part_of(is_whole(&message), &message.body)
         }
         Err(_) => None,
     }
+}
+
+// Whether a part tells of this ticket.
+fn tells_of(ticket: &Name, part: &Part<'_>) -> bool
+    ensures { MatchBool result (TellsOf ticket.now part.now) (TellsOf ticket.now part.now → ⊥) }
+{
+    part.whole || has_line(ticket.bytes(), part.text)
 }
 
 // What a datagram tells.
@@ -57,9 +98,13 @@ fn heard_in(f: &Following, asked: Option<u64>, bytes: &[u8]) -> News
     let Some(asked) = asked else {
         return News::Nothing;
     };
-    match text_in(f, asked, bytes) {
-        Some(text) => News::List(f.line.shown_in(text)),
-        None => News::Nothing,
+    let Some(part) = part_in(f, asked, bytes) else {
+        return News::Nothing;
+    };
+    if tells_of(&f.ticket, &part) {
+        News::List(f.line.shown_in(part.text))
+    } else {
+        News::Nothing
     }
 }
 

@@ -1,7 +1,7 @@
-//! The line of a ticket in a daemon's list, while one site holds it.
-ghost use Rattle.std.specs.Prelude.{◌≡◌, ◌<◌, ◌≤◌, ◌++◌, ◌*◌, ◌^◌, ℕ, decimal, option_map, IfOk, MatchOption};
+//! The line of a ticket in a daemon's list: whether it is there, and whether it shows this site.
+ghost use Rattle.std.specs.Prelude.{◌≡◌, ◌<◌, ◌≤◌, ◌++◌, ◌*◌, ◌^◌, ℕ, decimal, option_map, IfOk, MatchBool, MatchOption};
 ghost use Rattle.booth_base.specs.Address.{printed};
-ghost use Rattle.booth_following.specs.Lists.{BeginsLine, IsLine, IsShownIn, IsUntil, line_start};
+ghost use Rattle.booth_following.specs.Lists.{BeginsLine, HasLine, IsLine, IsOf, IsShownIn, IsUntil, line_start};
 
 use booth_base::{Address, Name};
 use booth_follow_rule::Shown;
@@ -77,6 +77,31 @@ fn shown_in(start: &[u8], text: &[u8]) -> Shown
         }
     }
     Shown::Elsewhere
+}
+
+// Whether a line is of this ticket.
+fn is_of(ticket: &[u8], line: &[u8]) -> bool
+    ensures { MatchBool result (IsOf ticket.now line.now) (IsOf ticket.now line.now → ⊥) }
+{
+    let Some(rest) = behind(ticket, line) else {
+        return false;
+    };
+    match behind(b" ", rest) {
+        Some(_) => true,
+        None => false,
+    }
+}
+
+/// Whether a text has a line of this ticket.
+pub(crate) fn has_line(ticket: &[u8], text: &[u8]) -> bool
+    ensures { MatchBool result (HasLine ticket.now text.now) (HasLine ticket.now text.now → ⊥) }
+{
+    for line in text.split(|b| *b == b'\n') {
+        if is_of(ticket, line) {
+            return true;
+        }
+    }
+    false
 }
 
 impl TicketLine {

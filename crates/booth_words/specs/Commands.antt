@@ -50,19 +50,22 @@ app_for verbs.Daemon = with_rule (with_rule (with_rule member_app (option (codes
     (option (codes "records") 100)) (option (codes "turns") 110)
 app_for verbs.Status = with_rule (command_app (codes "status")) (option (codes "lock") 108)
 app_for verbs.Simulate =
-    with_rule (with_rule (with_rule (command_app (codes "sim")) (option (codes "conf") 99)) (option (codes "events") 101))
+    with_rule
+    (with_rule (with_rule (command_app (codes "sim")) (option (codes "conf") 99)) (option (codes "events") 101))
     (option (codes "number") 114)
 app_for verbs.List = client_app (codes "list")
 app_for verbs.Peers = client_app (codes "peers")
 app_for verbs.Grant =
     with_rule (with_rule (with_rule (with_rule (client_app (codes "grant")) (word (codes "ticket")))
     (flag (codes "wait") 119)) (flag (codes "commit") 67)) (flag (codes "immediate") 70)
-app_for verbs.Revoke = with_rule (with_rule (client_app (codes "revoke")) (word (codes "ticket"))) (flag (codes "wait") 119)
+app_for verbs.Revoke =
+    with_rule (with_rule (client_app (codes "revoke")) (word (codes "ticket"))) (flag (codes "wait") 119)
 app_for verbs.Move =
     with_rule (with_rule (with_rule (client_app (codes "move")) (word (codes "ticket"))) (word (codes "target")))
     (flag (codes "wait") 119)
 app_for verbs.SetAttribute =
-    with_rule (with_rule (with_rule (client_app (codes "set")) ticket_option) (word (codes "name"))) (word (codes "value"))
+    with_rule (with_rule (with_rule (client_app (codes "set")) ticket_option) (word (codes "name")))
+    (word (codes "value"))
 app_for verbs.GetAttribute = with_rule (with_rule (client_app (codes "get")) ticket_option) (word (codes "name"))
 app_for verbs.DeleteAttribute = with_rule (with_rule (client_app (codes "delete")) ticket_option) (word (codes "name"))
 app_for verbs.ListAttributes = with_rule (client_app (codes "list")) ticket_option

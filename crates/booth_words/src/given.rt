@@ -9,7 +9,8 @@ use clap::error::ErrorKind;
 use clap::{ArgMatches, Error};
 use std::alloc::Global;
 
-/// The texts of all options and words, and the flags. One that the command does not take, or that was left out, is none.
+/// The texts of all options and words, and the flags. One that the command does not take, or that was left out, is
+/// none.
 #[derive(Drop)]
 pub(crate) struct Given<'a> {
     pub ticket: Option<&'a str>,

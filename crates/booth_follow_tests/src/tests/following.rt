@@ -34,8 +34,8 @@ fn check_calls(rt: &impl Abort, alloc: Global, given: &str, calls: &str) {
     assert!(rt; end == FollowEnd::Left);
 }
 
-// What an earlier follower left is stopped. A list of another member, one by an older number and one that is refused are
-// passed over. The service is started for this site, and stopped where another one is listed.
+// What an earlier follower left is stopped. A list of another member, one by an older number and one that is refused
+// are passed over. The service is started for this site, and stopped where another one is listed.
 #[test]
 fn a_service_runs_while_its_ticket_is_held(rt: HostRuntime) {
     let given = "\
@@ -126,6 +126,95 @@ next 100 S1:9929: RLst of S1 at 0 8100 0 0 0 ticket-db8 192.168.201.100 99 $
 now 8201
 next 100 stop
 now 8201
+";
+    check_calls(&rt, rt.alloc(), given, calls);
+}
+
+// A list in three parts. One of other tickets is passed over, whichever it is; one with a line of the ticket counts,
+// and a whole list without one shows nobody.
+#[test]
+fn a_ticket_is_in_one_part_of_a_list(rt: HostRuntime) {
+    let given = "\
+first 900
+1000 nothing
+1100 ends 1 0
+1200 S1 RLst 1000 0 More = a 192.168.201.100 60$b none 0$
+6200 S1 RLst 1000 1 More = ticket-db8 192.168.201.100 90$z none 0$
+6300 ends 2 0
+6400 S1 RLst 6200 2 0 = ticket-db8x none 0$x ticket-db8 none 0$
+6500 S1 RLst 6200 0 More = a none 0$ticket-db8
+6600 S1 RLst 6200 1 0 = z none 0$
+6700 S1 RLst 6200 1 0 = a none 0$ticket-db8 192.168.202.100 90$
+6800 ends 3 0";
+    let calls = "\
+next 100 quiet
+now 1000
+start 1 at S1 until 0 ticket-db8 /etc/booth/db8 fast stop
+send S1:9929: CLst of - at 1000 1000 0 0 0
+next 100 job 1 over: 0
+now 1100
+next 100 S1:9929: RLst of S1 at 0 1000 0 0 More a 192.168.201.100 60$b none 0$
+now 1200
+next 100 S1:9929: RLst of S1 at 0 1000 1 0 More ticket-db8 192.168.201.100 90$z none 0$
+now 6200
+start 2 at S1 until 90 ticket-db8 /etc/booth/db8 fast start
+send S1:9929: CLst of - at 6200 6200 0 0 0
+next 100 job 2 over: 0
+now 6300
+next 100 S1:9929: RLst of S1 at 0 6200 2 0 0 ticket-db8x none 0$x ticket-db8 none 0$
+now 6400
+next 100 S1:9929: RLst of S1 at 0 6200 0 0 More a none 0$ticket-db8
+now 6500
+next 100 S1:9929: RLst of S1 at 0 6200 1 0 0 z none 0$
+now 6600
+next 100 S1:9929: RLst of S1 at 0 6200 1 0 0 a none 0$ticket-db8 192.168.202.100 90$
+now 6700
+start 3 at S1 until 90 ticket-db8 /etc/booth/db8 fast stop
+next 100 job 3 over: 0
+now 6800
+next 100 stop
+now 6800
+";
+    check_calls(&rt, rt.alloc(), given, calls);
+}
+
+// The first part with the result of the last is the whole list: without a line of the ticket it shows nobody.
+#[test]
+fn a_whole_list_without_the_ticket_stops_its_service(rt: HostRuntime) {
+    let given = "\
+first 900
+1000 ends 1 0
+1001 ends 1 0
+1010 S1 RLst 1000 0 More = ticket-db8 192.168.201.100 90$
+6001 nothing
+6002 ends 2 0
+6003 S1 RLst 6001 0 More = a none 0$
+6004 S1 RLst 6001 0 0 = a none 0$
+6005 ends 3 0";
+    let calls = "\
+next 100 job 1 over: 0
+now 1000
+start 1 at S1 until 0 ticket-db8 /etc/booth/db8 fast stop
+send S1:9929: CLst of - at 1000 1000 0 0 0
+next 100 job 1 over: 0
+now 1001
+next 100 S1:9929: RLst of S1 at 0 1000 0 0 More ticket-db8 192.168.201.100 90$
+now 1010
+next 100 quiet
+now 6001
+start 2 at S1 until 90 ticket-db8 /etc/booth/db8 fast start
+send S1:9929: CLst of - at 6001 6001 0 0 0
+next 100 job 2 over: 0
+now 6002
+next 100 S1:9929: RLst of S1 at 0 6001 0 0 More a none 0$
+now 6003
+next 100 S1:9929: RLst of S1 at 0 6001 0 0 0 a none 0$
+now 6004
+start 3 at S1 until 90 ticket-db8 /etc/booth/db8 fast stop
+next 100 job 3 over: 0
+now 6005
+next 100 stop
+now 6005
 ";
     check_calls(&rt, rt.alloc(), given, calls);
 }

@@ -1,5 +1,5 @@
-//! Runs of booth-follow from words to calls, over a host in memory. The ticket has the default times: `expire` is 600 s,
-//! and it is renewed each 300 s.
+//! Runs of booth-follow from words to calls, over a host in memory. The ticket has the default times: `expire` is 600
+//! s, and it is renewed each 300 s.
 use booth_followers::booth_follow;
 use booth_scripts::{host_of, kinds, last_text, transcript, words_of};
 use std::alloc::Global;

@@ -1,8 +1,9 @@
 //! A service that follows its ticket, in stories worked out by hand: what follows each moment.
 //!
-//! A story begins with `# ` and what it shows. A line is a reading, what came before it, and what is done. What came is
-//! `-`, a list that shows this site until a reading or another one, the end of a run, or that the end is asked for. What
-//! is done is `-`, the word and the number of a run with the end that it is told, or that the follower leaves.
+//! A story begins with `# ` and what it shows. A line is a reading, what came before it, and what is done. What came
+//! is `-`, a list that shows this site until a reading or another one, the end of a run, or that the end is asked
+//! for. What is done is `-`, the word and the number of a run with the end that it is told, or that the follower
+//! leaves.
 use booth_follow_rule::{FollowDeed, Follower, MarginFault, Margins, News, RunEnd, Shown, Word};
 use std::process::Abort;
 

@@ -3,5 +3,5 @@ use Rattle.booth_followers.proofs.service.follow_with.Goals as goal
 
 pub returns-in-Ok-clause-past : goal.returns-in-Ok-clause-past
 returns-in-Ok-clause-past g c =
-    with_key c.args.asked c.args.config c.args.margins c.in-Ok.key c.set_out.result.outcome c.set_out.result.said
+    with_key c.args.asked c.args.config c.args.margins c.in-Ok.ring c.set_out.result.outcome c.set_out.result.said
     c.in-Ok.ensures.past c.set_out.ensures.past
