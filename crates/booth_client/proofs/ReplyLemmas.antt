@@ -22,7 +22,7 @@ some_is a b h = cc
 authentic : (asking : Asking) (start : ℕ) (bytes : List ℕ) (read : Result PlainMessage FrameFault) (m : PlainMessage) → decoded bytes ≡ read →
     message_read asking start bytes read ≡ Some m → IsAuthentic asking start bytes m
 authentic asking start bytes (Ok l) m is h =
-    let signed = passed (is_signed asking.key l.head bytes) _ m h in
+    let signed = passed (is_signed asking.ring l.head bytes) _ m h in
     let answer = passed (is_answer asking start l) _ m signed.1 in
     let both = and_split (answers asking.order l.head.cmd) _ answer.0 in
     let rest = and_split (l.head.request == number_of start) _ both.1 in

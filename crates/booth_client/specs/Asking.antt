@@ -97,7 +97,7 @@ request order start = record {
 
 -- the bytes that are sent at this reading
 abbrev pub request_bytes : Asking → ℕ → List ℕ
-request_bytes asking start = sealed asking.key (stamped asking.key start (request asking.order start))
+request_bytes asking start = sealed asking.ring (stamped asking.ring start (request asking.order start))
 
 -- ---- members
 

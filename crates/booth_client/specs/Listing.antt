@@ -38,7 +38,8 @@ pub record IsListRow (asking : Asking) (start count : ℕ) (entries : List Entry
   pub awaited : IsAwaited asking start pairs
 
 -- fewer pairs than there may be, behind which the list is still waited for, and then a last one, with which Q holds
-pub record EndsAwaited (asking : Asking) (start : ℕ) (Q : List Pair → Pair → Type 0) (entries : List Entry) : Type 0 where
+pub record EndsAwaited (asking : Asking) (start : ℕ) (Q : List Pair → Pair → Type 0) (entries : List Entry)
+    : Type 0 where
   pub early : List Pair
   pub below : length early < most
   pub awaited : IsAwaited asking start early

@@ -39,7 +39,7 @@ reply_of m = record { result = m.head.result; leader = leader_in m.content }
 
 abbrev pub message_read : Asking → ℕ → List ℕ → Result PlainMessage FrameFault → Option PlainMessage
 message_read asking start bytes (Ok m) =
-    if is_signed asking.key m.head bytes then (if is_answer asking start m then Some m else None) else None
+    if is_signed asking.ring m.head bytes then (if is_answer asking start m then Some m else None) else None
 message_read asking start bytes (Err fault) = None
 
 -- the authentic message that these bytes spell, to the request that was sent at this reading
@@ -56,7 +56,7 @@ reply_in asking start bytes = option_map reply_of (message_in asking start bytes
 -- is that of the request, and a member sent it.
 pub record IsAuthentic (asking : Asking) (start : ℕ) (bytes : List ℕ) (m : PlainMessage) : Type 0 where
   pub read : decoded bytes ≡ Ok m
-  pub signed : is_signed asking.key m.head bytes ≡ true
+  pub signed : is_signed asking.ring m.head bytes ≡ true
   pub answer : answers asking.order m.head.cmd ≡ true
   pub number : m.head.request ≡ number_of start
   pub member : is_member asking.config m.head.from ≡ true

@@ -13,7 +13,7 @@ fn first_len(line: &[u8]) -> usize
 }
 
 /// The bytes before the first blank.
-#[tactic(auto, using(booth_auth::proofs::KeyLemmas::cuts))]
+#[tactic(auto, using(booth_keys::proofs::KeyLemmas::cuts))]
 pub(crate) fn first(line: &[u8]) -> &[u8]
     ensures { result.now ≡ first line.now }
 {

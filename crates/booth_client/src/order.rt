@@ -3,9 +3,9 @@ ghost use Rattle.std.specs.Prelude.{◌≡◌, ◌≤◌};
 ghost use Rattle.booth_client.specs.Asking.{bit, cmd_of, find_peer, is_list, is_waiting, options_of, order_options};
 ghost use Rattle.booth_client.specs.Report.{is_silent};
 
-use booth_auth::Key;
 use booth_base::{AttrValue, MemberId, Name, Peer};
 use booth_conf::Config;
+use booth_keys::Ring;
 use booth_wire::{Cmd, options};
 
 /// How a grant or a revoke is asked for.
@@ -64,7 +64,7 @@ pub enum Order {
 pub struct Asking {
     pub order: Order,
     pub config: Config,
-    pub key: Option<Key>,
+    pub ring: Option<Ring>,
 }
 
 // This value where it is set, and else 0.

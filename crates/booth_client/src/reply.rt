@@ -61,7 +61,7 @@ pub(crate) fn message_in<'a>(asking: &Asking, start: u64, bytes: &'a [u8]) -> Op
 {
     match decode(bytes) {
         Ok(message) => {
-            if !is_signed(asking.key.as_ref(), &message.head, bytes) {
+            if !is_signed(asking.ring.as_ref(), &message.head, bytes) {
                 return None;
             }
             if !is_answer(asking, start, &message) {

@@ -84,7 +84,8 @@ fn revoke_text(alloc: Global, code: u32, ticket: &[u8]) -> Result<ByteText, Allo
     }
 }
 
-/// What is printed of a list whose text this is: it is shown line by line, with dates, and a text that is none as it is.
+/// What is printed of a list whose text this is: it is shown line by line, with dates, and a text that is none as it
+/// is.
 pub(crate) fn list_report(alloc: Global, text: &[u8]) -> Result<ByteText, AllocError>
     ensures { IfOk result (λ report. IsListReport text.now report) }
 {

@@ -2,6 +2,7 @@
 use Rattle.std.specs.Prelude.{Contains, Option, Some, None, Result, Ok, Err, MatchBool, MatchOption}
 use Rattle.std.proofs.Common.{◌≡◌, ◌++◌, ℕ, Bool, true, false, List, [], ◌∷◌, refl, sym, subst}
 use Rattle.std.proofs.lemmas.List.Elements.{Contains-append_right}
+use Rattle.booth_keys.specs.declared.ring.Ring.{Ring}
 use Rattle.booth_base.specs.declared.address.Peer.{Peer}
 use Rattle.booth_conf.specs.Config.{ConfigSays}
 use Rattle.booth_conf.specs.Says.{Says}
@@ -152,10 +153,10 @@ module _ (verb : Verb) (conf : List ℕ) (entries : List Entry) (free : IsUnhind
   socketless outs.OpenFault said part all s = absurd (free.opened None 0 [] [] s.1 (only (Open None 0 [] [] (Err s.1)) part s.2 all))
   socketless outcome said part all s = absurd s
 
-  follows : (asked : ClientWords) (config : ConfigSays) (key : Option (List ℕ)) (outcome : Outcome) (said : List ℕ) (part : List Entry) → AreAmong part entries →
-      Follows asked config key outcome said part → IsTalked verb outcome
-  follows asked config key outcome said part all (Socketless s) = socketless outcome said part all s
-  follows asked config key outcome said part all (Conversing c) =
+  follows : (asked : ClientWords) (config : ConfigSays) (ring : Option Ring) (outcome : Outcome) (said : List ℕ) (part : List Entry) → AreAmong part entries →
+      Follows asked config ring outcome said part → IsTalked verb outcome
+  follows asked config ring outcome said part all (Socketless s) = socketless outcome said part all s
+  follows asked config ring outcome said part all (Conversing c) =
       told _ c.to c.start outcome said c.rest (is_list asked.order)
       (right_among (Open None 0 [] [] (Ok tt) ∷ Now c.start ∷ []) c.rest entries part c.whole all) c.told
 
@@ -163,4 +164,4 @@ module _ (verb : Verb) (conf : List ℕ) (entries : List Entry) (free : IsUnhind
   logged asked outcome said part same all (Unread u) = unread outcome said part all (subst (λ c. IsUnread c outcome said part) same u)
   logged asked outcome said part same all (Unkeyed u) = unkeyed outcome said part all (subst (λ c. IsUnkeyedClient c outcome said part) same u)
   logged asked outcome said part same all (Asked a) =
-      follows asked a.config a.key outcome said a.rest (right_among (cluster_calls asked.conf a.cluster) a.rest entries part a.whole all) a.here
+      follows asked a.config a.ring outcome said a.rest (right_among (cluster_calls asked.conf a.cluster) a.rest entries part a.whole all) a.here

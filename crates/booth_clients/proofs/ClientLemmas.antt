@@ -2,6 +2,7 @@
 use Rattle.std.specs.Prelude.{Option, Some, None, Result, Ok, Err, MatchBool, codes}
 use Rattle.std.specs.List.{find, list_any}
 use Rattle.std.proofs.Common.{◌≡◌, ◌∙◌, ◌++◌, ℕ, Bool, true, false, List, [], ◌∷◌, append-nil, refl, sym, ap, subst, inl, inr}
+use Rattle.booth_keys.specs.declared.ring.Ring.{Ring}
 use Rattle.booth_base.specs.declared.address.Peer.{Peer}
 use Rattle.booth_conf.specs.Config.{ConfigSays, file_fault, is_site}
 use Rattle.booth_conf.specs.declared.members.Member.{Member}
@@ -23,7 +24,7 @@ use Rattle.booth_stages.specs.declared.outcome.Outcome.TheVariants as outs
 use Rattle.booth_words.specs.declared.asking.ClientWords.{ClientWords}
 use Rattle.booth_clients.specs.declared.client.Cluster.{Cluster}
 use Rattle.booth_stages.specs.Configuration.{IsConfigRead, IsUnreadOutcome}
-use Rattle.booth_stages.specs.Keys.{IsKeyRead, HasKey, IsKeylessOutcome, key_calls}
+use Rattle.booth_stages.specs.Keys.{IsRingRead, HasRing, IsKeylessOutcome, key_calls}
 use Rattle.booth_clients.specs.Client.{IsClusterRead, IsKeyed, IsListTold, IsTalkTold, IsTold, IsClientLog, EndsWith, ListEndsWith, Follows, Conversing, Socketless, destination}
 use Rattle.booth_clients.specs.Client.{Unread, Unkeyed, Asked}
 use Rattle.booth_clients.specs.ClientRun.{FitsClientWords, IsAnswered, IsClientMade, IsClientRun, Talked, Unasked}
@@ -77,9 +78,9 @@ has_site members tickets whole none = go (list_any is_site members) refl
 -- ---- configuration and key
 
 pub keyed : (config : ConfigSays) (cluster : Cluster) {a b : Option (List Entry)} → cluster.config ≡ config →
-    GrewSome (IsKeyRead config.authfile (Ok cluster.key)) a b → GrewSome (IsKeyed config (Ok cluster)) a b
+    GrewSome (IsRingRead config.authfile (Ok cluster.ring)) a b → GrewSome (IsKeyed config (Ok cluster)) a b
 keyed config cluster same read =
-    some_weaker (IsKeyRead config.authfile (Ok cluster.key)) (IsKeyed config (Ok cluster)) (λ es h. (same, h.0, h.1, h.2)) read
+    some_weaker (IsRingRead config.authfile (Ok cluster.ring)) (IsKeyed config (Ok cluster)) (λ es h. (same, h.0, h.1, h.2)) read
 
 cluster_of : (path : List ℕ) (config : ConfigSays) (result : Result Cluster Ended) (xs ys : List Entry) → IsConfigRead path (Ok config) xs →
     IsKeyed config result ys → IsClusterRead path result (xs ++ ys)
@@ -88,7 +89,7 @@ cluster_of path config (Ok cluster) xs ys h k = (
     text = h.0;
     says = subst (λ c. Rattle.booth_conf.specs.Says.Says h.0 c) (sym k.0) h.1;
     key_text = k.1;
-    holds = subst (λ (c : ConfigSays). HasKey c.authfile k.1 cluster.key) (sym k.0) k.2;
+    holds = subst (λ (c : ConfigSays). HasRing c.authfile k.1 cluster.ring) (sym k.0) k.2;
   },
   ap (λ zs. zs ++ ys) h.2 ∙ ap (λ zs. ReadFile path (Ok h.0) ∷ zs) k.3
       ∙ ap (λ (c : ConfigSays). ReadFile path (Ok h.0) ∷ key_calls c.authfile k.1) (sym k.0),
@@ -98,8 +99,8 @@ cluster_of path config (Err ended) xs ys h k =
 
 pub read_both : (path : List ℕ) (config : ConfigSays) (result : Result Cluster Ended) {a b c : Option (List Entry)} →
     GrewSome (IsConfigRead path (Ok config)) a b → GrewSome (IsKeyed config result) b c → GrewSome (IsClusterRead path result) a c
-read_both path config result read key =
-    some_joined (IsConfigRead path (Ok config)) (IsKeyed config result) (IsClusterRead path result) (λ xs ys h k. cluster_of path config result xs ys h k) read key
+read_both path config result read ring =
+    some_joined (IsConfigRead path (Ok config)) (IsKeyed config result) (IsClusterRead path result) (λ xs ys h k. cluster_of path config result xs ys h k) read ring
 
 pub not_read : (path : List ℕ) (ended : Ended) {a b : Option (List Entry)} → GrewSome (IsConfigRead path (Err ended)) a b →
     GrewSome (IsClusterRead path (Err ended)) a b
@@ -175,31 +176,31 @@ module _ (asking : Asking) (to : Peer) (start : ℕ) (outcome : Outcome) (said :
 
 -- ---- the socket and the clock
 
-module _ (asked : ClientWords) (config : ConfigSays) (key : Option (List ℕ)) where
+module _ (asked : ClientWords) (config : ConfigSays) (ring : Option Ring) where
   pub no_room : (ended : Ended) {a : Option (List Entry)} → ended.outcome ≡ outs.OutOfMemory → ended.said ≡ out_of_memory_text →
-      GrewSome (Follows asked config key ended.outcome ended.said) a a
+      GrewSome (Follows asked config ring ended.outcome ended.said) a a
   no_room ended out is =
-      some_of (Follows asked config key ended.outcome ended.said) no_entry
-      (subst (λ outcome. Follows asked config key outcome ended.said []) (sym out) (Socketless (is, refl)))
+      some_of (Follows asked config ring ended.outcome ended.said) no_entry
+      (subst (λ outcome. Follows asked config ring outcome ended.said []) (sym out) (Socketless (is, refl)))
 
   pub conversed : (to : Peer) (start : ℕ) (outcome : Outcome) (said : List ℕ) {a b c d : Option (List Entry)} → destination asked.site config ≡ Some to →
       GrewBy a b (Open None 0 [] [] (Ok tt) ∷ []) → GrewBy b c (Now start ∷ []) →
-      GrewSome (IsTold (record { order = asked.order; config = config; key = key }) to start outcome said) c d → GrewSome (Follows asked config key outcome said) a d
+      GrewSome (IsTold (record { order = asked.order; config = config; ring = ring }) to start outcome said) c d → GrewSome (Follows asked config ring outcome said) a d
   conversed to start outcome said named socket clock rest =
-      then_some (IsTold (record { order = asked.order; config = config; key = key }) to start outcome said) (Follows asked config key outcome said)
+      then_some (IsTold (record { order = asked.order; config = config; ring = ring }) to start outcome said) (Follows asked config ring outcome said)
       (one_more socket clock)
       (λ ys h. Conversing (record { to = to; named = named; start = start; rest = ys; whole = refl; told = h })) rest
 
 -- ---- the whole
 
 pub asked_all : (asked : ClientWords) (cluster : Cluster) (outcome : Outcome) (said : List ℕ) {a b c : Option (List Entry)} →
-    GrewSome (IsClusterRead asked.conf (Ok cluster)) a b → GrewSome (Follows asked cluster.config cluster.key outcome said) b c →
+    GrewSome (IsClusterRead asked.conf (Ok cluster)) a b → GrewSome (Follows asked cluster.config cluster.ring outcome said) b c →
     GrewSome (IsClientLog asked outcome said) a c
 asked_all asked cluster outcome said read follows =
-    some_joined (IsClusterRead asked.conf (Ok cluster)) (Follows asked cluster.config cluster.key outcome said) (IsClientLog asked outcome said)
+    some_joined (IsClusterRead asked.conf (Ok cluster)) (Follows asked cluster.config cluster.ring outcome said) (IsClientLog asked outcome said)
     (λ xs ys h k. Asked (record {
       config = cluster.config;
-      key = cluster.key;
+      ring = cluster.ring;
       cluster = h.0;
       rest = ys;
       whole = ap (λ zs. zs ++ ys) h.1;

@@ -1,6 +1,7 @@
 -- Where the outside does not fail, a move ends with an answer or without one, or at a target that is no site.
 use Rattle.std.specs.Prelude.{Contains, Option, Some, None, Result, Ok, Err, MatchOption}
 use Rattle.std.proofs.Common.{◌≡◌, ◌∙◌, ◌++◌, ℕ, List, [], ◌∷◌, refl, sym, ap, subst, inl, inr}
+use Rattle.booth_keys.specs.declared.ring.Ring.{Ring}
 use Rattle.booth_conf.specs.Config.{ConfigSays}
 use Rattle.booth_conf.specs.Says.{Says}
 use Rattle.booth_host.specs.declared.host.Failed.{Failed}
@@ -66,10 +67,10 @@ module _ (conf : List ℕ) (entries : List Entry) (free : IsUnhindered conf entr
 
   -- ---- the stages before it
 
-  follows_key : (asked : MoveWords) (config : ConfigSays) (key : Option (List ℕ)) (target : ℕ) (outcome : Outcome) (said : List ℕ) (part : List Entry) →
-      AreAmong part entries → FollowsKey asked config key target outcome said part → IsTalked verbs.Move outcome
-  follows_key asked config key target outcome said part all (Socketless s) = socketless verbs.Move conf entries free outcome said part all s
-  follows_key asked config key target outcome said part all (Started m) =
+  follows_key : (asked : MoveWords) (config : ConfigSays) (ring : Option Ring) (target : ℕ) (outcome : Outcome) (said : List ℕ) (part : List Entry) →
+      AreAmong part entries → FollowsKey asked config ring target outcome said part → IsTalked verbs.Move outcome
+  follows_key asked config ring target outcome said part all (Socketless s) = socketless verbs.Move conf entries free outcome said part all s
+  follows_key asked config ring target outcome said part all (Started m) =
       told asked _ m.start outcome said m.rest
       (right_among (Open None 0 [] [] (Ok tt) ∷ Now m.start ∷ []) m.rest entries part m.whole all) m.told
 
@@ -78,7 +79,7 @@ module _ (conf : List ℕ) (entries : List Entry) (free : IsUnhindered conf entr
   follows_site asked text config target outcome said part says read all (Keyless k) =
       keyless verbs.Move conf entries free text config outcome said part says read all k
   follows_site asked text config target outcome said part says read all (Keyed k) =
-      follows_key asked config k.key target outcome said k.rest (right_among (key_calls config.authfile k.text) k.rest entries part k.whole all) k.here
+      follows_key asked config k.ring target outcome said k.rest (right_among (key_calls config.authfile k.text) k.rest entries part k.whole all) k.here
 
   follows : (asked : MoveWords) (text : List ℕ) (config : ConfigSays) (outcome : Outcome) (said : List ℕ) (part : List Entry) (place : Option ℕ) →
       Says text config → Contains entries (ReadFile conf (Ok text)) → AreAmong part entries →

@@ -3,6 +3,7 @@ use Rattle.std.specs.Prelude.{Option, Some, None, Ok, Err, IsSomeAnd, IsTrue, Ma
 use Rattle.std.proofs.Common.{◌≡◌, ◌++◌, ℕ, Bool, true, false, List, [], ◌∷◌, append-nil, get_or, refl, sym, ap, subst, inl, inr}
 use Rattle.std.proofs.lemmas.List.Quantifiers.{position-Some}
 use Rattle.std.proofs.lemmas.Option.{slice_get-get_or}
+use Rattle.booth_keys.specs.declared.ring.Ring.{Ring}
 use Rattle.booth_base.specs.declared.address.Address.{Address}
 use Rattle.booth_base.specs.declared.address.Peer.{Peer}
 use Rattle.booth_conf.specs.Config.{ConfigSays}
@@ -89,41 +90,41 @@ module _ (asked : MoveWords) (moving : Move_) (start : ℕ) where
 -- ---- the socket and the clock
 
 -- a move of the ticket with this name
-abbrev pub named_so : MoveWords → ConfigSays → Option (List ℕ) → ℕ → Peer → List ℕ → Move_
-named_so asked config key target to ticket = record (moving_of asked config key target to) { ticket = ticket }
+abbrev pub named_so : MoveWords → ConfigSays → Option Ring → ℕ → Peer → List ℕ → Move_
+named_so asked config ring target to ticket = record (moving_of asked config ring target to) { ticket = ticket }
 
-module _ (asked : MoveWords) (config : ConfigSays) (key : Option (List ℕ)) (target : ℕ) where
+module _ (asked : MoveWords) (config : ConfigSays) (ring : Option Ring) (target : ℕ) where
   pub no_move_room : (ended : Ended) {a : Option (List Entry)} → ended.outcome ≡ outs.OutOfMemory → ended.said ≡ out_of_memory_text →
-      GrewSome (FollowsKey asked config key target ended.outcome ended.said) a a
+      GrewSome (FollowsKey asked config ring target ended.outcome ended.said) a a
   no_move_room ended out is =
-      some_of (FollowsKey asked config key target ended.outcome ended.said) no_entry
-      (subst (λ outcome. FollowsKey asked config key target outcome ended.said []) (sym out) (Socketless (is, refl)))
+      some_of (FollowsKey asked config ring target ended.outcome ended.said) no_entry
+      (subst (λ outcome. FollowsKey asked config ring target outcome ended.said []) (sym out) (Socketless (is, refl)))
 
   pub moved_on : (to : Peer) (start : ℕ) (ticket : List ℕ) (outcome : Outcome) (said : List ℕ) {a b c d : Option (List Entry)} →
       destination asked.site config ≡ Some to → ticket ≡ asked.ticket →
       GrewBy a b (Open None 0 [] [] (Ok tt) ∷ []) → GrewBy b c (Now start ∷ []) →
-      GrewSome (IsMoveTold asked (named_so asked config key target to ticket) start outcome said) c d → GrewSome (FollowsKey asked config key target outcome said) a d
+      GrewSome (IsMoveTold asked (named_so asked config ring target to ticket) start outcome said) c d → GrewSome (FollowsKey asked config ring target outcome said) a d
   moved_on to start ticket outcome said {a} {b} {c} {d} named same socket clock rest =
-      let so : GrewSome (IsMoveTold asked (moving_of asked config key target to) start outcome said) c d =
-      subst (λ (t : List ℕ). GrewSome (IsMoveTold asked (named_so asked config key target to t) start outcome said) c d) same rest in
-      then_some (IsMoveTold asked (moving_of asked config key target to) start outcome said) (FollowsKey asked config key target outcome said)
+      let so : GrewSome (IsMoveTold asked (moving_of asked config ring target to) start outcome said) c d =
+      subst (λ (t : List ℕ). GrewSome (IsMoveTold asked (named_so asked config ring target to t) start outcome said) c d) same rest in
+      then_some (IsMoveTold asked (moving_of asked config ring target to) start outcome said) (FollowsKey asked config ring target outcome said)
       (one_more socket clock)
       (λ ys h. Started (record { to = to; named = named; start = start; rest = ys; whole = refl; told = h })) so
 
 -- ---- the key
 
 pub move_keyed : (asked : MoveWords) (config : ConfigSays) (target : ℕ) (cluster : Cluster) (outcome : Outcome) (said : List ℕ) {a b c : Option (List Entry)} →
-    GrewSome (IsKeyed config (Ok cluster)) a b → GrewSome (FollowsKey asked cluster.config cluster.key target outcome said) b c →
+    GrewSome (IsKeyed config (Ok cluster)) a b → GrewSome (FollowsKey asked cluster.config cluster.ring target outcome said) b c →
     GrewSome (FollowsSite asked config target outcome said) a c
 move_keyed asked config target cluster outcome said read follows =
-    some_joined (IsKeyed config (Ok cluster)) (FollowsKey asked cluster.config cluster.key target outcome said) (FollowsSite asked config target outcome said)
+    some_joined (IsKeyed config (Ok cluster)) (FollowsKey asked cluster.config cluster.ring target outcome said) (FollowsSite asked config target outcome said)
     (λ xs ys h k. Keyed (record {
-      key = cluster.key;
+      ring = cluster.ring;
       text = h.1;
       holds = h.2;
       rest = ys;
       whole = ap (λ zs. zs ++ ys) h.3;
-      here = subst (λ (c : ConfigSays). FollowsKey asked c cluster.key target outcome said ys) h.0 k;
+      here = subst (λ (c : ConfigSays). FollowsKey asked c cluster.ring target outcome said ys) h.0 k;
     })) read follows
 
 pub move_keyless : (asked : MoveWords) (config : ConfigSays) (target : ℕ) (ended : Ended) {a b : Option (List Entry)} → GrewSome (IsKeyed config (Err ended)) a b →

@@ -3,6 +3,7 @@ use Rattle.std.specs.Prelude.{◌≡◌, ◌++◌, ◌⊎◌, ◌||◌, ◌==◌
 use Rattle.std.specs.Prelude.{Result, Ok, Err, MatchBool, codes, if◌then◌else◌}
 use Rattle.std.specs.Int.{to_be_bytes, w32}
 use Rattle.std.specs.List.{find}
+use Rattle.booth_keys.specs.declared.ring.Ring.{Ring}
 use Rattle.hex.specs.Hex.{encode_lower}
 use Rattle.booth_base.specs.declared.address.Address.{Address}
 use Rattle.booth_base.specs.declared.address.Peer.{Peer}
@@ -34,20 +35,20 @@ use Rattle.booth_clients.specs.declared.memory.Memory.{Memory}
 use Rattle.booth_clients.specs.declared.memory.Memory.TheVariants as memories
 use Rattle.booth_words.specs.declared.asking.ClientWords.{ClientWords}
 use Rattle.booth_stages.specs.Texts.{unopened_text, unprinted_text, out_of_memory_text}
-use Rattle.booth_stages.specs.Keys.{HasKey, IsKeyless, key_calls}
+use Rattle.booth_stages.specs.Keys.{HasRing, IsKeyless, key_calls}
 use Rattle.booth_stages.specs.Configuration.{IsUnread}
 
--- ---- configuration and key
+-- ---- configuration and ring
 
--- configuration and key, and the texts from which they were read
-pub record IsCluster (config : ConfigSays) (key : Option (List ℕ)) : Type 0 where
+-- configuration and ring, and the texts from which they were read
+pub record IsCluster (config : ConfigSays) (ring : Option Ring) : Type 0 where
   pub text : List ℕ
   pub says : Says text config
   pub key_text : List ℕ
-  pub holds : HasKey config.authfile key_text key
+  pub holds : HasRing config.authfile key_text ring
 
--- the calls up to the key
-abbrev pub cluster_calls : {config : ConfigSays} {key : Option (List ℕ)} → List ℕ → IsCluster config key → List Entry
+-- the calls up to the ring
+abbrev pub cluster_calls : {config : ConfigSays} {ring : Option Ring} → List ℕ → IsCluster config ring → List Entry
 cluster_calls {config} path cluster =
     ReadFile path (Ok cluster.text) ∷ key_calls config.authfile cluster.key_text
 
@@ -120,7 +121,8 @@ EndsWith order (Ok Over) bytes outcome said entries =
 EndsWith order (Err failed) bytes outcome said entries =
     IsPlainEnd outcome outs.SendFault said (codes "cannot send") entries
 
--- How a list that was asked for ends: with the report of its text, with the result of a refusal, or without a whole list.
+-- How a list that was asked for ends: with the report of its text, with the result of a refusal, or without a whole
+-- list.
 abbrev pub ListEndsWith : Result Listed Failed → List ℕ → Outcome → List ℕ → List Entry → Type 0
 ListEndsWith (Ok Whole) text outcome said entries = IsPrinted (IsListReport text) outcome said entries
 ListEndsWith (Ok (Refused result)) text outcome said entries =
@@ -166,29 +168,29 @@ IsSocketless outs.OutOfMemory said entries = (said ≡ out_of_memory_text) × (e
 IsSocketless outcome said entries = ⊥
 
 -- the socket was opened at any address and port, and the clock read; then it asked
-pub record IsConversing (asked : ClientWords) (config : ConfigSays) (key : Option (List ℕ)) (outcome : Outcome)
+pub record IsConversing (asked : ClientWords) (config : ConfigSays) (ring : Option Ring) (outcome : Outcome)
     (said : List ℕ) (entries : List Entry) : Type 0 where
   pub to : Peer
   pub named : destination asked.site config ≡ Some to
   pub start : ℕ
   pub rest : List Entry
   pub whole : entries ≡ Open None 0 [] [] (Ok tt) ∷ Now start ∷ rest
-  pub told : IsTold (record { order = asked.order; config = config; key = key }) to start outcome said rest
+  pub told : IsTold (record { order = asked.order; config = config; ring = ring }) to start outcome said rest
 
 -- what follows the reads
-pub data Follows (asked : ClientWords) (config : ConfigSays) (key : Option (List ℕ)) (outcome : Outcome)
+pub data Follows (asked : ClientWords) (config : ConfigSays) (ring : Option Ring) (outcome : Outcome)
     (said : List ℕ) (entries : List Entry) : Type 0 where
-  Socketless : IsSocketless outcome said entries → Follows asked config key outcome said entries
-  Conversing : IsConversing asked config key outcome said entries → Follows asked config key outcome said entries
+  Socketless : IsSocketless outcome said entries → Follows asked config ring outcome said entries
+  Conversing : IsConversing asked config ring outcome said entries → Follows asked config ring outcome said entries
 
--- configuration and key were read, and then these calls were made
+-- configuration and ring were read, and then these calls were made
 pub record IsAsked (asked : ClientWords) (outcome : Outcome) (said : List ℕ) (entries : List Entry) : Type 0 where
   pub config : ConfigSays
-  pub key : Option (List ℕ)
-  pub cluster : IsCluster config key
+  pub ring : Option Ring
+  pub cluster : IsCluster config ring
   pub rest : List Entry
   pub whole : entries ≡ cluster_calls asked.conf cluster ++ rest
-  pub here : Follows asked config key outcome said rest
+  pub here : Follows asked config ring outcome said rest
 
 -- the first stage that did not go on, or the talk
 pub data IsClientLog (asked : ClientWords) (outcome : Outcome) (said : List ℕ) (entries : List Entry) : Type 0 where
@@ -203,15 +205,15 @@ abbrev pub IsMemoryFor : Order → Memory → Type 0
 IsMemoryFor order (memories.List room) = (is_list order ≡ true) × AreNone room.parts
 IsMemoryFor order (memories.Talk room) = is_list order ≡ false
 
--- the read of a key file, where one is set, and the configuration with its key
+-- the read of a key file, where one is set, and the configuration with its ring
 abbrev pub IsKeyed : ConfigSays → Result Cluster Ended → List Entry → Type 0
 IsKeyed config (Ok cluster) entries = (cluster.config ≡ config)
-    × (text : List ℕ) × HasKey config.authfile text cluster.key × (entries ≡ key_calls config.authfile text)
+    × (text : List ℕ) × HasRing config.authfile text cluster.ring × (entries ≡ key_calls config.authfile text)
 IsKeyed config (Err ended) entries = IsKeyless config.authfile ended.outcome ended.said entries
 
 -- the reads, and what they found, or how the client ends without one of them
 abbrev pub IsClusterRead : List ℕ → Result Cluster Ended → List Entry → Type 0
 IsClusterRead path (Ok cluster) entries =
-    (is : IsCluster cluster.config cluster.key) × (entries ≡ cluster_calls path is)
+    (is : IsCluster cluster.config cluster.ring) × (entries ≡ cluster_calls path is)
 IsClusterRead path (Err ended) entries =
     IsUnread path ended.outcome ended.said entries ⊎ IsUnkeyedClient path ended.outcome ended.said entries

@@ -127,8 +127,8 @@ IsTalked verbs.Move NotSite = Unit {0}
 IsTalked verbs.Move (Stranded result) = Unit {0}
 IsTalked verb outcome = ⊥
 
--- Valid words, a valid file and key and an outside that does not fail give Report, Refused, NoReply or OutOfMemory; those
--- of a move give NotSite or Stranded too, and no others.
+-- Valid words, a valid file and key and an outside that does not fail give Report, Refused, NoReply or OutOfMemory;
+-- those of a move give NotSite or Stranded too, and no others.
 abbrev pub FaultlessTalks : Type 0
 FaultlessTalks = (program : Program) (words : List (List ℕ)) (verb : Verb) (outcome : Outcome) (entries : List Entry) →
     AreValid program words verb → IsClientRun program words outcome entries →

@@ -1,6 +1,7 @@
 -- The calls of a move that was asked for, up to where its outcome is decided, and what it then says.
 use Rattle.std.specs.Prelude.{◌≡◌, ◌++◌, ◌&&◌, ℕ, Bool, List, [], ◌∷◌, Option, Some, None, Result, Ok, Err, MatchOption}
 use Rattle.std.specs.Prelude.{codes, position}
+use Rattle.booth_keys.specs.declared.ring.Ring.{Ring}
 use Rattle.booth_base.specs.declared.address.Address.{Address}
 use Rattle.booth_base.specs.declared.address.Peer.{Peer}
 use Rattle.booth_base.specs.Address.{printed}
@@ -19,7 +20,7 @@ use Rattle.booth_words.specs.declared.asking.MoveWords.{MoveWords}
 use Rattle.booth_stages.specs.declared.outcome.Outcome.{Outcome}
 use Rattle.booth_stages.specs.declared.outcome.Outcome.TheVariants as outs
 use Rattle.booth_stages.specs.Configuration.{IsUnread}
-use Rattle.booth_stages.specs.Keys.{HasKey, IsKeyless, key_calls}
+use Rattle.booth_stages.specs.Keys.{HasRing, IsKeyless, key_calls}
 use Rattle.booth_stages.specs.Texts.{not_site_text, unprinted_text}
 use Rattle.booth_clients.specs.Client.{IsPlainEnd, IsSocketless, destination, refused_text}
 
@@ -83,10 +84,10 @@ pub record IsMoveTold (asked : MoveWords) (moving : Moving) (start : ℕ) (outco
 -- ---- the stages before it
 
 -- the move of the ticket to the member at this place, of which this peer is asked first
-abbrev pub moving_of : MoveWords → ConfigSays → Option (List ℕ) → ℕ → Peer → Moving
-moving_of asked config key target to = record {
+abbrev pub moving_of : MoveWords → ConfigSays → Option Ring → ℕ → Peer → Moving
+moving_of asked config ring target to = record {
   config = config;
-  key = key;
+  ring = ring;
   ticket = asked.ticket;
   target = target;
   wait = asked.wait;
@@ -94,31 +95,31 @@ moving_of asked config key target to = record {
 }
 
 -- the socket was opened at any address and port, and the clock read; then the move was carried out
-pub record IsMoving (asked : MoveWords) (config : ConfigSays) (key : Option (List ℕ)) (target : ℕ) (outcome : Outcome)
+pub record IsMoving (asked : MoveWords) (config : ConfigSays) (ring : Option Ring) (target : ℕ) (outcome : Outcome)
     (said : List ℕ) (entries : List Entry) : Type 0 where
   pub to : Peer
   pub named : destination asked.site config ≡ Some to
   pub start : ℕ
   pub rest : List Entry
   pub whole : entries ≡ Open None 0 [] [] (Ok tt) ∷ Now start ∷ rest
-  pub told : IsMoveTold asked (moving_of asked config key target to) start outcome said rest
+  pub told : IsMoveTold asked (moving_of asked config ring target to) start outcome said rest
 
 -- what follows the key
-pub data FollowsKey (asked : MoveWords) (config : ConfigSays) (key : Option (List ℕ)) (target : ℕ) (outcome : Outcome)
+pub data FollowsKey (asked : MoveWords) (config : ConfigSays) (ring : Option Ring) (target : ℕ) (outcome : Outcome)
     (said : List ℕ) (entries : List Entry) : Type 0 where
-  Socketless : IsSocketless outcome said entries → FollowsKey asked config key target outcome said entries
-  Started : IsMoving asked config key target outcome said entries →
-      FollowsKey asked config key target outcome said entries
+  Socketless : IsSocketless outcome said entries → FollowsKey asked config ring target outcome said entries
+  Started : IsMoving asked config ring target outcome said entries →
+      FollowsKey asked config ring target outcome said entries
 
 -- the key was read, where one is set, and then these calls were made
 pub record IsMoveKeyed (asked : MoveWords) (config : ConfigSays) (target : ℕ) (outcome : Outcome) (said : List ℕ)
     (entries : List Entry) : Type 0 where
-  pub key : Option (List ℕ)
+  pub ring : Option Ring
   pub text : List ℕ
-  pub holds : HasKey config.authfile text key
+  pub holds : HasRing config.authfile text ring
   pub rest : List Entry
   pub whole : entries ≡ key_calls config.authfile text ++ rest
-  pub here : FollowsKey asked config key target outcome said rest
+  pub here : FollowsKey asked config ring target outcome said rest
 
 -- what follows where the target is a site
 pub data FollowsSite (asked : MoveWords) (config : ConfigSays) (target : ℕ) (outcome : Outcome) (said : List ℕ)

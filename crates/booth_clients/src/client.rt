@@ -11,12 +11,12 @@ ghost use Rattle.booth_clients.specs.ClientRun.{IsAnswered};
 
 use crate::memory::Memory;
 use crate::replies::ask_and_tell;
-use booth_auth::Key;
 use booth_base::{Address, PathText, Peer};
 use booth_client::Asking;
 use booth_conf::{Config, Member};
 use booth_host::{Failed, Host, Place};
-use booth_stages::{Ended, Outcome, read_config, read_key, texts};
+use booth_keys::Ring;
+use booth_stages::{Ended, Outcome, read_config, read_ring, texts};
 use booth_words::ClientWords;
 use std::alloc::Global;
 
@@ -24,7 +24,7 @@ use std::alloc::Global;
 #[derive(Drop)]
 pub(crate) struct Cluster {
     pub(crate) config: Config,
-    pub(crate) key: Option<Key>,
+    pub(crate) ring: Option<Ring>,
 }
 
 /// This configuration with its key.
@@ -41,8 +41,8 @@ pub(crate) fn with_key<H: Host>(
     ensures blame { IfErr result (λ ended. HasBlame ended.outcome (H.faults host.old) (H.faults host.new)) }
     ensures later { H.faults host.old ≤ H.faults host.new }
 {
-    let key = read_key(alloc, &config, host)?;
-    Ok(Cluster { config, key })
+    let ring = read_ring(alloc, &config, host)?;
+    Ok(Cluster { config, ring })
 }
 
 fn read_cluster<H: Host>(alloc: Global, path: &PathText, host: &mut H) -> Result<Cluster, Ended>
@@ -114,7 +114,7 @@ pub(crate) fn open_socket<H: Host>(host: &mut H) -> Result<(), Failed>
 // What follows the reads: the socket, the clock, and what is asked for. Its memory is taken before them.
 fn converse<H: Host>(alloc: Global, asked: ClientWords, cluster: Cluster, host: &mut H) -> Ended
     requires { file_fault cluster.config.members cluster.config.tickets ≡ None }
-    ensures past { GrewSome (Follows asked cluster.config cluster.key result.outcome result.said)
+    ensures past { GrewSome (Follows asked cluster.config cluster.ring result.outcome result.said)
         (H.past host.old) (H.past host.new) }
     ensures served { IsAnswered result.outcome }
     ensures blame { HasBlame result.outcome (H.faults host.old) (H.faults host.new) }
@@ -137,7 +137,7 @@ fn converse<H: Host>(alloc: Global, asked: ClientWords, cluster: Cluster, host: 
     let asking = Asking {
         order: asked.order,
         config: cluster.config,
-        key: cluster.key,
+        ring: cluster.ring,
     };
     ask_and_tell(alloc, &asking, &to, start, &mut memory, host)
 }

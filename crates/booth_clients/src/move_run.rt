@@ -42,7 +42,7 @@ fn set_out<H: Host>(
 ) -> Ended
     requires whole { file_fault cluster.config.members cluster.config.tickets ≡ None }
     requires site { IsSomeAnd (slice_get cluster.config.members target) (λ m. IsTrue m.site) }
-    ensures past { GrewSome (FollowsKey asked cluster.config cluster.key target result.outcome result.said)
+    ensures past { GrewSome (FollowsKey asked cluster.config cluster.ring target result.outcome result.said)
         (H.past host.old) (H.past host.new) }
     ensures served { IsMoveAnswered result.outcome }
     ensures blame { HasBlame result.outcome (H.faults host.old) (H.faults host.new) }
@@ -64,7 +64,7 @@ fn set_out<H: Host>(
     let start = host.now();
     let moving = Moving {
         config: cluster.config,
-        key: cluster.key,
+        ring: cluster.ring,
         ticket: asked.ticket.copy(),
         target,
         wait: asked.wait,

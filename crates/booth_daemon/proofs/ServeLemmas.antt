@@ -2,6 +2,7 @@
 use Rattle.std.specs.Prelude.{Option, Some, Result, Ok, Err, IsErr, IsErrAnd, IfErr}
 use Rattle.std.proofs.Common.{◌≡◌, ◌≤◌, ℕ, List, [], ◌∷◌, ◌++◌, refl, sym, arith, ap}
 use Rattle.std.proofs.Common.{◌∙◌, append_assoc, subst, inl, inr}
+use Rattle.booth_keys.specs.declared.ring.Ring.{Ring}
 use Rattle.booth_base.specs.declared.address.Address.{Address}
 use Rattle.booth_words.specs.declared.asking.DaemonWords.{DaemonWords}
 use Rattle.booth_conf.specs.Config.{ConfigSays}
@@ -24,7 +25,7 @@ use Rattle.booth_stages.specs.Texts.{out_of_memory_text, unopened_text}
 use Rattle.booth_daemon.specs.Fitness.{IsAdmitted}
 use Rattle.booth_daemon.specs.Records.{AreKept, AreUnread}
 use Rattle.booth_stages.specs.Configuration.{IsConfigRead}
-use Rattle.booth_stages.specs.Keys.{IsKeyRead}
+use Rattle.booth_stages.specs.Keys.{IsRingRead}
 use Rattle.booth_daemon.specs.Opening.{IsLocked, IsNodeOpened, IsReady, IsUnopened}
 use Rattle.booth_daemon.specs.Opening.{IsStarted, reads_of, opened as opening_calls, member_config}
 use Rattle.booth_daemon.specs.Serving.{IsNodeRun, IsServing, Refused, Unkeyed, Unlocked, Unopened}
@@ -60,9 +61,9 @@ pub blamed : {T : Type 0} (r : Result T Ended) (ended : Ended) (a b c : ℕ) →
 blamed r ended a b c is le blame = err_has (λ r. IfErr r (λ e. HasBlame e.outcome a c)) r ended is (blame_since ended.outcome a b c le blame)
 
 -- a fit configuration and its key were read
-pub record AreRead (address : Address) (path : List ℕ) (config : ConfigSays) (key : Option (List ℕ))
+pub record AreRead (address : Address) (path : List ℕ) (config : ConfigSays) (ring : Option Ring)
     (entries : List Entry) : Type 0 where
-  pub ready : IsReady address config key
+  pub ready : IsReady address config ring
   pub whole : entries ≡ reads_of path ready
 
 module _ (asked : DaemonWords) where
@@ -77,10 +78,10 @@ module _ (asked : DaemonWords) where
         (λ es h. Refused (record { text = h.0; config = config; says = h.1; whole = h.2; here = not })) read)
 
     pub unkeyed : {a b c : Option (List Entry)} (r : Result Node Ended) (ended : Ended) → ErrIs r ended → GrewSome (IsConfigRead asked.conf (Ok config)) a b →
-        IsAdmitted asked.site config (Ok tt) → GrewSome (IsKeyRead config.authfile (Err ended)) b c → GrewSome (IsOpened asked r) a c
+        IsAdmitted asked.site config (Ok tt) → GrewSome (IsRingRead config.authfile (Err ended)) b c → GrewSome (IsOpened asked r) a c
     unkeyed {a} {b} {c} r ended is read fit keyless =
         err_has (λ r. GrewSome (IsOpened asked r) a c) r ended is
-        (some_joined (IsConfigRead asked.conf (Ok config)) (IsKeyRead config.authfile (Err ended)) (IsOpened asked (Err ended))
+        (some_joined (IsConfigRead asked.conf (Ok config)) (IsRingRead config.authfile (Err ended)) (IsOpened asked (Err ended))
         (λ xs ys h k. Unkeyed (record {
           text = h.0;
           config = config;
@@ -90,32 +91,32 @@ module _ (asked : DaemonWords) where
           here = k;
         })) read keyless)
 
-    module _ (key : Option (List ℕ)) where
+    module _ (ring : Option Ring) where
       pub are_read : {a b c : Option (List Entry)} → GrewSome (IsConfigRead asked.conf (Ok config)) a b → IsAdmitted asked.site config (Ok tt) →
-          GrewSome (IsKeyRead config.authfile (Ok key)) b c → GrewSome (AreRead asked.site asked.conf config key) a c
+          GrewSome (IsRingRead config.authfile (Ok ring)) b c → GrewSome (AreRead asked.site asked.conf config ring) a c
       are_read read fit keyed =
-          some_joined (IsConfigRead asked.conf (Ok config)) (IsKeyRead config.authfile (Ok key)) (AreRead asked.site asked.conf config key)
+          some_joined (IsConfigRead asked.conf (Ok config)) (IsRingRead config.authfile (Ok ring)) (AreRead asked.site asked.conf config ring)
           (λ xs ys h k. record {
             ready = record { text = h.0; fit = record { says = h.1; member = fit }; key_text = k.0; holds = k.1 };
             whole = ap (λ zs. zs ++ ys) h.2 ∙ ap (λ zs. ReadFile asked.conf (Ok h.0) ∷ zs) k.2;
           }) read keyed
 
-      pub unlocked : {a b c : Option (List Entry)} (r : Result Node Ended) (ended : Ended) → ErrIs r ended → GrewSome (AreRead asked.site asked.conf config key) a b →
+      pub unlocked : {a b c : Option (List Entry)} (r : Result Node Ended) (ended : Ended) → ErrIs r ended → GrewSome (AreRead asked.site asked.conf config ring) a b →
           GrewSome (IsLocked asked.lock (Err ended)) b c → GrewSome (IsOpened asked r) a c
       unlocked {a} {b} {c} r ended is read lockless =
           err_has (λ r. GrewSome (IsOpened asked r) a c) r ended is
-          (some_joined (AreRead asked.site asked.conf config key) (IsLocked asked.lock (Err ended)) (IsOpened asked (Err ended))
-          (λ xs ys h l. Unlocked (record { config = config; key = key; ready = h.ready; rest = ys; whole = ap (λ zs. zs ++ ys) h.whole; here = l })) read lockless)
+          (some_joined (AreRead asked.site asked.conf config ring) (IsLocked asked.lock (Err ended)) (IsOpened asked (Err ended))
+          (λ xs ys h l. Unlocked (record { config = config; ring = ring; ready = h.ready; rest = ys; whole = ap (λ zs. zs ++ ys) h.whole; here = l })) read lockless)
 
       -- ---- the clock, the socket, the records and the node
 
       -- a node that was opened
       pub node_opened : {a b c d : Option (List Entry)} (reading : ℕ) (records : List (Option Record)) (node : Node) → GrewBy a b (Now reading ∷ []) →
           GrewBy b c (Open (Some asked.site) config.port asked.records asked.conf (Ok tt) ∷ []) → GrewSome (AreKept config.tickets records) c d →
-          node_config node ≡ member_config asked.site config key → state_of node ≡ start_state (member_config asked.site config key) records reading →
-          GrewSome (IsNodeOpened asked config key (Ok node)) a d
+          node_config node ≡ member_config asked.site config ring → state_of node ≡ start_state (member_config asked.site config ring) records reading →
+          GrewSome (IsNodeOpened asked config ring (Ok node)) a d
       node_opened reading records node now_call open_call read same begun =
-          then_some (AreKept config.tickets records) (IsNodeOpened asked config key (Ok node)) (one_more now_call open_call)
+          then_some (AreKept config.tickets records) (IsNodeOpened asked config ring (Ok node)) (one_more now_call open_call)
           (λ es kept. record {
             reading = reading;
             records = records;
@@ -128,9 +129,9 @@ module _ (asked : DaemonWords) where
       -- a socket that was not opened
       pub not_opened : {a b c : Option (List Entry)} (reading : ℕ) (failed : Failed) (said : List ℕ) → GrewBy a b (Now reading ∷ []) →
           GrewBy b c (Open (Some asked.site) config.port asked.records asked.conf (Err failed) ∷ []) → said ≡ unopened_text →
-          GrewSome (IsNodeOpened asked config key (Err (record { outcome = OpenFault; said = said }))) a c
+          GrewSome (IsNodeOpened asked config ring (Err (record { outcome = OpenFault; said = said }))) a c
       not_opened reading failed said now_call open_call is =
-          some_of (IsNodeOpened asked config key (Err (record { outcome = OpenFault; said = said }))) (one_more now_call open_call) (is, reading, failed, refl)
+          some_of (IsNodeOpened asked config ring (Err (record { outcome = OpenFault; said = said }))) (one_more now_call open_call) (is, reading, failed, refl)
 
       unread_behind : (outcome : Outcome) (said : List ℕ) (reading : ℕ) (es : List Entry) → AreUnread config.tickets outcome said es →
           IsUnopened asked config outcome said (opening_calls asked config reading (Ok tt) ++ es)
@@ -141,50 +142,50 @@ module _ (asked : DaemonWords) where
       -- the records were not read
       pub not_started : {a b c d : Option (List Entry)} (r : Result Node Ended) (ended : Ended) (reading : ℕ) → ErrIs r ended → GrewBy a b (Now reading ∷ []) →
           GrewBy b c (Open (Some asked.site) config.port asked.records asked.conf (Ok tt) ∷ []) → GrewSome (AreUnread config.tickets ended.outcome ended.said) c d →
-          GrewSome (IsNodeOpened asked config key r) a d
+          GrewSome (IsNodeOpened asked config ring r) a d
       not_started {a} {b} {c} {d} r ended reading is now_call open_call unread =
-          err_has (λ r. GrewSome (IsNodeOpened asked config key r) a d) r ended is
-          (then_some (AreUnread config.tickets ended.outcome ended.said) (IsNodeOpened asked config key (Err ended)) (one_more now_call open_call)
+          err_has (λ r. GrewSome (IsNodeOpened asked config ring r) a d) r ended is
+          (then_some (AreUnread config.tickets ended.outcome ended.said) (IsNodeOpened asked config ring (Err ended)) (one_more now_call open_call)
           (λ es un. unread_behind ended.outcome ended.said reading es un) unread)
 
       -- no memory for the node
       pub no_node : {a b c d : Option (List Entry)} (reading : ℕ) (records : List (Option Record)) (ended : Ended) → GrewBy a b (Now reading ∷ []) →
           GrewBy b c (Open (Some asked.site) config.port asked.records asked.conf (Ok tt) ∷ []) → GrewSome (AreKept config.tickets records) c d →
-          ended.outcome ≡ OutOfMemory → ended.said ≡ out_of_memory_text → GrewSome (IsNodeOpened asked config key (Err ended)) a d
+          ended.outcome ≡ OutOfMemory → ended.said ≡ out_of_memory_text → GrewSome (IsNodeOpened asked config ring (Err ended)) a d
       no_node reading records ended now_call open_call read out is =
-          then_some (AreKept config.tickets records) (IsNodeOpened asked config key (Err ended)) (one_more now_call open_call)
+          then_some (AreKept config.tickets records) (IsNodeOpened asked config ring (Err ended)) (one_more now_call open_call)
           (λ es kept.
           subst (λ outcome. IsUnopened asked config outcome ended.said (opening_calls asked config reading (Ok tt) ++ es)) (sym out)
           (is, record { reading = reading; rest = es; whole = refl; here = inr (records, kept) })) read
 
       -- ---- the node behind the lock, or how it ends without one
 
-      behind_lock : (result : Result Node Ended) (xs ys zs : List Entry) → AreRead asked.site asked.conf config key xs → IsLocked asked.lock (Ok tt) ys →
-          IsNodeOpened asked config key result zs → IsOpened asked result (xs ++ (ys ++ zs))
+      behind_lock : (result : Result Node Ended) (xs ys zs : List Entry) → AreRead asked.site asked.conf config ring xs → IsLocked asked.lock (Ok tt) ys →
+          IsNodeOpened asked config ring result zs → IsOpened asked result (xs ++ (ys ++ zs))
       behind_lock (Ok node) xs ys zs r l n = record {
         config = config;
-        key = key;
+        ring = ring;
         ready = r.ready;
         rest = ys ++ zs;
         whole = ap (λ ws. ws ++ (ys ++ zs)) r.whole;
-        started = subst (λ ws. IsStarted asked config key node (ws ++ zs)) (sym l) n;
+        started = subst (λ ws. IsStarted asked config ring node (ws ++ zs)) (sym l) n;
       }
       behind_lock (Err ended) xs ys zs r l n =
           Unopened (record {
             config = config;
-            key = key;
+            ring = ring;
             ready = r.ready;
             rest = ys ++ zs;
             whole = ap (λ ws. ws ++ (ys ++ zs)) r.whole;
             here = subst (λ ws. IsUnopened asked config ended.outcome ended.said (ws ++ zs)) (sym l) n;
           })
 
-      pub opened : {a b c d : Option (List Entry)} (result : Result Node Ended) → GrewSome (AreRead asked.site asked.conf config key) a b → GrewSome (IsLocked asked.lock (Ok tt)) b c →
-          GrewSome (IsNodeOpened asked config key result) c d → GrewSome (IsOpened asked result) a d
+      pub opened : {a b c d : Option (List Entry)} (result : Result Node Ended) → GrewSome (AreRead asked.site asked.conf config ring) a b → GrewSome (IsLocked asked.lock (Ok tt)) b c →
+          GrewSome (IsNodeOpened asked config ring result) c d → GrewSome (IsOpened asked result) a d
       opened {a} {b} {c} {d} result read locked node =
-          let Q : List Entry → Type 0 = λ es. (ys : List Entry) × (zs : List Entry) × (es ≡ ys ++ zs) × IsLocked asked.lock (Ok tt) ys × IsNodeOpened asked config key result zs in
-          let later : GrewSome Q b d = some_joined (IsLocked asked.lock (Ok tt)) (IsNodeOpened asked config key result) Q (λ ys zs l n. (ys, zs, refl, l, n)) locked node in
-          some_joined (AreRead asked.site asked.conf config key) Q (IsOpened asked result)
+          let Q : List Entry → Type 0 = λ es. (ys : List Entry) × (zs : List Entry) × (es ≡ ys ++ zs) × IsLocked asked.lock (Ok tt) ys × IsNodeOpened asked config ring result zs in
+          let later : GrewSome Q b d = some_joined (IsLocked asked.lock (Ok tt)) (IsNodeOpened asked config ring result) Q (λ ys zs l n. (ys, zs, refl, l, n)) locked node in
+          some_joined (AreRead asked.site asked.conf config ring) Q (IsOpened asked result)
           (λ xs es r q. subst (λ ws. IsOpened asked result (xs ++ ws)) (sym q.2) (behind_lock result xs q.0 q.1 r q.3 q.4)) read later
 
   -- ---- the turns
@@ -195,7 +196,7 @@ module _ (asked : DaemonWords) where
       some_joined (IsOpened asked (Ok node)) (IsNodeRun (node_config node) asked.turns (state_of node) last outcome said) (IsServing asked outcome said)
       (λ xs ys o t. Turning (record {
         config = o.config;
-        key = o.key;
+        ring = o.ring;
         ready = o.ready;
         reading = o.started.reading;
         records = o.started.records;
@@ -206,6 +207,6 @@ module _ (asked : DaemonWords) where
         whole = ap (λ zs. zs ++ ys) o.whole ∙ append_assoc (reads_of asked.conf o.ready) o.rest ys
             ∙ ap (λ zs. reads_of asked.conf o.ready ++ (zs ++ ys)) o.started.whole
             ∙ ap (λ zs. reads_of asked.conf o.ready ++ zs) (append_assoc (opening_calls asked o.config o.started.reading (Ok tt)) o.started.kept ys);
-        log = subst (λ s. IsNodeRun (member_config asked.site o.config o.key) asked.turns s last outcome said ys) o.started.fresh.state
+        log = subst (λ s. IsNodeRun (member_config asked.site o.config o.ring) asked.turns s last outcome said ys) o.started.fresh.state
             (subst (λ s. IsNodeRun s asked.turns (state_of node) last outcome said ys) o.started.fresh.own t);
       })) opened turns

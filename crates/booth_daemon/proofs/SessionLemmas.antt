@@ -9,6 +9,7 @@ use Rattle.booth_node.specs.State.{State}
 use Rattle.booth_node.specs.Session.{SessionEntry, Down, Doing, AreSessions}
 use Rattle.booth_node.specs.Opening.{opened as start_state}
 use Rattle.booth_node.specs.declared.node_config.NodeConfig.{NodeConfig}
+use Rattle.booth_world.specs.Tellers.{TellersAreApart, WhoTellsHolds}
 use Rattle.booth_world.specs.Worlds.{made, LaterHoldersHaveLaterTerms, WorldsHoldOne, WorldTermsNeverFall}
 use Rattle.booth_world.proofs.LogSessions.{logs_are_sessions, stopped_logs_are_sessions, cut_sessions_are_sessions}
 use Rattle.booth_stages.specs.declared.outcome.Outcome.{Outcome}
@@ -34,7 +35,7 @@ turns_are_a_session node turns old new outcome said entries run = absurd run
 
 pub runs_are_sessions : RunsAreSessions
 runs_are_sessions asked outcome said body t =
-    let node = member_config asked.site t.config t.key in
+    let node = member_config asked.site t.config t.ring in
     (t.read.each, turns_are_a_session node asked.turns (start_state node t.records t.reading) t.last outcome said t.turns t.log)
 
 pub cut_runs_are_sessions : CutRunsAreSessions
@@ -90,11 +91,12 @@ daemons_turn words outcome entries run daemon ends =
 
 -- what a run is, and what the laws of all worlds say of it
 pub safe_run : {a b : Option (List Entry)} (words : List (List ℕ)) (outcome : Outcome) → WorldsHoldOne → WorldTermsNeverFall
-    → LaterHoldersHaveLaterTerms → GrewSome (IsRun words outcome) a b → GrewSome (IsSafe words outcome) a b
-safe_run words outcome one_holder terms later_terms ran =
+    → LaterHoldersHaveLaterTerms → WhoTellsHolds → TellersAreApart → GrewSome (IsRun words outcome) a b → GrewSome (IsSafe words outcome) a b
+safe_run words outcome one_holder terms later_terms holds apart ran =
     some_weaker (IsRun words outcome) (IsSafe words outcome) (λ entries run. record {
       turned = daemons_turn words outcome entries run;
       is_session = λ turns. runs_are_sessions turns.asked outcome turns.said turns.body turns.turning;
       in_worlds = λ w is session. (one_holder w is, terms w is);
+      tellers = λ w is session. (holds w is, apart w is);
       in_second_worlds = λ w is second session. later_terms w is second;
     }) ran

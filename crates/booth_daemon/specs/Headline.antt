@@ -4,6 +4,7 @@ use Rattle.std.specs.Prelude.{◌≡◌, ◌++◌, ℕ, true, List, ◌∷◌}
 use Rattle.booth_host.specs.declared.entry.Entry.{Entry}
 use Rattle.booth_node.specs.Session.{SessionEntry, Starts, Down, AreSessions}
 use Rattle.booth_node.specs.World.{World, IsWorld, IsSecondWorld, node_at, entries_of}
+use Rattle.booth_world.specs.Tellers.{TellersAreApartIn, TellersHoldIn}
 use Rattle.booth_world.specs.Worlds.{HoldsOneIn, LaterTermsIn, TermsNeverFallIn, made}
 use Rattle.booth_stages.specs.declared.outcome.Outcome.{Outcome}
 use Rattle.booth_stages.specs.declared.outcome.Outcome.TheVariants.{Done, TurnsSpent}
@@ -25,20 +26,20 @@ pub record IsTurningRun (words : List (List ℕ)) (outcome : Outcome) (entries :
   pub whole : entries ≡ body ++ last
   pub turning : IsTurning asked outcome said body
 
--- what it did behind its opening, from its start on: the start has the reading and the records that the opening read, and
--- the calls are those of its turns
+-- what it did behind its opening, from its start on: the start has the reading and the records that the opening read,
+-- and the calls are those of its turns
 abbrev pub session_of :
     {asked : DaemonWords} {outcome : Outcome} {said : List ℕ} {body : List Entry} → IsTurning asked outcome said body
     → List SessionEntry
 session_of {asked} turning =
-    Starts (member_config asked.site turning.config turning.key) turning.reading turning.records ∷ made turning.turns
+    Starts (member_config asked.site turning.config turning.ring) turning.reading turning.records ∷ made turning.turns
 
 -- The daemon of this run is a member of the world, and a session of that member, of version 2, is this run's. What
 -- that member did before and does after, and what the others do, is free.
 pub record IsSessionIn (w : World) (words : List (List ℕ)) (outcome : Outcome) (entries : List Entry) : Type 0 where
   pub run : IsTurningRun words outcome entries
   pub member : ℕ
-  pub found : node_at w member true ≡ member_config run.asked.site run.turning.config run.turning.key
+  pub found : node_at w member true ≡ member_config run.asked.site run.turning.config run.turning.ring
   pub before : List SessionEntry
   pub after : List SessionEntry
   pub session : entries_of member w.entries ≡ before ++ (session_of run.turning ++ after)
@@ -49,13 +50,15 @@ IsTurningEnd Done = Unit {0}
 IsTurningEnd TurnsSpent = Unit {0}
 IsTurningEnd outcome = ⊥
 
--- A daemon that ends so made its whole opening and then turns; these are a session of a member; and in every world in which
--- this run is one, no automatic ticket is held at two members at one moment, and no member's kept term falls. Where all
--- sessions of that world are of version 2, a member that holds later than another has a lease of a later term.
+-- A daemon that ends so made its whole opening and then turns; these are a session of a member; and in every world in
+-- which this run is one, no automatic ticket is held at two members at one moment, and no member's kept term falls;
+-- and who tells of itself as the holder is it, and no other, while what it told is not over. Where all sessions of
+-- that world are of version 2, a member that holds later than another has a lease of a later term.
 pub record IsSafe (words : List (List ℕ)) (outcome : Outcome) (entries : List Entry) : Type 0 where
   pub turned : AskForDaemon words → IsTurningEnd outcome → IsTurningRun words outcome entries
   pub is_session : (run : IsTurningRun words outcome entries) → AreSessions Down (session_of run.turning)
   pub in_worlds : (w : World) → IsWorld w → IsSessionIn w words outcome entries → HoldsOneIn w × TermsNeverFallIn w
+  pub tellers : (w : World) → IsWorld w → IsSessionIn w words outcome entries → TellersHoldIn w × TellersAreApartIn w
   pub in_second_worlds : (w : World) → IsWorld w → IsSecondWorld w → IsSessionIn w words outcome entries
       → LaterTermsIn w
 
@@ -70,11 +73,13 @@ DaemonsTurn =
 -- what a run of the daemon did behind its opening, from its start on, is a session of a member
 abbrev pub RunsAreSessions : Type 0
 RunsAreSessions =
-    (asked : DaemonWords) (outcome : Outcome) (said : List ℕ) (body : List Entry) (t : IsTurning asked outcome said body)
+    (asked : DaemonWords) (outcome : Outcome) (said : List ℕ) (body : List Entry)
+    (t : IsTurning asked outcome said body)
     → AreSessions Down (session_of t)
 
 -- so is what it did up to any call
 abbrev pub CutRunsAreSessions : Type 0
 CutRunsAreSessions =
-    (asked : DaemonWords) (outcome : Outcome) (said : List ℕ) (body : List Entry) (t : IsTurning asked outcome said body)
+    (asked : DaemonWords) (outcome : Outcome) (said : List ℕ) (body : List Entry)
+    (t : IsTurning asked outcome said body)
     (early late : List SessionEntry) → session_of t ≡ early ++ late → AreSessions Down early

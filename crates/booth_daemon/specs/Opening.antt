@@ -1,6 +1,7 @@
 -- The opening of a daemon, in the order of its stages: each by its calls, or by how the daemon ends there.
 use Rattle.std.specs.Prelude.{◌≡◌, ◌++◌, ℕ, true, false, List, [], ◌∷◌, Option, Some}
 use Rattle.std.specs.Prelude.{Result, Ok, Err, codes}
+use Rattle.booth_keys.specs.declared.ring.Ring.{Ring}
 use Rattle.booth_base.specs.declared.address.Address.{Address}
 use Rattle.booth_base.specs.Address.{id_of}
 use Rattle.booth_conf.specs.Config.{ConfigSays}
@@ -18,22 +19,22 @@ use Rattle.booth_stages.specs.declared.outcome.Outcome.TheVariants.{OutOfMemory}
 use Rattle.booth_stages.specs.declared.outcome.Ended.{Ended}
 use Rattle.booth_words.specs.declared.asking.DaemonWords.{DaemonWords}
 use Rattle.booth_stages.specs.Texts.{unlocked_text, unopened_text, out_of_memory_text}
-use Rattle.booth_stages.specs.Keys.{HasKey, key_calls}
+use Rattle.booth_stages.specs.Keys.{HasRing, key_calls}
 use Rattle.booth_daemon.specs.Fitness.{IsFit}
 use Rattle.booth_daemon.specs.Records.{AreKept, AreNoneOrAll, IsRecordUnread}
 
--- ---- configuration and key
+-- ---- configuration and ring
 
--- configuration and key, and the texts from which they were read
-pub record IsReady (address : Address) (config : ConfigSays) (key : Option (List ℕ)) : Type 0 where
+-- configuration and ring, and the texts from which they were read
+pub record IsReady (address : Address) (config : ConfigSays) (ring : Option Ring) : Type 0 where
   pub text : List ℕ
   pub fit : IsFit address text config
   pub key_text : List ℕ
-  pub holds : HasKey config.authfile key_text key
+  pub holds : HasRing config.authfile key_text ring
 
--- the calls up to the key
-abbrev pub reads_of : {address : Address} {config : ConfigSays} {key : Option (List ℕ)} → List ℕ →
-    IsReady address config key → List Entry
+-- the calls up to the ring
+abbrev pub reads_of : {address : Address} {config : ConfigSays} {ring : Option Ring} → List ℕ →
+    IsReady address config ring → List Entry
 reads_of {address} {config} path ready = ReadFile path
     (Ok ready.text) ∷ key_calls config.authfile ready.key_text
 
@@ -78,30 +79,30 @@ IsUnopened asked config OutOfMemory said entries = (said ≡ out_of_memory_text)
 IsUnopened asked config outcome said entries = ⊥
 
 -- the node of this member, by the rules of version 2
-abbrev pub member_config : Address → ConfigSays → Option (List ℕ) → NodeConfig
-member_config address config key =
-    record { config = config; key = key; me = record { 0 = id_of address }; second = true }
+abbrev pub member_config : Address → ConfigSays → Option Ring → NodeConfig
+member_config address config ring =
+    record { config = config; ring = ring; me = record { 0 = id_of address }; second = true }
 
 -- this node has just been opened, with these records, at this reading
-pub record IsFresh (address : Address) (config : ConfigSays) (key : Option (List ℕ))
+pub record IsFresh (address : Address) (config : ConfigSays) (ring : Option Ring)
     (records : List (Option Record)) (reading : ℕ) (node : Node) : Type 0 where
-  pub own : node_config node ≡ member_config address config key
-  pub state : state_of node ≡ start_state (member_config address config key) records reading
+  pub own : node_config node ≡ member_config address config ring
+  pub state : state_of node ≡ start_state (member_config address config ring) records reading
 
 -- the calls behind the reads, up to the last record, and the node
-pub record IsStarted (asked : DaemonWords) (config : ConfigSays) (key : Option (List ℕ)) (node : Node)
+pub record IsStarted (asked : DaemonWords) (config : ConfigSays) (ring : Option Ring) (node : Node)
     (entries : List Entry) : Type 0 where
   pub reading : ℕ
   pub records : List (Option Record)
   pub kept : List Entry
   pub read : AreKept config.tickets records kept
-  pub fresh : IsFresh asked.site config key records reading node
+  pub fresh : IsFresh asked.site config ring records reading node
   pub whole : entries ≡ opened asked config reading (Ok tt) ++ kept
 
 -- the calls behind the lock, and the node
-abbrev pub IsNodeOpened : DaemonWords → ConfigSays → Option (List ℕ) → Result Node Ended →
+abbrev pub IsNodeOpened : DaemonWords → ConfigSays → Option Ring → Result Node Ended →
     List Entry → Type 0
-IsNodeOpened asked config key (Ok node) entries =
-    IsStarted asked config key node (Lock asked.lock (Ok true) ∷ entries)
-IsNodeOpened asked config key (Err ended) entries =
+IsNodeOpened asked config ring (Ok node) entries =
+    IsStarted asked config ring node (Lock asked.lock (Ok true) ∷ entries)
+IsNodeOpened asked config ring (Err ended) entries =
     IsUnopened asked config ended.outcome ended.said (Lock asked.lock (Ok true) ∷ entries)

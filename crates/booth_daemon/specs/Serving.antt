@@ -1,6 +1,7 @@
 -- The calls of a daemon that was asked for, up to where its outcome is decided, and what it then says.
 use Rattle.std.specs.Prelude.{◌≡◌, ◌<◌, ◌^◌, ◌++◌, ◌⊎◌, ℕ, List, [], ◌∷◌}
 use Rattle.std.specs.Prelude.{Option, Some, None, unwrap_or, Result, Ok, Err, codes}
+use Rattle.booth_keys.specs.declared.ring.Ring.{Ring}
 use Rattle.booth_conf.specs.Config.{ConfigSays}
 use Rattle.booth_conf.specs.Says.{Says}
 use Rattle.booth_rec.specs.declared.record.Record.{Record}
@@ -44,12 +45,12 @@ pub record IsUnkeyed (asked : DaemonWords) (outcome : Outcome) (said : List ℕ)
   pub whole : entries ≡ ReadFile asked.conf (Ok text) ∷ rest
   pub here : IsKeyless config.authfile outcome said rest
 
--- configuration and key were read, and then these calls were made
+-- configuration and ring were read, and then these calls were made
 pub record IsStuck (asked : DaemonWords) (after : ConfigSays → List Entry → Type 0)
     (entries : List Entry) : Type 0 where
   pub config : ConfigSays
-  pub key : Option (List ℕ)
-  pub ready : IsReady asked.site config key
+  pub ring : Option Ring
+  pub ready : IsReady asked.site config ring
   pub rest : List Entry
   pub whole : entries ≡ reads_of asked.conf ready ++ rest
   pub here : after config rest
@@ -82,12 +83,12 @@ AreSpent (Some count) Done said = said ≡ []
 AreSpent None TurnsSpent said = said ≡ codes "turns spent"
 AreSpent turns outcome said = ⊥
 
--- the whole opening, and then turns of this configuration, key and member, from the records that were read
+-- the whole opening, and then turns of this configuration, ring and member, from the records that were read
 pub record IsTurning (asked : DaemonWords) (outcome : Outcome) (said : List ℕ)
     (entries : List Entry) : Type 0 where
   pub config : ConfigSays
-  pub key : Option (List ℕ)
-  pub ready : IsReady asked.site config key
+  pub ring : Option Ring
+  pub ready : IsReady asked.site config ring
   pub reading : ℕ
   pub records : List (Option Record)
   pub kept : List Entry
@@ -96,8 +97,8 @@ pub record IsTurning (asked : DaemonWords) (outcome : Outcome) (said : List ℕ)
   pub last : State
   pub whole : entries ≡ reads_of asked.conf ready
       ++ (opened asked config reading (Ok tt) ++ (kept ++ turns))
-  pub log : IsNodeRun (member_config asked.site config key) asked.turns
-      (start_state (member_config asked.site config key) records reading) last outcome said turns
+  pub log : IsNodeRun (member_config asked.site config ring) asked.turns
+      (start_state (member_config asked.site config ring) records reading) last outcome said turns
 
 -- the first stage of the opening that did not go on, or the turns behind them all
 pub data IsServing (asked : DaemonWords) (outcome : Outcome) (said : List ℕ)
@@ -114,11 +115,11 @@ pub data IsServing (asked : DaemonWords) (outcome : Outcome) (said : List ℕ)
 -- the whole opening, and its node
 pub record IsOpen (asked : DaemonWords) (node : Node) (entries : List Entry) : Type 0 where
   pub config : ConfigSays
-  pub key : Option (List ℕ)
-  pub ready : IsReady asked.site config key
+  pub ring : Option Ring
+  pub ready : IsReady asked.site config ring
   pub rest : List Entry
   pub whole : entries ≡ reads_of asked.conf ready ++ rest
-  pub started : IsStarted asked config key node rest
+  pub started : IsStarted asked config ring node rest
 
 -- the calls of the opening, and the node, or how the daemon ends without one
 abbrev pub IsOpened : DaemonWords → Result Node Ended → List Entry → Type 0

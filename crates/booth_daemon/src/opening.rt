@@ -11,12 +11,12 @@ ghost use Rattle.booth_daemon.specs.Serving.{IsOpened};
 
 use crate::fitness::admit;
 use crate::records::read_records;
-use booth_auth::Key;
 use booth_base::PathText;
 use booth_conf::Config;
 use booth_host::{Failed, Host, Place};
+use booth_keys::Ring;
 use booth_node::Node;
-use booth_stages::{Ended, Outcome, read_config, read_key, texts};
+use booth_stages::{Ended, Outcome, read_config, read_ring, texts};
 use booth_words::DaemonWords;
 use std::alloc::Global;
 
@@ -61,11 +61,11 @@ fn open_node<H: Host>(
     alloc: Global,
     asked: &DaemonWords,
     config: Config,
-    key: Option<Key>,
+    ring: Option<Ring>,
     host: &mut H,
 ) -> Result<Node, Ended>
     requires { IsSome (position (has_id (record { 0 = id_of asked.now.site })) config.members) }
-    ensures past { GrewSome (IsNodeOpened asked.now config key result)
+    ensures past { GrewSome (IsNodeOpened asked.now config ring result)
         (H.past host.old) (H.past host.new) }
     ensures served { IfErr result (λ ended. IsServed ended.outcome) }
     ensures blame { IfErr result (λ ended. HasBlame ended.outcome (H.faults host.old) (H.faults host.new)) }
@@ -82,7 +82,7 @@ fn open_node<H: Host>(
         }
     }
     let records = read_records(alloc, config.tickets(), host)?;
-    match Node::open(alloc, config, key, asked.site.id(), &records, reading) {
+    match Node::open(alloc, config, ring, asked.site.id(), &records, reading) {
         Ok(node) => Ok(node),
         Err(_) => Err(Ended::out_of_memory()),
     }
@@ -97,7 +97,7 @@ pub(crate) fn open<H: Host>(alloc: Global, asked: &DaemonWords, host: &mut H) ->
 {
     let config = read_config(alloc, &asked.conf, host)?;
     admit(&config, &asked.site)?;
-    let key = read_key(alloc, &config, host)?;
+    let ring = read_ring(alloc, &config, host)?;
     lock(&asked.lock, host)?;
-    open_node(alloc, asked, config, key, host)
+    open_node(alloc, asked, config, ring, host)
 }

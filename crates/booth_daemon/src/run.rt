@@ -42,18 +42,19 @@ fn run_words<H: Host>(alloc: Global, words: &[String], host: &mut H) -> Ended
 
 /// Runs `boothd` with these words, without the program's name, over this host.
 ///
-/// `daemon` reads the configuration, its key where `authfile` is set, takes the lock, opens its socket, reads
-/// the record of each ticket, and makes turns at the member's address until the host says `Stop` or the
-/// turns that were asked for are made. `status` says whether a daemon holds the lock. `sim` runs a whole cluster in
-/// memory through generated events, and prints what was counted. Help and version are printed; of all other words it is said
-/// what is wrong with them.
+/// `daemon` reads the configuration, its key where `authfile` is set, takes the lock, opens its socket, reads the
+/// record of each ticket, and makes turns at the member's address until the host says `Stop` or the turns that were
+/// asked for are made. `status` says whether a daemon holds the lock. `sim` runs a whole cluster in memory through
+/// generated events, and prints what was counted. Help and version are printed; of all other words it is said what is
+/// wrong with them.
 #[tactic(auto, using(crate::proofs::RunLemmas::run_of, crate::proofs::SessionLemmas::safe_run))]
 pub fn boothd<H: Host>(alloc: Global, words: &[String], host: &mut H) -> Outcome
     // Where the host tells its calls: exactly these, by how the run ended.
     ensures past { GrewSome (IsRun (map string_bytes words.now) result) (H.past host.old) (H.past host.new) }
 
-    // What its daemon did is a session of a member. In every world that has it: no automatic ticket is held at two sites, and
-    // no kept term falls. Where all sessions of such a world are of version 2, a later holder has a later term.
+    // What its daemon did is a session of a member. In every world that has it: no automatic ticket is held at two
+    // sites, and no kept term falls; who tells of itself as the holder is it, while what it told is not over. Where
+    // all sessions of such a world are of version 2, a later holder has a later term.
     ensures worlds { GrewSome (IsSafe (map string_bytes words.now) result) (H.past host.old) (H.past host.new) }
 
     // Over every host.
@@ -64,6 +65,7 @@ pub fn boothd<H: Host>(alloc: Global, words: &[String], host: &mut H) -> Outcome
     laws::one_holder();
     laws::terms();
     laws::later_terms();
+    laws::tellers();
     let ended = run_words(alloc, words, host);
     tell(Program::Boothd, &ended.said, host);
     ended.outcome

@@ -17,7 +17,7 @@ is_clock : (f : ℕ → ℕ) (n : ℕ) → ((s t : ℕ) → s ≤ t → t < n �
     → ((s t : ℕ) → s ≤ t → t < n → 999000 * (t - s) ≤ 1000000 * (f t - f s) + 1000000)
     → ((s t : ℕ) → s ≤ t → t < n → 1000000 * (f t - f s) ≤ 1001000 * (t - s) + 1000000)
     → ((t : ℕ) → t < n → f t < 2 ^ 62)
-    → IsClock (map f (range_with_len 0 n))
+    → IsClock 1 (map f (range_with_len 0 n))
 is_clock f n rises slow fast small = record {
   rises = λ s t le below. let b : t < n = short t below in
       let x = at s (omega (arith, le, below)) in let y = at t below in let g = rises s t le b in omega (arith, x, y, g);
@@ -35,23 +35,23 @@ is_clock f n rises slow fast small = record {
     at : (t : ℕ) → t < length (map f (range_with_len 0 n)) → slice_index (map f (range_with_len 0 n)) t ≡ f t
     at t below = reads_value f n t below
 
-true_clock : (n : ℕ) → n ≤ 2 ^ 36 → IsClock (map (λ (t : ℕ). t * 1000000 / 1000000) (range_with_len 0 n))
+true_clock : (n : ℕ) → n ≤ 2 ^ 36 → IsClock 1 (map (λ (t : ℕ). t * 1000000 / 1000000) (range_with_len 0 n))
 true_clock n few = is_clock (λ (t : ℕ). t * 1000000 / 1000000) n
     (λ s t le b. omega (arith, le)) (λ s t le b. omega (arith, le)) (λ s t le b. omega (arith, le)) (λ t b. omega (arith, b, few))
 
-fast_clock : (n : ℕ) → n ≤ 2 ^ 36 → IsClock (map (λ (t : ℕ). t * 1001000 / 1000000) (range_with_len 0 n))
+fast_clock : (n : ℕ) → n ≤ 2 ^ 36 → IsClock 1 (map (λ (t : ℕ). t * 1001000 / 1000000) (range_with_len 0 n))
 fast_clock n few = is_clock (λ (t : ℕ). t * 1001000 / 1000000) n
     (λ s t le b. omega (arith, le)) (λ s t le b. omega (arith, le)) (λ s t le b. omega (arith, le)) (λ t b. omega (arith, b, few))
 
-slow_clock : (n : ℕ) → n ≤ 2 ^ 36 → IsClock (map (λ (t : ℕ). t * 999000 / 1000000) (range_with_len 0 n))
+slow_clock : (n : ℕ) → n ≤ 2 ^ 36 → IsClock 1 (map (λ (t : ℕ). t * 999000 / 1000000) (range_with_len 0 n))
 slow_clock n few = is_clock (λ (t : ℕ). t * 999000 / 1000000) n
     (λ s t le b. omega (arith, le)) (λ s t le b. omega (arith, le)) (λ s t le b. omega (arith, le)) (λ t b. omega (arith, b, few))
 
-pub clock_drifts : (span place : ℕ) → span ≤ 2 ^ 36 → IsClock (clock_of span place)
+pub clock_drifts : (span place : ℕ) → span ≤ 2 ^ 36 → IsClock 1 (clock_of span place)
 clock_drifts span place few = by_tests (place % 3 == 0) (place % 3 == 1)
   where
     by_tests : (b c : Bool)
-        → IsClock (map (λ (t : ℕ). t * (if b then 1000000 else if c then 1001000 else 999000) / 1000000) (range_with_len 0 span))
+        → IsClock 1 (map (λ (t : ℕ). t * (if b then 1000000 else if c then 1001000 else 999000) / 1000000) (range_with_len 0 span))
     by_tests true c = true_clock span few
     by_tests false true = fast_clock span few
     by_tests false false = slow_clock span few

@@ -3,6 +3,7 @@ use Rattle.std.proofs.Common.{◌≡◌, ℕ, ◌+◌, Bool, true, false, List, 
 use Rattle.std.specs.Prelude.{Option, None, Ok, max}
 use Rattle.std.proofs.lemmas.List.{append-nil, append_assoc}
 use Rattle.std.proofs.lemmas.List.Elements.{filter_map-append}
+use Rattle.booth_keys.specs.declared.ring.Ring.{Ring}
 use Rattle.booth_base.specs.Tree.{Deeds, Ends, Does, Leads}
 use Rattle.booth_conf.specs.Config.{ConfigSays}
 use Rattle.booth_conf.specs.declared.tickets.TicketConf.{TicketConf}
@@ -203,14 +204,14 @@ most_join config done (x ∷ xs) e rest starts none =
     omega (arith, more, same)
 
 -- the deeds of a turn begin none
-pub deeds_begin_none : (place time : ℕ) (key : Option (List ℕ)) (deeds left : Deeds Ask State) (entries : List Entry)
-    → Leads (IsDone key) deeds entries left → NoneBegins (made_at place time entries)
-deeds_begin_none place time key deeds left [] leads = tt
-deeds_begin_none place time key (Ends state) left (call ∷ entries) leads = absurd leads
-deeds_begin_none place time key (Does ask go) left (call ∷ entries) leads =
-    (deed key ask leads.0 call leads.1, deeds_begin_none place time key (go leads.0) left entries leads.2)
+pub deeds_begin_none : (place time : ℕ) (ring : Option Ring) (deeds left : Deeds Ask State) (entries : List Entry)
+    → Leads (IsDone ring) deeds entries left → NoneBegins (made_at place time entries)
+deeds_begin_none place time ring deeds left [] leads = tt
+deeds_begin_none place time ring (Ends state) left (call ∷ entries) leads = absurd leads
+deeds_begin_none place time ring (Does ask go) left (call ∷ entries) leads =
+    (deed ring ask leads.0 call leads.1, deeds_begin_none place time ring (go leads.0) left entries leads.2)
   where
-    deed : (k : Option (List ℕ)) (a : Ask) (ok : Bool) (c : Entry) → IsDone k a ok c → begins (Makes c) ≡ false
+    deed : (k : Option Ring) (a : Ask) (ok : Bool) (c : Entry) → IsDone k a ok c → begins (Makes c) ≡ false
     deed k (Send peer message) ok (calls.Send to bytes answer) d = refl
     deed k (Keep name tried) ok (calls.Keep ticket rec answer) d = refl
     deed k (Start job) ok (calls.Start number ticket handler local expires answer) d = refl

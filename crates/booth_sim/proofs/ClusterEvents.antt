@@ -217,7 +217,7 @@ most_after config before time fails (Turns place arrival bytes) last is =
     (most_join config [] before (entry_at place time (Makes (calls.Next 100 (Ok arrival) bytes)))
     (entry_at place time (Makes (calls.Now (reading_at place time))) ∷ made_at place time is.deeds) refl (
       refl,
-      deeds_begin_none place time (node_in config place).key
+      deeds_begin_none place time (node_in config place).ring
           (react (node_in config place) is.old (used is.old.last_reading (reading_at place time)) (Ok arrival) bytes) (Ends is.new) is.deeds is.turn.2,
     ))
 most_after config before time fails (Restarts place) last is =

@@ -3,6 +3,7 @@ use Rattle.std.proofs.Common.{◌≡◌, ℕ, ◌+◌, ◌<◌, ◌≤◌, ◌^�
 use Rattle.std.specs.Prelude.{Option, Ok, Bool, true, false}
 use Rattle.std.proofs.lemmas.List.{append-nil, append_assoc, length-take, map-append, take_more, with_items_is}
 use Rattle.std.specs.Vec.{with_items}
+use Rattle.booth_keys.specs.declared.ring.Ring.{Ring}
 use Rattle.booth_base.specs.Tree.{Deeds, Ends, Does, Leads}
 use Rattle.booth_conf.specs.Config.{ConfigSays}
 use Rattle.booth_rec.specs.declared.record.Record.{Record}
@@ -102,14 +103,14 @@ has_room deeds i old now room below rose all = let n = length-take i deeds in om
 -- ---- a turn
 
 -- the deeds of a turn bring no frame
-deeds_bring_none : (config : ConfigSays) (key : Option (List ℕ)) (deeds left : Deeds Ask State) (entries : List Entry)
-    → Leads (IsDone key) deeds entries left → NoneArrives config entries
-deeds_bring_none config key deeds left [] leads = tt
-deeds_bring_none config key (Ends state) left (call ∷ entries) leads = absurd leads
-deeds_bring_none config key (Does ask go) left (call ∷ entries) leads =
-    (deed key ask leads.0 call leads.1, deeds_bring_none config key (go leads.0) left entries leads.2)
+deeds_bring_none : (config : ConfigSays) (ring : Option Ring) (deeds left : Deeds Ask State) (entries : List Entry)
+    → Leads (IsDone ring) deeds entries left → NoneArrives config entries
+deeds_bring_none config ring deeds left [] leads = tt
+deeds_bring_none config ring (Ends state) left (call ∷ entries) leads = absurd leads
+deeds_bring_none config ring (Does ask go) left (call ∷ entries) leads =
+    (deed ring ask leads.0 call leads.1, deeds_bring_none config ring (go leads.0) left entries leads.2)
   where
-    deed : (k : Option (List ℕ)) (a : Ask) (ok : Bool) (c : Entry) → IsDone k a ok c → is_delivery config (Makes c) ≡ false
+    deed : (k : Option Ring) (a : Ask) (ok : Bool) (c : Entry) → IsDone k a ok c → is_delivery config (Makes c) ≡ false
     deed k (Send peer message) ok (calls.Send to bytes answer) d = refl
     deed k (Keep name tried) ok (calls.Keep ticket rec answer) d = refl
     deed k (Start job) ok (calls.Start number ticket handler local expires answer) d = refl
@@ -133,7 +134,7 @@ made_turn config place coming old new sent kept counted mid now deeds same took 
       (append_assoc (before ++ next time ∷ []) (read time ∷ []) (made_at place time deeds)
       ∙ append_assoc before (next time ∷ []) (read time ∷ made_at place time deeds))
       (sees.sees ((before ++ next time ∷ []) ++ read time ∷ []) time
-      (deeds_bring_none config (node_config old.node).key _ (Ends (state_of new.node)) deeds took.turn.2) (after_read (before ++ next time ∷ []) time (after_next before time is)));
+      (deeds_bring_none config (node_config old.node).ring _ (Ends (state_of new.node)) deeds took.turn.2) (after_read (before ++ next time ∷ []) time (after_next before time is)));
   grows = record {
     arrived = let a = sees.grows.arrived in let b = ap (λ (s : Summary). s.delivered) arrived in
         let c = one_at_most (is_delivery config (Makes (calls.Next 100 (Ok coming.arrival) []))) in omega (arith, a, b, c);

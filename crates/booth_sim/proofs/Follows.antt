@@ -1,6 +1,7 @@
 -- What each entry of a simulation is, beside those before it.
 use Rattle.std.proofs.Common.{◌≡◌, ℕ, ◌<◌, ◌≤◌, Bool, List, [], ◌∷◌, ◌++◌, length, refl, sym, subst, arith}
 use Rattle.std.specs.Prelude.{Option, Ok}
+use Rattle.booth_keys.specs.declared.ring.Ring.{Ring}
 use Rattle.booth_base.specs.Tree.{Deeds, Ends, Does, Leads}
 use Rattle.booth_conf.specs.Config.{ConfigSays}
 use Rattle.booth_host.specs.declared.entry.Entry.{Entry}
@@ -38,25 +39,25 @@ calls_follow : (config : ConfigSays) (before : List WorldEntry) (place time : �
 calls_follow config before place time call below order reads =
     record { member = below; order = order; configured = tt; second = tt; reads = reads; starts = tt }
 
-no_reading : (place time : ℕ) (key : Option (List ℕ)) (ask : Ask) (ok : Bool) (call : Entry) → IsDone key ask ok call
+no_reading : (place time : ℕ) (ring : Option Ring) (ask : Ask) (ok : Bool) (call : Entry) → IsDone ring ask ok call
     → ReadsAt place time (Makes call)
-no_reading place time key (Send peer message) ok (calls.Send to bytes answer) d = tt
-no_reading place time key (Keep name tried) ok (calls.Keep ticket rec answer) d = tt
-no_reading place time key (Start job) ok (calls.Start number ticket handler local expires answer) d = tt
-no_reading place time key (Send peer message) ok call d = absurd d
-no_reading place time key (Keep name tried) ok call d = absurd d
-no_reading place time key (Start job) ok call d = absurd d
+no_reading place time ring (Send peer message) ok (calls.Send to bytes answer) d = tt
+no_reading place time ring (Keep name tried) ok (calls.Keep ticket rec answer) d = tt
+no_reading place time ring (Start job) ok (calls.Start number ticket handler local expires answer) d = tt
+no_reading place time ring (Send peer message) ok call d = absurd d
+no_reading place time ring (Keep name tried) ok call d = absurd d
+no_reading place time ring (Start job) ok call d = absurd d
 
-deeds_follow : (config : ConfigSays) (place time : ℕ) (key : Option (List ℕ)) (deeds left : Deeds Ask State) (entries : List Entry)
-    (before : List WorldEntry) → place < length config.members → last_time 0 before ≤ time → Leads (IsDone key) deeds entries left
+deeds_follow : (config : ConfigSays) (place time : ℕ) (ring : Option Ring) (deeds left : Deeds Ask State) (entries : List Entry)
+    (before : List WorldEntry) → place < length config.members → last_time 0 before ≤ time → Leads (IsDone ring) deeds entries left
     → Along (Follows config) before (made_at place time entries)
-deeds_follow config place time key deeds left [] before below order leads = tt
-deeds_follow config place time key (Ends state) left (call ∷ entries) before below order leads = absurd leads
-deeds_follow config place time key (Does ask go) left (call ∷ entries) before below order leads =
+deeds_follow config place time ring deeds left [] before below order leads = tt
+deeds_follow config place time ring (Ends state) left (call ∷ entries) before below order leads = absurd leads
+deeds_follow config place time ring (Does ask go) left (call ∷ entries) before below order leads =
     let e : WorldEntry = entry_at place time (Makes call) in
     let at : last_time 0 (before ++ e ∷ []) ≡ time = time_of_last 0 before e in (
-      calls_follow config before place time call below order (no_reading place time key ask leads.0 call leads.1),
-      deeds_follow config place time key (go leads.0) left entries (before ++ e ∷ []) below (omega (arith, at)) leads.2,
+      calls_follow config before place time call below order (no_reading place time ring ask leads.0 call leads.1),
+      deeds_follow config place time ring (go leads.0) left entries (before ++ e ∷ []) below (omega (arith, at)) leads.2,
     )
 
 -- it happens at a member
@@ -76,7 +77,7 @@ happening_follows config before time fails (Turns place arrival bytes) last belo
       calls_follow config before place time _ below order tt,
       (
         calls_follow config (before ++ next ∷ []) place time _ below (omega (arith, at)) refl,
-        deeds_follow config place time (node_in config place).key
+        deeds_follow config place time (node_in config place).ring
             (react (node_in config place) is.old (used is.old.last_reading (reading_at place time)) (Ok arrival) bytes) (Ends is.new) is.deeds ((before ++ next ∷ []) ++ now ∷ []) below (omega (arith, later)) is.turn.2,
       ),
     )

@@ -2,6 +2,7 @@
 use Rattle.std.proofs.Common.{◌≡◌, ℕ, zero, suc, Bool, true, false, List, [], ◌∷◌, ◌++◌, length, drop, refl, sym, ap, ◌∙◌, subst, inl, inr, if◌then◌else◌}
 use Rattle.std.specs.Prelude.{◌==◌, Option, Some, None, Result, Ok, Err, option_map, slice_get, map}
 use Rattle.std.specs.List.{cons_option}
+use Rattle.booth_keys.specs.declared.ring.Ring.{Ring}
 use Rattle.booth_base.specs.declared.address.MemberId.{MemberId}
 use Rattle.booth_base.specs.Tree.{Deeds, Ends, Does, Leads}
 use Rattle.booth_conf.specs.Config.{ConfigSays}
@@ -185,21 +186,21 @@ module _ (config : ConfigSays) (w : World) where
   abbrev pub Hears : List WorldEntry → WorldEntry → Type 0
   Hears before entry = HearsSent w before (stand_after entry.member before) entry.what
 
-  says_so : (key : Option (List ℕ)) (ask : Ask) (ok : Bool) (call : Entry) → IsDone key ask ok call → ok ≡ did call
-  says_so key (Send peer message) ok (calls.Send to bytes answer) d = d.3
-  says_so key (Keep name tried) ok (calls.Keep ticket rec answer) d = d.2
-  says_so key (Start job) ok (calls.Start number ticket handler local expires answer) d = d.1
-  says_so key (Send peer message) ok call d = absurd d
-  says_so key (Keep name tried) ok call d = absurd d
-  says_so key (Start job) ok call d = absurd d
+  says_so : (ring : Option Ring) (ask : Ask) (ok : Bool) (call : Entry) → IsDone ring ask ok call → ok ≡ did call
+  says_so ring (Send peer message) ok (calls.Send to bytes answer) d = d.3
+  says_so ring (Keep name tried) ok (calls.Keep ticket rec answer) d = d.2
+  says_so ring (Start job) ok (calls.Start number ticket handler local expires answer) d = d.1
+  says_so ring (Send peer message) ok call d = absurd d
+  says_so ring (Keep name tried) ok call d = absurd d
+  says_so ring (Start job) ok call d = absurd d
 
   deeds_hear : (node : NodeConfig) (place time : ℕ) (deeds left : Deeds Ask State) (entries : List Entry) (before : List WorldEntry)
-      → stand_after place before ≡ Doing node deeds → Leads (IsDone node.key) deeds entries left → Along Hears before (made_at place time entries)
+      → stand_after place before ≡ Doing node deeds → Leads (IsDone node.ring) deeds entries left → Along Hears before (made_at place time entries)
   deeds_hear node place time deeds left [] before stands leads = tt
   deeds_hear node place time (Ends state) left (call ∷ entries) before stands leads = absurd leads
   deeds_hear node place time (Does ask go) left (call ∷ entries) before stands leads =
       let e : WorldEntry = entry_at place time (Makes call) in
-      let oks : did call ≡ leads.0 = sym (says_so node.key ask leads.0 call leads.1) in
+      let oks : did call ≡ leads.0 = sym (says_so node.ring ask leads.0 call leads.1) in
       let after : stand_after place (before ++ e ∷ []) ≡ Doing node (go leads.0) =
       stand_own place before e refl ∙ ap (λ (s : Stand). after_entry s (Makes call)) stands ∙ ap (λ (b : Bool). Doing node (go b)) oks in (
         subst (λ (s : Stand). HearsSent w before s (Makes call)) (sym stands) tt,

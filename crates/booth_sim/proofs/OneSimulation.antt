@@ -1,6 +1,7 @@
 -- A configuration, a number and a count of events make one simulation.
 use Rattle.std.proofs.Common.{◌≡◌, ℕ, zero, suc, ◌+◌, Bool, List, [], ◌∷◌, ◌++◌, refl, sym, ap, ◌∙◌, subst}
 use Rattle.std.specs.Prelude.{Option, None, Result, Ok, Err, is_err}
+use Rattle.booth_keys.specs.declared.ring.Ring.{Ring}
 use Rattle.booth_base.specs.Tree.{Deeds, Ends, Does, Leads}
 use Rattle.booth_conf.specs.Config.{ConfigSays}
 use Rattle.booth_host.specs.declared.host.Failed.{Failed}
@@ -24,46 +25,46 @@ one_answer (Err f) (Ok y) e = absurd cc
 one_answer (Err f) (Err g) e = refl
 
 -- an ask has one call with this answer, and goes on with it
-same_call : (key : Option (List ℕ)) (fails : Bool) (ask : Ask) (ok other_ok : Bool) (call other : Entry)
-    → IsDone key ask ok call → IsAnswered fails call → IsDone key ask other_ok other → IsAnswered fails other → call ≡ other
-same_call key fails (Send peer message) ok ok' (calls.Send to bytes answer) (calls.Send to' bytes' answer') d a d' a' =
+same_call : (ring : Option Ring) (fails : Bool) (ask : Ask) (ok other_ok : Bool) (call other : Entry)
+    → IsDone ring ask ok call → IsAnswered fails call → IsDone ring ask other_ok other → IsAnswered fails other → call ≡ other
+same_call ring fails (Send peer message) ok ok' (calls.Send to bytes answer) (calls.Send to' bytes' answer') d a d' a' =
     ap (λ p. calls.Send p bytes answer) (d.0 ∙ sym d'.0) ∙ ap (λ b. calls.Send to' b answer) (d.1 ∙ sym d'.1)
     ∙ ap (λ r. calls.Send to' bytes' r) (one_answer answer answer' (a ∙ sym a'))
-same_call key fails (Keep name tried) ok ok' (calls.Keep ticket rec answer) (calls.Keep ticket' rec' answer') d a d' a' =
+same_call ring fails (Keep name tried) ok ok' (calls.Keep ticket rec answer) (calls.Keep ticket' rec' answer') d a d' a' =
     ap (λ t. calls.Keep t rec answer) (d.0 ∙ sym d'.0) ∙ ap (λ r. calls.Keep ticket' r answer) (d.1 ∙ sym d'.1)
     ∙ ap (λ r. calls.Keep ticket' rec' r) (one_answer answer answer' (a ∙ sym a'))
-same_call key fails (Start job) ok ok' (calls.Start n t h l x answer) (calls.Start n' t' h' l' x' answer') d a d' a' =
+same_call ring fails (Start job) ok ok' (calls.Start n t h l x answer) (calls.Start n' t' h' l' x' answer') d a d' a' =
     ap (λ (j : Job). calls.Start j.number j.ticket j.handler j.local j.expires answer) (d.0 ∙ sym d'.0)
     ∙ ap (λ r. calls.Start n' t' h' l' x' r) (one_answer answer answer' (a ∙ sym a'))
-same_call key fails (Send peer message) ok ok' (calls.Send to bytes answer) other d a d' a' = absurd d'
-same_call key fails (Keep name tried) ok ok' (calls.Keep ticket rec answer) other d a d' a' = absurd d'
-same_call key fails (Start job) ok ok' (calls.Start n t h l x answer) other d a d' a' = absurd d'
-same_call key fails (Send peer message) ok ok' call other d a d' a' = absurd d
-same_call key fails (Keep name tried) ok ok' call other d a d' a' = absurd d
-same_call key fails (Start job) ok ok' call other d a d' a' = absurd d
+same_call ring fails (Send peer message) ok ok' (calls.Send to bytes answer) other d a d' a' = absurd d'
+same_call ring fails (Keep name tried) ok ok' (calls.Keep ticket rec answer) other d a d' a' = absurd d'
+same_call ring fails (Start job) ok ok' (calls.Start n t h l x answer) other d a d' a' = absurd d'
+same_call ring fails (Send peer message) ok ok' call other d a d' a' = absurd d
+same_call ring fails (Keep name tried) ok ok' call other d a d' a' = absurd d
+same_call ring fails (Start job) ok ok' call other d a d' a' = absurd d
 
-same_ok : (key : Option (List ℕ)) (ask : Ask) (ok other_ok : Bool) (call : Entry) → IsDone key ask ok call → IsDone key ask other_ok call
+same_ok : (ring : Option Ring) (ask : Ask) (ok other_ok : Bool) (call : Entry) → IsDone ring ask ok call → IsDone ring ask other_ok call
     → ok ≡ other_ok
-same_ok key (Send peer message) ok ok' (calls.Send to bytes answer) d d' = d.3 ∙ sym d'.3
-same_ok key (Keep name tried) ok ok' (calls.Keep ticket rec answer) d d' = d.2 ∙ sym d'.2
-same_ok key (Start job) ok ok' (calls.Start n t h l x answer) d d' = d.1 ∙ sym d'.1
-same_ok key (Send peer message) ok ok' call d d' = absurd d
-same_ok key (Keep name tried) ok ok' call d d' = absurd d
-same_ok key (Start job) ok ok' call d d' = absurd d
+same_ok ring (Send peer message) ok ok' (calls.Send to bytes answer) d d' = d.3 ∙ sym d'.3
+same_ok ring (Keep name tried) ok ok' (calls.Keep ticket rec answer) d d' = d.2 ∙ sym d'.2
+same_ok ring (Start job) ok ok' (calls.Start n t h l x answer) d d' = d.1 ∙ sym d'.1
+same_ok ring (Send peer message) ok ok' call d d' = absurd d
+same_ok ring (Keep name tried) ok ok' call d d' = absurd d
+same_ok ring (Start job) ok ok' call d d' = absurd d
 
-same_deeds : (key : Option (List ℕ)) (fails : Bool) (tree : Deeds Ask State) (new new' : State) (xs ys : List Entry)
-    → Leads (IsDone key) tree xs (Ends new) → AreAnswered fails xs → Leads (IsDone key) tree ys (Ends new') → AreAnswered fails ys → xs ≡ ys
-same_deeds key fails (Ends s) new new' [] [] l a l' a' = refl
-same_deeds key fails (Ends s) new new' [] (y ∷ ys) l a l' a' = absurd l'
-same_deeds key fails (Ends s) new new' (x ∷ xs) ys l a l' a' = absurd l
-same_deeds key fails (Does ask go) new new' [] ys l a l' a' = absurd cc
-same_deeds key fails (Does ask go) new new' (x ∷ xs) [] l a l' a' = absurd cc
-same_deeds key fails (Does ask go) new new' (x ∷ xs) (y ∷ ys) l a l' a' =
-    let calls : x ≡ y = same_call key fails ask l.0 l'.0 x y l.1 a.0 l'.1 a'.0 in
-    let oks : l'.0 ≡ l.0 = same_ok key ask l'.0 l.0 y l'.1 (subst (λ (c : Entry). IsDone key ask l.0 c) calls l.1) in
+same_deeds : (ring : Option Ring) (fails : Bool) (tree : Deeds Ask State) (new new' : State) (xs ys : List Entry)
+    → Leads (IsDone ring) tree xs (Ends new) → AreAnswered fails xs → Leads (IsDone ring) tree ys (Ends new') → AreAnswered fails ys → xs ≡ ys
+same_deeds ring fails (Ends s) new new' [] [] l a l' a' = refl
+same_deeds ring fails (Ends s) new new' [] (y ∷ ys) l a l' a' = absurd l'
+same_deeds ring fails (Ends s) new new' (x ∷ xs) ys l a l' a' = absurd l
+same_deeds ring fails (Does ask go) new new' [] ys l a l' a' = absurd cc
+same_deeds ring fails (Does ask go) new new' (x ∷ xs) [] l a l' a' = absurd cc
+same_deeds ring fails (Does ask go) new new' (x ∷ xs) (y ∷ ys) l a l' a' =
+    let calls : x ≡ y = same_call ring fails ask l.0 l'.0 x y l.1 a.0 l'.1 a'.0 in
+    let oks : l'.0 ≡ l.0 = same_ok ring ask l'.0 l.0 y l'.1 (subst (λ (c : Entry). IsDone ring ask l.0 c) calls l.1) in
     ap (λ (c : Entry). c ∷ xs) calls
     ∙ ap (λ (cs : List Entry). y ∷ cs)
-    (same_deeds key fails (go l.0) new new' xs ys l.2 a.1 (subst (λ (b : Bool). Leads (IsDone key) (go b) ys (Ends new')) oks l'.2) a'.1)
+    (same_deeds ring fails (go l.0) new new' xs ys l.2 a.1 (subst (λ (b : Bool). Leads (IsDone ring) (go b) ys (Ends new')) oks l'.2) a'.1)
 
 same_state : (node : NodeConfig) (a b : State) → Doing node (Ends a) ≡ Doing node (Ends b) → a ≡ b
 same_state node a b e = cc

@@ -3,6 +3,7 @@ use Rattle.booth_host.specs.declared.host.Failed.{Failed}
 use Rattle.std.proofs.Common.{◌≡◌, ◌⊎◌, ⊎_elim, ℕ, suc, ◌^◌, ◌<◌, List, [], ◌∷◌, ◌++◌, refl, sym, ap, ◌∙◌, subst, inl, inr, arith, ◌+◌}
 use Rattle.std.specs.Prelude.{None, Result, Ok, Err, Option}
 use Rattle.std.specs.List.{All}
+use Rattle.booth_keys.specs.declared.ring.Ring.{Ring}
 use Rattle.booth_base.specs.declared.address.MemberId.{MemberId}
 use Rattle.booth_base.specs.declared.address.Peer.{Peer}
 use Rattle.booth_base.specs.Tree.{Ends, Leads}
@@ -43,15 +44,15 @@ has_either (z ∷ zs) ys x (inr h) =
     ⊎_elim (λ (a : Has zs x). inl (inr a)) (λ (b : Has ys x). inr b) (has_either zs ys x h)
 
 -- the call that is the send of a message
-sends_first : (key : Option (List ℕ)) (to : Peer) (message : PlainMessage) (messages : List PlainMessage) (e : Entry)
-    (es : List Entry) → AreSends key to (message ∷ messages) (e ∷ es)
-    → (answer : Result (Unit {0}) Failed) × (e ≡ calls.Send to (sealed key message) answer) × AreSends key to messages es
-sends_first key to message messages (calls.Send peer bytes answer) es sends = (
+sends_first : (ring : Option Ring) (to : Peer) (message : PlainMessage) (messages : List PlainMessage) (e : Entry)
+    (es : List Entry) → AreSends ring to (message ∷ messages) (e ∷ es)
+    → (answer : Result (Unit {0}) Failed) × (e ≡ calls.Send to (sealed ring message) answer) × AreSends ring to messages es
+sends_first ring to message messages (calls.Send peer bytes answer) es sends = (
   answer,
   ap (λ (p : Peer). calls.Send p bytes answer) sends.0 ∙ ap (λ (b : List ℕ). calls.Send to b answer) sends.1,
   sends.2,
 )
-sends_first key to message messages call es sends = absurd sends
+sends_first ring to message messages call es sends = absurd sends
 
 -- the bytes of a message of this member bear its id
 bears : (me : MemberId) (message : PlainMessage) (bytes sent : List ℕ) → me.0 < 2 ^ 32 → message.head.from ≡ me → bytes ≡ sealed None message

@@ -50,19 +50,19 @@ id_known config members place d same within =
 
 -- the node of a place
 node_is : (config copy : ConfigSays) (place : ℕ) (me : MemberId) → copy ≡ config → me ≡ (node_in config place).me
-    → record { config = copy; key = None; me = me; second = true } ≡ node_in config place
+    → record { config = copy; ring = None; me = me; second = true } ≡ node_in config place
 node_is config copy place me same own =
-    ap (λ (c : ConfigSays). record { config = c; key = None; me = me; second = true }) same ∙ ap (λ (i : MemberId). record { config = config; key = None; me = i; second = true }) own
+    ap (λ (c : ConfigSays). record { config = c; ring = None; me = me; second = true }) same ∙ ap (λ (i : MemberId). record { config = config; ring = None; me = i; second = true }) own
 
 pub opened_node : {E : Type 0} (result : Result Node E) (config copy : ConfigSays) (place : ℕ) (me : MemberId) → copy ≡ config
-    → me ≡ (node_in config place).me → IfOk result (λ node. node_config node ≡ record { config = copy; key = None; me = me; second = true })
+    → me ≡ (node_in config place).me → IfOk result (λ node. node_config node ≡ record { config = copy; ring = None; me = me; second = true })
     → IfOk result (λ node. node_config node ≡ node_in config place)
 opened_node {E} result config copy place me same own h =
     subst (λ (n : NodeConfig). IfOk result (λ node. node_config node ≡ n)) (node_is config copy place me same own) h
 
 pub opened_state : {E : Type 0} (result : Result Node E) (config copy : ConfigSays) (place : ℕ) (me : MemberId) (kept : List (Option Record)) (reading : ℕ)
     → copy ≡ config → me ≡ (node_in config place).me
-    → IfOk result (λ node. state_of node ≡ opened (record { config = copy; key = None; me = me; second = true }) kept reading)
+    → IfOk result (λ node. state_of node ≡ opened (record { config = copy; ring = None; me = me; second = true }) kept reading)
     → IfOk result (λ node. state_of node ≡ opened (node_in config place) kept reading)
 opened_state {E} result config copy place me kept reading same own h =
     subst (λ (n : NodeConfig). IfOk result (λ node. state_of node ≡ opened n kept reading)) (node_is config copy place me same own) h

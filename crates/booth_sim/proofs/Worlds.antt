@@ -31,6 +31,7 @@ use Rattle.booth_sim.proofs.KeptRecords.{kept_join, may_keep, record_of_all}
 use Rattle.booth_sim.proofs.Owning.{owned}
 use Rattle.booth_sim.proofs.Places.{place_is}
 use Rattle.booth_sim.proofs.Sessions.{are_sessions}
+use Rattle.booth_world.proofs.Beginnings.{none_holds}
 
 -- ---- times
 
@@ -196,6 +197,7 @@ module _ (config : ConfigSays) (sound : IsSound config) (number events : ℕ) (f
 
   clocks : HasTrueClocks TheWorld
   clocks = record {
+    ticking = omega arith;
     some = omega arith;
     long = λ m below. length-map-range_with_len (reading_at m) 0 TheWorld.span;
     clocks = λ m below. let short = times_below config number events entries is in clock_drifts TheWorld.span m (omega (arith, short, few));
@@ -229,6 +231,7 @@ module _ (config : ConfigSays) (sound : IsSound config) (number events : ℕ) (f
   pub is_world : AtEach TheWorld (λ before entry. HearsSent TheWorld before (stand_after entry.member before) entry.what) → IsWorld TheWorld
   is_world speak = record {
     form = form;
+    nothing_held = none_holds TheWorld (λ m place. refl);
     one_configuration = each (λ done e. HasConfiguration TheWorld e e.what) configured;
     true_clocks = clocks;
     records_return = return;

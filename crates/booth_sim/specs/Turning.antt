@@ -39,7 +39,8 @@ NoneArrives config (call ∷ calls) = (is_delivery config (Makes call) ≡ false
 -- these calls of the member at a place change its records, the frames and the counts so
 pub record Sees (config : ConfigSays) (place : ℕ) (calls : List Entry) (old new : List (Option Record))
     (sent kept : List SentFrame) (counted now : Summary) : Type 0 where
-  pub sees : (before : List WorldEntry) (time : ℕ) → NoneArrives config calls → IsSeen config before place old sent counted
+  pub sees : (before : List WorldEntry) (time : ℕ) → NoneArrives config calls
+      → IsSeen config before place old sent counted
       → IsSeen config (before ++ made_at place time calls) place new kept now
   pub all : length new ≡ length old
   pub grows : Grows 0 0 (length calls) counted now

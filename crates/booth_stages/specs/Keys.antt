@@ -1,7 +1,9 @@
--- The key, read from its file where one is set, and how a run ends that gets none.
+-- The ring, whose key is read from its file where one is set, and how a run ends that gets none.
 use Rattle.std.specs.Prelude.{◌≡◌, ℕ, List, [], ◌∷◌, Option, Some, None, Result, Ok, Err}
-use Rattle.booth_auth.specs.Key.{key_read}
-use Rattle.booth_auth.specs.declared.key.KeyFault.{KeyFault}
+use Rattle.booth_keys.specs.Key.{key_read}
+use Rattle.booth_keys.specs.Ring.{alone}
+use Rattle.booth_keys.specs.declared.key.KeyFault.{KeyFault}
+use Rattle.booth_keys.specs.declared.ring.Ring.{Ring}
 use Rattle.booth_host.specs.declared.host.ReadFault.TheVariants as reads
 use Rattle.booth_host.specs.declared.entry.Entry.{Entry}
 use Rattle.booth_host.specs.declared.entry.Entry.TheVariants.{ReadFile}
@@ -20,11 +22,11 @@ abbrev pub key_calls : Option (List ℕ) → List ℕ → List Entry
 key_calls None text = []
 key_calls (Some file) text = ReadFile file (Ok text) ∷ []
 
--- the key in the key file's text, or none where no file is set
-abbrev pub HasKey : Option (List ℕ) → List ℕ → Option (List ℕ) → Type 0
-HasKey None text None = Unit {0}
-HasKey (Some file) text (Some key) = key_read text ≡ Ok key
-HasKey authfile text key = ⊥
+-- the ring of the key in the key file's text, or none where no file is set
+abbrev pub HasRing : Option (List ℕ) → List ℕ → Option Ring → Type 0
+HasRing None text None = Unit {0}
+HasRing (Some file) text (Some ring) = (key_read text ≡ Ok ring.first) × (ring ≡ alone ring.first)
+HasRing authfile text ring = ⊥
 
 -- no key came from the key file
 abbrev pub IsKeyless : Option (List ℕ) → Outcome → List ℕ → List Entry → Type 0
@@ -47,11 +49,11 @@ IsKeylessOutcome (KeyBad fault) = Unit {0}
 IsKeylessOutcome OutOfMemory = Unit {0}
 IsKeylessOutcome outcome = ⊥
 
--- the read of the key file, where one is set, and the key that it holds
-abbrev pub IsKeyRead : Option (List ℕ) → Result (Option (List ℕ)) Ended → List Entry → Type 0
-IsKeyRead authfile (Ok key) entries = (text : List ℕ) × HasKey authfile text key
+-- the read of the key file, where one is set, and the ring of the key that it holds
+abbrev pub IsRingRead : Option (List ℕ) → Result (Option Ring) Ended → List Entry → Type 0
+IsRingRead authfile (Ok ring) entries = (text : List ℕ) × HasRing authfile text ring
     × (entries ≡ key_calls authfile text)
-IsKeyRead authfile (Err ended) entries = IsKeyless authfile ended.outcome ended.said entries
+IsRingRead authfile (Err ended) entries = IsKeyless authfile ended.outcome ended.said entries
 
 -- ---- in the code
 

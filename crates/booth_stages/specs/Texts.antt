@@ -7,8 +7,8 @@ use Rattle.booth_conf.specs.Keys.{name_at}
 use Rattle.booth_conf.specs.Names.{NamesTicket}
 use Rattle.booth_conf.specs.declared.faults.ConfFault.{ConfFault}
 use Rattle.booth_conf.specs.declared.faults.ConfFault.TheVariants as confs
-use Rattle.booth_auth.specs.declared.key.KeyFault.{KeyFault}
-use Rattle.booth_auth.specs.declared.key.KeyFault.TheVariants as keys
+use Rattle.booth_keys.specs.declared.key.KeyFault.{KeyFault}
+use Rattle.booth_keys.specs.declared.key.KeyFault.TheVariants as keys
 use Rattle.booth_following.specs.declared.choosing.FollowFault.{FollowFault}
 use Rattle.booth_following.specs.declared.choosing.FollowFault.TheVariants as follows
 use Rattle.booth_host.specs.declared.host.Failed.{Failed}

@@ -1,15 +1,15 @@
-//! The key, from its file.
+//! The ring, whose key comes from its file.
 ghost use Rattle.std.specs.Prelude.{◌≤◌, ℕ, IfErr};
 ghost use Rattle.booth_host.specs.Past.{GrewSome};
 ghost use Rattle.booth_stages.specs.Outcomes.{HasBlame, IsServed};
-ghost use Rattle.booth_stages.specs.Keys.{IsFileKey, IsFromFile, IsKeyRead, IsKeylessOutcome};
+ghost use Rattle.booth_stages.specs.Keys.{IsFileKey, IsFromFile, IsRingRead, IsKeylessOutcome};
 
 use crate::outcome::Ended;
 use crate::{Outcome, texts};
-use booth_auth::Key;
 use booth_base::PathText;
 use booth_conf::Config;
 use booth_host::{Host, ReadFault};
+use booth_keys::{Key, Ring};
 use std::alloc::Global;
 
 // The key in a key file's bytes.
@@ -46,9 +46,13 @@ fn from_file<H: Host>(alloc: Global, path: &PathText, host: &mut H) -> Result<Ke
     }
 }
 
-/// The key, where the configuration names its file.
-pub fn read_key<H: Host>(alloc: Global, config: &Config, host: &mut H) -> Result<Option<Key>, Ended>
-    ensures past { GrewSome (IsKeyRead config.now.authfile result) (H.past host.old) (H.past host.new) }
+/// The ring of the key, where the configuration names its file.
+pub fn read_ring<H: Host>(
+    alloc: Global,
+    config: &Config,
+    host: &mut H,
+) -> Result<Option<Ring>, Ended>
+    ensures past { GrewSome (IsRingRead config.now.authfile result) (H.past host.old) (H.past host.new) }
     ensures keyless { IfErr result (λ ended. IsKeylessOutcome ended.outcome) }
     ensures served { IfErr result (λ ended. IsServed ended.outcome) }
     ensures blame { IfErr result (λ ended. HasBlame ended.outcome (H.faults host.old) (H.faults host.new)) }
@@ -57,5 +61,6 @@ pub fn read_key<H: Host>(alloc: Global, config: &Config, host: &mut H) -> Result
     let Some(path) = config.authfile() else {
         return Ok(None);
     };
-    Ok(Some(from_file(alloc, path, host)?))
+    let key = from_file(alloc, path, host)?;
+    Ok(Some(Ring::of(key)))
 }

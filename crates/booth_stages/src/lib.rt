@@ -13,7 +13,7 @@ mod usage;
 pub use booth_words::Word;
 pub use configuration::read_config;
 pub use error_line::ErrorLine;
-pub use keys::read_key;
+pub use keys::read_ring;
 pub use outcome::{Ended, Outcome};
 pub use telling::tell;
 pub use usage::tell_error;

@@ -4,9 +4,9 @@ ghost use Rattle.booth_stages.specs.Texts.{out_of_memory_text, status_of};
 
 use crate::error_line::ErrorLine;
 use crate::texts;
-use booth_auth::KeyFault;
 use booth_conf::ConfFault;
 use booth_following::FollowFault;
+use booth_keys::KeyFault;
 use booth_words::Word;
 use clap::error::ErrorKind;
 

@@ -10,10 +10,10 @@ ghost use Rattle.booth_stages.specs.Texts.{file_text, at_line, IsTicketText, IsF
 
 use crate::Word;
 use crate::error_line::ErrorLine;
-use booth_auth::KeyFault;
 use booth_base::{Address, Name, PathText};
 use booth_conf::{ConfFault, KeyNo, ticket_name};
 use booth_following::FollowFault;
+use booth_keys::KeyFault;
 use booth_words::{Program, version};
 
 /// A line of this text.

@@ -64,7 +64,8 @@ fn ask_at<L: Ledger>(wheel: &mut Wheel, now: u64, steps: &mut Steps<L>) -> u64
     none
 }
 
-// Asks 16 times at each moment from 0 to `until`. Each answer is none. A look at a bucket is a step, and there is no other.
+// Asks 16 times at each moment from 0 to `until`. Each answer is none. A look at a bucket is a step, and there is no
+// other.
 fn ask_each<L: Ledger>(wheel: &mut Wheel, until: u32, steps: &mut Steps<L>) -> u64
     requires far { AreFar wheel.old.deadlines }
     requires early { until < END }
@@ -104,8 +105,8 @@ fn ask(wheel: &mut Wheel, until: u32) -> u64
     ask_counted::<Brand>(wheel, until, Blank::new(1))
 }
 
-/// Sets so many slots to a far deadline, and asks 16 times at each moment from 0 to `until` which one is due. How many answers
-/// were none; None where `until` is too late or memory was wanting.
+/// Sets so many slots to a far deadline, and asks 16 times at each moment from 0 to `until` which one is due. How
+/// many answers were none; None where `until` is too late or memory was wanting.
 pub fn ask_at_each_moment(alloc: Global, slots: u32, until: u32) -> Option<u64>
     ensures { IfSome result (λ none. none ≡ 16 * (until + 1)) }
 {

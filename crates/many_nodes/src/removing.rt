@@ -27,9 +27,9 @@ fn leaves(chains: &mut Chains<u32>, before: NodeId, gone: NodeId, next: NodeId) 
     chains.holds(before) && chains.after(before) == Some(next)
 }
 
-/// Pushes so many items to one list, and removes those of its second half but the last, the first first. After each the
-/// last of the first half is followed by the next that stays. How many were removed; None where a step was another one, or
-/// memory was wanting.
+/// Pushes so many items to one list, and removes those of its second half but the last, the first first. After each
+/// the last of the first half is followed by the next that stays. How many were removed; None where a step was
+/// another one, or memory was wanting.
 pub fn remove_from_the_middle(alloc: Global, items: u32) -> Option<u32> {
     let mut chains = Chains::with_capacity(alloc, items, 1).ok()?;
     let nodes = push_each(alloc, &mut chains, items)?;

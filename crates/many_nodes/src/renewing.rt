@@ -71,8 +71,8 @@ fn renew(wheel: &mut Wheel, slots: u32, spread: u32, until: u32) -> u64
     renew_counted::<Brand>(wheel, slots, spread, until, Blank::new(1))
 }
 
-/// Sets so many slots evenly from 1 to `spread`, and at each moment before `until` sets anew, `spread` later, each slot that
-/// is due. How many times one was; None where memory was wanting.
+/// Sets so many slots evenly from 1 to `spread`, and at each moment before `until` sets anew, `spread` later, each
+/// slot that is due. How many times one was; None where memory was wanting.
 pub fn renew_each(alloc: Global, slots: u32, spread: u32, until: u32) -> Option<u64> {
     let mut wheel = Wheel::new(alloc, slots).ok()?;
     set_each(&mut wheel, slots, spread);

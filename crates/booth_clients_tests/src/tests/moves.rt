@@ -1,7 +1,7 @@
 //! Runs of `booth move` over a script: what comes from daemons, and the calls and the outcome that follow.
 //!
-//! Each begins at 1,000 ms, which is the number of its revoke then. What is done at each stage is in the tests of what is
-//! below.
+//! Each begins at 1,000 ms, which is the number of its revoke then. What is done at each stage is in the tests of
+//! what is below.
 use super::{check_calls, check_end, check_words};
 use std::alloc::Global;
 use std::process::Abort;
@@ -94,7 +94,8 @@ fn each_answer_ends_a_move_or_goes_on(rt: HostRuntime) {
 Tidl, 0: ronsxne 1 Refused Tidl booth: ticket is not granted$
 IArg, 0: ronsxne 1 Refused IArg booth: invalid argument$
 Redr, 0: ronsxne 1 Refused Redr booth: ticket is owned by another site$
-0, APrq: ronsxnsxne 1 Stranded APrq booth: ticket ticket-db8 is revoked, and its grant was refused: prerequisite not met$
+0, APrq: ronsxnsxne 1 Stranded APrq booth: ticket ticket-db8 is revoked, and its grant was refused: \
+prerequisite not met$
 0, Redr: ronsxnsxne 1 Stranded Redr booth: ticket ticket-db8 is revoked, and its grant was refused: ticket is owned by \
 another site$
 0, 16909835: ronsxnsxne 1 Stranded 16909835 booth: ticket ticket-db8 is revoked, and its grant was refused: result \
