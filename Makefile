@@ -1,3 +1,4 @@
+# make try     runs a cluster in memory in a minute or two, with no proof, and leaves nothing
 # make build   proves boothd, booth, geostore and booth-follow, and leaves the programs below out/
 # make run     builds it, and shows three members on loopback and a service that follows its ticket: a crash, a takeover, a move
 # make check   the gate
@@ -26,12 +27,23 @@ TO_MODULES := $(shell realpath -ms --relative-to="$(SBIN)" "$(MODULES)")
 NO_RT := the command rt is missing: install the Rattle kit, as README.md says under "Build and install"
 NEEDS_RT := command -v rt >/dev/null || { echo 'make: $(NO_RT)' >&2; exit 1; }
 
-.PHONY: build run check install uninstall deb
+NEEDS_PYTHON := command -v python3 >/dev/null || { echo 'make: the command python3 is missing' >&2; exit 1; }
+
+.PHONY: try build run check install uninstall deb
 
 build: $(PROGRAMS:%=out/%)
 
-run: build
+# (what is missing is said before the proof, and not after it)
+run:
+	@$(NEEDS_PYTHON)
+	@$(MAKE) --no-print-directory build
 	@python3 tools/demo.py
+
+try:
+	@$(NEEDS_RT)
+	@echo 'building without a proof, which takes a minute or two'
+	@cd crates/boothd && rt try -- sim -e 1000 -r 7
+	@echo 'this was not proved: make run proves the programs, and shows them. docs/SIMULATION.md says what was printed'
 
 check:
 	@$(NEEDS_RT)
@@ -102,7 +114,7 @@ $(PROGRAMS:%=out/%):
 crates/boothd/out/boothd crates/booth/out/booth crates/geostore/out/geostore crates/booth_follow/out/booth_follow: $(SOURCES)
 	@$(NEEDS_RT)
 	@mkdir -p out
-	@echo "proving and building $(notdir $@), half an hour or more at first (out/build.log)"
+	@echo "proving and building $(notdir $@), half an hour or more at first (out/build.log); make try shows something sooner"
 	@rm -f $@
 	@(cd crates/$(notdir $@) && rt run) 2>&1 </dev/null | tee out/build.log | tools/progress.sh; \
 	  test -x $@ || { tail -n 30 out/build.log; exit 1; }

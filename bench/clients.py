@@ -21,7 +21,8 @@ sys.path[:0] = [HERE, f"{HERE}/../tools"]
 
 import frames
 from members import TICKET, Cluster
-from run import Row, cpu_seconds, one_run, status_field
+from rows import Row, told
+from run import cpu_seconds, one_run, status_field
 from serving import NotServing, built_program, end_by_signals, own_addresses
 
 TRIES = 20
@@ -134,14 +135,14 @@ def main(words):
     if None in programs:
         sys.exit("clients.py: boothd or booth is not built: run make build")
     programs = [os.path.abspath(program) for program in programs]
+    status = 0
     try:
         for measured in (grant_rows, waiting_rows, attribute_rows):
             with tempfile.TemporaryDirectory(prefix="booth-bench-") as folder:
-                for row in measured(programs, f"{folder}/members"):
-                    print(f"{row.name:64} {row.value}", flush=True)
+                status |= told(measured(programs, f"{folder}/members"))
     except (NotServing, socket.timeout) as why:
         sys.exit(f"clients.py: {why}")
-    return 0
+    return status
 
 
 if __name__ == "__main__":

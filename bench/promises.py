@@ -25,7 +25,8 @@ import frames
 import record_file
 from members import TICKET, Cluster, Times, now, wait_for
 from records import KEEPS, host_round
-from run import Row, at_least, below, cpu_seconds, print_table
+from rows import Row, at_least, below, print_table
+from run import cpu_seconds
 from serving import NotServing, built_program, end_by_signals, own_addresses
 
 MANY = tuple(b"ticket-%02d" % number for number in range(64))
@@ -241,8 +242,7 @@ def main(words):
             rows += renewal_rows(program, f"{folder}/few")
         except (NotServing, OSError, subprocess.CalledProcessError) as why:
             sys.exit(f"promises.py: {why}")
-    print_table(rows)
-    return 1 if any(row.met() == "NO" for row in rows) else 0
+    return print_table(rows)
 
 
 if __name__ == "__main__":

@@ -20,7 +20,7 @@ TOP = os.path.dirname(HERE)
 sys.path[:0] = [HERE, f"{TOP}/tools"]
 
 import frames
-from run import Row, at_least, below, print_table
+from rows import Row, at_least, below, print_table
 from serving import boothd, built_program, end_by_signals, own_addresses
 from texts import MEMBERS
 
@@ -107,8 +107,7 @@ def main(words):
                 rows += start_rows(os.path.abspath(daemon), folder)
         except (OSError, subprocess.CalledProcessError) as why:
             sys.exit(f"records.py: {why}")
-    print_table(rows)
-    return 1 if any(row.met() == "NO" for row in rows) else 0
+    return print_table(rows)
 
 
 if __name__ == "__main__":

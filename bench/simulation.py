@@ -15,19 +15,21 @@ HERE = os.path.dirname(os.path.abspath(__file__))
 TOP = os.path.dirname(HERE)
 sys.path[:0] = [HERE, f"{TOP}/tools"]
 
-from run import Row, print_table
-from serving import end_by_signals
+from rows import Row, print_table
+from serving import end_by_signals, exit_code
 
 ROUNDS = 5
 EVENTS = 100_000
+# (with thousands of tickets an event is long)
+EVENTS_OF_THOUSANDS = 4_000
 NUMBER = 7
-TICKETS = (1, 16, 64)
+TICKETS = (1, 16, 64, 4_096)
 LEAST_EVENTS = 200_000  # a second, at one ticket
 
 
 def cluster_of(tickets):
     members = 'site="192.168.201.100"\nsite="192.168.202.100"\narbitrator="192.168.203.100"\n'
-    return members + "".join(f'ticket="ticket-{place:02}"\n' for place in range(tickets))
+    return members + "".join(f'ticket="ticket-{place:04}"\n' for place in range(tickets))
 
 
 def used_by(words):
@@ -35,7 +37,7 @@ def used_by(words):
     with tempfile.TemporaryFile("w+") as said:
         child = subprocess.Popen(list(map(str, words)), stdout=said)
         _, status, used = os.wait4(child.pid, 0)
-        child.returncode = os.waitstatus_to_exitcode(status)
+        child.returncode = exit_code(status)
         if child.returncode:
             sys.exit(f"simulation.py: {words[0]} ended with status {child.returncode}")
         said.seek(0)
@@ -63,9 +65,10 @@ def rows(program, words, folder):
         def simulation(events, path=path):
             return [program, "sim", "-c", path, "-e", events, "-r", NUMBER]
 
-        each = best_of(simulation, EVENTS) / EVENTS
+        events = EVENTS if tickets < 1_000 else EVENTS_OF_THOUSANDS
+        each = best_of(simulation, events) / events
         value = f"{1 / each:,.0f} ({each * 1e6:.2f} µs an event, {each / bare:,.0f} times the words)"
-        name = f"events a second, {tickets} ticket{'s' * (tickets > 1)}"
+        name = f"events a second, {tickets:,} ticket{'s' * (tickets > 1)}"
         if tickets > 1:
             yield Row(name, value)
             continue
@@ -87,8 +90,7 @@ def main(words):
             measured = list(rows(program, loop, folder))
         except (OSError, subprocess.CalledProcessError) as why:
             sys.exit(f"simulation.py: {why}")
-    print_table(measured)
-    return 1 if any(row.met() == "NO" for row in measured) else 0
+    return print_table(measured)
 
 
 if __name__ == "__main__":

@@ -19,7 +19,7 @@ TOP = os.path.dirname(HERE)
 sys.path[:0] = [HERE, f"{TOP}/tools"]
 
 from members import Cluster, wait_for
-from run import Row, below
+from rows import Row, below, told
 from serving import NotServing, built_program, end_by_signals, own_addresses
 
 MANY = tuple(b"ticket-%02d" % number for number in range(64))
@@ -78,9 +78,7 @@ def main(words):
                 table += rows(os.path.abspath(program), f"{folder}/members", key)
     except (NotServing, socket.timeout) as why:
         sys.exit(f"status.py: {why}")
-    for row in table:
-        print(f"{row.name:44} {row.value:28} {row.mark:14} {row.met()}".rstrip(), flush=True)
-    return int(any(row.met() == "NO" for row in table))
+    return told(table)
 
 
 if __name__ == "__main__":

@@ -1,6 +1,6 @@
-"""The configurations that bench/run.py measures with. @ stands for the daemon's address.
+"""The configurations that bench/run.py and others measure with. @ stands for the daemon's address.
 
-It is imported by bench/run.py, and not run by itself.
+It is imported by them, and not run by itself.
 """
 
 MEMBERS = b"""site = "@"
@@ -50,10 +50,10 @@ ticket = "ticket-%02d"   # the number %d
 %s""" % (number, number, b"h" * 200, prereqs)
 
 
-def long_text(size):
-    """A text of this size. Each 4,096 bytes of it have one ticket, and the rest is comments."""
+def long_text(size, address="192.168.201.100", key_file="/etc/booth/authkey"):
+    """A text of this size. Each 4,096 bytes of it have one ticket with all keys, and the rest is comments."""
     piece = 4_096
-    made = bytearray(TOP + MEMBERS.replace(b"@", b"192.168.201.100"))
+    made = bytearray(TOP.replace(b"/etc/booth/authkey", key_file.encode()) + MEMBERS.replace(b"@", address.encode()))
     for number in range(size // piece):
         made += ticket(number)
         often, rest = divmod((number + 1) * piece - len(made), len(COMMENT))

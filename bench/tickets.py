@@ -19,7 +19,8 @@ sys.path[:0] = [HERE, f"{HERE}/../tools"]
 
 import frames
 from members import TICKET, Cluster, Times, now, wait_for
-from run import Row, below, cpu_seconds, status_field
+from rows import Row, below, told
+from run import cpu_seconds, status_field
 from serving import NotServing, built_program, end_by_signals, own_addresses
 
 MANY = tuple(b"ticket-%02d" % number for number in range(64))
@@ -150,16 +151,14 @@ def main(words):
     program = words[0] if words else built_program()
     if program is None:
         sys.exit("tickets.py: boothd is not built: run make build")
-    program, rows = os.path.abspath(program), []
+    status = 0
     try:
         for measured in (grant_rows, held_rows, takeover_rows):
             with tempfile.TemporaryDirectory(prefix="booth-bench-") as folder:
-                for row in measured(program, folder):
-                    print(f"{row.name:48} {row.value:40} {row.mark:20} {row.met()}", flush=True)
-                    rows.append(row)
+                status |= told(measured(os.path.abspath(program), folder))
     except NotServing as why:
         sys.exit(f"tickets.py: {why}")
-    return 1 if any(row.met() == "NO" for row in rows) else 0
+    return status
 
 
 if __name__ == "__main__":

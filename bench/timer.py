@@ -16,7 +16,7 @@ HERE = os.path.dirname(os.path.abspath(__file__))
 TOP = os.path.dirname(HERE)
 sys.path[:0] = [HERE, f"{TOP}/tools"]
 
-from run import Row, print_table
+from rows import Row, print_table
 from serving import end_by_signals
 
 PROGRAM = f"{TOP}/crates/many_nodes/out/many_nodes"
@@ -79,10 +79,9 @@ def main(words):
         heap = os.path.join(folder, "heap")
         try:
             subprocess.run(["cc", "-O2", "-o", heap, f"{HERE}/heap.c"], check=True)
-            print_table(rows([program, heap]))
+            return print_table(rows([program, heap]))
         except (OSError, subprocess.CalledProcessError) as why:
             sys.exit(f"timer.py: {why}")
-    return 0
 
 
 if __name__ == "__main__":

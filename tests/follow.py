@@ -5,9 +5,6 @@ Run it as `python3 tests/follow.py [BOOTHD BOOTH BOOTH-FOLLOW]`, which are what 
 out. It takes less than a minute, prints a line for each check, ends all that it started, and has the status 1 where a
 check failed. Where a program is not built it checks nothing, with status 0.
 
-`python3 tests/follow.py --takeovers 200 [SEED]` has the ticket go from site to site so often, each time by a fault that
-is drawn, which takes up to half a minute each.
-
 The services of both sites write a line with its time into one file, ten times a second, and no two sites' lines may
 overlap.
 """
@@ -17,7 +14,6 @@ import functools
 import io
 import multiprocessing
 import os
-import random
 import re
 import signal
 import stat
@@ -329,66 +325,6 @@ def keep_clock(records, boot=None):
         file.write(b"".join(number.to_bytes(8, "big") for number in (1, offset, 0)) + (boot or this_boot()))
 
 
-# ---- takeovers by drawn faults
-
-
-def fail(draw, cluster, services, holder, others):
-    """A fault of the holder's site, and what mends it."""
-    kind = draw.choice(("killed", "stands still", "cut off", "slow", "hangs"))
-    if kind == "killed":
-        holder.kill()
-        return kind, lambda: holder.start(cluster.program, cluster.conf)
-    stopped = others if kind == "cut off" else [holder]
-    if kind == "slow":
-        services.set("slow", holder, f"{draw.uniform(0, MARGIN - KILL - 0.2):.2f}")
-    if kind == "hangs":
-        services.set("hangs", holder)
-    for member in stopped:
-        member.server.process.send_signal(signal.SIGSTOP)
-
-    def mend():
-        for member in stopped:
-            member.server.process.send_signal(signal.SIGCONT)
-        for name in ("slow", "hangs"):
-            with contextlib.suppress(OSError):
-                os.remove(services.path(name, holder))
-
-    return kind, mend
-
-
-def takes_over(count, seed, programs):
-    """The ticket goes from site to site, each time by a fault that is drawn, and no two services ever overlap."""
-    draw = random.Random(seed)
-    with tempfile.TemporaryDirectory(prefix="booth-follow-") as folder:
-        with Cluster(programs[0], folder, own_addresses(), times=TIMES, client=programs[1]) as cluster:
-            with Services(programs[2], cluster) as services:
-                one, two = begun(cluster, services)
-                sites, waits = {one.address: one, two.address: two}, []
-                for number in range(1, count + 1):
-                    holder = next(site for site in sites.values() if services.is_up(site))
-                    time.sleep(draw.uniform(0, TIMES.renewal))
-                    others = [member for member in cluster.members if member is not holder]
-                    failed = now()
-                    kind, mend = fail(draw, cluster, services, holder, others)
-                    require(services.await_down(holder, TIMES.expire + PATIENCE), "the service runs on")
-                    if kind == "cut off":
-                        # (the others cannot take over while they stand still)
-                        time.sleep(draw.uniform(0, 5))
-                        mend()
-                    up = wait_for(lambda: next((s for s in sites.values() if services.is_up(s)), None), 4 * PATIENCE)
-                    require(up, "no service starts")
-                    waits.append(now() - failed)
-                    if kind != "cut off":
-                        mend()
-                    require(not services.overlaps(), f"two overlapped: {services.overlaps()}")
-                    print(f"{number}: {holder.address} {kind}, up at {up.address} after {waits[-1]:.2f} s", flush=True)
-                    require(services.await_up(up, 1), "it did not stay up")
-                require(not cluster.watch.wrong, f"two held at one moment: {cluster.watch.wrong[:3]}")
-                waits.sort()
-                half = waits[len(waits) // 2]
-                passed(f"no two services overlapped in {count} takeovers; half came within {half:.2f} s of the fault")
-
-
 # ---- the runs
 
 
@@ -403,8 +339,7 @@ def outcome(place, programs):
                     function(cluster, services)
                     require(not services.overlaps(), f"two services overlapped: {services.overlaps()}")
                     require(not cluster.watch.wrong, f"two held at one moment: {cluster.watch.wrong[:3]}")
-                    services.said.seek(0)
-                    require(not (said := services.said.read()), f"a follower said {said}")
+                    require(not (said := services.said()), f"a follower said {said}")
             passed(f"no two services overlapped ({function.__doc__})")
             passes = True
         except Exception as why:  # (whatever it is, the other stories are told)
@@ -446,11 +381,6 @@ def run(programs):
 
 def main(words):
     end_by_signals()
-    count, seed = None, 1
-    if words[:1] == ["--takeovers"]:
-        count, words = int(words[1]), words[2:]
-        if words and words[0].isdigit():
-            seed, words = int(words[0]), words[1:]
     programs = words if len(words) == 3 else [built_program(name) for name in ("boothd", "booth", "booth-follow")]
     if None in programs:
         print("follow: skipped, since boothd, booth or booth-follow is not built: run make build")
@@ -459,9 +389,6 @@ def main(words):
     for program in programs:
         if not os.access(program, os.X_OK):
             sys.exit(f"follow.py: cannot run {program}")
-    if count is not None:
-        takes_over(count, seed, programs)
-        return 0
     return 1 if run(programs) else 0
 
 

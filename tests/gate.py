@@ -4,12 +4,11 @@ It is imported by the programs in tests/, and not run by itself. It shares nothi
 stands beside the tables written by hand: for datagrams that nobody has read.
 """
 
-import hmac
 import re
 from typing import NamedTuple, Optional
 
 import frames
-from frames import AUTH, AUTH_BYTES, BODY_OF, HEAD_BYTES, MAC_BYTES, Head, member_id
+from frames import AUTH, AUTH_BYTES, BODY_OF, HEAD_BYTES, Head, member_id
 
 # the eight faults, in the order of the counters
 FRAME, NOMAC, BADMAC, OLD, STRANGER, SELF, TICKET, LEADER = range(8)
@@ -97,8 +96,11 @@ def verdict(station, datagram, seconds):
     if station.key is not None:
         if not head.opts & AUTH:
             return NOMAC
-        before, shown = datagram[:-AUTH_BYTES], datagram[-AUTH_BYTES + 4 :][:MAC_BYTES]
-        if hmac.digest(station.key, before, "sha1") != shown:
+        before, part = datagram[:-AUTH_BYTES], datagram[-AUTH_BYTES:]
+        hash_id = int.from_bytes(part[:4], "big")
+        # (of SHA-1 the last four bytes are not looked at)
+        size = AUTH_BYTES if hash_id == 3 else AUTH_BYTES - 4
+        if frames.auth_part(station.key, before, hash_id)[:size] != part[:size]:
             return BADMAC
         if head.secs + station.skew < seconds:
             return OLD

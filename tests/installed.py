@@ -70,7 +70,8 @@ def pages():
 
 def pages_have_all_keys(room):
     """booth.conf(5) has each key of the program, and no other"""
-    keys = set(re.findall(r'Row::new\(\d+, "([^"]+)"', read(f"{TOP}/crates/booth_conf/src/keys.rt")))
+    table = read(f"{TOP}/crates/booth_conf/src/keys.rt")
+    keys = set(re.findall(r'Row::(?:file|ticket)\(\s*\d+,\s*"([^"]+)"', table))
     text = page("booth.conf.5")
     told = set(re.findall(r"^\.It Ic ([a-z-]+) Ns =", text, re.M))
     told |= set(re.findall(r"^\.Ic ([a-z-]+) [,.]$", text.partition("have no effect:")[2].partition(".Sh")[0], re.M))

@@ -1,10 +1,10 @@
 #!/usr/bin/env python3
 """Holds the proved boothd to what docs/PROTOCOL.md says of streams, over real links on loopback.
 
-Run it as `python3 tests/links.py [BOOTHD [CONNECTIONS]]`, BOOTHD being what `make build` leaves where it is left out. The
-flood of connections ends after 15 seconds, or after so many, however long that takes. It takes less than 40 seconds,
-prints a line for each check with what it measured, ends all that it started, and has the status 1 where a check failed.
-Where boothd is not built it checks nothing, with status 0.
+Run it as `python3 tests/links.py [BOOTHD [CONNECTIONS]]`, BOOTHD being what `make build` leaves where it is left out.
+The flood of connections ends after 15 seconds, or after so many, however long that takes. It takes less than 45
+seconds, prints a line for each check with what it measured, ends all that it started, and has the status 1 where a
+check failed. Where boothd is not built it checks nothing, with status 0.
 """
 
 import itertools
@@ -23,7 +23,7 @@ import frames
 import lists
 from members import Cluster, Member, Times, now, wait_for
 from serving import NotServing, built_program, end_by_signals, own_addresses
-from tcp_links import Busy, Closed, Link, links, open_files
+from tcp_links import SECONDS_TO_ANSWER, Busy, Closed, Link, links, open_files
 
 LINKS = 16
 SECONDS_OF_FLOOD = 15
@@ -35,6 +35,12 @@ SLACK = 10
 BYTES_A_SECOND = 100_000
 # with these a list has 4.6 kB, and so many of them are asked for at once: half a megabyte
 TICKETS, PARTS = 64, 112
+# how many long lists each quick link gets
+LISTS_EACH = 2
+# the longest list: names of 63 bytes, and an owner whose address takes 39, which is heard of and never there
+LONG_TICKETS, LONG_OWNER, LONG_PARTS = 4_096, "2001:db8:1111:2222:3333:4444:5555:6666", 29
+# so many are told before it is seen that they were heard, and for so long each is told to be held
+TOLD_AT_ONCE, SECONDS_HELD = 128, 2**31
 # how much the daemon's memory may grow for one who asks and does not read: what is queued, and a bit
 BYTES_MORE = 3 << 20
 KEY = b"a-key-of-the-cluster"
@@ -50,10 +56,57 @@ def require(holds, why):
         raise Wrong(why)
 
 
+class LongList:
+    """A daemon with 4,096 tickets, whose list is as long as it gets while leases end in this century."""
+
+    def __init__(self, program, folder, address, other):
+        self.address, self.lines = address, []
+        names = [f"ticket-{number:04}-{'x' * 51}" for number in range(LONG_TICKETS)]
+        conf = os.path.join(folder, "long.conf")
+        with open(conf, "w", encoding="ascii") as file:
+            file.write(f'site = "{address}"\nsite = "{LONG_OWNER}"\narbitrator = "{other}"\n')
+            file.writelines(f'ticket = "{name}"\n' for name in names)
+        self.member = Member("site", address, os.path.join(folder, "long"))
+        self.member.start(program, conf)
+        try:
+            self.tell([name.encode() for name in names])
+        except BaseException:
+            self.member.kill()
+            raise
+
+    def tell(self, names):
+        """Tells the daemon of each ticket that the other site has it, as that site would."""
+        owner, until = frames.member_id(LONG_OWNER), int(now()) + SECONDS_HELD
+        with socket.socket(socket.AF_INET, socket.SOCK_DGRAM) as teller:
+            teller.connect((self.address, frames.PORT))
+            for place, name in enumerate(names, 1):
+                body = frames.ticket_body(name, owner, 1, SECONDS_HELD)
+                teller.send(frames.request_now("UpdE", 0, body, sender=owner))
+                if place % TOLD_AT_ONCE == 0:
+                    self.member.ask("Peer")
+        self.lines = [(name, LONG_OWNER.encode(), until) for name in names]
+
+    def is_whole(self, text):
+        """Whether the text has a line of each ticket, with its owner, until about the second that was told."""
+        found = [line.split(b" ") for line in text.splitlines()]
+        fits = lambda line, due: line[:2] == list(due[:2]) and abs(int(line[2]) - due[2]) < 2 * SECONDS_TO_ANSWER
+        return len(found) == len(self.lines) and all(map(fits, found, self.lines))
+
+    def list_of(self, link, number):
+        """The text of the list that answers this request, from its parts, and how many those are."""
+        parts = lists.Parts()
+        for count in itertools.count(1):
+            part = link.reply("CLst", number)
+            parts.take(frames.Head.read(part), part[frames.HEAD_BYTES :])
+            if (text := parts.text()) is not None:
+                return text, count
+
+
 class Scene:
     """A daemon with many tickets, whose other members do not run."""
 
     def __init__(self, program, folder, address, others, connections):
+        self.program, self.folder = program, folder
         self.connections = connections
         self.address = address
         self.conf = os.path.join(folder, "many.conf")
@@ -124,6 +177,39 @@ def a_slow_reader_gets_all(scene):
         took = time.monotonic() - begun
     require(len({bodies(frame) for frame in got}) == 1, "two lists differ")
     return f"{sum(map(len, got))} bytes in {took:.1f} s"
+
+
+def long_lists(scene):
+    """a list of 29 parts comes whole over each of sixteen links at once, and to a reader of 100 kB a second meanwhile"""
+    address, other = itertools.islice((each for each in own_addresses() if each != scene.address), 20, 22)
+    long = LongList(scene.program, scene.folder, address, other)
+    wrong, got = [], []
+
+    def ask(link, times):
+        try:
+            for _ in range(times):
+                number, request = link.request()
+                link.socket.sendall(request)
+                text, count = long.list_of(link, number)
+                require(count == LONG_PARTS and long.is_whole(text), f"a list of {count} parts and {len(text)} bytes")
+                got.append(len(text))
+        except (Wrong, Closed, OSError, ValueError) as why:
+            wrong.append(f"{type(why).__name__}: {why}")
+
+    try:
+        with Link(address, room=8192, rate=BYTES_A_SECOND) as slow, links(LINKS - 1, address) as opened:
+            begun = time.monotonic()
+            threads = [threading.Thread(target=ask, args=(slow, 1))]
+            threads += [threading.Thread(target=ask, args=(link, LISTS_EACH)) for link in opened]
+            for thread in threads:
+                thread.start()
+            for thread in threads:
+                thread.join()
+            took = time.monotonic() - begun
+    finally:
+        long.member.kill()
+    require(not wrong, f"{wrong[:3]}")
+    return f"{len(got)} lists of {max(got)} bytes, the slow one in {took:.1f} s"
 
 
 def who_reads_nothing_waits(scene):
@@ -277,7 +363,8 @@ def run(program, connections):
             passed += [passes(check, scene) for check in CHECKS]
             lease = threading.Thread(target=lambda: passed.append(passes(the_lease_runs_beside_links, scene)))
             lease.start()
-            passed += [passes(check, scene) for check in (a_slow_reader_gets_all, connections_leave_nothing)]
+            meanwhile = (a_slow_reader_gets_all, long_lists, connections_leave_nothing)
+            passed += [passes(check, scene) for check in meanwhile]
             lease.join()
         finally:
             scene.member.kill()

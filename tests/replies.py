@@ -247,12 +247,21 @@ def macs(room):
 
 @check
 def free_authentication(room):
-    """the hash id and the last 4 bytes of a hash are not looked at, nor the rest without a key"""
+    """a hash id says which MAC it is, the last 4 bytes beside that of SHA-1 are not looked at, nor any without a key"""
     with room.serving(room.station(key=KEY)) as daemon, Asker(daemon) as asker:
-        part = request_now("CLst", 1, key=KEY)
-        for id, rest in ((0, bytes(4)), (3, b"\xff" * 4), (2**32 - 1, b"\0\0\0\x01")):
-            asker.send(part[:-28] + numbers(id) + part[-24:-4] + rest)
+        whole = request_now("CLst", 1, key=KEY)
+        before, mac = whole[:-28], whole[-24:-4]
+        for id, rest in ((0, bytes(4)), (4, b"\xff" * 4), (2**32 - 1, b"\0\0\0\x01")):
+            asker.send(before + numbers(id) + mac + rest)
             asker.takes("CLst", 1, daemon.lists_due())
+        asker.is_dropped(before + numbers(3) + mac + bytes(4), BADMAC, "the MAC by SHA-1 under the id 3")
+        long = frames.auth_part(KEY, before, 3)
+        asker.send(before + long)
+        asker.takes("CLst", 1, daemon.lists_due())
+        asker.is_dropped(before + numbers(2) + long[4:], BADMAC, "the MAC by SHA-256 under the id 2")
+        for place in range(4, 28):
+            turned = bytes(byte ^ (at == place) for at, byte in enumerate(long))
+            asker.is_dropped(before + turned, BADMAC, f"byte {place} of the part by SHA-256")
     with room.serving() as daemon, Asker(daemon) as asker:
         for hash in (bytes(24), b"\xff" * 24):
             asker.send(frame("CLst", auth=numbers(2) + hash, request=5))
@@ -314,8 +323,8 @@ def flipped_bits(room):
         for batch in batches(flipped):
             asker.meets(batch)
         counts = daemon.counts
-        # the fields of a head that are not looked at, and the 8 bytes around the MAC that are not
-        require(counts.drops[BADMAC] > 400 and counts.accepted[SITE] == 64, f"{vars(counts)}")
+        # the 8 bytes around the MAC are not looked at, but for the bit of the hash id that makes it SHA-256's
+        require(counts.drops[BADMAC] > 400 and counts.accepted[SITE] == 63, f"{vars(counts)}")
 
 
 def random_datagrams(station, chance):

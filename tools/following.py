@@ -1,6 +1,6 @@
 """Services that follow their ticket on a cluster of real daemons: booth-follow at a site, and what it starts and stops.
 
-It is imported by tools/demo.py, tests/follow.py and bench/follow.py, and not run by itself. What is told of a service
+It is imported by tools/demo.py and programs in tests/ and bench/, and not run by itself. What is told of a service
 is read from the one file into which the services of all sites write, and not from what booth-follow says of itself.
 """
 
@@ -11,6 +11,7 @@ import tempfile
 from typing import NamedTuple
 
 from members import TICKET, wait_for
+from serving import written
 
 # A service: a line with its time, its site and its process, ten times a second, into a file of all sites. What is to go
 # wrong with it a file says: how long a stop takes, or that it never ends.
@@ -48,9 +49,10 @@ class Spell(NamedTuple):
 
 
 class Services:
-    """The services of a cluster's sites, and what starts and stops them, all of which end with the `with` block."""
+    """The services of a ticket at a cluster's sites, and what starts and stops them. All end with the `with` block."""
 
-    def __init__(self, program, cluster, options=()):
+    def __init__(self, program, cluster, options=(), ticket=TICKET):
+        self.ticket = ticket.decode()
         self.program = program
         self.cluster = cluster
         self.options = options
@@ -61,7 +63,7 @@ class Services:
             file.write(SERVICE.format(folder=self.folder))
         os.chmod(self.script, 0o755)
         self.followers = {}
-        self.said = tempfile.TemporaryFile()
+        self.printed = tempfile.TemporaryFile()
 
     def path(self, name, member):
         return os.path.join(self.folder, f"{name}.{member.address}")
@@ -73,8 +75,12 @@ class Services:
     def follow(self, member):
         """Starts a follower of the ticket at this site."""
         words = [self.program, "-c", self.cluster.conf, "-s", member.address, "-d", member.records, *self.options]
-        streams = {"stdin": subprocess.DEVNULL, "stdout": self.said, "stderr": self.said}
-        self.followers[member.address] = subprocess.Popen([*words, TICKET.decode(), self.script], **streams)
+        streams = {"stdin": subprocess.DEVNULL, "stdout": self.printed, "stderr": self.printed}
+        self.followers[member.address] = subprocess.Popen([*words, self.ticket, self.script], **streams)
+
+    def said(self):
+        """What the followers have printed, on either stream."""
+        return written(self.printed)
 
     def kill(self, member):
         """Ends a follower, as a crash does. Its service is left as it is."""
@@ -84,7 +90,7 @@ class Services:
 
     def run(self, member, word):
         """Runs the service's program by hand, as the unit does once a follower has ended."""
-        told = {"BOOTH_LOCAL": member.address, "BOOTH_TICKET": TICKET.decode(), "BOOTH_TICKET_EXPIRES": "0"}
+        told = {"BOOTH_LOCAL": member.address, "BOOTH_TICKET": self.ticket, "BOOTH_TICKET_EXPIRES": "0"}
         return subprocess.run([self.script, word], env={**os.environ, **told}, stdin=subprocess.DEVNULL).returncode
 
     def runs(self, member):

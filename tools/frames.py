@@ -18,7 +18,6 @@ VERSION = 0x00010003
 HEAD_BYTES = 48
 FRAME_BYTES = 16_460
 AUTH_BYTES = 28
-MAC_BYTES = 20
 KEY_BYTES = range(8, 65)
 
 # the bits of opts
@@ -127,9 +126,10 @@ def key_in(text):
     return text
 
 
-def auth_part(key, before):
-    """The authentication part after these bytes: the hash id, the MAC, and four zeros."""
-    return numbers(2) + hmac.digest(key, before, "sha1") + bytes(4)
+def auth_part(key, before, hash_id=2):
+    """The authentication part after these bytes: the hash id, and the MAC by SHA-1 with zeros, or the first of SHA-256."""
+    code = hmac.digest(key, before, "sha256" if hash_id == 3 else "sha1")
+    return numbers(hash_id) + code[:24].ljust(24, b"\0")
 
 
 def sealed(key, letters, body=b"", **fields):

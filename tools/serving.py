@@ -49,6 +49,11 @@ def own_addresses():
     return (f"127.{high}.{low}.{last}" for last in range(2, 255))
 
 
+def exit_code(status):
+    """The exit code of a child that was waited for: a signal's number, below 0, where one ended it."""
+    return os.WEXITSTATUS(status) if os.WIFEXITED(status) else -os.WTERMSIG(status)
+
+
 def end_by_signals():
     """Has SIGTERM and SIGHUP leave every `with` block, so that what was started there is ended."""
     for number in (signal.SIGTERM, signal.SIGHUP):
@@ -69,6 +74,13 @@ def turn(name):
         yield
     finally:
         os.close(folder)
+
+
+def written(file):
+    """What programs have written to this file. Its place in it stays, since they share that: after a seek they would
+    write on from there.
+    """
+    return os.pread(file.fileno(), os.fstat(file.fileno()).st_size, 0)
 
 
 class NotServing(Exception):
@@ -114,8 +126,7 @@ class Server:
 
     def said(self):
         """What the program has printed, on either stream."""
-        self.printed.seek(0)
-        return self.printed.read()
+        return written(self.printed)
 
     def ended_by_itself(self, status):
         said = self.said().decode(errors="replace").strip()
