@@ -234,7 +234,10 @@ pub fn gate<'a>(
 ) -> Result<Message<'a>, DropFault>
     ensures { Passes result (verdict config.now (option_copied ring.entry) me now bytes.now) }
 {
-    let message = decode(bytes).map_err(DropFault::Frame)?;
+    let message = match decode(bytes) {
+        Ok(spelled) => spelled,
+        Err(fault) => return Err(DropFault::Frame(fault)),
+    };
     if lacks_mac(ring, &message.head) {
         return Err(DropFault::NoMac);
     }

@@ -5,12 +5,14 @@ use Rattle.std.specs.List.{list_all, flat_map}
 use Rattle.std.proofs.lemmas.List.Folds.{list_all-append, list_all-map}
 use Rattle.std.proofs.lemmas.Bool.Decides.{nat_tests}
 use Rattle.booth_base.specs.declared.times.Times.{Times}
+use Rattle.booth_keys.specs.declared.ring.Hash.{Hash}
+use Rattle.booth_keys.specs.declared.ring.Hash.TheVariants.{Sha1, Sha256}
 use Rattle.booth_conf.specs.Rules.{Summary, summary, AreFine}
 use Rattle.booth_conf.specs.SaidReader.{said}
 use Rattle.booth_conf.specs.Steps.{added}
 use Rattle.booth_conf.specs.Reads.{lines_of, said_lines}
 use Rattle.booth_conf.specs.Config.{ConfigSays, config_of, file_fault}
-use Rattle.booth_conf.specs.Print.{setting_name, setting_value, setting_line, line_text, lines_text, set, optional, authfile_entries, extra_entry, renewal_said, renewal_entries, weights_said, weights_entries, handler_entries, prereq_entry, word_of, times_entries, key_entries, ticket_settings, settings_of, printed}
+use Rattle.booth_conf.specs.Print.{setting_name, setting_value, setting_line, line_text, lines_text, set, optional, authfile_entries, authfile_old_entries, hash_entry, extra_entry, early_entries, late_entries, renewal_said, renewal_entries, weights_said, weights_entries, handler_entries, prereq_entry, word_of, times_entries, key_entries, ticket_settings, settings_of, printed}
 use Rattle.booth_conf.specs.Sound.{is_within, each, is_text, is_command, is_extra, is_member, are_weights, is_prereq, is_seconds, is_renewal, is_ticket, IsSound}
 use Rattle.booth_conf.specs.Says.{Says, said_config}
 use Rattle.booth_conf.specs.declared.limits.TheConstants.{SECONDS}
@@ -104,6 +106,15 @@ authfile_printed : (o : Option (List ℕ)) → each (is_text 1) o ≡ true →
 authfile_printed None h = refl
 authfile_printed (Some text) h = h
 
+authfile_old_printed : (o : Option (List ℕ)) → each (is_text 1) o ≡ true →
+    each (λ v. is_file_entry (set keys.AuthfileOld v)) (option_map Text o) ≡ true
+authfile_old_printed None h = refl
+authfile_old_printed (Some text) h = h
+
+hash_printed : (hash : Hash) → is_file_entry (hash_entry hash) ≡ true
+hash_printed Sha1 = refl
+hash_printed Sha256 = refl
+
 handler_printed : (o : Option (List ℕ)) → each is_command o ≡ true →
     each (λ v. is_ticket_entry (set keys.BeforeAcquireHandler v)) (option_map Text o) ≡ true
 handler_printed None h = refl
@@ -159,10 +170,16 @@ tickets_printed (t ∷ ts) h =
 
 top_printed : (c : ConfigSays) → IsSound c → list_all is_file_entry (top_of c) ≡ true
 top_printed c s =
-    let rest : List Entry = set keys.Maxtimeskew (Number c.skew) ∷ map extra_entry c.extras in
-    let last : list_all is_file_entry rest ≡ true = rw (s.skew, extras_printed c.extras s.extras) refl in
-    rw s.port (all_both is_file_entry (authfile_entries c.authfile) rest
-    (optional_printed is_file_entry keys.Authfile (option_map Text c.authfile) (authfile_printed c.authfile s.authfile)) last)
+    let skewed : List Entry = set keys.Maxtimeskew (Number c.skew) ∷ [] in
+    let last : list_all is_file_entry skewed ≡ true = rw s.skew refl in
+    let early : list_all is_file_entry (early_entries c.port c.authfile c.skew) ≡ true =
+    rw s.port (all_both is_file_entry (authfile_entries c.authfile) skewed
+    (optional_printed is_file_entry keys.Authfile (option_map Text c.authfile) (authfile_printed c.authfile s.authfile)) last) in
+    let rest : List Entry = hash_entry c.auth_hash ∷ map extra_entry c.extras in
+    let hashed : list_all is_file_entry rest ≡ true = rw (hash_printed c.auth_hash, extras_printed c.extras s.extras) refl in
+    all_both is_file_entry (early_entries c.port c.authfile c.skew) (late_entries c.authfile_old c.auth_hash c.extras) early
+    (all_both is_file_entry (authfile_old_entries c.authfile_old) rest
+    (optional_printed is_file_entry keys.AuthfileOld (option_map Text c.authfile_old) (authfile_old_printed c.authfile_old s.authfile_old)) hashed)
 
 config_printed : (c : ConfigSays) → IsSound c → list_all is_printed (settings_of c) ≡ true
 config_printed c s =

@@ -156,7 +156,7 @@ pub config_run : (c : ConfigSays) → IsSound c →
     Runs (summary []) (settings_of c) (printed_summary c)
 config_run c s =
     let top : Runs (summary []) (map File (top_of c)) (topped c) =
-    top_run (summary []) (top_of c) (top_stands c.port c.authfile c.skew c.extras s.extras s.new_extras) in
+    top_run (summary []) (top_of c) (top_stands c.port c.authfile c.skew c.authfile_old c.auth_hash c.extras s.extras s.new_extras) in
     let peopled : Summary = record (topped c) { members = c.members } in
     let members : Runs (topped c) (map Member c.members) peopled =
     members_run (topped c) c.members s.new_members (omega (arith, s.few_members)) in
@@ -178,4 +178,4 @@ tickets_again (t ∷ ts) h =
 pub config_again : (c : ConfigSays) → IsSound c → config_of (printed_summary c) ≡ c
 config_again c s =
     let t : TopSays c = top_again c s.extras in
-    rw (t.authfile, t.skew, t.extras, tickets_again c.tickets s.tickets) refl
+    rw (t.authfile, t.skew, t.authfile_old, t.auth_hash, t.extras, tickets_again c.tickets s.tickets) refl

@@ -137,6 +137,7 @@ config_sound d h none =
       port = each_unwrap (is_within 1 65535) (number_given keys.Port d.top) 9929 (given_within 1 65535 keys.Port d.top refl top) refl;
       authfile = text_at 1 (given keys.Authfile d.top) (λ v. given_form d.top keys.Authfile v top);
       skew = each_unwrap (is_within 1 SECONDS) (number_given keys.Maxtimeskew d.top) 600 (given_within 1 SECONDS keys.Maxtimeskew d.top refl top) refl;
+      authfile_old = text_at 1 (given keys.AuthfileOld d.top) (λ v. given_form d.top keys.AuthfileOld v top);
       extras = extras_sound d.top top;
       new_extras = h.new_extras;
       members = h.members;

@@ -34,6 +34,8 @@ at_number keys.Weights = refl
 at_number keys.BeforeAcquireHandler = refl
 at_number keys.AttrPrereq = refl
 at_number keys.Mode = refl
+at_number keys.AuthfileOld = refl
+at_number keys.Authhash = refl
 
 some_one : {X : Type 0} (x y : X) → Some x ≡ Some y → x ≡ y
 some_one x y e = cc

@@ -5,11 +5,12 @@ use Rattle.std.specs.List.{flat_map}
 use Rattle.std.proofs.lemmas.List.{map_more, take_more}
 use Rattle.std.proofs.lemmas.Grind.{flat_map-append}
 use Rattle.booth_conf.specs.Keys.{row_of}
-use Rattle.booth_conf.specs.Print.{line_text, lines_text, entries_text, entry_name, entry_value, setting_name, setting_value, set, times_entries, weights_entries, handler_entries, prereq_entry, word_at, word_of, key_entries, ticket_settings, authfile_entries, extra_entry, top_entries, printed}
+use Rattle.booth_conf.specs.Print.{line_text, lines_text, entries_text, entry_name, entry_value, setting_name, setting_value, set, times_entries, weights_entries, handler_entries, prereq_entry, word_at, word_of, key_entries, ticket_settings, authfile_entries, authfile_old_entries, hash_entry, hash_place, extra_entry, early_entries, late_entries, top_entries, printed}
 use Rattle.booth_conf.specs.Config.{ConfigSays}
+use Rattle.booth_keys.specs.declared.ring.Hash.{Hash}
 use Rattle.booth_conf.specs.declared.keys.KeyNo.{KeyNo}
 use Rattle.booth_conf.specs.declared.keys.ConfKey.TheVariants as keys
-use Rattle.booth_conf.specs.declared.keys.Choice.TheVariants.{Mode}
+use Rattle.booth_conf.specs.declared.keys.Choice.TheVariants.{Mode, Hash as HashChoice}
 use Rattle.booth_conf.specs.declared.tickets.TicketConf.{TicketConf}
 use Rattle.booth_conf.specs.declared.settings.Value.TheVariants.{Number, Word}
 use Rattle.booth_conf.specs.declared.settings.Entry.{Entry}
@@ -87,26 +88,40 @@ ticket_pushed t u v w x y z ticket a b c d e f =
     two_pushed t u z name (entries_text (key_entries ticket)) a first
     ∙ ap (λ xs. t ++ (name ++ xs)) (sym (of_text (key_entries ticket)))
 
-pub top_pushed : (t u v w x y : List ℕ) (port : ℕ) (authfile : Option (List ℕ)) (skew : ℕ) (extras : List (KeyNo × List ℕ)) →
+pub early_pushed : (t u v w x : List ℕ) (port : ℕ) (authfile : Option (List ℕ)) (skew : ℕ) →
     u ≡ t ++ line_text (row_of keys.Port).name (decimal port) → v ≡ u ++ line_text (row_of keys.Transport).name (codes "UDP") → w ≡ v ++ entries_text (authfile_entries authfile)
-    → x ≡ w ++ line_text (row_of keys.Maxtimeskew).name (decimal skew) → y ≡ x ++ entries_text (map extra_entry extras)
-    → y ≡ t ++ entries_text (top_entries port authfile skew extras)
-top_pushed t u v w x y port authfile skew extras a b c d e =
-    let rest : List Entry = set keys.Maxtimeskew (Number skew) ∷ map extra_entry extras in
-    let last : y ≡ w ++ entries_text rest =
-    two_pushed w x y (line_text (row_of keys.Maxtimeskew).name (decimal skew)) (entries_text (map extra_entry extras)) d e in
-    let third : y ≡ v ++ entries_text (authfile_entries authfile ++ rest) =
-    two_pushed v w y (entries_text (authfile_entries authfile)) (entries_text rest) c last
+    → x ≡ w ++ line_text (row_of keys.Maxtimeskew).name (decimal skew)
+    → x ≡ t ++ entries_text (early_entries port authfile skew)
+early_pushed t u v w x port authfile skew a b c d =
+    let skew_line : List ℕ = line_text (row_of keys.Maxtimeskew).name (decimal skew) in
+    let rest : List Entry = set keys.Maxtimeskew (Number skew) ∷ [] in
+    let last : x ≡ w ++ entries_text rest = d ∙ ap (λ xs. w ++ xs) (sym (append-nil skew_line)) in
+    let third : x ≡ v ++ entries_text (authfile_entries authfile ++ rest) =
+    two_pushed v w x (entries_text (authfile_entries authfile)) (entries_text rest) c last
     ∙ ap (λ xs. v ++ xs) (sym (entries_append (authfile_entries authfile) rest)) in
-    two_pushed t u y (line_text (row_of keys.Port).name (decimal port)) (line_text (row_of keys.Transport).name (codes "UDP") ++ entries_text (authfile_entries authfile ++ rest)) a
-    (two_pushed u v y (line_text (row_of keys.Transport).name (codes "UDP")) (entries_text (authfile_entries authfile ++ rest)) b third)
+    two_pushed t u x (line_text (row_of keys.Port).name (decimal port)) (line_text (row_of keys.Transport).name (codes "UDP") ++ entries_text (authfile_entries authfile ++ rest)) a
+    (two_pushed u v x (line_text (row_of keys.Transport).name (codes "UDP")) (entries_text (authfile_entries authfile ++ rest)) b third)
 
-pub config_pushed : (t u v : List ℕ) (c : ConfigSays) →
-    t ≡ entries_text (top_entries c.port c.authfile c.skew c.extras) →
+pub late_pushed : (t u v w : List ℕ) (authfile_old : Option (List ℕ)) (auth_hash : Hash) (extras : List (KeyNo × List ℕ)) →
+    u ≡ t ++ entries_text (authfile_old_entries authfile_old) →
+    v ≡ u ++ line_text (row_of keys.Authhash).name (word_at HashChoice (hash_place auth_hash)) →
+    w ≡ v ++ entries_text (map extra_entry extras) → w ≡ t ++ entries_text (late_entries authfile_old auth_hash extras)
+late_pushed t u v w authfile_old auth_hash extras a b c =
+    let rest : List Entry = hash_entry auth_hash ∷ map extra_entry extras in
+    two_pushed t u w (entries_text (authfile_old_entries authfile_old)) (entries_text rest) a
+    (two_pushed u v w (line_text (row_of keys.Authhash).name (word_at HashChoice (hash_place auth_hash))) (entries_text (map extra_entry extras)) b c)
+    ∙ ap (λ xs. t ++ xs) (sym (entries_append (authfile_old_entries authfile_old) rest))
+
+pub config_pushed : (s t u v : List ℕ) (c : ConfigSays) →
+    s ≡ entries_text (early_entries c.port c.authfile c.skew) →
+    t ≡ s ++ entries_text (late_entries c.authfile_old c.auth_hash c.extras) →
     u ≡ t ++ lines_text (map Member c.members) →
     v ≡ u ++ lines_text (flat_map ticket_settings c.tickets) → v ≡ printed c
-config_pushed t u v c d e f =
-    let top : List Entry = top_entries c.port c.authfile c.skew c.extras in
+config_pushed s t u v c first late e f =
+    let top : List Entry = top_entries c in
+    let d : t ≡ entries_text top =
+    late ∙ ap (λ xs. xs ++ entries_text (late_entries c.authfile_old c.auth_hash c.extras)) first
+    ∙ sym (entries_append (early_entries c.port c.authfile c.skew) (late_entries c.authfile_old c.auth_hash c.extras)) in
     two_pushed t u v (lines_text (map Member c.members)) (lines_text (flat_map ticket_settings c.tickets)) e f
     ∙ ap (λ xs. t ++ xs) (sym (lines_append (map Member c.members) (flat_map ticket_settings c.tickets)))
     ∙ ap (λ xs. xs ++ lines_text (map Member c.members ++ flat_map ticket_settings c.tickets)) (d ∙ sym (file_text top))

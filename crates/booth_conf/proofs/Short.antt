@@ -13,7 +13,7 @@ use Rattle.booth_base.specs.declared.times.Times.{Times}
 use Rattle.booth_conf.specs.Grammar.{is_other}
 use Rattle.booth_conf.specs.Keys.{row_of}
 use Rattle.booth_conf.specs.Config.{ConfigSays}
-use Rattle.booth_conf.specs.Print.{written, pair_line, line_text, lines_text, role_name, entry_name, entry_value, setting_name, setting_value, set, optional, authfile_entries, extra_key, extra_entry, renewal_said, renewal_entries, weights_said, weights_entries, handler_entries, prereq_entry, word_of, times_entries, key_entries, ticket_settings, settings_of, printed}
+use Rattle.booth_conf.specs.Print.{written, pair_line, line_text, lines_text, role_name, entry_name, entry_value, setting_name, setting_value, set, optional, authfile_entries, authfile_old_entries, hash_entry, extra_key, extra_entry, early_entries, late_entries, renewal_said, renewal_entries, weights_said, weights_entries, handler_entries, prereq_entry, word_of, times_entries, key_entries, ticket_settings, settings_of, printed}
 use Rattle.booth_conf.specs.Sound.{is_within, is_text, is_extra, is_address, is_ticket, are_new, same_key, IsSound}
 use Rattle.booth_conf.specs.SoundDraft.{is_entry}
 use Rattle.booth_conf.specs.declared.limits.TheConstants.{PREREQS, TEXT_BYTES}
@@ -222,10 +222,19 @@ total_tickets (t ∷ ts) h =
     let b = both_true (is_ticket t) (list_all is_ticket ts) h in
     omega (arith, total_append (ticket_settings t) (flat_map ticket_settings ts), total_ticket t (ticket_few t b.0), total_tickets ts b.1)
 
-sum_top : (c : ConfigSays) → list_all is_extra c.extras ≡ true → length c.extras ≤ 10 → sum (top_of c) ≤ 3223
+sum_top : (c : ConfigSays) → list_all is_extra c.extras ≡ true → length c.extras ≤ 10 → sum (top_of c) ≤ 3540
 sum_top c h few =
     let authfile : sum (authfile_entries c.authfile) ≤ 283 = sum_optional keys.Authfile (option_map Text c.authfile) in
-    omega (arith, sum_append (authfile_entries c.authfile) (set keys.Maxtimeskew (Number c.skew) ∷ map extra_entry c.extras), authfile, sum_extras c.extras h)
+    let authfile_old : sum (authfile_old_entries c.authfile_old) ≤ 283 = sum_optional keys.AuthfileOld (option_map Text c.authfile_old) in
+    omega (
+      arith,
+      sum_append (early_entries c.port c.authfile c.skew) (late_entries c.authfile_old c.auth_hash c.extras),
+      sum_append (authfile_entries c.authfile) (set keys.Maxtimeskew (Number c.skew) ∷ []),
+      sum_append (authfile_old_entries c.authfile_old) (hash_entry c.auth_hash ∷ map extra_entry c.extras),
+      authfile,
+      authfile_old,
+      sum_extras c.extras h,
+    )
 
 total_config : (c : ConfigSays) → IsSound c → total (settings_of c) ≤ TEXT_BYTES
 total_config c s =

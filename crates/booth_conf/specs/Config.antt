@@ -5,6 +5,8 @@ use Rattle.std.specs.Option.{option_or}
 use Rattle.booth_base.specs.declared.address.MemberId.{MemberId}
 use Rattle.booth_base.specs.declared.address.TheConstants.{NO_ONE}
 use Rattle.booth_base.specs.declared.times.Times.{Times}
+use Rattle.booth_keys.specs.declared.ring.Hash.{Hash}
+use Rattle.booth_keys.specs.declared.ring.Hash.TheVariants.{Sha1, Sha256}
 use Rattle.booth_conf.specs.Sections.{first, number_given, text_given, word_given, weights_given, prereq_of, extra_of}
 use Rattle.booth_conf.specs.Rules.{Summary}
 use Rattle.booth_conf.specs.declared.keys.ConfKey.{ConfKey}
@@ -22,6 +24,8 @@ pub record ConfigSays : Type 0 where
   pub port : ℕ
   pub authfile : Option (List ℕ)
   pub skew : ℕ
+  pub authfile_old : Option (List ℕ)
+  pub auth_hash : Hash
   pub extras : List (KeyNo × List ℕ)
   pub members : List Member
   pub tickets : List TicketConf
@@ -72,11 +76,17 @@ ticket_of defaults t = record {
 abbrev pub defaults_of : Summary → List Entry
 defaults_of d = unwrap_or d.defaults []
 
+-- the second word of a hash is `sha256`
+abbrev pub hash_at : ℕ → Hash
+hash_at place = if place == 1 then Sha256 else Sha1
+
 abbrev pub config_of : Summary → ConfigSays
 config_of d = record {
   port = unwrap_or (number_given keys.Port d.top) 9929;
   authfile = text_given keys.Authfile d.top;
   skew = unwrap_or (number_given keys.Maxtimeskew d.top) 600;
+  authfile_old = text_given keys.AuthfileOld d.top;
+  auth_hash = hash_at (unwrap_or (word_given keys.Authhash d.top) 0);
   extras = filter_map extra_of d.top;
   members = d.members;
   tickets = map (ticket_of (defaults_of d)) d.tickets;

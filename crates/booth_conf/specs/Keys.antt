@@ -46,13 +46,16 @@ row_of keys.Weights = row 18 (codes "weights") OfTicket Weights
 row_of keys.BeforeAcquireHandler = row 19 (codes "before-acquire-handler") OfTicket Command
 row_of keys.AttrPrereq = row 20 (codes "attr-prereq") OfTicket Prereq
 row_of keys.Mode = row 21 (codes "mode") OfTicket (OneOf choices.Mode)
+row_of keys.AuthfileOld = row 22 (codes "authfile-old") File (Text 1)
+row_of keys.Authhash = row 23 (codes "authhash") File (OneOf choices.Hash)
 
 abbrev pub all_keys : List ConfKey
 all_keys =
     keys.Port ∷ keys.Transport ∷ keys.Authfile ∷ keys.Maxtimeskew ∷ keys.Debug ∷ keys.SiteUser
     ∷ keys.SiteGroup ∷ keys.ArbitratorUser ∷ keys.ArbitratorGroup ∷ keys.Site ∷ keys.Arbitrator
     ∷ keys.Ticket ∷ keys.Expire ∷ keys.AcquireAfter ∷ keys.Timeout ∷ keys.Retries ∷ keys.RenewalFreq
-    ∷ keys.Weights ∷ keys.BeforeAcquireHandler ∷ keys.AttrPrereq ∷ keys.Mode ∷ []
+    ∷ keys.Weights ∷ keys.BeforeAcquireHandler ∷ keys.AttrPrereq ∷ keys.Mode
+    ∷ keys.AuthfileOld ∷ keys.Authhash ∷ []
 
 abbrev pub is_named : List ℕ → ConfKey → Bool
 is_named name key = bytes_eq (row_of key).name name

@@ -4,6 +4,8 @@ use Rattle.std.specs.List.{list_all}
 use Rattle.std.specs.Option.{option_map_or}
 use Rattle.booth_base.specs.Address.{printed as address_text}
 use Rattle.booth_base.specs.declared.times.Times.{Times}
+use Rattle.booth_keys.specs.declared.ring.Hash.{Hash}
+use Rattle.booth_keys.specs.declared.ring.Hash.TheVariants.{Sha1, Sha256}
 use Rattle.booth_conf.specs.Grammar.{is_other}
 use Rattle.booth_conf.specs.Keys.{row_of, key_numbered}
 use Rattle.booth_conf.specs.Values.{default_name, words_of}
@@ -113,7 +115,7 @@ lines_text ss = flat_map (λ s. line_text (setting_name s) (setting_value s)) ss
 abbrev pub entries_text : List Entry → List ℕ
 entries_text es = flat_map (λ e. line_text (entry_name e) (entry_value e)) es
 
--- THE SETTINGS THAT ARE PRINTED, in the order of the table
+-- THE SETTINGS THAT ARE PRINTED, in the order of the table, but for the last two keys of the file behind the fourth
 
 abbrev pub set : ConfKey → Value → Entry
 set key value = record { key = key; value = value }
@@ -125,6 +127,17 @@ optional key (Some value) = set key value ∷ []
 
 abbrev pub authfile_entries : Option (List ℕ) → List Entry
 authfile_entries authfile = optional keys.Authfile (option_map Text authfile)
+
+abbrev pub authfile_old_entries : Option (List ℕ) → List Entry
+authfile_old_entries authfile_old = optional keys.AuthfileOld (option_map Text authfile_old)
+
+-- the place of the word of a hash
+abbrev pub hash_place : Hash → ℕ
+hash_place Sha1 = 0
+hash_place Sha256 = 1
+
+abbrev pub hash_entry : Hash → Entry
+hash_entry hash = set keys.Authhash (Word (hash_place hash))
 
 -- the key without effect with this number
 abbrev pub extra_key : KeyNo → ConfKey
@@ -173,16 +186,26 @@ key_entries t =
 abbrev pub ticket_settings : TicketConf → List Setting
 ticket_settings t = Ticket t.name ∷ map Of (key_entries t)
 
--- the keys of the whole file
-abbrev pub top_entries : ℕ → Option (List ℕ) → ℕ → List (KeyNo × List ℕ) → List Entry
-top_entries port authfile skew extras =
+-- the two keys by which the key and the hash are changed, and the keys without effect
+abbrev pub late_entries : Option (List ℕ) → Hash → List (KeyNo × List ℕ) → List Entry
+late_entries authfile_old auth_hash extras =
+    authfile_old_entries authfile_old ++ (hash_entry auth_hash ∷ map extra_entry extras)
+
+-- the first four keys of the whole file
+abbrev pub early_entries : ℕ → Option (List ℕ) → ℕ → List Entry
+early_entries port authfile skew =
     set keys.Port (Number port) ∷ set keys.Transport (Word 0)
-    ∷ (authfile_entries authfile ++ (set keys.Maxtimeskew (Number skew) ∷ map extra_entry extras))
+    ∷ (authfile_entries authfile ++ set keys.Maxtimeskew (Number skew) ∷ [])
+
+-- the keys of the whole file
+abbrev pub top_entries : ConfigSays → List Entry
+top_entries c =
+    early_entries c.port c.authfile c.skew ++ late_entries c.authfile_old c.auth_hash c.extras
 
 -- the keys of the whole file, the members, and the tickets with all their keys
 abbrev pub settings_of : ConfigSays → List Setting
 settings_of c =
-    map File (top_entries c.port c.authfile c.skew c.extras)
+    map File (top_entries c)
     ++ (map Member c.members ++ flat_map ticket_settings c.tickets)
 
 abbrev pub printed : ConfigSays → List ℕ

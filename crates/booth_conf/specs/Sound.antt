@@ -104,6 +104,7 @@ pub record IsSound (c : ConfigSays) : Type 0 where
   pub port : is_within 1 65535 c.port ≡ true
   pub authfile : each (is_text 1) c.authfile ≡ true
   pub skew : is_within 1 SECONDS c.skew ≡ true
+  pub authfile_old : each (is_text 1) c.authfile_old ≡ true
   pub extras : list_all is_extra c.extras ≡ true
   pub new_extras : are_new same_key [] c.extras ≡ true
   pub members : list_all is_member c.members ≡ true

@@ -84,10 +84,11 @@ pub record IsCommand (text value : List ℕ) : Type 0 where
   pub text_of : IsText 1 PATH_BYTES text value
   pub some_word : list_any is_word_byte text ≡ true
 
--- each word as it is printed, and its other spelling
+-- each word as it is printed, and its other spelling; a word with one spelling stands twice
 abbrev pub words_of : Choice → List (List ℕ × List ℕ)
 words_of choices.Transport = (codes "UDP", codes "udp") ∷ []
 words_of choices.Mode = (codes "auto", codes "AUTO") ∷ (codes "manual", codes "MANUAL") ∷ []
+words_of choices.Hash = (codes "sha1", codes "sha1") ∷ (codes "sha256", codes "sha256") ∷ []
 
 abbrev pub is_word_of : List ℕ → List ℕ × List ℕ → Bool
 is_word_of text word = bytes_eq text word.0 || bytes_eq text word.1

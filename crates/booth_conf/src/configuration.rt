@@ -3,7 +3,7 @@ ghost use Rattle.booth_base.specs.declared.limits.TheConstants.{MEMBERS};
 ghost use Rattle.std.specs.Prelude.{◌≡◌, ◌≤◌, ◌<◌, true, length, position, slice_get, IfOk, IfSome, OnOk, IsTrue, IsSomeAnd, List, ℕ, [], unwrap_or};
 ghost use Rattle.std.specs.List.{All};
 ghost use Rattle.std.specs.Option.{option_copied};
-ghost use Rattle.booth_conf.specs.Config.{Completes, ConfigSays, has_id};
+ghost use Rattle.booth_conf.specs.Config.{Completes, ConfigSays, has_id, hash_at};
 ghost use Rattle.booth_conf.specs.Lookups.{is_called, rank_of, weights_at};
 ghost use Rattle.booth_conf.specs.Sections.{number_given};
 ghost use Rattle.booth_conf.specs.Print.{printed};
@@ -20,11 +20,12 @@ use crate::limits::{TEXT_BYTES, TICKETS};
 use crate::lines::read_lines;
 use crate::members::Member;
 use crate::print_tickets::{push_members, push_tickets};
-use crate::prints::push_top;
+use crate::prints::{push_late, push_top};
 use crate::ranks::rank;
 use crate::sections::{Extra, Section};
 use crate::tickets::{TicketConf, copy_path};
 use booth_base::{ByteText, MEMBERS, MemberId, Name, PathText};
+use booth_keys::Hash;
 use indexmap::IndexSet;
 use std::alloc::{AllocError, Global};
 use std::marker::Model;
@@ -35,6 +36,8 @@ pub struct Config {
     port: u16,
     authfile: Option<PathText>,
     skew: u64,
+    authfile_old: Option<PathText>,
+    auth_hash: Hash,
     extras: Vec<Extra>,
     members: Vec<Member>,
     names: IndexSet<Name>,
@@ -53,6 +56,8 @@ impl Model for Config {
       port = c.port;
       authfile = c.authfile;
       skew = c.skew;
+      authfile_old = c.authfile_old;
+      auth_hash = c.auth_hash;
       extras = c.extras.items;
       members = c.members.items;
       tickets = c.tickets.items;
@@ -63,6 +68,8 @@ impl Model for Config {
           port = c.port;
           authfile = c.authfile;
           skew = c.skew;
+          authfile_old = c.authfile_old;
+          auth_hash = c.auth_hash;
           extras = c.extras.items;
           members = c.members.items;
           tickets = c.tickets.items;
@@ -86,6 +93,17 @@ fn port(top: &Section) -> u16
     match top.number(ConfKey::Port) {
         Some(port) => port as u16,
         None => 9929,
+    }
+}
+
+// Whether the word of a hash is the second, `sha256`.
+fn hash(place: Option<usize>) -> Hash
+    ensures { result ≡ hash_at (unwrap_or place 0) }
+{
+    if place.unwrap_or(0) == 1 {
+        Hash::Sha256
+    } else {
+        Hash::Sha1
     }
 }
 
@@ -117,6 +135,8 @@ fn complete(alloc: Global, draft: Draft) -> Result<Config, ConfFault>
             port: port(&top),
             authfile: top.text(ConfKey::Authfile),
             skew: u64::from(top.number(ConfKey::Maxtimeskew).unwrap_or(600)),
+            authfile_old: top.text(ConfKey::AuthfileOld),
+            auth_hash: hash(top.word(ConfKey::Authhash)),
             extras,
             members,
             names,
@@ -181,6 +201,21 @@ impl Config {
         ensures { result ≡ self.now.skew }
     {
         self.skew
+    }
+
+    /// The path of the other key file, where one is set: that of the old key while the key is changed. It has
+    /// no effect where no key file is set.
+    pub fn authfile_old(&self) -> Option<&PathText>
+        ensures { option_copied result ≡ self.now.authfile_old }
+    {
+        self.authfile_old.as_ref()
+    }
+
+    /// The hash by which a member seals what it sends. It has no effect where no key file is set.
+    pub fn auth_hash(&self) -> Hash
+        ensures { result ≡ self.now.auth_hash }
+    {
+        self.auth_hash
     }
 
     /// The keys without effect, in the order of the file.
@@ -250,6 +285,8 @@ impl Config {
             port: self.port,
             authfile: copy_path(&self.authfile),
             skew: self.skew,
+            authfile_old: copy_path(&self.authfile_old),
+            auth_hash: self.auth_hash,
             extras: copy_extras(alloc, &self.extras)?,
             members: Vec::from_slice(alloc, &self.members)?,
             names: self.names.clone()?,
@@ -263,7 +300,8 @@ impl Config {
         ensures exact { OnOk result (text.new.items ≡ printed self.now) }
         ensures sound { IsSound self.now }
     {
-        push_top(text, self.port, &self.authfile, self.skew, &self.extras)?;
+        push_top(text, self.port, &self.authfile, self.skew)?;
+        push_late(text, &self.authfile_old, self.auth_hash, &self.extras)?;
         push_members(text, &self.members)?;
         push_tickets(alloc, text, &self.tickets)
     }

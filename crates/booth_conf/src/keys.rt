@@ -4,7 +4,7 @@ ghost use Rattle.booth_conf.specs.Keys.{IsRow, are_one, has_number, row, is_name
 
 use crate::limits::SECONDS;
 
-/// The number of a key: 1 to 21.
+/// The number of a key: 1 to 23.
 #[derive(Clone, Copy, Debug, PartialEq, Eq)]
 pub struct KeyNo(pub u8);
 
@@ -13,6 +13,7 @@ pub struct KeyNo(pub u8);
 pub enum Choice {
     Transport,
     Mode,
+    Hash,
 }
 
 /// What the value of a key has to be.
@@ -56,6 +57,8 @@ pub enum ConfKey {
     BeforeAcquireHandler,
     AttrPrereq,
     Mode,
+    AuthfileOld,
+    Authhash,
 }
 
 /// What a key belongs to: the whole file, or the last `ticket` line.
@@ -112,7 +115,7 @@ fn text(least: usize) -> Form
 
 impl ConfKey {
     /// Each key, in the order of their numbers.
-    const ALL: [ConfKey; 21] = [
+    const ALL: [ConfKey; 23] = [
         ConfKey::Port,
         ConfKey::Transport,
         ConfKey::Authfile,
@@ -134,6 +137,8 @@ impl ConfKey {
         ConfKey::BeforeAcquireHandler,
         ConfKey::AttrPrereq,
         ConfKey::Mode,
+        ConfKey::AuthfileOld,
+        ConfKey::Authhash,
     ];
 
     /// The table.
@@ -167,6 +172,8 @@ impl ConfKey {
             ),
             ConfKey::AttrPrereq => Row::ticket(20, "attr-prereq", Form::Prereq),
             ConfKey::Mode => Row::ticket(21, "mode", Form::OneOf(Choice::Mode)),
+            ConfKey::AuthfileOld => Row::file(22, "authfile-old", text(1)),
+            ConfKey::Authhash => Row::file(23, "authhash", Form::OneOf(Choice::Hash)),
         }
     }
 

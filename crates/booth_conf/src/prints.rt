@@ -4,12 +4,14 @@ ghost use Rattle.std.specs.List.{list_all};
 ghost use Rattle.booth_conf.specs.Grammar.{is_other};
 ghost use Rattle.booth_conf.specs.Grows.{Grows, quote_of};
 ghost use Rattle.booth_conf.specs.Keys.{row_of};
-ghost use Rattle.booth_conf.specs.Print.{authfile_entries, entries_text, extra_entry, extra_key, kind_word, line_text, prereq_text, test_word, top_entries, weights_text, written};
+ghost use Rattle.booth_conf.specs.Print.{authfile_entries, authfile_old_entries, early_entries, entries_text, extra_entry, extra_key, hash_place, kind_word, late_entries, line_text, prereq_text, test_word, weights_text, word_at, written};
+ghost use Rattle.booth_conf.specs.declared.keys.Choice.TheVariants.{Hash as HashChoice};
 
 use crate::keys::{ConfKey, KeyNo};
 use crate::sections::Extra;
 use crate::tickets::{GrantKind, Prereq};
 use booth_base::PathText;
+use booth_keys::Hash;
 use itoa::Buffer;
 use std::alloc::{AllocError, Global};
 
@@ -168,6 +170,28 @@ fn push_authfile(out: &mut Vec<u8>, path: &Option<PathText>) -> Result<(), Alloc
     }
 }
 
+fn push_authfile_old(out: &mut Vec<u8>, path: &Option<PathText>) -> Result<(), AllocError>
+    ensures { Grows result out.old.items out.new.items (entries_text (authfile_old_entries path.now)) }
+{
+    match path {
+        Some(path) => push_line(
+            out,
+            ConfKey::AuthfileOld.row().name,
+            path.as_str().as_bytes(),
+        ),
+        None => Ok(()),
+    }
+}
+
+fn hash_word(hash: Hash) -> &'static [u8]
+    ensures { result.now ≡ word_at HashChoice (hash_place hash) }
+{
+    match hash {
+        Hash::Sha1 => b"sha1",
+        Hash::Sha256 => b"sha256",
+    }
+}
+
 // The key without effect with this number.
 fn extra_key(number: KeyNo) -> ConfKey
     ensures { result ≡ extra_key number }
@@ -196,21 +220,35 @@ fn push_extras(out: &mut Vec<u8>, extras: &[Extra]) -> Result<(), AllocError>
     Ok(())
 }
 
-/// Prints the keys of the whole file.
-#[tactic(auto, using(crate::proofs::LineLemmas::top_pushed))]
+/// Prints the first four keys of the whole file.
+#[tactic(auto, using(crate::proofs::LineLemmas::early_pushed))]
 pub fn push_top(
     out: &mut Vec<u8>,
     port: u16,
     authfile: &Option<PathText>,
     skew: u64,
-    extras: &[Extra],
 ) -> Result<(), AllocError>
     ensures { Grows result out.old.items out.new.items
-        (entries_text (top_entries port authfile.now skew extras.now)) }
+        (entries_text (early_entries port authfile.now skew)) }
 {
     push_number(out, ConfKey::Port, u64::from(port))?;
     push_line(out, ConfKey::Transport.row().name, b"UDP")?;
     push_authfile(out, authfile)?;
-    push_number(out, ConfKey::Maxtimeskew, skew)?;
+    push_number(out, ConfKey::Maxtimeskew, skew)
+}
+
+/// Prints the other keys of the whole file.
+#[tactic(auto, using(crate::proofs::LineLemmas::late_pushed))]
+pub fn push_late(
+    out: &mut Vec<u8>,
+    authfile_old: &Option<PathText>,
+    auth_hash: Hash,
+    extras: &[Extra],
+) -> Result<(), AllocError>
+    ensures { Grows result out.old.items out.new.items
+        (entries_text (late_entries authfile_old.now auth_hash extras.now)) }
+{
+    push_authfile_old(out, authfile_old)?;
+    push_line(out, ConfKey::Authhash.row().name, hash_word(auth_hash))?;
     push_extras(out, extras)
 }

@@ -28,6 +28,12 @@ fn word(choice: Choice, bytes: &[u8]) -> Option<usize>
             }
             is_either(bytes, "manual", "MANUAL").then_some(1)
         }
+        Choice::Hash => {
+            if is_either(bytes, "sha1", "sha1") {
+                return Some(0);
+            }
+            is_either(bytes, "sha256", "sha256").then_some(1)
+        }
     }
 }
 
