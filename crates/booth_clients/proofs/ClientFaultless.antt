@@ -1,6 +1,6 @@
 -- Where the outside does not fail, a client ends with an answer or without one.
 use Rattle.std.specs.Prelude.{Contains, Option, Some, None, Result, Ok, Err, MatchBool, MatchOption}
-use Rattle.std.proofs.Common.{◌≡◌, ◌++◌, ℕ, Bool, true, false, List, [], ◌∷◌, refl, sym, subst}
+use Rattle.std.proofs.Common.{◌≡◌, ◌++◌, ℕ, Bool, true, false, List, [], ◌∷◌, refl, sym, subst, inl, inr}
 use Rattle.std.proofs.lemmas.List.Elements.{Contains-append_right}
 use Rattle.booth_keys.specs.declared.ring.Ring.{Ring}
 use Rattle.booth_base.specs.declared.address.Peer.{Peer}
@@ -27,51 +27,42 @@ use Rattle.booth_words.specs.declared.command.Verb.{Verb}
 use Rattle.booth_stages.specs.declared.outcome.Outcome.{Outcome}
 use Rattle.booth_stages.specs.declared.outcome.Outcome.TheVariants as outs
 use Rattle.booth_stages.specs.Configuration.{IsUnread}
-use Rattle.booth_stages.specs.Keys.{IsKeyless}
+use Rattle.booth_stages.specs.Keys.{FirstKeyless, IsFileKeyless, IsKeyless, NamesKeyFile, OldKeyless}
 use Rattle.booth_clients.specs.Client.{EndsWith, Follows, IsClientLog, IsListTold, IsPlainEnd, IsPrinted, IsReported, IsSocketless, IsTalkTold, IsUnkeyedClient, ListEndsWith, cluster_calls}
 use Rattle.booth_clients.specs.Client.{Unread, Unkeyed, Asked, Socketless, Conversing}
 use Rattle.booth_clients.specs.Client.{is_good, refused_text}
 use Rattle.booth_clients.specs.ClientRun.{IsTalked, IsUnhindered}
-use Rattle.booth_stages.proofs.CallLemmas.{among, first_of, same_calls}
-
--- a part of calls that are among these
-abbrev pub AreAmong : List Entry → List Entry → Type 0
-AreAmong part entries = (x : Entry) → Contains part x → Contains entries x
-
-pub left_among : (xs ys entries whole : List Entry) → whole ≡ xs ++ ys → AreAmong whole entries → AreAmong xs entries
-left_among xs ys entries whole same all x here = all x (among x xs ys whole here same)
-
-pub right_among : (xs ys entries whole : List Entry) → whole ≡ xs ++ ys → AreAmong whole entries → AreAmong ys entries
-right_among xs ys entries whole same all x here =
-    all x (same_calls x (xs ++ ys) whole (Contains-append_right xs ys x here) same)
-
-later_among : (x : Entry) (ys entries : List Entry) → AreAmong (x ∷ ys) entries → AreAmong ys entries
-later_among x ys entries all = right_among (x ∷ []) ys entries (x ∷ ys) refl all
+use Rattle.booth_stages.proofs.CallLemmas.{AreAmong, first_of, left_among, only, right_among}
 
 module _ (verb : Verb) (conf : List ℕ) (entries : List Entry) (free : IsUnhindered conf entries) where
-  -- the one call of a part was made
-  pub only : (x : Entry) (part : List Entry) → part ≡ x ∷ [] → AreAmong part entries → Contains entries x
-  only x part same all = all x (same_calls x (x ∷ []) part (first_of x []) same)
-
   pub unread : (outcome : Outcome) (said : List ℕ) (part : List Entry) → AreAmong part entries → IsUnread conf outcome said part → IsTalked verb outcome
   unread outs.OutOfMemory said part all u = tt
-  unread outs.ConfUnread said part all u = absurd (free.read conf (only (ReadFile conf (Err reads.Failed)) part u.1 all))
+  unread outs.ConfUnread said part all u = absurd (free.read conf (only entries (ReadFile conf (Err reads.Failed)) part u.1 all))
   unread (outs.ConfBad fault) said part all u =
-      let valid = free.valid u.0 (only (ReadFile conf (Ok u.0)) part u.3 all) in
+      let valid = free.valid u.0 (only entries (ReadFile conf (Ok u.0)) part u.3 all) in
       absurd ((one_answer u.0).not_both valid.0 fault valid.1 u.1)
   unread outcome said part all u = absurd u
 
-  -- a key file was read, or none, behind a configuration that names it
-  pub keyless : (text : List ℕ) (config : ConfigSays) (outcome : Outcome) (said : List ℕ) (part : List Entry) → Says text config →
-      Contains entries (ReadFile conf (Ok text)) → AreAmong part entries → IsKeyless config.authfile outcome said part → IsTalked verb outcome
-  keyless text config outs.OutOfMemory said part says read all k = tt
-  keyless text config outs.KeyUnread said part says read all k = absurd (free.read k.0 (only (ReadFile k.0 (Err reads.Failed)) part k.3 all))
-  keyless text config (outs.KeyBad fault) said part says read all k =
-      let key = free.keyed text k.0 k.1 config read says k.2 (only (ReadFile k.0 (Ok k.1)) part k.5 all) in
-      let is = k.3 in
+  -- a key file that the configuration names was read, and had no key
+  file_keyless : (text : List ℕ) (config : ConfigSays) (file : List ℕ) (outcome : Outcome) (said : List ℕ) (part : List Entry) → Says text config →
+      Contains entries (ReadFile conf (Ok text)) → NamesKeyFile config file → AreAmong part entries → IsFileKeyless file outcome said part → IsTalked verb outcome
+  file_keyless text config file outs.OutOfMemory said part says read named all k = tt
+  file_keyless text config file outs.KeyUnread said part says read named all k = absurd (free.read file (only entries (ReadFile file (Err reads.Failed)) part k.1 all))
+  file_keyless text config file (outs.KeyBad fault) said part says read named all k =
+      let key = free.keyed text file k.0 config read says named (only entries (ReadFile file (Ok k.0)) part k.3 all) in
+      let is = k.1 in
       let reads = key.reads in
       cc
-  keyless text config outcome said part says read all k = absurd k
+  file_keyless text config file outcome said part says read named all k = absurd k
+
+  -- one of the key files had no key
+  pub keyless : (text : List ℕ) (config : ConfigSays) (outcome : Outcome) (said : List ℕ) (part : List Entry) → Says text config →
+      Contains entries (ReadFile conf (Ok text)) → AreAmong part entries → IsKeyless config outcome said part → IsTalked verb outcome
+  keyless text config outcome said part says read all (FirstKeyless k) =
+      file_keyless text config k.file outcome said part says read (inl k.set) all k.here
+  keyless text config outcome said part says read all (OldKeyless k) =
+      file_keyless text config k.old outcome said k.rest says read (inr k.old_set)
+      (right_among (ReadFile k.file (Ok k.text) ∷ []) k.rest entries part k.whole all) k.here
 
   unkeyed : (outcome : Outcome) (said : List ℕ) (part : List Entry) → AreAmong part entries → IsUnkeyedClient conf outcome said part → IsTalked verb outcome
   unkeyed outcome said part all u =
@@ -84,7 +75,7 @@ module _ (verb : Verb) (conf : List ℕ) (entries : List Entry) (free : IsUnhind
   unsent : (asking : Asking) (to : Peer) (start : ℕ) (failed : Failed) (bytes : List ℕ) (part : List Entry) → AreAmong part entries →
       IsAsking asking to start (Err failed) bytes part → ⊥
   unsent asking to start failed bytes part all is =
-      free.sent to (request_bytes asking start) failed (only (Send to (request_bytes asking start) (Err failed)) part is all)
+      free.sent to (request_bytes asking start) failed (only entries (Send to (request_bytes asking start) (Err failed)) part is all)
 
   unsent_on : (asking : Asking) (first : Waited) (failed : Failed) (first_bytes bytes : List ℕ) (part : List Entry) (on : Option (Peer × ℕ)) → AreAmong part entries →
       MatchOption on (Rests (Ok first) first_bytes (Err failed) bytes part) (λ on. IsAsking asking on.0 on.1 (Err failed) bytes part) → ⊥
@@ -108,7 +99,7 @@ module _ (verb : Verb) (conf : List ℕ) (entries : List Entry) (free : IsUnhind
       IsPrinted Q outcome said part → IsTalked verb outcome
   printed Q outs.Report said part all r = tt
   printed Q outs.OutOfMemory said part all r = tt
-  printed Q outs.PrintFault said part all r = absurd (free.printed r.1 r.3 (only (Out r.1 (Err r.3)) part r.4 all))
+  printed Q outs.PrintFault said part all r = absurd (free.printed r.1 r.3 (only entries (Out r.1 (Err r.3)) part r.4 all))
   printed Q outcome said part all r = absurd r
 
   reported : (order : Order) (bytes : List ℕ) (outcome : Outcome) (said : List ℕ) (part : List Entry) (silent : Bool) → AreAmong part entries →
@@ -141,7 +132,7 @@ module _ (verb : Verb) (conf : List ℕ) (entries : List Entry) (free : IsUnhind
       go (Ok lists.Over) talk end = subst (IsTalked verb) (sym end.is) tt
       go (Err failed) talk end =
           absurd (free.sent to (request_bytes asking start) failed
-          (only (Send to (request_bytes asking start) (Err failed)) t.early talk (left_among t.early t.late entries part t.whole all)))
+          (only entries (Send to (request_bytes asking start) (Err failed)) t.early talk (left_among t.early t.late entries part t.whole all)))
 
   told : (asking : Asking) (to : Peer) (start : ℕ) (outcome : Outcome) (said : List ℕ) (part : List Entry) (list : Bool) → AreAmong part entries →
       MatchBool list (IsListTold asking to start outcome said part) (IsTalkTold asking to start outcome said part) → IsTalked verb outcome
@@ -150,7 +141,7 @@ module _ (verb : Verb) (conf : List ℕ) (entries : List Entry) (free : IsUnhind
 
   pub socketless : (outcome : Outcome) (said : List ℕ) (part : List Entry) → AreAmong part entries → IsSocketless outcome said part → IsTalked verb outcome
   socketless outs.OutOfMemory said part all s = tt
-  socketless outs.OpenFault said part all s = absurd (free.opened None 0 [] [] s.1 (only (Open None 0 [] [] (Err s.1)) part s.2 all))
+  socketless outs.OpenFault said part all s = absurd (free.opened None 0 [] [] s.1 (only entries (Open None 0 [] [] (Err s.1)) part s.2 all))
   socketless outcome said part all s = absurd s
 
   follows : (asked : ClientWords) (config : ConfigSays) (ring : Option Ring) (outcome : Outcome) (said : List ℕ) (part : List Entry) → AreAmong part entries →

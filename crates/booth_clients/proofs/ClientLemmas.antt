@@ -78,9 +78,9 @@ has_site members tickets whole none = go (list_any is_site members) refl
 -- ---- configuration and key
 
 pub keyed : (config : ConfigSays) (cluster : Cluster) {a b : Option (List Entry)} → cluster.config ≡ config →
-    GrewSome (IsRingRead config.authfile (Ok cluster.ring)) a b → GrewSome (IsKeyed config (Ok cluster)) a b
+    GrewSome (IsRingRead config (Ok cluster.ring)) a b → GrewSome (IsKeyed config (Ok cluster)) a b
 keyed config cluster same read =
-    some_weaker (IsRingRead config.authfile (Ok cluster.ring)) (IsKeyed config (Ok cluster)) (λ es h. (same, h.0, h.1, h.2)) read
+    some_weaker (IsRingRead config (Ok cluster.ring)) (IsKeyed config (Ok cluster)) (λ es h. (same, h.0, h.1, h.2)) read
 
 cluster_of : (path : List ℕ) (config : ConfigSays) (result : Result Cluster Ended) (xs ys : List Entry) → IsConfigRead path (Ok config) xs →
     IsKeyed config result ys → IsClusterRead path result (xs ++ ys)
@@ -88,11 +88,11 @@ cluster_of path config (Ok cluster) xs ys h k = (
   record {
     text = h.0;
     says = subst (λ c. Rattle.booth_conf.specs.Says.Says h.0 c) (sym k.0) h.1;
-    key_text = k.1;
-    holds = subst (λ (c : ConfigSays). HasRing c.authfile k.1 cluster.ring) (sym k.0) k.2;
+    key_texts = k.1;
+    holds = subst (λ (c : ConfigSays). HasRing c k.1 cluster.ring) (sym k.0) k.2;
   },
   ap (λ zs. zs ++ ys) h.2 ∙ ap (λ zs. ReadFile path (Ok h.0) ∷ zs) k.3
-      ∙ ap (λ (c : ConfigSays). ReadFile path (Ok h.0) ∷ key_calls c.authfile k.1) (sym k.0),
+      ∙ ap (λ (c : ConfigSays). ReadFile path (Ok h.0) ∷ key_calls c k.1) (sym k.0),
 )
 cluster_of path config (Err ended) xs ys h k =
     inr (record { text = h.0; config = config; says = h.1; rest = ys; whole = ap (λ zs. zs ++ ys) h.2; here = k })

@@ -22,13 +22,13 @@ use Rattle.booth_stages.specs.declared.outcome.Outcome.{Outcome}
 use Rattle.booth_stages.specs.declared.outcome.Outcome.TheVariants as outs
 use Rattle.booth_stages.specs.Keys.{key_calls}
 use Rattle.booth_stages.specs.Texts.{not_site_text}
-use Rattle.booth_stages.proofs.CallLemmas.{among, first_of}
+use Rattle.booth_stages.proofs.CallLemmas.{AreAmong, among, first_of, left_among, only, right_among}
 use Rattle.booth_stages.proofs.UsageLemmas.{for_memory}
 use Rattle.booth_clients.specs.Client.{IsPlainEnd}
 use Rattle.booth_clients.specs.ClientRun.{FaultlessTalks, IsClientMade, IsTalked, IsUnhindered, Moved, Talked, Unasked}
 use Rattle.booth_clients.specs.MoveRun.{FollowsKey, FollowsSite, IsMoveLog, IsMoveTold, IsShown, MoveEndsWith, begun_text, moved_text, site_at}
 use Rattle.booth_clients.specs.MoveRun.{Keyed, Keyless, Read, Socketless, Started, Unread}
-use Rattle.booth_clients.proofs.ClientFaultless.{AreAmong, keyless, left_among, logged, only, right_among, socketless, unread}
+use Rattle.booth_clients.proofs.ClientFaultless.{keyless, logged, socketless, unread}
 
 module _ (conf : List ℕ) (entries : List Entry) (free : IsUnhindered conf entries) where
   -- ---- a move of which a request was not sent
@@ -36,7 +36,7 @@ module _ (conf : List ℕ) (entries : List Entry) (free : IsUnhindered conf entr
   uncarried : (moving : Move_) (start : ℕ) (failed : Failed) (part : List Entry) → AreAmong part entries → IsCarried moving start (Err failed) part → ⊥
   uncarried moving start failed part all (inl u) =
       free.sent u.s.to (request_bytes moving u.s.what u.s.number start) failed
-      (only verbs.Move conf entries free (send_call moving start u.s (Err failed)) part u.whole all)
+      (only entries (send_call moving start u.s (Err failed)) part u.whole all)
   uncarried moving start failed part all (inr u) =
       let call : Entry = send_call moving u.last.reading u.s (Err failed) in
       let late = right_among (calls_so_far moving start u.pairs) (calls_of u.last ++ call ∷ []) entries part u.whole all in
@@ -47,7 +47,7 @@ module _ (conf : List ℕ) (entries : List Entry) (free : IsUnhindered conf entr
 
   shown : (text : List ℕ) (outcome : Outcome) (said : List ℕ) (part : List Entry) → AreAmong part entries → IsShown text outcome said part → IsTalked verbs.Move outcome
   shown text outs.Report said part all s = tt
-  shown text outs.PrintFault said part all s = absurd (free.printed text s.1 (only verbs.Move conf entries free (Out text (Err s.1)) part s.2 all))
+  shown text outs.PrintFault said part all s = absurd (free.printed text s.1 (only entries (Out text (Err s.1)) part s.2 all))
   shown text outcome said part all s = absurd s
 
   told : (asked : MoveWords) (moving : Move_) (start : ℕ) (outcome : Outcome) (said : List ℕ) (part : List Entry) → AreAmong part entries →
@@ -79,7 +79,7 @@ module _ (conf : List ℕ) (entries : List Entry) (free : IsUnhindered conf entr
   follows_site asked text config target outcome said part says read all (Keyless k) =
       keyless verbs.Move conf entries free text config outcome said part says read all k
   follows_site asked text config target outcome said part says read all (Keyed k) =
-      follows_key asked config k.ring target outcome said k.rest (right_among (key_calls config.authfile k.text) k.rest entries part k.whole all) k.here
+      follows_key asked config k.ring target outcome said k.rest (right_among (key_calls config k.texts) k.rest entries part k.whole all) k.here
 
   follows : (asked : MoveWords) (text : List ℕ) (config : ConfigSays) (outcome : Outcome) (said : List ℕ) (part : List Entry) (place : Option ℕ) →
       Says text config → Contains entries (ReadFile conf (Ok text)) → AreAmong part entries →

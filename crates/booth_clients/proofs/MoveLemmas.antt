@@ -120,7 +120,7 @@ move_keyed asked config target cluster outcome said read follows =
     some_joined (IsKeyed config (Ok cluster)) (FollowsKey asked cluster.config cluster.ring target outcome said) (FollowsSite asked config target outcome said)
     (λ xs ys h k. Keyed (record {
       ring = cluster.ring;
-      text = h.1;
+      texts = h.1;
       holds = h.2;
       rest = ys;
       whole = ap (λ zs. zs ++ ys) h.3;

@@ -35,7 +35,7 @@ use Rattle.booth_clients.specs.declared.memory.Memory.{Memory}
 use Rattle.booth_clients.specs.declared.memory.Memory.TheVariants as memories
 use Rattle.booth_words.specs.declared.asking.ClientWords.{ClientWords}
 use Rattle.booth_stages.specs.Texts.{unopened_text, unprinted_text, out_of_memory_text}
-use Rattle.booth_stages.specs.Keys.{HasRing, IsKeyless, key_calls}
+use Rattle.booth_stages.specs.Keys.{HasRing, IsKeyless, KeyTexts, key_calls}
 use Rattle.booth_stages.specs.Configuration.{IsUnread}
 
 -- ---- configuration and ring
@@ -44,13 +44,13 @@ use Rattle.booth_stages.specs.Configuration.{IsUnread}
 pub record IsCluster (config : ConfigSays) (ring : Option Ring) : Type 0 where
   pub text : List ℕ
   pub says : Says text config
-  pub key_text : List ℕ
-  pub holds : HasRing config.authfile key_text ring
+  pub key_texts : KeyTexts
+  pub holds : HasRing config key_texts ring
 
 -- the calls up to the ring
 abbrev pub cluster_calls : {config : ConfigSays} {ring : Option Ring} → List ℕ → IsCluster config ring → List Entry
 cluster_calls {config} path cluster =
-    ReadFile path (Ok cluster.text) ∷ key_calls config.authfile cluster.key_text
+    ReadFile path (Ok cluster.text) ∷ key_calls config cluster.key_texts
 
 -- a configuration was read, and no key
 pub record IsUnkeyedClient (path : List ℕ) (outcome : Outcome) (said : List ℕ) (entries : List Entry) : Type 0 where
@@ -59,7 +59,7 @@ pub record IsUnkeyedClient (path : List ℕ) (outcome : Outcome) (said : List �
   pub says : Says text config
   pub rest : List Entry
   pub whole : entries ≡ ReadFile path (Ok text) ∷ rest
-  pub here : IsKeyless config.authfile outcome said rest
+  pub here : IsKeyless config outcome said rest
 
 -- ---- whom it asks
 
@@ -205,11 +205,11 @@ abbrev pub IsMemoryFor : Order → Memory → Type 0
 IsMemoryFor order (memories.List room) = (is_list order ≡ true) × AreNone room.parts
 IsMemoryFor order (memories.Talk room) = is_list order ≡ false
 
--- the read of a key file, where one is set, and the configuration with its ring
+-- the reads of the key files that are set, and the configuration with its ring
 abbrev pub IsKeyed : ConfigSays → Result Cluster Ended → List Entry → Type 0
 IsKeyed config (Ok cluster) entries = (cluster.config ≡ config)
-    × (text : List ℕ) × HasRing config.authfile text cluster.ring × (entries ≡ key_calls config.authfile text)
-IsKeyed config (Err ended) entries = IsKeyless config.authfile ended.outcome ended.said entries
+    × (texts : KeyTexts) × HasRing config texts cluster.ring × (entries ≡ key_calls config texts)
+IsKeyed config (Err ended) entries = IsKeyless config ended.outcome ended.said entries
 
 -- the reads, and what they found, or how the client ends without one of them
 abbrev pub IsClusterRead : List ℕ → Result Cluster Ended → List Entry → Type 0

@@ -26,7 +26,7 @@ use Rattle.booth_host.specs.declared.entry.Entry.TheVariants.{Open, ReadFile, Se
 use Rattle.booth_words.specs.declared.command.Verb.{Verb}
 use Rattle.booth_words.specs.declared.command.Verb.TheVariants as verbs
 use Rattle.booth_words.specs.Valid.{AreValid}
-use Rattle.booth_stages.specs.Keys.{IsKeyFile}
+use Rattle.booth_stages.specs.Keys.{IsKeyFile, NamesKeyFile}
 
 -- one leading `client` is passed over
 abbrev pub passed : List (List ℕ) → List (List ℕ)
@@ -104,14 +104,14 @@ FitsClientWords program words outcome =
 -- ---- where nothing fails
 
 -- No file, no socket, no send and no print failed; what was read at the path says a configuration, and what was
--- read at its `authfile` holds a key.
+-- read at a key file that it names holds a key.
 pub record IsUnhindered (conf : List ℕ) (entries : List Entry) : Type 0 where
   pub read : (file : List ℕ) → Contains entries (ReadFile file (Err reads.Failed)) → ⊥
   pub valid : (text : List ℕ) → Contains entries (ReadFile conf (Ok text)) →
       (config : ConfigSays) × Says text config
   pub keyed : (text file key_text : List ℕ) (config : ConfigSays) → Contains entries
       (ReadFile conf (Ok text)) → Says text config →
-      config.authfile ≡ Some file → Contains entries (ReadFile file (Ok key_text)) → IsKeyFile key_text
+      NamesKeyFile config file → Contains entries (ReadFile file (Ok key_text)) → IsKeyFile key_text
   pub opened : (local : Option Address) (port : ℕ) (records conf_path : List ℕ) (failed : Failed) →
       Contains entries (Open local port records conf_path (Err failed)) → ⊥
   pub sent : (to : Peer) (bytes : List ℕ) (failed : Failed) → Contains entries (Send to bytes (Err failed)) → ⊥

@@ -20,7 +20,7 @@ use Rattle.booth_words.specs.declared.asking.MoveWords.{MoveWords}
 use Rattle.booth_stages.specs.declared.outcome.Outcome.{Outcome}
 use Rattle.booth_stages.specs.declared.outcome.Outcome.TheVariants as outs
 use Rattle.booth_stages.specs.Configuration.{IsUnread}
-use Rattle.booth_stages.specs.Keys.{HasRing, IsKeyless, key_calls}
+use Rattle.booth_stages.specs.Keys.{HasRing, IsKeyless, KeyTexts, key_calls}
 use Rattle.booth_stages.specs.Texts.{not_site_text, unprinted_text}
 use Rattle.booth_clients.specs.Client.{IsPlainEnd, IsSocketless, destination, refused_text}
 
@@ -115,16 +115,16 @@ pub data FollowsKey (asked : MoveWords) (config : ConfigSays) (ring : Option Rin
 pub record IsMoveKeyed (asked : MoveWords) (config : ConfigSays) (target : ℕ) (outcome : Outcome) (said : List ℕ)
     (entries : List Entry) : Type 0 where
   pub ring : Option Ring
-  pub text : List ℕ
-  pub holds : HasRing config.authfile text ring
+  pub texts : KeyTexts
+  pub holds : HasRing config texts ring
   pub rest : List Entry
-  pub whole : entries ≡ key_calls config.authfile text ++ rest
+  pub whole : entries ≡ key_calls config texts ++ rest
   pub here : FollowsKey asked config ring target outcome said rest
 
 -- what follows where the target is a site
 pub data FollowsSite (asked : MoveWords) (config : ConfigSays) (target : ℕ) (outcome : Outcome) (said : List ℕ)
     (entries : List Entry) : Type 0 where
-  Keyless : IsKeyless config.authfile outcome said entries → FollowsSite asked config target outcome said entries
+  Keyless : IsKeyless config outcome said entries → FollowsSite asked config target outcome said entries
   Keyed : IsMoveKeyed asked config target outcome said entries →
       FollowsSite asked config target outcome said entries
 

@@ -1,2 +1,3 @@
 mod ServiceLemmas
 mod RunLemmas
+mod FaultlessLemmas

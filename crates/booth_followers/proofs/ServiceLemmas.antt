@@ -71,23 +71,23 @@ module _ (asked : FollowWords) (config : ConfigSays) (ring : Option Ring) (margi
 
 module _ (asked : FollowWords) (config : ConfigSays) (margins : Margins) where
   pub with_key : (ring : Option Ring) (outcome : Outcome) (said : List ℕ) {a b c : Option (List Entry)} →
-      GrewSome (IsRingRead config.authfile (Ok ring)) a b → GrewSome (FollowsKey asked config ring margins outcome said) b c →
+      GrewSome (IsRingRead config (Ok ring)) a b → GrewSome (FollowsKey asked config ring margins outcome said) b c →
       GrewSome (FollowsMargins asked config margins outcome said) a c
   with_key ring outcome said read follows =
-      some_joined (IsRingRead config.authfile (Ok ring)) (FollowsKey asked config ring margins outcome said) (FollowsMargins asked config margins outcome said)
+      some_joined (IsRingRead config (Ok ring)) (FollowsKey asked config ring margins outcome said) (FollowsMargins asked config margins outcome said)
       (λ xs ys h k. Keyed (record {
         ring = ring;
-        text = h.0;
+        texts = h.0;
         holds = h.1;
         rest = ys;
         whole = ap (λ zs. zs ++ ys) h.2;
         here = k;
       })) read follows
 
-  pub without_key : (ended : Ended) {a b : Option (List Entry)} → GrewSome (IsRingRead config.authfile (Err ended)) a b →
+  pub without_key : (ended : Ended) {a b : Option (List Entry)} → GrewSome (IsRingRead config (Err ended)) a b →
       GrewSome (FollowsMargins asked config margins ended.outcome ended.said) a b
   without_key ended read =
-      some_weaker (IsRingRead config.authfile (Err ended)) (FollowsMargins asked config margins ended.outcome ended.said) (λ es h. Keyless h) read
+      some_weaker (IsRingRead config (Err ended)) (FollowsMargins asked config margins ended.outcome ended.said) (λ es h. Keyless h) read
 
 -- ---- the margins and the configuration
 

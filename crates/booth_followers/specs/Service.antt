@@ -18,7 +18,7 @@ use Rattle.booth_words.specs.declared.asking.FollowWords.{FollowWords}
 use Rattle.booth_stages.specs.declared.outcome.Outcome.{Outcome}
 use Rattle.booth_stages.specs.declared.outcome.Outcome.TheVariants as outs
 use Rattle.booth_stages.specs.Configuration.{IsUnread}
-use Rattle.booth_stages.specs.Keys.{HasRing, IsKeyless, key_calls}
+use Rattle.booth_stages.specs.Keys.{HasRing, IsKeyless, KeyTexts, key_calls}
 use Rattle.booth_stages.specs.Texts.{not_followed_text, out_of_memory_text, unopened_text}
 
 -- ---- how it ends
@@ -84,16 +84,16 @@ pub data FollowsKey (asked : FollowWords) (config : ConfigSays) (ring : Option R
 pub record IsKeyed (asked : FollowWords) (config : ConfigSays) (margins : Margins) (outcome : Outcome) (said : List ℕ)
     (entries : List Entry) : Type 0 where
   pub ring : Option Ring
-  pub text : List ℕ
-  pub holds : HasRing config.authfile text ring
+  pub texts : KeyTexts
+  pub holds : HasRing config texts ring
   pub rest : List Entry
-  pub whole : entries ≡ key_calls config.authfile text ++ rest
+  pub whole : entries ≡ key_calls config texts ++ rest
   pub here : FollowsKey asked config ring margins outcome said rest
 
 -- what follows margins that fit
 pub data FollowsMargins (asked : FollowWords) (config : ConfigSays) (margins : Margins) (outcome : Outcome)
     (said : List ℕ) (entries : List Entry) : Type 0 where
-  Keyless : IsKeyless config.authfile outcome said entries → FollowsMargins asked config margins outcome said entries
+  Keyless : IsKeyless config outcome said entries → FollowsMargins asked config margins outcome said entries
   Keyed : IsKeyed asked config margins outcome said entries → FollowsMargins asked config margins outcome said entries
 
 -- ---- the margins

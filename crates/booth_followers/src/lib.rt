@@ -1,6 +1,7 @@
 //! The program `booth-follow` over any host: words in, calls on the host, outcome out.
 #![tactic(auto)]
 
+pub mod laws;
 mod run;
 mod service;
 

@@ -3,3 +3,5 @@ mod TellingLemmas
 mod ConfigurationLemmas
 pub mod UsageLemmas
 pub mod CallLemmas
+pub mod EndedLemmas
+mod KeyLemmas

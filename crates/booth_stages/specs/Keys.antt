@@ -1,7 +1,7 @@
--- The ring, whose key is read from its file where one is set, and how a run ends that gets none.
-use Rattle.std.specs.Prelude.{◌≡◌, ℕ, List, [], ◌∷◌, Option, Some, None, Result, Ok, Err}
+-- The ring, whose keys are read from their files where they are set, and how a run ends that gets none.
+use Rattle.std.specs.Prelude.{◌≡◌, ◌⊎◌, ◌++◌, ℕ, List, [], ◌∷◌, Option, Some, None, Result, Ok, Err}
+use Rattle.booth_conf.specs.Config.{ConfigSays}
 use Rattle.booth_keys.specs.Key.{key_read}
-use Rattle.booth_keys.specs.Ring.{alone}
 use Rattle.booth_keys.specs.declared.key.KeyFault.{KeyFault}
 use Rattle.booth_keys.specs.declared.ring.Ring.{Ring}
 use Rattle.booth_host.specs.declared.host.ReadFault.TheVariants as reads
@@ -17,30 +17,91 @@ pub record IsKeyFile (text : List ℕ) : Type 0 where
   pub key : List ℕ
   pub reads : key_read text ≡ Ok key
 
+-- the configuration names this key file: as that of the first key, or as that of the old one
+abbrev pub NamesKeyFile : ConfigSays → List ℕ → Type 0
+NamesKeyFile config file = (config.authfile ≡ Some file) ⊎ (config.authfile_old ≡ Some file)
+
+-- ---- what is read
+
+-- the texts of the two key files
+pub record KeyTexts : Type 0 where
+  pub first : List ℕ
+  pub old : List ℕ
+
+-- the file of the old key, which is read only where the first key has a file
+abbrev pub old_file : Option (List ℕ) → Option (List ℕ) → Option (List ℕ)
+old_file None old = None
+old_file (Some first) old = old
+
 -- the read of a key file, where one is set
-abbrev pub key_calls : Option (List ℕ) → List ℕ → List Entry
-key_calls None text = []
-key_calls (Some file) text = ReadFile file (Ok text) ∷ []
+abbrev pub key_call : Option (List ℕ) → List ℕ → List Entry
+key_call None text = []
+key_call (Some file) text = ReadFile file (Ok text) ∷ []
 
--- the ring of the key in the key file's text, or none where no file is set
-abbrev pub HasRing : Option (List ℕ) → List ℕ → Option Ring → Type 0
-HasRing None text None = Unit {0}
-HasRing (Some file) text (Some ring) = (key_read text ≡ Ok ring.first) × (ring ≡ alone ring.first)
-HasRing authfile text ring = ⊥
+-- the reads of the key files that are set, the first key's first
+abbrev pub key_calls : ConfigSays → KeyTexts → List Entry
+key_calls config texts =
+    key_call config.authfile texts.first ++ key_call (old_file config.authfile config.authfile_old) texts.old
 
--- no key came from the key file
-abbrev pub IsKeyless : Option (List ℕ) → Outcome → List ℕ → List Entry → Type 0
-IsKeyless authfile KeyUnread said entries =
-    (file : List ℕ) × (authfile ≡ Some file) × (said ≡ unread_text file)
-    × (entries ≡ ReadFile file (Err reads.Failed) ∷ [])
-IsKeyless authfile (KeyBad fault) said entries =
-    (file : List ℕ) × (text : List ℕ) × (authfile ≡ Some file) × (key_read text ≡ Err fault)
-    × (said ≡ key_fault_text fault)
+-- ---- the ring
+
+-- the key in a key file's text, or none where no file is set
+abbrev pub HasKey : Option (List ℕ) → List ℕ → Option (List ℕ) → Type 0
+HasKey None text None = Unit {0}
+HasKey (Some file) text (Some key) = key_read text ≡ Ok key
+HasKey file text key = ⊥
+
+-- the keys of both files, with the configured hash
+pub record IsRing (config : ConfigSays) (texts : KeyTexts) (ring : Ring) : Type 0 where
+  pub file : List ℕ
+  pub set : config.authfile ≡ Some file
+  pub first : key_read texts.first ≡ Ok ring.first
+  pub old : HasKey config.authfile_old texts.old ring.old
+  pub hash : ring.hash ≡ config.auth_hash
+
+-- that ring, or none where the first key has no file
+abbrev pub HasRing : ConfigSays → KeyTexts → Option Ring → Type 0
+HasRing config texts None = config.authfile ≡ None
+HasRing config texts (Some ring) = IsRing config texts ring
+
+-- ---- a key that did not come
+
+-- no key came from this file
+abbrev pub IsFileKeyless : List ℕ → Outcome → List ℕ → List Entry → Type 0
+IsFileKeyless file KeyUnread said entries =
+    (said ≡ unread_text file) × (entries ≡ ReadFile file (Err reads.Failed) ∷ [])
+IsFileKeyless file (KeyBad fault) said entries =
+    (text : List ℕ) × (key_read text ≡ Err fault) × (said ≡ key_fault_text fault)
     × (entries ≡ ReadFile file (Ok text) ∷ [])
-IsKeyless authfile OutOfMemory said entries =
-    (file : List ℕ) × (authfile ≡ Some file) × (said ≡ out_of_memory_text)
-    × (entries ≡ ReadFile file (Err reads.NoMemory) ∷ [])
-IsKeyless authfile outcome said entries = ⊥
+IsFileKeyless file OutOfMemory said entries =
+    (said ≡ out_of_memory_text) × (entries ≡ ReadFile file (Err reads.NoMemory) ∷ [])
+IsFileKeyless file outcome said entries = ⊥
+
+-- no first key came, and then no other file was read
+pub record IsFirstKeyless (config : ConfigSays) (outcome : Outcome) (said : List ℕ) (entries : List Entry)
+    : Type 0 where
+  pub file : List ℕ
+  pub set : config.authfile ≡ Some file
+  pub here : IsFileKeyless file outcome said entries
+
+-- the first key came, and then no old one
+pub record IsOldKeyless (config : ConfigSays) (outcome : Outcome) (said : List ℕ) (entries : List Entry)
+    : Type 0 where
+  pub file : List ℕ
+  pub set : config.authfile ≡ Some file
+  pub text : List ℕ
+  pub key : List ℕ
+  pub reads : key_read text ≡ Ok key
+  pub old : List ℕ
+  pub old_set : config.authfile_old ≡ Some old
+  pub rest : List Entry
+  pub whole : entries ≡ ReadFile file (Ok text) ∷ rest
+  pub here : IsFileKeyless old outcome said rest
+
+-- no key came from one of the files; that of the first key goes first
+pub data IsKeyless (config : ConfigSays) (outcome : Outcome) (said : List ℕ) (entries : List Entry) : Type 0 where
+  FirstKeyless : IsFirstKeyless config outcome said entries → IsKeyless config outcome said entries
+  OldKeyless : IsOldKeyless config outcome said entries → IsKeyless config outcome said entries
 
 -- the outcomes of a key that did not come
 abbrev pub IsKeylessOutcome : Outcome → Type 0
@@ -49,11 +110,11 @@ IsKeylessOutcome (KeyBad fault) = Unit {0}
 IsKeylessOutcome OutOfMemory = Unit {0}
 IsKeylessOutcome outcome = ⊥
 
--- the read of the key file, where one is set, and the ring of the key that it holds
-abbrev pub IsRingRead : Option (List ℕ) → Result (Option Ring) Ended → List Entry → Type 0
-IsRingRead authfile (Ok ring) entries = (text : List ℕ) × HasRing authfile text ring
-    × (entries ≡ key_calls authfile text)
-IsRingRead authfile (Err ended) entries = IsKeyless authfile ended.outcome ended.said entries
+-- the reads of the key files that are set, and the ring of the keys that they hold
+abbrev pub IsRingRead : ConfigSays → Result (Option Ring) Ended → List Entry → Type 0
+IsRingRead config (Ok ring) entries = (texts : KeyTexts) × HasRing config texts ring
+    × (entries ≡ key_calls config texts)
+IsRingRead config (Err ended) entries = IsKeyless config ended.outcome ended.said entries
 
 -- ---- in the code
 
@@ -72,4 +133,10 @@ IsFileKey bytes (Err ended) = IsNoKey bytes ended
 abbrev pub IsFromFile : List ℕ → Result (List ℕ) Ended → List Entry → Type 0
 IsFromFile file (Ok key) entries = (text : List ℕ) × (key_read text ≡ Ok key)
     × (entries ≡ ReadFile file (Ok text) ∷ [])
-IsFromFile file (Err ended) entries = IsKeyless (Some file) ended.outcome ended.said entries
+IsFromFile file (Err ended) entries = IsFileKeyless file ended.outcome ended.said entries
+
+-- the read of a key file, where one is set, and what came of it
+abbrev pub IsKeyRead : Option (List ℕ) → Result (Option (List ℕ)) Ended → List Entry → Type 0
+IsKeyRead file (Ok key) entries = (text : List ℕ) × HasKey file text key × (entries ≡ key_call file text)
+IsKeyRead file (Err ended) entries =
+    (named : List ℕ) × (file ≡ Some named) × IsFileKeyless named ended.outcome ended.said entries

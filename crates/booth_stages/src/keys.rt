@@ -1,8 +1,8 @@
-//! The ring, whose key comes from its file.
-ghost use Rattle.std.specs.Prelude.{◌≤◌, ℕ, IfErr};
+//! The ring, whose keys come from their files.
+ghost use Rattle.std.specs.Prelude.{◌≤◌, ℕ, IfErr, option_copied};
 ghost use Rattle.booth_host.specs.Past.{GrewSome};
 ghost use Rattle.booth_stages.specs.Outcomes.{HasBlame, IsServed};
-ghost use Rattle.booth_stages.specs.Keys.{IsFileKey, IsFromFile, IsRingRead, IsKeylessOutcome};
+ghost use Rattle.booth_stages.specs.Keys.{IsFileKey, IsFromFile, IsKeylessOutcome, IsKeyRead, IsRingRead};
 
 use crate::outcome::Ended;
 use crate::{Outcome, texts};
@@ -46,13 +46,35 @@ fn from_file<H: Host>(alloc: Global, path: &PathText, host: &mut H) -> Result<Ke
     }
 }
 
-/// The ring of the key, where the configuration names its file.
+// The key in the file at this path, where one is set.
+fn key_at<H: Host>(
+    alloc: Global,
+    path: Option<&PathText>,
+    host: &mut H,
+) -> Result<Option<Key>, Ended>
+    ensures past { GrewSome (IsKeyRead (option_copied path.entry) result) (H.past host.old) (H.past host.new) }
+    ensures keyless { IfErr result (λ ended. IsKeylessOutcome ended.outcome) }
+    ensures served { IfErr result (λ ended. IsServed ended.outcome) }
+    ensures blame { IfErr result (λ ended. HasBlame ended.outcome (H.faults host.old) (H.faults host.new)) }
+    ensures later { H.faults host.old ≤ H.faults host.new }
+{
+    match path {
+        Some(path) => match from_file(alloc, path, host) {
+            Ok(key) => Ok(Some(key)),
+            Err(ended) => Err(ended),
+        },
+        None => Ok(None),
+    }
+}
+
+/// The ring of the keys, where the configuration names the file of the first one. That file is read and
+/// checked before the old key's.
 pub fn read_ring<H: Host>(
     alloc: Global,
     config: &Config,
     host: &mut H,
 ) -> Result<Option<Ring>, Ended>
-    ensures past { GrewSome (IsRingRead config.now.authfile result) (H.past host.old) (H.past host.new) }
+    ensures past { GrewSome (IsRingRead config.now result) (H.past host.old) (H.past host.new) }
     ensures keyless { IfErr result (λ ended. IsKeylessOutcome ended.outcome) }
     ensures served { IfErr result (λ ended. IsServed ended.outcome) }
     ensures blame { IfErr result (λ ended. HasBlame ended.outcome (H.faults host.old) (H.faults host.new)) }
@@ -61,6 +83,11 @@ pub fn read_ring<H: Host>(
     let Some(path) = config.authfile() else {
         return Ok(None);
     };
-    let key = from_file(alloc, path, host)?;
-    Ok(Some(Ring::of(key)))
+    let first = from_file(alloc, path, host)?;
+    let old = key_at(alloc, config.authfile_old(), host)?;
+    Ok(Some(Ring {
+        first,
+        old,
+        hash: config.auth_hash(),
+    }))
 }

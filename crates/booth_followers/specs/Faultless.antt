@@ -1,0 +1,48 @@
+-- What a run ends with where the outside does not fail.
+use Rattle.std.specs.Prelude.{Contains, ℕ, List, Option, Ok, Err}
+use Rattle.booth_base.specs.declared.address.Address.{Address}
+use Rattle.booth_conf.specs.Config.{ConfigSays}
+use Rattle.booth_conf.specs.Says.{Says}
+use Rattle.booth_follow_rule.specs.declared.margins.Margins.{Margins}
+use Rattle.booth_following.specs.Choosing.{IsChosen}
+use Rattle.booth_host.specs.declared.host.Failed.{Failed}
+use Rattle.booth_host.specs.declared.host.ReadFault.TheVariants as reads
+use Rattle.booth_host.specs.declared.entry.Entry.{Entry}
+use Rattle.booth_host.specs.declared.entry.Entry.TheVariants.{Open, ReadFile}
+use Rattle.booth_words.specs.declared.asking.FollowWords.{FollowWords}
+use Rattle.booth_words.specs.declared.command.Verb.TheVariants as verbs
+use Rattle.booth_words.specs.declared.program.Program.TheVariants.{BoothFollow}
+use Rattle.booth_words.specs.Asking.{AsksFollow}
+use Rattle.booth_words.specs.Valid.{AreValid}
+use Rattle.booth_stages.specs.declared.outcome.Outcome.{Outcome}
+use Rattle.booth_stages.specs.declared.outcome.Outcome.TheVariants as outs
+use Rattle.booth_stages.specs.Keys.{IsKeyFile, NamesKeyFile}
+use Rattle.booth_followers.specs.Run.{IsFollowRun}
+
+-- No call up to the turns failed for another reason than want of memory, and what was read is valid: each text of the
+-- configuration says one in which the ticket can be followed so, and each key file that it names holds a key.
+pub record IsUnhindered (asked : FollowWords) (entries : List Entry) : Type 0 where
+  pub read : (file : List ℕ) → Contains entries (ReadFile file (Err reads.Failed)) → ⊥
+  pub valid : (text : List ℕ) → Contains entries (ReadFile asked.conf (Ok text)) → (config : ConfigSays) × Says text config
+  pub fits : (text : List ℕ) (config : ConfigSays) → Contains entries (ReadFile asked.conf (Ok text)) → Says text config
+      → (margins : Margins) × IsChosen config asked.ticket asked.site asked.margin asked.kill margins
+  pub keyed : (text file key_text : List ℕ) (config : ConfigSays) → Contains entries (ReadFile asked.conf (Ok text))
+      → Says text config → NamesKeyFile config file → Contains entries (ReadFile file (Ok key_text))
+      → IsKeyFile key_text
+  pub opened : (local : Option Address) (port : ℕ) (records conf_path : List ℕ) (failed : Failed)
+      → Contains entries (Open local port records conf_path (Err failed)) → ⊥
+
+-- the outcomes that are no one's fault here
+abbrev pub IsFollowedThrough : Outcome → Type 0
+IsFollowedThrough outs.Done = Unit {0}
+IsFollowedThrough outs.TurnsSpent = Unit {0}
+IsFollowedThrough outs.OutOfMemory = Unit {0}
+IsFollowedThrough outcome = ⊥
+
+-- Valid words, a valid file and keys, a ticket that can be followed so, and an outside that does not fail before the
+-- turns give Done, TurnsSpent or OutOfMemory, and no other outcome.
+abbrev pub FaultlessServices : Type 0
+FaultlessServices =
+    (words : List (List ℕ)) (outcome : Outcome) (entries : List Entry) → AreValid BoothFollow words verbs.Follow
+    → IsFollowRun words outcome entries
+    → ((asked : FollowWords) → AsksFollow words asked → IsUnhindered asked entries) → IsFollowedThrough outcome
