@@ -1,7 +1,7 @@
 -- Where the outside does not fail, a run ends well.
 use Rattle.std.specs.Prelude.{Contains, Option, Some, None, Ok, Err}
 use Rattle.std.proofs.Common.{◌≡◌, ℕ, false, true, List, [], ◌∷◌, ◌++◌, refl, sym, ap}
-use Rattle.std.proofs.Common.{◌∙◌, subst}
+use Rattle.std.proofs.Common.{◌∙◌, subst, inl, inr}
 use Rattle.std.proofs.lemmas.List.Elements.{Contains-append_right}
 use Rattle.booth_base.specs.declared.address.Address.{Address}
 use Rattle.booth_conf.specs.Config.{ConfigSays}
@@ -19,7 +19,7 @@ use Rattle.booth_stages.specs.declared.outcome.Outcome.TheVariants.{RecordUnread
 use Rattle.booth_stages.specs.declared.outcome.Outcome.TheVariants.{OutOfMemory}
 use Rattle.booth_daemon.specs.Fitness.{has_member, IsUnserved}
 use Rattle.booth_stages.specs.Configuration.{IsUnread}
-use Rattle.booth_stages.specs.Keys.{IsKeyless}
+use Rattle.booth_stages.specs.Keys.{FirstKeyless, IsFileKeyless, IsKeyless, NamesKeyFile, OldKeyless}
 use Rattle.booth_daemon.specs.Opening.{IsLockless, IsUnopened, opened, reads_of}
 use Rattle.booth_daemon.specs.Serving.{IsServing, Unread, Refused, Unkeyed, Unlocked, Unopened, Turning, IsStuck}
 use Rattle.booth_daemon.specs.Serving.{IsTurning}
@@ -70,23 +70,31 @@ module _ (asked : DaemonWords) (said : List ℕ) (body entries : List Entry) (al
       same_member asked.site text config (free.valid text (made call (call ∷ []) (first_of call []) whole)) says u.0
   unserved text config outcome says whole u = absurd u
 
-  keyless : (text : List ℕ) (config : ConfigSays) (rest : List Entry) (outcome : Outcome) → Says text config → body ≡ ReadFile asked.conf (Ok text) ∷ rest →
-      IsKeyless config.authfile outcome said rest → EndsWell outcome
-  keyless text config rest OutOfMemory says whole k = tt
-  keyless text config rest KeyUnread says whole k =
-      let conf : Entry = ReadFile asked.conf (Ok text) in
-      let call : Entry = ReadFile k.0 (Err reads.Failed) in
-      free.read k.0 (made call (conf ∷ call ∷ []) (second_of conf call []) (whole ∙ ap (λ es. conf ∷ es) k.3))
-  keyless text config rest (KeyBad fault) says whole k =
-      let conf : Entry = ReadFile asked.conf (Ok text) in
-      let call : Entry = ReadFile k.0 (Ok k.1) in
-      let calls : body ≡ conf ∷ call ∷ [] = whole ∙ ap (λ es. conf ∷ es) k.5 in
-      let key = free.keyed text k.0 k.1 config (made conf (conf ∷ call ∷ []) (first_of conf (call ∷ [])) calls) says k.2
-      (made call (conf ∷ call ∷ []) (second_of conf call []) calls) in
-      let is = k.3 in
+  -- a key file that the configuration names was read behind these calls, and had no key
+  file_keyless : (text : List ℕ) (config : ConfigSays) (file : List ℕ) (early rest : List Entry) (outcome : Outcome) → Says text config →
+      Contains entries (ReadFile asked.conf (Ok text)) → NamesKeyFile config file → body ≡ early ++ rest → IsFileKeyless file outcome said rest → EndsWell outcome
+  file_keyless text config file early rest OutOfMemory says read named whole k = tt
+  file_keyless text config file early rest KeyUnread says read named whole k =
+      let call : Entry = ReadFile file (Err reads.Failed) in
+      free.read file (made call (early ++ rest) (Contains-append_right early rest call (same_calls call (call ∷ []) rest (first_of call []) k.1)) whole)
+  file_keyless text config file early rest (KeyBad fault) says read named whole k =
+      let call : Entry = ReadFile file (Ok k.0) in
+      let key = free.keyed text file k.0 config read says named
+      (made call (early ++ rest) (Contains-append_right early rest call (same_calls call (call ∷ []) rest (first_of call []) k.3)) whole) in
+      let is = k.1 in
       let reads = key.reads in
       cc
-  keyless text config rest outcome says whole k = absurd k
+  file_keyless text config file early rest outcome says read named whole k = absurd k
+
+  keyless : (text : List ℕ) (config : ConfigSays) (rest : List Entry) (outcome : Outcome) → Says text config → body ≡ ReadFile asked.conf (Ok text) ∷ rest →
+      IsKeyless config outcome said rest → EndsWell outcome
+  keyless text config rest outcome says whole (FirstKeyless k) =
+      let conf : Entry = ReadFile asked.conf (Ok text) in
+      file_keyless text config k.file (conf ∷ []) rest outcome says (made conf (conf ∷ rest) (first_of conf rest) whole) (inl k.set) whole k.here
+  keyless text config rest outcome says whole (OldKeyless k) =
+      let conf : Entry = ReadFile asked.conf (Ok text) in
+      file_keyless text config k.old (conf ∷ ReadFile k.file (Ok k.text) ∷ []) k.rest outcome says (made conf (conf ∷ rest) (first_of conf rest) whole) (inr k.old_set)
+      (whole ∙ ap (λ es. conf ∷ es) k.whole) k.here
 
   -- a call behind the reads was made
   behind : {after : ConfigSays → List Entry → Type 0} (s : IsStuck asked after body) (x : Entry) (xs : List Entry) → Contains xs x → s.rest ≡ xs → Contains entries x

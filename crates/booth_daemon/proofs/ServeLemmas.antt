@@ -1,5 +1,5 @@
 -- The calls of a daemon, stage by stage.
-use Rattle.std.specs.Prelude.{Option, Some, Result, Ok, Err, IsErr, IsErrAnd, IfErr}
+use Rattle.std.specs.Prelude.{Option, Some, Result, Ok, Err, IfErr}
 use Rattle.std.proofs.Common.{◌≡◌, ◌≤◌, ℕ, List, [], ◌∷◌, ◌++◌, refl, sym, arith, ap}
 use Rattle.std.proofs.Common.{◌∙◌, append_assoc, subst, inl, inr}
 use Rattle.booth_keys.specs.declared.ring.Ring.{Ring}
@@ -25,6 +25,7 @@ use Rattle.booth_stages.specs.Texts.{out_of_memory_text, unopened_text}
 use Rattle.booth_daemon.specs.Fitness.{IsAdmitted}
 use Rattle.booth_daemon.specs.Records.{AreKept, AreUnread}
 use Rattle.booth_stages.specs.Configuration.{IsConfigRead}
+use Rattle.booth_stages.proofs.EndedLemmas.{ErrIs, err_has}
 use Rattle.booth_stages.specs.Keys.{IsRingRead}
 use Rattle.booth_daemon.specs.Opening.{IsLocked, IsNodeOpened, IsReady, IsUnopened}
 use Rattle.booth_daemon.specs.Opening.{IsStarted, reads_of, opened as opening_calls, member_config}
@@ -32,15 +33,7 @@ use Rattle.booth_daemon.specs.Serving.{IsNodeRun, IsServing, Refused, Unkeyed, U
 use Rattle.booth_stages.specs.Outcomes.{HasBlame}
 use Rattle.booth_daemon.specs.Serving.{Turning, IsOpened}
 
--- ---- what `?` hands on
-
-abbrev pub ErrIs : {T : Type 0} → Result T Ended → Ended → Type 0
-ErrIs r ended = IsErr r × IsErrAnd r (λ e. e ≡ ended)
-
--- a result that is this error has what the error has
-pub err_has : {T : Type 0} (P : Result T Ended → Type 0) (r : Result T Ended) (ended : Ended) → ErrIs r ended → P (Err ended) → P r
-err_has P (Ok x) ended is holds = absurd is.1
-err_has P (Err e) ended is holds = subst (λ x. P (Err x)) (sym is.1) holds
+-- ---- whom an end blames
 
 rose_since : (a b c : ℕ) → a ≤ b → Rose b c → Rose a c
 rose_since a b c le rose = grind (arith, le, rose)
@@ -78,10 +71,10 @@ module _ (asked : DaemonWords) where
         (λ es h. Refused (record { text = h.0; config = config; says = h.1; whole = h.2; here = not })) read)
 
     pub unkeyed : {a b c : Option (List Entry)} (r : Result Node Ended) (ended : Ended) → ErrIs r ended → GrewSome (IsConfigRead asked.conf (Ok config)) a b →
-        IsAdmitted asked.site config (Ok tt) → GrewSome (IsRingRead config.authfile (Err ended)) b c → GrewSome (IsOpened asked r) a c
+        IsAdmitted asked.site config (Ok tt) → GrewSome (IsRingRead config (Err ended)) b c → GrewSome (IsOpened asked r) a c
     unkeyed {a} {b} {c} r ended is read fit keyless =
         err_has (λ r. GrewSome (IsOpened asked r) a c) r ended is
-        (some_joined (IsConfigRead asked.conf (Ok config)) (IsRingRead config.authfile (Err ended)) (IsOpened asked (Err ended))
+        (some_joined (IsConfigRead asked.conf (Ok config)) (IsRingRead config (Err ended)) (IsOpened asked (Err ended))
         (λ xs ys h k. Unkeyed (record {
           text = h.0;
           config = config;
@@ -93,11 +86,11 @@ module _ (asked : DaemonWords) where
 
     module _ (ring : Option Ring) where
       pub are_read : {a b c : Option (List Entry)} → GrewSome (IsConfigRead asked.conf (Ok config)) a b → IsAdmitted asked.site config (Ok tt) →
-          GrewSome (IsRingRead config.authfile (Ok ring)) b c → GrewSome (AreRead asked.site asked.conf config ring) a c
+          GrewSome (IsRingRead config (Ok ring)) b c → GrewSome (AreRead asked.site asked.conf config ring) a c
       are_read read fit keyed =
-          some_joined (IsConfigRead asked.conf (Ok config)) (IsRingRead config.authfile (Ok ring)) (AreRead asked.site asked.conf config ring)
+          some_joined (IsConfigRead asked.conf (Ok config)) (IsRingRead config (Ok ring)) (AreRead asked.site asked.conf config ring)
           (λ xs ys h k. record {
-            ready = record { text = h.0; fit = record { says = h.1; member = fit }; key_text = k.0; holds = k.1 };
+            ready = record { text = h.0; fit = record { says = h.1; member = fit }; key_texts = k.0; holds = k.1 };
             whole = ap (λ zs. zs ++ ys) h.2 ∙ ap (λ zs. ReadFile asked.conf (Ok h.0) ∷ zs) k.2;
           }) read keyed
 

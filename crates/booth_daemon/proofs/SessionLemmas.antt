@@ -2,6 +2,7 @@
 use Rattle.std.specs.Prelude.{Option, Some, None}
 use Rattle.std.proofs.Common.{◌^◌, ℕ, List, inl, inr, subst}
 use Rattle.booth_base.specs.Tree.{Ends}
+use Rattle.booth_conf.specs.Config.{ConfigSays}
 use Rattle.booth_host.specs.declared.entry.Entry.{Entry}
 use Rattle.booth_host.specs.Past.{GrewSome}
 use Rattle.booth_host.proofs.PastLemmas.{some_weaker}
@@ -14,6 +15,7 @@ use Rattle.booth_world.specs.Worlds.{made, LaterHoldersHaveLaterTerms, WorldsHol
 use Rattle.booth_world.proofs.LogSessions.{logs_are_sessions, stopped_logs_are_sessions, cut_sessions_are_sessions}
 use Rattle.booth_stages.specs.declared.outcome.Outcome.{Outcome}
 use Rattle.booth_stages.specs.declared.outcome.Outcome.TheVariants.{Done, TurnsSpent}
+use Rattle.booth_stages.specs.Keys.{FirstKeyless, IsKeyless, OldKeyless}
 use Rattle.booth_words.specs.declared.asking.DaemonWords.{DaemonWords}
 use Rattle.booth_words.specs.Asking.{AsksDaemon}
 use Rattle.booth_daemon.specs.Headline.{IsSafe, IsTurningEnd, DaemonsTurn, RunsAreSessions, CutRunsAreSessions}
@@ -43,18 +45,27 @@ cut_runs_are_sessions asked outcome said body t early late same =
     cut_sessions_are_sessions Down early late
     (subst (λ (es : List SessionEntry). AreSessions Down es) same (runs_are_sessions asked outcome said body t))
 
+-- without a key it does not end so
+keyless_end : (config : ConfigSays) (outcome : Outcome) (said : List ℕ) (body : List Entry) → IsTurningEnd outcome
+    → IsKeyless config outcome said body → ⊥
+keyless_end config Done said body ends (FirstKeyless is) = is.here
+keyless_end config Done said body ends (OldKeyless is) = is.here
+keyless_end config TurnsSpent said body ends (FirstKeyless is) = is.here
+keyless_end config TurnsSpent said body ends (OldKeyless is) = is.here
+keyless_end config outcome said body ends is = absurd ends
+
 -- a daemon that ends so came through its opening
 turning_of : (asked : DaemonWords) (outcome : Outcome) (said : List ℕ) (body : List Entry) → IsTurningEnd outcome
     → IsServing asked outcome said body → IsTurning asked outcome said body
 turning_of asked Done said body ends (Unread is) = absurd is
 turning_of asked Done said body ends (Refused is) = absurd is.here
-turning_of asked Done said body ends (Unkeyed is) = absurd is.here
+turning_of asked Done said body ends (Unkeyed is) = absurd (keyless_end is.config Done said is.rest ends is.here)
 turning_of asked Done said body ends (Unlocked is) = absurd is.here
 turning_of asked Done said body ends (Unopened is) = absurd is.here
 turning_of asked Done said body ends (Turning is) = is
 turning_of asked TurnsSpent said body ends (Unread is) = absurd is
 turning_of asked TurnsSpent said body ends (Refused is) = absurd is.here
-turning_of asked TurnsSpent said body ends (Unkeyed is) = absurd is.here
+turning_of asked TurnsSpent said body ends (Unkeyed is) = absurd (keyless_end is.config TurnsSpent said is.rest ends is.here)
 turning_of asked TurnsSpent said body ends (Unlocked is) = absurd is.here
 turning_of asked TurnsSpent said body ends (Unopened is) = absurd is.here
 turning_of asked TurnsSpent said body ends (Turning is) = is

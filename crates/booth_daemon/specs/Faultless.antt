@@ -16,7 +16,7 @@ use Rattle.booth_words.specs.declared.asking.SimulationWords.{SimulationWords}
 use Rattle.booth_words.specs.declared.program.Program.TheVariants.{Boothd}
 use Rattle.booth_words.specs.Asking.{AsksDaemon, AsksSimulation}
 use Rattle.booth_words.specs.Valid.{AreValid}
-use Rattle.booth_stages.specs.Keys.{IsKeyFile}
+use Rattle.booth_stages.specs.Keys.{IsKeyFile, NamesKeyFile}
 use Rattle.booth_daemon.specs.Fitness.{has_member}
 use Rattle.booth_daemon.specs.Run.{IsRun}
 
@@ -29,14 +29,14 @@ pub record IsValid (address : Address) (text : List ℕ) : Type 0 where
   pub member : has_member config address ≡ true
 
 -- No file, no lock, no socket and no record failed, and the lock was free; what was read at the path says a
--- configuration with this member, and what was read at its `authfile` holds a key.
+-- configuration with this member, and what was read at a key file that it names holds a key.
 pub record IsFaultless (asked : DaemonWords) (entries : List Entry) : Type 0 where
   pub read : (file : List ℕ) → Contains entries (ReadFile file (Err reads.Failed)) → ⊥
   pub valid : (text : List ℕ) → Contains entries (ReadFile asked.conf (Ok text)) →
       IsValid asked.site text
   pub keyed : (text file key_text : List ℕ) (config : ConfigSays) → Contains entries
       (ReadFile asked.conf (Ok text)) → Says text config →
-      config.authfile ≡ Some file → Contains entries (ReadFile file (Ok key_text)) → IsKeyFile key_text
+      NamesKeyFile config file → Contains entries (ReadFile file (Ok key_text)) → IsKeyFile key_text
   pub locked : (lock : List ℕ) (failed : Failed) → Contains entries (Lock lock (Err failed)) → ⊥
   pub free : (lock : List ℕ) → Contains entries (Lock lock (Ok false)) → ⊥
   pub opened : (local : Option Address) (port : ℕ) (records conf : List ℕ) (failed : Failed) →

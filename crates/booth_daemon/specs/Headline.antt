@@ -1,9 +1,9 @@
 -- What a run of boothd is a part of: worlds, in which no automatic ticket is held at two sites and no kept term falls.
 -- Where all sessions of a world are of version 2, a later holder has a later term.
-use Rattle.std.specs.Prelude.{◌≡◌, ◌++◌, ℕ, true, List, ◌∷◌}
+use Rattle.std.specs.Prelude.{◌≡◌, ◌++◌, ℕ, List, ◌∷◌}
 use Rattle.booth_host.specs.declared.entry.Entry.{Entry}
 use Rattle.booth_node.specs.Session.{SessionEntry, Starts, Down, AreSessions}
-use Rattle.booth_node.specs.World.{World, IsWorld, IsSecondWorld, node_at, entries_of}
+use Rattle.booth_node.specs.World.{World, IsNodeOf, IsWorld, IsSecondWorld, entries_of}
 use Rattle.booth_world.specs.Tellers.{TellersAreApartIn, TellersHoldIn}
 use Rattle.booth_world.specs.Worlds.{HoldsOneIn, LaterTermsIn, TermsNeverFallIn, made}
 use Rattle.booth_stages.specs.declared.outcome.Outcome.{Outcome}
@@ -39,7 +39,7 @@ session_of {asked} turning =
 pub record IsSessionIn (w : World) (words : List (List ℕ)) (outcome : Outcome) (entries : List Entry) : Type 0 where
   pub run : IsTurningRun words outcome entries
   pub member : ℕ
-  pub found : node_at w member true ≡ member_config run.asked.site run.turning.config run.turning.ring
+  pub found : IsNodeOf w member (member_config run.asked.site run.turning.config run.turning.ring)
   pub before : List SessionEntry
   pub after : List SessionEntry
   pub session : entries_of member w.entries ≡ before ++ (session_of run.turning ++ after)

@@ -19,7 +19,7 @@ use Rattle.booth_stages.specs.declared.outcome.Outcome.TheVariants.{OutOfMemory}
 use Rattle.booth_stages.specs.declared.outcome.Ended.{Ended}
 use Rattle.booth_words.specs.declared.asking.DaemonWords.{DaemonWords}
 use Rattle.booth_stages.specs.Texts.{unlocked_text, unopened_text, out_of_memory_text}
-use Rattle.booth_stages.specs.Keys.{HasRing, key_calls}
+use Rattle.booth_stages.specs.Keys.{HasRing, KeyTexts, key_calls}
 use Rattle.booth_daemon.specs.Fitness.{IsFit}
 use Rattle.booth_daemon.specs.Records.{AreKept, AreNoneOrAll, IsRecordUnread}
 
@@ -29,14 +29,14 @@ use Rattle.booth_daemon.specs.Records.{AreKept, AreNoneOrAll, IsRecordUnread}
 pub record IsReady (address : Address) (config : ConfigSays) (ring : Option Ring) : Type 0 where
   pub text : List ℕ
   pub fit : IsFit address text config
-  pub key_text : List ℕ
-  pub holds : HasRing config.authfile key_text ring
+  pub key_texts : KeyTexts
+  pub holds : HasRing config key_texts ring
 
 -- the calls up to the ring
 abbrev pub reads_of : {address : Address} {config : ConfigSays} {ring : Option Ring} → List ℕ →
     IsReady address config ring → List Entry
 reads_of {address} {config} path ready = ReadFile path
-    (Ok ready.text) ∷ key_calls config.authfile ready.key_text
+    (Ok ready.text) ∷ key_calls config ready.key_texts
 
 -- ---- the lock
 

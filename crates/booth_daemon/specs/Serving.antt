@@ -43,7 +43,7 @@ pub record IsUnkeyed (asked : DaemonWords) (outcome : Outcome) (said : List ℕ)
   pub fit : IsFit asked.site text config
   pub rest : List Entry
   pub whole : entries ≡ ReadFile asked.conf (Ok text) ∷ rest
-  pub here : IsKeyless config.authfile outcome said rest
+  pub here : IsKeyless config outcome said rest
 
 -- configuration and ring were read, and then these calls were made
 pub record IsStuck (asked : DaemonWords) (after : ConfigSays → List Entry → Type 0)

@@ -1,10 +1,10 @@
 -- When a member of a world holds a ticket.
-use Rattle.std.specs.Prelude.{◌≡◌, ℕ, ◌<◌, ◌≤◌, ◌++◌, List, [], ◌∷◌, Some, false, slice_get}
+use Rattle.std.specs.Prelude.{◌≡◌, ℕ, ◌<◌, ◌≤◌, ◌++◌, List, [], ◌∷◌, false}
 use Rattle.booth_conf.specs.declared.tickets.TicketConf.{TicketConf}
 use Rattle.booth_rec.specs.declared.record.Record.{Record}
 use Rattle.booth_rec.specs.Record.{IsInForce}
 use Rattle.booth_node.specs.Records.{Has, may_be_kept}
-use Rattle.booth_node.specs.World.{WorldEntry, World, members_of, entries_of, begins_with, ticket_at, clock_at, last_time}
+use Rattle.booth_node.specs.World.{WorldEntry, World, IsOneTicket, members_of, entries_of, begins_with, clock_at, last_time}
 
 -- the next entry, where there is one, is not earlier
 abbrev pub IsBefore : ℕ → List WorldEntry → Type 0
@@ -22,23 +22,18 @@ pub record Moment (w : World) : Type 0 where
   pub within : time < w.span
 
 -- the records that the member may have kept of the ticket at this moment
-abbrev pub may_at : (w : World) → ℕ → TicketConf → ℕ → Moment w → List Record
-may_at w place ticket m moment =
-    may_be_kept (ticket_at place ticket) (begins_with w m place) (entries_of m moment.before)
-    (entries_of m moment.after)
-
--- the ticket at a place of the configuration
-abbrev pub IsTicket : World → ℕ → TicketConf → Type 0
-IsTicket w place ticket = slice_get w.config.tickets place ≡ Some ticket
+abbrev pub may_at : (w : World) → TicketConf → ℕ → Moment w → List Record
+may_at w ticket m moment =
+    may_be_kept ticket.name (begins_with w m ticket.name) (entries_of m moment.before) (entries_of m moment.after)
 
 -- it is granted by votes
-abbrev pub IsAutomatic : World → ℕ → TicketConf → Type 0
-IsAutomatic w place ticket = IsTicket w place ticket × (ticket.manual ≡ false)
+abbrev pub IsAutomatic : World → TicketConf → Type 0
+IsAutomatic w ticket = IsOneTicket w ticket × (ticket.manual ≡ false)
 
 -- a member holds the ticket by a record that it may have kept, while that is in force at what its clock reads
-abbrev pub HoldsBy : (w : World) → ℕ → TicketConf → ℕ → Moment w → Record → Type 0
-HoldsBy w place ticket m moment kept =
-    (m < members_of w) × Has (may_at w place ticket m moment) kept × IsInForce kept (clock_at w m moment.time)
+abbrev pub HoldsBy : (w : World) → TicketConf → ℕ → Moment w → Record → Type 0
+HoldsBy w ticket m moment kept =
+    (m < members_of w) × Has (may_at w ticket m moment) kept × IsInForce kept (clock_at w m moment.time)
 
-abbrev pub Holds : (w : World) → ℕ → TicketConf → ℕ → Moment w → Type 0
-Holds w place ticket m moment = (kept : Record) × HoldsBy w place ticket m moment kept
+abbrev pub Holds : (w : World) → TicketConf → ℕ → Moment w → Type 0
+Holds w ticket m moment = (kept : Record) × HoldsBy w ticket m moment kept

@@ -1,10 +1,10 @@
 -- Worlds: the sessions of all members of a cluster, in the order of true time.
-use Rattle.std.specs.Prelude.{◌≡◌, ◌⊎◌, ℕ, ◌<◌, ◌≤◌, ◌==◌, ◌++◌, Bool, true, false, if◌then◌else◌, List, [], ◌∷◌, length, slice_get, slice_index, Option, Some, Ok}
+use Rattle.std.specs.Prelude.{◌≡◌, ◌⊎◌, ℕ, ◌<◌, ◌≤◌, ◌==◌, ◌++◌, Bool, true, false, if◌then◌else◌, List, [], ◌∷◌, length, slice_get, slice_index, Some, Ok}
 use Rattle.std.specs.Option.{ForSome, option_map_or}
-use Rattle.booth_keys.specs.declared.ring.Ring.{Ring}
 use Rattle.booth_base.specs.declared.address.MemberId.{MemberId}
 use Rattle.booth_base.specs.declared.address.TheConstants.{NO_ONE}
 use Rattle.booth_conf.specs.Config.{ConfigSays}
+use Rattle.booth_conf.specs.declared.members.Member.{Member}
 use Rattle.booth_conf.specs.declared.tickets.TicketConf.{TicketConf}
 use Rattle.booth_conf.specs.Sound.{IsSound}
 use Rattle.booth_rec.specs.declared.record.Record.{Record}
@@ -20,7 +20,7 @@ use Rattle.booth_node.specs.declared.node_config.NodeConfig.{NodeConfig}
 use Rattle.booth_node.specs.Clock.{IsClock}
 use Rattle.booth_node.specs.Reaction.{used}
 use Rattle.booth_node.specs.Session.{SessionEntry, Starts, Makes, IsCut, CutSend, Stand, Down, Hearing, AreSessions, after_entries}
-use Rattle.booth_node.specs.Records.{Has, TicketPlace, record_at, may_be_kept}
+use Rattle.booth_node.specs.Records.{Has, record_at, may_be_kept}
 
 -- ---- a world
 
@@ -30,22 +30,20 @@ pub record WorldEntry : Type 0 where
   pub time : ℕ
   pub what : SessionEntry
 
--- What a member has when the world begins: whether it was of version 2 before, and the record of the ticket at each
--- place.
+-- What a member has when the world begins: whether it was of version 2 before, and the record of each ticket, by its
+-- name.
 pub record Beginning : Type 0 where
   pub second : Bool
-  pub records : ℕ → Record
+  pub records : List ℕ → Record
 
 -- nothing was kept before, which counts as a record of version 1
 abbrev pub from_nothing : Beginning
-from_nothing = record { second = false; records = λ place. no_record }
+from_nothing = record { second = false; records = λ name. no_record }
 
--- A configuration, a ring of keys or none, how many ticks of true time make a millisecond, one clock for each member,
--- all of one length, what each member begins with, and the entries. Members are named by their places in the
--- configuration.
+-- The members, how many ticks of true time make a millisecond, one clock for each member, all of one length, what each
+-- member begins with, and the entries. Members are named by their places.
 pub record World : Type 0 where
-  pub config : ConfigSays
-  pub ring : Option Ring
+  pub members : List Member
   pub ticks : ℕ
   pub span : ℕ
   pub clock : ℕ → List ℕ
@@ -53,14 +51,10 @@ pub record World : Type 0 where
   pub entries : List WorldEntry
 
 abbrev pub members_of : World → ℕ
-members_of w = length w.config.members
+members_of w = length w.members
 
 abbrev pub id_at : World → ℕ → MemberId
-id_at w m = option_map_or (λ member. member.id) (slice_get w.config.members m) NO_ONE
-
--- the member at a place, with the configuration and the ring of all, by the rules of version 2 or of version 1
-abbrev pub node_at : World → ℕ → Bool → NodeConfig
-node_at w m second = record { config = w.config; ring = w.ring; me = id_at w m; second = second }
+id_at w m = option_map_or (λ member. member.id) (slice_get w.members m) NO_ONE
 
 -- the entries of one member, taken alone
 abbrev pub entries_of : ℕ → List WorldEntry → List SessionEntry
@@ -68,13 +62,9 @@ entries_of m [] = []
 entries_of m (entry ∷ entries) =
     if entry.member == m then entry.what ∷ entries_of m entries else entries_of m entries
 
--- the ticket at a place
-abbrev pub ticket_at : ℕ → TicketConf → TicketPlace
-ticket_at place ticket = record { place = place; name = ticket.name }
-
--- the record of the ticket at a place that a member begins with
-abbrev pub begins_with : World → ℕ → ℕ → Record
-begins_with w m place = (w.begins m).records place
+-- the record of the ticket of a name that a member begins with
+abbrev pub begins_with : World → ℕ → List ℕ → Record
+begins_with w m name = (w.begins m).records name
 
 -- this holds of each entry, with those before it
 abbrev pub AtEach : World → (List WorldEntry → WorldEntry → Type 0) → Type 0
@@ -87,19 +77,24 @@ abbrev pub last_time : ℕ → List WorldEntry → ℕ
 last_time time [] = time
 last_time time (entry ∷ entries) = last_time entry.time entries
 
--- The configuration is one that a text says; each entry is a member's; true times never fall along the list, and lie
--- within the clocks.
+-- A text says these members; each entry is a member's; true times never fall along the list, and lie within the clocks.
 pub record HasForm (w : World) : Type 0 where
-  pub sound : IsSound w.config
+  pub said : (config : ConfigSays) × IsSound config × (config.members ≡ w.members)
   pub members : AtEach w (λ before entry. entry.member < members_of w)
   pub in_order : AtEach w (λ before entry. last_time 0 before ≤ entry.time)
   pub within : AtEach w (λ before entry. entry.time < w.span)
 
 -- ---- its premises
 
--- a start is one of this member, with the one configuration and the one ring or none, in either version
+-- The node of a start of this member: a text says its configuration, with the members of all; and it is in either
+-- version. All else of its configuration is its own, its tickets too, and so is its ring of keys.
+pub record IsNodeOf (w : World) (m : ℕ) (node : NodeConfig) : Type 0 where
+  pub sound : IsSound node.config
+  pub members : node.config.members ≡ w.members
+  pub me : node.me ≡ id_at w m
+
 abbrev pub HasConfiguration : World → WorldEntry → SessionEntry → Type 0
-HasConfiguration w entry (Starts node reading records) = node ≡ node_at w entry.member node.second
+HasConfiguration w entry (Starts node reading records) = IsNodeOf w entry.member node
 HasConfiguration w entry what = Unit {0}
 
 -- what the member's clock reads at a true time
@@ -135,19 +130,27 @@ pub record HoldsNothing (w : World) (m reading : ℕ) (kept : Record) : Type 0 w
   pub promise : ForSome kept.promise
       (λ promise. IsMemberId w promise.to × (promise.term ≤ kept.term) × (kept.abstain ≤ reading))
 
--- no automatic ticket is held when the world begins; of a manual one a member begins with any record
+-- a start's configuration has no ticket of this name that is granted by hand
+abbrev pub HasNoManual : List ℕ → SessionEntry → Type 0
+HasNoManual name (Starts node reading records) =
+    (place : ℕ) (ticket : TicketConf) → slice_get node.config.tickets place ≡ Some ticket → ticket.name ≡ name
+    → ticket.manual ≡ false
+HasNoManual name what = Unit {0}
+
+-- No ticket is held when the world begins, but for those that some start has as manual ones: of these a member begins
+-- with any record.
 abbrev pub BeginsFree : World → Type 0
 BeginsFree w =
-    (m place : ℕ) (ticket : TicketConf) → slice_get w.config.tickets place ≡ Some ticket → ticket.manual ≡ false
-    → HoldsNothing w m (clock_at w m 0) (begins_with w m place)
+    (m : ℕ) (name : List ℕ) → AtEach w (λ before entry. HasNoManual name entry.what)
+    → HoldsNothing w m (clock_at w m 0) (begins_with w m name)
 
--- A start reads of each ticket a record that its member may have kept, a site or an arbitrator. So where the member
+-- A start reads of each ticket that it has a record that its member may have kept, a site or an arbitrator. So where the member
 -- never started in this world before, it reads that which it begins with.
 abbrev pub ReadsKept : World → List WorldEntry → WorldEntry → SessionEntry → Type 0
 ReadsKept w before entry (Starts node reading records) =
-    (place : ℕ) (ticket : TicketConf) → slice_get w.config.tickets place ≡ Some ticket
+    (place : ℕ) (ticket : TicketConf) → slice_get node.config.tickets place ≡ Some ticket
     → Has
-    (may_be_kept (ticket_at place ticket) (begins_with w entry.member place) (entries_of entry.member before)
+    (may_be_kept ticket.name (begins_with w entry.member ticket.name) (entries_of entry.member before)
     (Starts node reading records ∷ []))
     (record_at records place)
 ReadsKept w before entry what = Unit {0}
@@ -190,15 +193,15 @@ HearsSent w before stand what = Unit {0}
 abbrev pub stand_after : ℕ → List WorldEntry → Stand
 stand_after m before = after_entries Down (entries_of m before)
 
--- A world has seven premises. What members begin with holds no automatic ticket; all members have the one configuration
--- and the one ring or none; clocks are true; records return as they may have been kept; a member's sessions of version
+-- A world has seven premises. What members begin with holds no automatic ticket; all starts have the
+-- members of all; clocks are true; records return as they may have been kept; a member's sessions of version
 -- 1 come before its sessions of version 2; a member's message that is let in was sent by that member, earlier, and may
 -- come to any member, any number of times or never; and one daemon of each member runs at a time. All else is free:
 -- what clients ask, what fails, what is cut, and when.
 pub record IsWorld (w : World) : Type 0 where
   pub form : HasForm w
   pub nothing_held : BeginsFree w
-  pub one_configuration : AtEach w (λ before entry. HasConfiguration w entry entry.what)
+  pub same_members : AtEach w (λ before entry. HasConfiguration w entry entry.what)
   pub true_clocks : HasTrueClocks w
   pub records_return : AtEach w (λ before entry. ReadsKept w before entry entry.what)
   pub versions_rise : AtEach w (λ before entry. StaysSecond w before entry entry.what)
@@ -215,3 +218,32 @@ IsSecondStart what = Unit {0}
 -- all sessions are of version 2
 abbrev pub IsSecondWorld : World → Type 0
 IsSecondWorld w = AtEach w (λ before entry. IsSecondStart entry.what)
+
+-- ---- one ticket of a world
+
+-- where a start's configuration has the ticket, it has it of this kind and with these times
+abbrev pub StartsWithIt : TicketConf → SessionEntry → Type 0
+StartsWithIt ticket (Starts node reading records) =
+    (place : ℕ) (own : TicketConf) → slice_get node.config.tickets place ≡ Some own → own.name ≡ ticket.name
+    → (own.manual ≡ ticket.manual) × (own.times ≡ ticket.times)
+StartsWithIt ticket what = Unit {0}
+
+-- A ticket that a text says; and all starts that have it agree on its kind and its times. Some may have no such ticket;
+-- and weights, handlers and prerequisites may differ.
+pub record IsOneTicket (w : World) (ticket : TicketConf) : Type 0 where
+  pub config : ConfigSays
+  pub sound : IsSound config
+  pub place : ℕ
+  pub said : slice_get config.tickets place ≡ Some ticket
+  pub same : AtEach w (λ before entry. StartsWithIt ticket entry.what)
+
+-- a start has this configuration
+abbrev pub StartsIn : ConfigSays → SessionEntry → Type 0
+StartsIn config (Starts node reading records) = node.config ≡ config
+StartsIn config what = Unit {0}
+
+-- where all starts have one configuration, each ticket of it is one
+abbrev pub OneConfigurationIsEnough : Type 0
+OneConfigurationIsEnough =
+    (w : World) (config : ConfigSays) → IsSound config → AtEach w (λ before entry. StartsIn config entry.what)
+    → (place : ℕ) (ticket : TicketConf) → slice_get config.tickets place ≡ Some ticket → IsOneTicket w ticket

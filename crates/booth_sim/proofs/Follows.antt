@@ -9,11 +9,11 @@ use Rattle.booth_host.specs.declared.entry.Entry.TheVariants as calls
 use Rattle.booth_node.specs.Reaction.{Ask, Send, Keep, Start, IsDone, react, used}
 use Rattle.booth_node.specs.Session.{SessionEntry, Starts, Makes}
 use Rattle.booth_node.specs.State.{State}
-use Rattle.booth_node.specs.World.{WorldEntry, last_time, HasConfiguration, IsSecondStart}
+use Rattle.booth_node.specs.World.{WorldEntry, last_time, IsSecondStart}
 use Rattle.booth_world.proofs.AlongWorlds.{Along}
 use Rattle.booth_sim.specs.Happenings.{Happening, Turns, Restarts, reading_at}
 use Rattle.booth_sim.specs.Kept.{all_kept}
-use Rattle.booth_sim.specs.Simulation.{IsHappening, entry_at, made_at, node_in, world_of}
+use Rattle.booth_sim.specs.Simulation.{IsHappening, entry_at, made_at, node_in}
 use Rattle.booth_sim.proofs.Entries.{time_of_last}
 
 abbrev pub ReadsAt : ℕ → ℕ → SessionEntry → Type 0
@@ -25,10 +25,15 @@ abbrev pub StartsKept : ConfigSays → List WorldEntry → ℕ → SessionEntry 
 StartsKept config before place (Starts node reading records) = records ≡ all_kept config.tickets place before
 StartsKept config before place what = Unit {0}
 
+-- a start is of the node of its place
+abbrev pub HasNode : ConfigSays → ℕ → SessionEntry → Type 0
+HasNode config place (Starts node reading records) = node ≡ node_in config place
+HasNode config place what = Unit {0}
+
 pub record Follows (config : ConfigSays) (before : List WorldEntry) (entry : WorldEntry) : Type 0 where
   pub member : entry.member < length config.members
   pub order : last_time 0 before ≤ entry.time
-  pub configured : HasConfiguration (world_of config []) entry entry.what
+  pub configured : HasNode config entry.member entry.what
   pub second : IsSecondStart entry.what
   pub reads : ReadsAt entry.member entry.time entry.what
   pub starts : StartsKept config before entry.member entry.what

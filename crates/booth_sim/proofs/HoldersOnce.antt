@@ -15,10 +15,11 @@ use Rattle.booth_rec.specs.Record.{IsInForce, record_or_none}
 use Rattle.booth_host.specs.declared.entry.Entry.TheVariants as calls
 use Rattle.booth_node.specs.Held.{Moment, IsBefore, Holds}
 use Rattle.booth_node.specs.Opening.{is_site_at}
-use Rattle.booth_node.specs.Records.{Has, TicketPlace, with_next}
+use Rattle.booth_node.specs.Records.{Has, with_next}
 use Rattle.booth_node.specs.Session.{SessionEntry, Makes, IsCut, CutKeep}
-use Rattle.booth_node.specs.World.{WorldEntry, IsWorld, last_time, entries_of, ticket_at}
+use Rattle.booth_node.specs.World.{WorldEntry, IsOneTicket, IsWorld, last_time, entries_of}
 use Rattle.booth_world.proofs.AlongWorlds.{Along}
+use Rattle.booth_world.proofs.Configured.{found_at, one_configuration_is_enough}
 use Rattle.booth_world.specs.Worlds.{WorldsHoldOne}
 use Rattle.booth_sim.specs.Counts.{begins, holders, is_holder, is_in_force, most_between, most_of}
 use Rattle.booth_sim.specs.Happenings.{reading_at}
@@ -28,7 +29,7 @@ use Rattle.booth_sim.specs.Simulation.{IsSimulation, world_of}
 use Rattle.booth_sim.proofs.Entries.{along_left}
 use Rattle.booth_sim.proofs.Follows.{Follows}
 use Rattle.booth_sim.proofs.KeptRecords.{may_keep}
-use Rattle.booth_sim.proofs.Worlds.{all_follow, before_within, clock_value}
+use Rattle.booth_sim.proofs.Worlds.{all_follow, before_within, clock_value, one_configuration}
 
 -- ---- counting
 
@@ -77,19 +78,19 @@ in_force kept reading e = by_lease kept.lease e
     by_lease (Some lease) e = let l : reading < lease.until = grind (arith, nat_tests) in l
 
 -- what may be kept may be kept while the next entry is at work
-still_kept : (ticket : TicketPlace) (may : List Record) (entries : List SessionEntry) (kept : Record) → Has may kept → Has (with_next ticket may entries) kept
-still_kept ticket may [] kept h = h
-still_kept ticket may (Makes (calls.Keep name rec answer) ∷ entries) kept h = by_test (bytes_eq name ticket.name)
+still_kept : (own : List ℕ) (may : List Record) (entries : List SessionEntry) (kept : Record) → Has may kept → Has (with_next own may entries) kept
+still_kept own may [] kept h = h
+still_kept own may (Makes (calls.Keep name rec answer) ∷ entries) kept h = by_test (bytes_eq name own)
   where
     by_test : (b : Bool) → Has (if b then rec ∷ may else may) kept
     by_test true = inr h
     by_test false = h
-still_kept ticket may (IsCut (CutKeep name rec) ∷ entries) kept h = by_test (bytes_eq name ticket.name)
+still_kept own may (IsCut (CutKeep name rec) ∷ entries) kept h = by_test (bytes_eq name own)
   where
     by_test : (b : Bool) → Has (if b then rec ∷ may else may) kept
     by_test true = inr h
     by_test false = h
-still_kept ticket may (entry ∷ entries) kept h = h
+still_kept own may (entry ∷ entries) kept h = h
 
 module _ (holds_one : WorldsHoldOne) (config : ConfigSays) (sound : IsSound config) (number events : ℕ) (few : events ≤ most_events)
     (entries : List WorldEntry) (is : IsSimulation config number events entries) (world : IsWorld (world_of config entries)) where
@@ -114,13 +115,13 @@ module _ (holds_one : WorldsHoldOne) (config : ConfigSays) (sound : IsSound conf
     }
 
     holds : (k : ℕ) (ticket : TicketConf) (m : ℕ) → slice_get config.tickets k ≡ Some ticket → m < length config.members
-        → is_holder config before ticket m ≡ true → Holds (world_of config entries) k ticket m moment
+        → is_holder config before ticket m ≡ true → Holds (world_of config entries) ticket m moment
     holds k ticket m there below e = (
       record_or_none (kept_by m ticket.name before),
       (
         below,
-        still_kept (ticket_at k ticket) _ (entries_of m after) _
-            (may_keep config m k ticket there before
+        still_kept ticket.name _ (entries_of m after) _
+            (may_keep config m k ticket there (found_at config sound k ticket there ticket.name refl) before
             (along_left (Follows config) [] before after (subst (λ (es : List WorldEntry). Along (Follows config) [] es) whole
             (all_follow config sound number events entries is)))),
         subst (λ (r : ℕ). IsInForce (record_or_none (kept_by m ticket.name before)) r)
@@ -128,6 +129,10 @@ module _ (holds_one : WorldsHoldOne) (config : ConfigSays) (sound : IsSound conf
             (in_force (record_or_none (kept_by m ticket.name before)) (reading_at m (last_time 0 before)) (both_parts (is_site_at config.members m) _ e).1),
       ),
     )
+
+    one : (k : ℕ) (ticket : TicketConf) → slice_get config.tickets k ≡ Some ticket → IsOneTicket (world_of config entries) ticket
+    one k ticket there =
+        one_configuration_is_enough (world_of config entries) config sound (one_configuration config sound number events few entries is) k ticket there
 
     ticket_once : (k : ℕ) (ticket : TicketConf) → slice_get config.tickets k ≡ Some ticket → holders config before ticket ≤ 1
     ticket_once k ticket there = by_kind ticket.manual refl
@@ -137,7 +142,7 @@ module _ (holds_one : WorldsHoldOne) (config : ConfigSays) (sound : IsSound conf
         by_kind true e = omega arith
         by_kind false e =
             count_once (is_holder config before ticket) (length config.members) 0
-            (λ s t below below' a b. holds_one (world_of config entries) world k ticket (there, e) moment s t
+            (λ s t below below' a b. holds_one (world_of config entries) world ticket (one k ticket there, e) moment s t
             (holds k ticket s there (omega (arith, below)) a) (holds k ticket t there (omega (arith, below')) b))
 
     tickets_once : (tickets : List TicketConf) → ((k : ℕ) (ticket : TicketConf) → slice_get tickets k ≡ Some ticket → holders config before ticket ≤ 1)

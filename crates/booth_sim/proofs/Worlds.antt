@@ -1,6 +1,6 @@
 -- The entries of a simulation are a world.
 use Rattle.std.proofs.Common.{◌≡◌, ℕ, zero, suc, ◌+◌, ◌*◌, ◌<◌, ◌≤◌, List, [], ◌∷◌, ◌++◌, length, refl, sym, ap, ◌∙◌, subst, arith}
-use Rattle.std.specs.Prelude.{map, Option, None, Bool, true, false, ◌==◌, if◌then◌else◌}
+use Rattle.std.specs.Prelude.{map, slice_get, Option, Some, None, Bool, true, false, ◌==◌, if◌then◌else◌}
 use Rattle.std.specs.List.{range_with_len}
 use Rattle.std.proofs.lemmas.List.FromFn.{length-map-range_with_len}
 use Rattle.booth_base.specs.Crc.{CrcIsRemainder}
@@ -12,10 +12,12 @@ use Rattle.booth_host.specs.declared.entry.Entry.TheVariants as calls
 use Rattle.booth_rec.specs.declared.record.Record.{Record}
 use Rattle.booth_rec.specs.Record.{no_record}
 use Rattle.booth_node.specs.Laws.{ClientsAreAnswered, KeepsItsTickets, OpensWithItsTickets, OthersAreNotAnswered}
+use Rattle.booth_node.specs.declared.node_config.NodeConfig.{NodeConfig}
 use Rattle.booth_node.specs.Records.{Has, record_at, may_after_all}
 use Rattle.booth_node.specs.Session.{SessionEntry, Starts, Makes, IsCut}
-use Rattle.booth_node.specs.World.{WorldEntry, World, last_time, entries_of, ticket_at, AtEach, HasConfiguration, HasForm, HasTrueClocks, HearsSent, IsSecondStart, IsWorld, ReadsClock, ReadsKept, StaysSecond, clock_at, stand_after}
+use Rattle.booth_node.specs.World.{WorldEntry, World, last_time, entries_of, AtEach, HasConfiguration, HasForm, HasTrueClocks, HearsSent, IsNodeOf, IsSecondStart, IsWorld, StartsIn, ReadsClock, ReadsKept, StaysSecond, clock_at, stand_after}
 use Rattle.booth_world.proofs.AlongWorlds.{Along, at_each}
+use Rattle.booth_world.proofs.Configured.{found_at}
 use Rattle.booth_sim.specs.declared.drawing.Draw.{Draw}
 use Rattle.booth_sim.specs.Drawing.{draw_of, keeps_fail, rise_of}
 use Rattle.booth_sim.specs.Happenings.{Happening, Turns, Restarts, happening, reading_at}
@@ -24,7 +26,7 @@ use Rattle.booth_sim.specs.Laws.{SimulationsAreWorlds, most_events}
 use Rattle.booth_sim.specs.Simulation.{IsHappening, IsSimulation, entry_at, made_at, start_at, world_of}
 use Rattle.booth_sim.proofs.Clocks.{clock_drifts, reads_value}
 use Rattle.booth_sim.proofs.Entries.{along_events, along_left, along_right, along_weaker, entries_join, times_join, time_of_last}
-use Rattle.booth_sim.proofs.Follows.{Follows, ReadsAt, StartsKept, happening_follows}
+use Rattle.booth_sim.proofs.Follows.{Follows, HasNode, ReadsAt, StartsKept, happening_follows}
 use Rattle.booth_sim.proofs.Hearing.{Hears, happening_hears, spoke, starts_hear}
 use Rattle.booth_sim.proofs.Ids.{ids_small}
 use Rattle.booth_sim.proofs.KeptRecords.{kept_join, may_keep, record_of_all}
@@ -168,7 +170,7 @@ module _ (config : ConfigSays) (sound : IsSound config) (number events : ℕ) (f
 
   form : HasForm TheWorld
   form = record {
-    sound = sound;
+    said = (config, sound, refl);
     members = each (λ done e. e.member < length config.members) (λ done e f. f.member);
     in_order = each IsLater (λ done e f. f.order);
     within = λ before after entry e.
@@ -179,8 +181,9 @@ module _ (config : ConfigSays) (sound : IsSound config) (number events : ℕ) (f
   configured : (done : List WorldEntry) (e : WorldEntry) → Follows config done e → HasConfiguration TheWorld e e.what
   configured done e f = by_what e.what f.configured
     where
-      by_what : (what : SessionEntry) → HasConfiguration (world_of config []) e what → HasConfiguration TheWorld e what
-      by_what (Starts node reading records) h = h
+      by_what : (what : SessionEntry) → HasNode config e.member what → HasConfiguration TheWorld e what
+      by_what (Starts node reading records) h =
+          subst (λ (n : NodeConfig). IsNodeOf TheWorld e.member n) (sym h) (record { sound = sound; members = refl; me = refl })
       by_what (Makes call) h = tt
       by_what (IsCut call) h = tt
 
@@ -206,18 +209,29 @@ module _ (config : ConfigSays) (sound : IsSound config) (number events : ℕ) (f
         reads_clock entry.member entry.time entry.what (form.within before after entry e) follows;
   }
 
+  -- all starts have the one configuration
+  pub one_configuration : AtEach TheWorld (λ before entry. StartsIn config entry.what)
+  one_configuration = each (λ done e. StartsIn config e.what) (λ done e f. by_what e.member e.what f.configured)
+    where
+      by_what : (m : ℕ) (what : SessionEntry) → HasNode config m what → StartsIn config what
+      by_what m (Starts node reading records) h = ap (λ (n : NodeConfig). n.config) h
+      by_what m (Makes call) h = tt
+      by_what m (IsCut call) h = tt
+
   return : AtEach TheWorld (λ before entry. ReadsKept TheWorld before entry entry.what)
   return before after entry e =
-      by_what entry.what (each (λ d x. StartsKept config d x.member x.what) (λ d x f. f.starts) before after entry e)
+      by_what entry.what (one_configuration before after entry e) (each (λ d x. StartsKept config d x.member x.what) (λ d x f. f.starts) before after entry e)
     where
-      by_what : (what : SessionEntry) → StartsKept config before entry.member what → ReadsKept TheWorld before entry what
-      by_what (Starts node reading records) s = λ place ticket there.
-          subst (λ (r : Record). Has (may_after_all (ticket_at place ticket) (no_record ∷ []) (entries_of entry.member before)) r)
+      by_what : (what : SessionEntry) → StartsIn config what → StartsKept config before entry.member what → ReadsKept TheWorld before entry what
+      by_what (Starts node reading records) same s = λ place ticket at.
+          let there : slice_get config.tickets place ≡ Some ticket =
+          subst (λ (c : ConfigSays). slice_get c.tickets place ≡ Some ticket) same at in
+          subst (λ (r : Record). Has (may_after_all ticket.name (no_record ∷ []) (entries_of entry.member before)) r)
           (sym (ap (λ (rs : List (Option Record)). record_at rs place) s ∙ record_of_all config before entry.member place ticket there))
-          (may_keep config entry.member place ticket there before
+          (may_keep config entry.member place ticket there (found_at config sound place ticket there ticket.name refl) before
           (along_left (Follows config) [] before (entry ∷ after) (subst (λ (es : List WorldEntry). Along (Follows config) [] es) e along)))
-      by_what (Makes call) s = tt
-      by_what (IsCut call) s = tt
+      by_what (Makes call) same s = tt
+      by_what (IsCut call) same s = tt
 
   -- all sessions are of version 2
   versions : (done : List WorldEntry) (e : WorldEntry) → Follows config done e → StaysSecond TheWorld done e e.what
@@ -231,8 +245,8 @@ module _ (config : ConfigSays) (sound : IsSound config) (number events : ℕ) (f
   pub is_world : AtEach TheWorld (λ before entry. HearsSent TheWorld before (stand_after entry.member before) entry.what) → IsWorld TheWorld
   is_world speak = record {
     form = form;
-    nothing_held = none_holds TheWorld (λ m place. refl);
-    one_configuration = each (λ done e. HasConfiguration TheWorld e e.what) configured;
+    nothing_held = none_holds TheWorld (λ m name. refl);
+    same_members = each (λ done e. HasConfiguration TheWorld e e.what) configured;
     true_clocks = clocks;
     records_return = return;
     versions_rise = each (λ done e. StaysSecond TheWorld done e e.what) versions;

@@ -11,7 +11,7 @@ use Rattle.booth_node.specs.declared.node_config.NodeConfig.{NodeConfig}
 use Rattle.booth_node.specs.Reaction.{IsTurn}
 use Rattle.booth_node.specs.Session.{SessionEntry, Starts, Makes, Doing}
 use Rattle.booth_node.specs.State.{State}
-use Rattle.booth_node.specs.World.{WorldEntry, World, last_time, node_at, stand_after, from_nothing}
+use Rattle.booth_node.specs.World.{WorldEntry, World, id_at, last_time, stand_after, from_nothing}
 use Rattle.booth_sim.specs.declared.drawing.Draw.{Draw}
 use Rattle.booth_sim.specs.Drawing.{draw_of, keeps_fail, rise_of}
 use Rattle.booth_sim.specs.Happenings.{Happening, Turns, Restarts, happening, reading_at}
@@ -23,11 +23,10 @@ use Rattle.booth_sim.specs.Kept.{all_kept}
 abbrev pub clock_of : ℕ → ℕ → List ℕ
 clock_of span place = map (reading_at place) (range_with_len 0 span)
 
--- without keys, and with clocks up to the last entry
+-- with clocks up to the last entry
 abbrev pub world_of : ConfigSays → List WorldEntry → World
 world_of config entries = record {
-  config = config;
-  ring = None;
+  members = config.members;
   ticks = 1;
   span = last_time 0 entries + 1;
   clock = clock_of (last_time 0 entries + 1);
@@ -37,7 +36,7 @@ world_of config entries = record {
 
 -- the member at a place, without keys, by the rules of version 2
 abbrev pub node_in : ConfigSays → ℕ → NodeConfig
-node_in config place = node_at (world_of config []) place true
+node_in config place = record { config = config; ring = None; me = id_at (world_of config []) place; second = true }
 
 abbrev pub entry_at : ℕ → ℕ → SessionEntry → WorldEntry
 entry_at place time what = record { member = place; time = time; what = what }

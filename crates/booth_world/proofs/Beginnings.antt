@@ -1,5 +1,5 @@
 -- What members of a world begin with, as the cluster of a ticket has it.
-use Rattle.std.proofs.Common.{◌≡◌, ◌⊎◌, ⊎_elim, inl, ℕ, ◌<◌, ◌≤◌, Bool, true, false, refl, sym, ap, ◌∙◌, subst, arith, if◌then◌else◌}
+use Rattle.std.proofs.Common.{◌≡◌, ⊎_elim, inl, ℕ, ◌<◌, ◌≤◌, Bool, true, false, List, refl, sym, ap, ◌∙◌, subst, arith, if◌then◌else◌}
 use Rattle.std.specs.Prelude.{Option, Some, None, unwrap_or}
 use Rattle.std.specs.Option.{ForSome}
 use Rattle.std.proofs.lemmas.Bool.Decides.{nat_tests}
@@ -17,16 +17,16 @@ use Rattle.booth_world.proofs.Stays.{not_up}
 use Rattle.booth_world.proofs.WorldSteps.{Setting}
 
 -- where no member kept anything before, none holds
-pub none_holds : (w : World) → ((m place : ℕ) → begins_with w m place ≡ no_record) → BeginsFree w
-none_holds w bare m place ticket there automatic =
-    subst (λ (kept : Record). HoldsNothing w m (clock_at w m 0) kept) (sym (bare m place)) (record {
+pub none_holds : (w : World) → ((m : ℕ) (name : List ℕ) → begins_with w m name ≡ no_record) → BeginsFree w
+none_holds w bare m name automatic =
+    subst (λ (kept : Record). HoldsNothing w m (clock_at w m 0) kept) (sym (bare m name)) (record {
       over = λ l e. absurd (none_is l e);
       version = inl refl;
       bound = λ id e. absurd (none_is id e);
       promise = λ p e. absurd (none_is p e);
     })
 
-module _ (w : World) (place : ℕ) (ticket : TicketConf) (setting : Setting w place ticket) where
+module _ (w : World) (ticket : TicketConf) (setting : Setting w ticket) where
   -- a member's id has its place
   place_is : (id : MemberId) → IsMemberId w id → (place_of w id < members_of w) × (id_at w (place_of w id) ≡ id)
   place_is id x =

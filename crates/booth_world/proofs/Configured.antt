@@ -4,22 +4,31 @@ use Rattle.std.specs.Prelude.{Option, Some, None, is_some, IsSomeAnd, position, 
 use Rattle.std.specs.List.{list_any, filter_map, enumerate_from, position_or_len}
 use Rattle.std.proofs.lemmas.Bool.Decides.{nat_tests}
 use Rattle.std.proofs.lemmas.Option.{get_or_from_slice_get, slice_get_within, slice_get_cases}
+use Rattle.std.proofs.lemmas.List.Quantifiers.{position-Some}
+use Rattle.std.specs.Option.{option_map_or}
 use Rattle.booth_base.specs.declared.address.MemberId.{MemberId}
+use Rattle.booth_base.specs.declared.address.TheConstants.{NO_ONE}
+use Rattle.booth_base.specs.declared.limits.TheConstants.{MEMBERS}
+use Rattle.booth_base.specs.declared.times.Times.{Times}
+use Rattle.booth_chain.proofs.NodesLemmas.{same_or_not}
 use Rattle.booth_conf.specs.Config.{ConfigSays, has_id, no_site, no_ticket, reserved_id, same_id, time_fault}
 use Rattle.booth_conf.specs.Sections.{first}
 use Rattle.booth_conf.specs.Sound.{are_new, same_ticket, HasTimes, IsSound as IsSoundConfig}
-use Rattle.booth_conf.specs.Lookups.{rank_of, weights_at}
+use Rattle.booth_conf.specs.Lookups.{is_called, rank_of, weights_at}
 use Rattle.booth_conf.specs.declared.members.Member.{Member}
 use Rattle.booth_conf.specs.declared.tickets.TicketConf.{TicketConf}
 use Rattle.booth_conf.proofs.FirstLemmas.{given, given_cons}
 use Rattle.booth_conf.proofs.RankLemmas.{rank_below}
 use Rattle.booth_conf.proofs.TimesLemmas.{tickets_timed}
 use Rattle.booth_raft.specs.Sound.{IsSound}
-use Rattle.booth_node.specs.Opening.{own_place, is_site_at, setup_of}
-use Rattle.booth_node.specs.World.{World, members_of, id_at, node_at}
+use Rattle.booth_node.specs.declared.node_config.NodeConfig.{NodeConfig}
+use Rattle.booth_node.specs.Opening.{is_site_at, own_place, rank_at}
+use Rattle.booth_node.specs.Session.{SessionEntry, Starts, Makes, IsCut}
+use Rattle.booth_node.specs.World.{World, members_of, id_at, HasForm, IsNodeOf, IsOneTicket, OneConfigurationIsEnough, StartsIn, StartsWithIt}
+use Rattle.booth_world.specs.Cores.{Session}
 use Rattle.booth_world.specs.Facts.{Has}
 use Rattle.booth_world.proofs.Lists.{none_is, some_same}
-use Rattle.booth_world.proofs.WorldSteps.{Setting, same_bytes}
+use Rattle.booth_world.proofs.WorldSteps.{Seats, Setting, equal_bytes, other_bytes, own_place_of, same_bytes, setup_by, setup_for}
 
 -- ---- names
 
@@ -195,68 +204,184 @@ member_at config sound m x is =
 
 -- ---- the setting
 
-module _ (w : World) (sound : IsSoundConfig w.config) where
-  the_member : (m : ℕ) → m < members_of w → (x : Member) × (slice_get w.config.members m ≡ Some x)
-  the_member m below = by_get (slice_get w.config.members m) refl (slice_get_cases w.config.members m).1
+module _ (config : ConfigSays) (sound : IsSoundConfig config) where
+  the_member : (m : ℕ) → m < length config.members → (x : Member) × (slice_get config.members m ≡ Some x)
+  the_member m below = by_get (slice_get config.members m) refl (slice_get_cases config.members m).1
     where
-      by_get : (o : Option Member) → slice_get w.config.members m ≡ o
-          → ((x : Member) × (m < length w.config.members) × (slice_get w.config.members m ≡ Some x) × (get_or w.config.members m x ≡ x))
-          ⊎ ((length w.config.members ≤ m) × (slice_get w.config.members m ≡ None))
-          → (x : Member) × (slice_get w.config.members m ≡ Some x)
+      by_get : (o : Option Member) → slice_get config.members m ≡ o
+          → ((x : Member) × (m < length config.members) × (slice_get config.members m ≡ Some x) × (get_or config.members m x ≡ x))
+          ⊎ ((length config.members ≤ m) × (slice_get config.members m ≡ None))
+          → (x : Member) × (slice_get config.members m ≡ Some x)
       by_get o e (inl h) = (h.0, h.2)
       by_get o e (inr h) = absurd (omega (arith, below, h.0))
 
-  id_is : (m : ℕ) (x : Member) → slice_get w.config.members m ≡ Some x → id_at w m ≡ x.id
-  id_is m x is = rw is refl
-
-  pub ids_apart : (m : ℕ) → m < members_of w → position (has_id (id_at w m)) w.config.members ≡ Some m
-  ids_apart m below =
+  -- the id of the member at a place has this place
+  pub id_apart : (m : ℕ) → m < length config.members
+      → position (has_id (option_map_or (λ (member : Member). member.id) (slice_get config.members m) NO_ONE)) config.members ≡ Some m
+  id_apart m below =
       let q = the_member m below in
-      subst (λ (i : MemberId). position (has_id i) w.config.members ≡ Some m) (sym (id_is m q.0 q.1)) (member_at w.config sound m q.0 q.1)
+      subst (λ (o : Option Member). position (has_id (option_map_or (λ (member : Member). member.id) o NO_ONE)) config.members ≡ Some m)
+      (sym q.1) (member_at config sound m q.0 q.1)
 
-  few_before : (n : ℕ) (ws : List ℕ) → n < members_of w → (if is_site_at w.config.members n then rank_of w.config.members ws n else 0) < 16
-  few_before n ws below = by_test (is_site_at w.config.members n)
+  -- so few sites come before a member
+  pub few_before : (n : ℕ) (ws : List ℕ) → n < length config.members
+      → (if is_site_at config.members n then rank_of config.members ws n else 0) < 16
+  few_before n ws below = by_test (is_site_at config.members n)
     where
-      few : rank_of w.config.members ws n < 16
+      few : rank_of config.members ws n < 16
       few =
           let q = the_member n below in
-          rank_below (λ x. Unit {0}) w.config.members ws n 16
+          rank_below (λ x. Unit {0}) config.members ws n 16
           (subst (λ (o : Option Member). IsSomeAnd o (λ x. Unit {0})) (sym q.1) tt) sound.few_members
 
-      by_test : (b : Bool) → (if b then rank_of w.config.members ws n else 0) < 16
+      by_test : (b : Bool) → (if b then rank_of config.members ws n else 0) < 16
       by_test true = few
       by_test false = omega arith
 
-  pub setup_sound : (place : ℕ) (ticket : TicketConf) → slice_get w.config.tickets place ≡ Some ticket → (m : ℕ) → m < members_of w
-      → (second : Bool) → IsSound (setup_of (node_at w m second) place ticket)
-  setup_sound place ticket is m below second =
-      let own : own_place (node_at w m second) ≡ m = rw (ids_apart m below) refl in
-      let timed : HasTimes ticket =
-      subst HasTimes (get_or_from_slice_get w.config.tickets place ticket ticket is)
-      (tickets_timed w.config sound place ticket (slice_get_within w.config.tickets place ticket is)) in
-      let expire = timed.expire in
-      let after = timed.after in
-      let timeout = timed.timeout in
-      record {
-        place = subst (λ (n : ℕ). n < members_of w) (sym own) below;
-        members = sound.few_members;
-        rank = subst (λ (n : ℕ). (if is_site_at w.config.members n then rank_of w.config.members (weights_at w.config.tickets place) n else 0) < 16) (sym own)
-            (few_before m (weights_at w.config.tickets place) below);
-        expire = expire;
-        after = after;
-        timeout = timeout;
-        renewal = timed.renewal;
-        retries = timed.retries;
-      }
+  timed_so : (place : ℕ) (ticket : TicketConf) → slice_get config.tickets place ≡ Some ticket → HasTimes ticket
+  timed_so place ticket is =
+      subst HasTimes (get_or_from_slice_get config.tickets place ticket ticket is)
+      (tickets_timed config sound place ticket (slice_get_within config.tickets place ticket is))
 
-  pub setting_of : (place : ℕ) (ticket : TicketConf) → slice_get w.config.tickets place ≡ Some ticket → ticket.manual ≡ false
-      → Setting w place ticket
-  setting_of place ticket is automatic = record {
-    most = 2 ^ 64;
-    enough = omega arith;
-    there = is;
-    automatic = automatic;
-    ids = ids_apart;
-    names = λ other t at ne. names_apart w.config sound place other ticket t is at ne;
-    sound = setup_sound place ticket is;
-  }
+pub ids_apart : (w : World) → HasForm w → (m : ℕ) → m < members_of w → position (has_id (id_at w m)) w.members ≡ Some m
+ids_apart w form m below =
+    subst (λ (ms : List Member). position (has_id (option_map_or (λ (member : Member). member.id) (slice_get ms m) NO_ONE)) ms ≡ Some m)
+    form.said.2 (id_apart form.said.0 form.said.1 m (subst (λ (ms : List Member). m < length ms) (sym form.said.2) below))
+
+few_so : (rank : ℕ) → nat_lt rank 16 ≡ true → rank < 16
+few_so rank few = grind (arith, nat_tests)
+
+pub setup_sound : (w : World) → HasForm w → (ticket : TicketConf) → IsOneTicket w ticket → (m : ℕ) → m < members_of w
+    → (session : Session) → IsSound (setup_for w ticket m session)
+setup_sound w form ticket one m below session =
+    let timed : HasTimes ticket = timed_so one.config one.sound one.place ticket one.said in
+    let expire = timed.expire in
+    let after = timed.after in
+    let timeout = timed.timeout in
+    record {
+      place = below;
+      members = subst (λ (ms : List Member). length ms ≤ 16) form.said.2 form.said.1.few_members;
+      rank = few_so session.rank session.few;
+      expire = expire;
+      after = after;
+      timeout = timeout;
+      renewal = timed.renewal;
+      retries = timed.retries;
+    }
+
+pub setting_of : (w : World) → HasForm w → (ticket : TicketConf) → IsOneTicket w ticket → ticket.manual ≡ false → Setting w ticket
+setting_of w form ticket one automatic = record {
+  most = 2 ^ 64;
+  enough = omega arith;
+  automatic = automatic;
+  ids = ids_apart w form;
+  same = one.same;
+  sound = setup_sound w form ticket one;
+}
+
+-- a sound configuration finds a ticket by its name at its place
+pub found_at : (config : ConfigSays) → IsSoundConfig config → (place : ℕ) (own : TicketConf) → slice_get config.tickets place ≡ Some own
+    → (name : List ℕ) → own.name ≡ name → position (is_called name) config.tickets ≡ Some place
+found_at config sound place own is name named =
+    at_position (is_called name) config.tickets place own is (same_bytes name own.name (sym named))
+    (λ k other less at. other_bytes name other.name
+    (λ same. names_apart config sound place k own other is at (λ e. absurd (omega (arith, less, e))) (sym same ∙ sym named)))
+
+-- and what it finds has that name
+pub found_named : (config : ConfigSays) (place : ℕ) (own : TicketConf) → slice_get config.tickets place ≡ Some own → (name : List ℕ)
+    → position (is_called name) config.tickets ≡ Some place → own.name ≡ name
+found_named config place own there name at =
+    sym (equal_bytes name own.name
+    (subst (λ (t : TicketConf). is_called name t ≡ true) (get_or_from_slice_get config.tickets place own own there)
+    (position-Some (is_called name) config.tickets place own at).1))
+
+pub found_there : (config : ConfigSays) (place : ℕ) (name : List ℕ) → position (is_called name) config.tickets ≡ Some place
+    → (own : TicketConf) × (slice_get config.tickets place ≡ Some own)
+found_there config place name at = by_get (slice_get config.tickets place) refl
+  where
+    by_get : (o : Option TicketConf) → slice_get config.tickets place ≡ o → (own : TicketConf) × (slice_get config.tickets place ≡ Some own)
+    by_get (Some own) is = (own, is)
+    by_get None none = by_cases (slice_get_cases config.tickets place).1
+      where
+        no_room : (ts : List TicketConf) → length ts ≤ place → position (is_called name) ts ≡ Some place → ⊥
+        no_room [] out found = absurd cc
+        no_room (x ∷ ts) out found =
+            let inside = (position-Some (is_called name) (x ∷ ts) place x found).0 in
+            omega (arith, out, inside)
+
+        by_cases : ((x : TicketConf) × (place < length config.tickets) × (slice_get config.tickets place ≡ Some x) × (get_or config.tickets place x ≡ x))
+            ⊎ ((length config.tickets ≤ place) × (slice_get config.tickets place ≡ None))
+            → (own : TicketConf) × (slice_get config.tickets place ≡ Some own)
+        by_cases (inl h) = absurd (none_is h.0 (sym none ∙ h.2))
+        by_cases (inr h) = absurd (no_room config.tickets h.0 at)
+
+-- ---- sessions
+
+-- what a member's session has of its own of the ticket at a place
+pub session_of : (w : World) (ticket : TicketConf) (setting : Setting w ticket) (m : ℕ) (node : NodeConfig) → m < members_of w → IsNodeOf w m node
+    → (place : ℕ) → (rank : ℕ) × (nat_lt rank MEMBERS ≡ true) × (rank_at node place ≡ rank)
+session_of w ticket setting m node below is place =
+    (rank_at node place, few_test (rank_at node place) (few_before node.config is.sound (own_place node) (weights_at node.config.tickets place) within), refl)
+  where
+    within : own_place node < length node.config.members
+    within =
+        let here : own_place node ≡ m = own_place_of w ticket setting m node below is in
+        let all : length node.config.members ≡ members_of w = ap (λ (ms : List Member). length ms) is.members in
+        omega (arith, here, all, below)
+
+    few_test : (rank : ℕ) → rank < 16 → nat_lt rank 16 ≡ true
+    few_test rank few = grind (arith, nat_tests)
+
+-- a start that has the ticket is in a session in which its node has it
+pub seats_of : (w : World) (ticket : TicketConf) (setting : Setting w ticket) (m : ℕ) (node : NodeConfig) → m < members_of w → IsNodeOf w m node
+    → (place : ℕ) (conf : TicketConf) → slice_get node.config.tickets place ≡ Some conf → conf.name ≡ ticket.name → conf.times ≡ ticket.times
+    → (session : Session) × (session.second ≡ node.second) × (seats : Seats w ticket setting m session node) × (seats.place ≡ place) × (seats.conf ≡ conf)
+seats_of w ticket setting m node below is place conf there named timed =
+    let r = session_of w ticket setting m node below is place in
+    let session : Session = record { second = node.second; rank = r.0; few = r.1 } in (
+      session,
+      refl,
+      record {
+        own = is;
+        place = place;
+        conf = conf;
+        there = there;
+        named = named;
+        same = ap (λ (name : List ℕ). setup_by name conf.times node.config.members node.me (own_place node) (rank_at node place) node.second) named
+            ∙ ap (λ (times : Times). setup_by ticket.name times node.config.members node.me (own_place node) (rank_at node place) node.second) timed
+            ∙ ap (λ (members : List Member). setup_by ticket.name ticket.times members node.me (own_place node) (rank_at node place) node.second) is.members
+            ∙ ap (λ (id : MemberId). setup_by ticket.name ticket.times w.members id (own_place node) (rank_at node place) node.second) is.me
+            ∙ ap (λ (n : ℕ). setup_by ticket.name ticket.times w.members (id_at w m) n (rank_at node place) node.second)
+            (own_place_of w ticket setting m node below is)
+            ∙ ap (λ (rank : ℕ). setup_by ticket.name ticket.times w.members (id_at w m) m rank node.second) r.2;
+      },
+      refl,
+      refl,
+    )
+
+-- ---- one configuration
+
+pub one_configuration_is_enough : OneConfigurationIsEnough
+one_configuration_is_enough w config sound starts place ticket is = record {
+  config = config;
+  sound = sound;
+  place = place;
+  said = is;
+  same = λ before after entry whole. by_what entry.what (starts before after entry whole);
+}
+  where
+    in_it : (other : ℕ) (own : TicketConf) → slice_get config.tickets other ≡ Some own → own.name ≡ ticket.name
+        → (own.manual ≡ ticket.manual) × (own.times ≡ ticket.times)
+    in_it other own at named = by_place (same_or_not other place)
+      where
+        by_place : (other ≡ place) ⊎ (other ≢ place) → (own.manual ≡ ticket.manual) × (own.times ≡ ticket.times)
+        by_place (inr ne) = absurd (names_apart config sound place other ticket own is at ne named)
+        by_place (inl e) =
+            let same : own ≡ ticket = some_same own ticket (sym at ∙ ap (λ (n : ℕ). slice_get config.tickets n) e ∙ is) in
+            (ap (λ (t : TicketConf). t.manual) same, ap (λ (t : TicketConf). t.times) same)
+
+    by_what : (what : SessionEntry) → StartsIn config what → StartsWithIt ticket what
+    by_what (Starts node reading records) same = λ other own at named.
+        in_it other own (subst (λ (c : ConfigSays). slice_get c.tickets other ≡ Some own) same at) named
+    by_what (Makes call) same = tt
+    by_what (IsCut call) same = tt

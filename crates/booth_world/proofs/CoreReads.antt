@@ -6,7 +6,7 @@ use Rattle.booth_raft.specs.declared.view.View.{View}
 use Rattle.booth_world.specs.States.{Cluster, reads}
 use Rattle.booth_world.specs.Facts.{Has}
 use Rattle.booth_world.specs.Gives.{Mark, Given}
-use Rattle.booth_world.specs.Cores.{CoreEntry, TimePasses, ReadsTime, CallsCore, HasAnswer, Stops, StartsWith, CorePlace, Cores, opening_cores, Cast, has_given, call_given, answer_given, after_call, after_answer, entered, cores_after, mark_in}
+use Rattle.booth_world.specs.Cores.{Session, CoreEntry, TimePasses, ReadsTime, CallsCore, HasAnswer, Stops, StartsWith, CorePlace, Cores, opening_cores, Cast, has_given, call_given, answer_given, after_call, after_answer, entered, cores_after, mark_in}
 use Rattle.booth_world.specs.CoreLaws.{AreSecondStarts}
 use Rattle.booth_world.specs.HostLaws.{AreSecondBoots}
 use Rattle.booth_world.specs.Hosts.{HostEntry, LetsPass, BeginsTurn, DoesAsk, Halts, Boots}
@@ -19,7 +19,7 @@ use Rattle.booth_world.proofs.TurnPlaces.{AreCalls, IsUp}
 -- this entry is the member's reading at a true time
 abbrev pub ReadsAt : HostEntry → ℕ → ℕ → Type 0
 ReadsAt (BeginsTurn k t came plan) m time = (k ≡ m) × (t ≡ time)
-ReadsAt (Boots k t second kept) m time = (k ≡ m) × (t ≡ time)
+ReadsAt (Boots k t session kept) m time = (k ≡ m) × (t ≡ time)
 ReadsAt entry m time = ⊥
 
 abbrev pub ReadsIn : List HostEntry → ℕ → ℕ → Type 0
@@ -38,7 +38,7 @@ reads_split (entry ∷ a) b m time (inr later) = ⊎_elim
 
 -- this entry starts a session of this version (true: version 2)
 abbrev pub StartsAt : HostEntry → Bool → Type 0
-StartsAt (Boots k t second kept) other = second ≡ other
+StartsAt (Boots k t session kept) other = session.second ≡ other
 StartsAt entry other = ⊥
 
 abbrev pub StartsIn : List HostEntry → Bool → Type 0
@@ -55,7 +55,7 @@ starts_split (entry ∷ a) b other (inr later) = ⊎_elim
 
 -- these entries of the cores start sessions of no other versions
 abbrev pub IsStartedBy : (Bool → Type 0) → CoreEntry → Type 0
-IsStartedBy V (StartsWith m second kept) = V second
+IsStartedBy V (StartsWith m session kept) = V session.second
 IsStartedBy V entry = Unit {0}
 
 abbrev pub AreStartedBy : (Bool → Type 0) → List CoreEntry → Type 0
@@ -70,7 +70,7 @@ calls_start V (entry ∷ entries) are = absurd are
 
 pub start_more : (V W : Bool → Type 0) → ((second : Bool) → V second → W second) → (entries : List CoreEntry) → AreStartedBy V entries → AreStartedBy W entries
 start_more V W more [] are = tt
-start_more V W more (StartsWith m second kept ∷ entries) are = (more second are.0, start_more V W more entries are.1)
+start_more V W more (StartsWith m session kept ∷ entries) are = (more session.second are.0, start_more V W more entries are.1)
 start_more V W more (entry ∷ entries) are = (tt, start_more V W more entries are.1)
 
 pub start_join : (V : Bool → Type 0) (a b : List CoreEntry) → AreStartedBy V a → AreStartedBy V b → AreStartedBy V (a ++ b)
@@ -79,7 +79,7 @@ start_join V (entry ∷ a) b x y = (x.0, start_join V a b x.1 y)
 
 pub starts_are_second : (entries : List CoreEntry) → AreStartedBy (λ (second : Bool). second ≡ true) entries → AreSecondStarts entries
 starts_are_second [] are = tt
-starts_are_second (StartsWith m second kept ∷ entries) are = (are.0, starts_are_second entries are.1)
+starts_are_second (StartsWith m session kept ∷ entries) are = (are.0, starts_are_second entries are.1)
 starts_are_second (entry ∷ entries) are = (tt, starts_are_second entries are.1)
 
 pub boots_are_second : (entries : List HostEntry) → AreSecondBoots entries → (second : Bool) → StartsIn entries second → second ≡ true
@@ -91,7 +91,7 @@ boots_are_second (entry ∷ entries) are second (inr later) = boots_are_second e
 -- where they start no session of version 1, each start is of version 2
 pub all_boots_second : (entries : List HostEntry) → ((other : Bool) → StartsIn entries other → other ≡ true) → AreSecondBoots entries
 all_boots_second [] so = tt
-all_boots_second (Boots m time of kept ∷ entries) so = (so of (inl refl), all_boots_second entries (λ other h. so other (inr h)))
+all_boots_second (Boots m time of kept ∷ entries) so = (so of.second (inl refl), all_boots_second entries (λ other h. so other (inr h)))
 all_boots_second (LetsPass time ∷ entries) so = (tt, all_boots_second entries (λ other h. so other (inr h)))
 all_boots_second (BeginsTurn m time came plan ∷ entries) so = (tt, all_boots_second entries (λ other h. so other (inr h)))
 all_boots_second (DoesAsk m ask ok ∷ entries) so = (tt, all_boots_second entries (λ other h. so other (inr h)))
@@ -107,7 +107,7 @@ module _ (c : Cluster) (cast : Cast) where
   -- these entries read at no other true times, and no member starts that has not read
   abbrev pub ReadsBy : (ℕ → ℕ → Type 0) → Cores → CoreEntry → Type 0
   ReadsBy P cores (ReadsTime m time) = P m time
-  ReadsBy P cores (StartsWith m second kept) = HasRead P m (cores.place m)
+  ReadsBy P cores (StartsWith m session kept) = HasRead P m (cores.place m)
   ReadsBy P cores entry = Unit {0}
 
   abbrev pub AreReadBy : (ℕ → ℕ → Type 0) → Cores → List CoreEntry → Type 0
@@ -125,8 +125,8 @@ module _ (c : Cluster) (cast : Cast) where
   read_more P Q more cores [] are = tt
   read_more P Q more cores (ReadsTime m time ∷ entries) are =
       (more m time are.0, read_more P Q more (entered c cast cores (ReadsTime m time)) entries are.1)
-  read_more P Q more cores (StartsWith m second kept ∷ entries) are =
-      ((more m (cores.place m).at are.0.0, are.0.1), read_more P Q more (entered c cast cores (StartsWith m second kept)) entries are.1)
+  read_more P Q more cores (StartsWith m session kept ∷ entries) are =
+      ((more m (cores.place m).at are.0.0, are.0.1), read_more P Q more (entered c cast cores (StartsWith m session kept)) entries are.1)
   read_more P Q more cores (entry ∷ entries) are = (tt, read_more P Q more (entered c cast cores entry) entries are.1)
 
   pub read_join : (P : ℕ → ℕ → Type 0) (cores : Cores) (a b : List CoreEntry) → AreReadBy P cores a → AreReadBy P (cores_after c cast cores a) b
@@ -142,12 +142,12 @@ module _ (c : Cluster) (cast : Cast) where
   pub opening_read : (P : ℕ → ℕ → Type 0) → AreRead P (opening_cores c cast)
   opening_read P = record { places = λ m up. absurd up; marks = λ mark h. absurd h }
 
-  given_read : (P : ℕ → ℕ → Type 0) (cores : Cores) (m : ℕ) (second : Bool) (given : Given) → AreRead P cores → HasRead P m (cores.place m)
-      → AreRead P (has_given cores m second given)
-  given_read P cores m second given are has = record {
+  given_read : (P : ℕ → ℕ → Type 0) (cores : Cores) (m : ℕ) (session : Session) (given : Given) → AreRead P cores → HasRead P m (cores.place m)
+      → AreRead P (has_given cores m session given)
+  given_read P cores m session given are has = record {
     places = put_all (λ (k : ℕ) (s : CorePlace). IsUp s → HasRead P k s) cores.place m _ (λ up. has) (λ k other up. are.places k up);
     marks = λ mark h. ⊎_elim
-        (λ (e : record (mark_in cores m) { second = second } ≡ mark). subst (λ (k : Mark). P k.member k.at × (k.reading ≡ reads c k.member k.at)) e has)
+        (λ (e : record (mark_in cores m) { second = session.second } ≡ mark). subst (λ (k : Mark). P k.member k.at × (k.reading ≡ reads c k.member k.at)) e has)
         (λ (old : Has cores.marks mark). are.marks mark old) h;
   }
 
@@ -164,19 +164,19 @@ module _ (c : Cluster) (cast : Cast) where
     where
       by_view : (o : Option View) → (cores.place m).view ≡ o → AreRead P (after_call cast cores m call o)
       by_view None is = are
-      by_view (Some view) is = given_read P cores m (cores.place m).second (call_given cast cores m call view) are (are.places m (place_up (cores.place m) view is))
+      by_view (Some view) is = given_read P cores m (cores.place m).session (call_given cast cores m call view) are (are.places m (place_up (cores.place m) view is))
   entry_read P cores (HasAnswer m kept ok) are by = by_view (cores.place m).view refl
     where
       by_view : (o : Option View) → (cores.place m).view ≡ o → AreRead P (after_answer cast cores m ok o)
       by_view None is = are
-      by_view (Some view) is = given_read P cores m (cores.place m).second (answer_given cast cores m ok view) are (are.places m (place_up (cores.place m) view is))
+      by_view (Some view) is = given_read P cores m (cores.place m).session (answer_given cast cores m ok view) are (are.places m (place_up (cores.place m) view is))
   entry_read P cores (Stops m) are by = record {
     places = put_all (λ (k : ℕ) (s : CorePlace). IsUp s → HasRead P k s) cores.place m _ (λ up. absurd up) (λ k other up. are.places k up);
     marks = are.marks;
   }
-  entry_read P cores (StartsWith m second kept) are by =
-      given_read P cores m second (record {
-        view = lease_rules.start (cast.setup m second) kept (cores.place m).reading;
+  entry_read P cores (StartsWith m session kept) are by =
+      given_read P cores m session (record {
+        view = lease_rules.start (cast.setup m session) kept (cores.place m).reading;
         say = says.Nothing;
         may = kept ∷ [];
         releases = cores.releases;

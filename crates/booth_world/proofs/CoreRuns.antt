@@ -13,10 +13,10 @@ use Rattle.booth_raft.specs.GainReleaseLost.{free_record}
 use Rattle.booth_world.specs.Facts.{Has, Release}
 use Rattle.booth_world.specs.States.{KeptRecord, WorldState, opening, Cluster, HasClocks, reads}
 use Rattle.booth_world.specs.Steps.{WorldStep, IsRun, world_of}
-use Rattle.booth_world.specs.Held.{IsHeldBy, Held, AreApart, IsApart, GivesBackLease, ReleasedBetween}
+use Rattle.booth_world.specs.Held.{IsHeldBy, Held, IsApartFrom, IsApart, GivesBackLease, ReleasedBetween}
 use Rattle.booth_world.specs.Agreement.{record_in}
 use Rattle.booth_world.specs.Gives.{released_by, releases_answered}
-use Rattle.booth_world.specs.Cores.{CoreEntry, ReadsTime, CallsCore, HasAnswer, Stops, StartsWith, Cores, opening_cores, Cast, IsCast, MayEnter, after_call, after_answer, mark_in, entered, AreEntered, cores_after, setup_in, TimePasses}
+use Rattle.booth_world.specs.Cores.{Session, CoreEntry, ReadsTime, CallsCore, HasAnswer, Stops, StartsWith, Cores, opening_cores, Cast, IsCast, MayEnter, after_call, after_answer, mark_in, entered, AreEntered, cores_after, setup_in, TimePasses}
 use Rattle.booth_world.specs.CoreLaws.{IsReleasing, IsReleaseAt, IsReleaseIn, CoreHoldsBy, CoreHolds, CoreCourse, early_cores, late_cores, CoresHoldOne, CoresAreApart, CoreTermsNeverFall}
 use Rattle.booth_world.proofs.Views.{kept_of, record_has}
 use Rattle.booth_world.proofs.AskSteps.{the_value}
@@ -91,7 +91,7 @@ module _ (c : Cluster) (cast : Cast) (clocks : HasClocks c) (is_cast : IsCast c 
       inl (subst (λ (o : Option View). Has (after_call cast cores m call o).releases z) v.1 has)
   entry_released cores w (HasAnswer m kept ok) z i may has = answer_released cores w m kept ok z i may has
   entry_released cores w (Stops m) z i may has = inl has
-  entry_released cores w (StartsWith m second kept) z i may has = inl has
+  entry_released cores w (StartsWith m session kept) z i may has = inl has
 
   pub all_released : (cores : Cores) (entries : List CoreEntry) (steps : List WorldStep) (z : Release) → IsRun c (opening c) steps → CoresHold c cast cores (world_of c steps)
       → AreEntered c cast cores entries → Has (cores_after c cast cores entries).releases z → Has cores.releases z ⊎ IsReleaseIn c cast cores entries z
@@ -163,8 +163,10 @@ cores_are_apart c cast early late course s t other k hs ht =
     let z = world_of c (r.first ++ r.more) in
     let first = held_by c cast (early_cores c cast early) w s k r.early_holds hs in
     ⊎_elim
-    (λ (apart : IsApart c w z). inl (subst (λ (a : ℕ). AreApart c a (late_cores c cast early late).now) r.early_holds.same_now
-    (subst (λ (b : ℕ). AreApart c w.now b) r.late_holds.same_now apart)))
+    (λ (apart : IsApart c s first.0 w z).
+    inl (subst (λ (k : Record). IsApartFrom c s k (early_cores c cast early).now (late_cores c cast early late).now) first.1
+    (subst (λ (a : ℕ). IsApartFrom c s (record_in cast.id_of first.0) a (late_cores c cast early late).now) r.early_holds.same_now
+    (subst (λ (b : ℕ). IsApartFrom c s (record_in cast.id_of first.0) w.now b) r.late_holds.same_now apart))))
     (λ (b : ReleasedBetween w z s first.0).
     let in_late = subst (λ (l : List Release). Has l b.release) r.late_holds.same_releases b.fact in
     ⊎_elim
@@ -219,30 +221,30 @@ tried_is_highest c cast entries course m below view is waits waiting k h =
 
 -- each member that is up is in version 2
 abbrev UpSecond : Cores → Type 0
-UpSecond cores = (m : ℕ) (view : View) → (cores.place m).view ≡ Some view → (cores.place m).second ≡ true
+UpSecond cores = (m : ℕ) (view : View) → (cores.place m).view ≡ Some view → (cores.place m).session.second ≡ true
 
-given_second : (cores : Cores) (m : ℕ) (second : Bool) (given : Given) → UpSecond cores → second ≡ true → UpSecond (has_given cores m second given)
-given_second cores m second given up is =
-    put_all (λ (k : ℕ) (s : CorePlace). (view : View) → s.view ≡ Some view → s.second ≡ true) cores.place m _ (λ view e. is) (λ k other view e. up k view e)
+given_second : (cores : Cores) (m : ℕ) (session : Session) (given : Given) → UpSecond cores → session.second ≡ true → UpSecond (has_given cores m session given)
+given_second cores m session given up is =
+    put_all (λ (k : ℕ) (s : CorePlace). (view : View) → s.view ≡ Some view → s.session.second ≡ true) cores.place m _ (λ view e. is) (λ k other view e. up k view e)
 
 entry_second : (c : Cluster) (cast : Cast) (cores : Cores) (entry : CoreEntry) → UpSecond cores → IsSecondStart entry → UpSecond (entered c cast cores entry)
 entry_second c cast cores (TimePasses time) up so = up
 entry_second c cast cores (ReadsTime m time) up so =
-    put_all (λ (k : ℕ) (s : CorePlace). (view : View) → s.view ≡ Some view → s.second ≡ true) cores.place m _ (up m) (λ k other view e. up k view e)
+    put_all (λ (k : ℕ) (s : CorePlace). (view : View) → s.view ≡ Some view → s.session.second ≡ true) cores.place m _ (up m) (λ k other view e. up k view e)
 entry_second c cast cores (CallsCore m call) up so = by_view (cores.place m).view refl
   where
     by_view : (o : Option View) → (cores.place m).view ≡ o → UpSecond (after_call cast cores m call o)
     by_view None e = up
-    by_view (Some view) e = given_second cores m (cores.place m).second (call_given cast cores m call view) up (up m view e)
+    by_view (Some view) e = given_second cores m (cores.place m).session (call_given cast cores m call view) up (up m view e)
 entry_second c cast cores (HasAnswer m kept ok) up so = by_view (cores.place m).view refl
   where
     by_view : (o : Option View) → (cores.place m).view ≡ o → UpSecond (after_answer cast cores m ok o)
     by_view None e = up
-    by_view (Some view) e = given_second cores m (cores.place m).second (answer_given cast cores m ok view) up (up m view e)
+    by_view (Some view) e = given_second cores m (cores.place m).session (answer_given cast cores m ok view) up (up m view e)
 entry_second c cast cores (Stops m) up so =
-    put_all (λ (k : ℕ) (s : CorePlace). (view : View) → s.view ≡ Some view → s.second ≡ true) cores.place m _ (λ view e. absurd (none_is view e)) (λ k other view e. up k view e)
-entry_second c cast cores (StartsWith m second kept) up so = given_second cores m second (record {
-  view = lease_rules.start (cast.setup m second) kept (cores.place m).reading;
+    put_all (λ (k : ℕ) (s : CorePlace). (view : View) → s.view ≡ Some view → s.session.second ≡ true) cores.place m _ (λ view e. absurd (none_is view e)) (λ k other view e. up k view e)
+entry_second c cast cores (StartsWith m session kept) up so = given_second cores m session (record {
+  view = lease_rules.start (cast.setup m session) kept (cores.place m).reading;
   say = says.Nothing;
   may = kept ∷ [];
   releases = cores.releases;
@@ -255,7 +257,7 @@ module _ (c : Cluster) (cast : Cast) (clocks : HasClocks c) (is_cast : IsCast c 
   at_second cores (CallsCore m call) up so may = let v = the_value _ (cores.place m).view may.1 in up m v.0 v.1
   at_second cores (HasAnswer m kept ok) up so may = let v = the_value _ (cores.place m).view may.1 in up m v.0 v.1
   at_second cores (Stops m) up so may = tt
-  at_second cores (StartsWith m second kept) up so may = so
+  at_second cores (StartsWith m session kept) up so may = so
 
   second_from : (cores : Cores) (entries : List CoreEntry) → UpSecond cores → AreSecondStarts entries → AreEntered c cast cores entries → AreSecondFrom c cast clocks is_cast cores entries
   second_from cores [] up so all = tt

@@ -22,7 +22,7 @@ use Rattle.booth_world.specs.Messages.{IsFact, IsSaid}
 use Rattle.booth_world.specs.Gives.{Mark, AddsOnly, IsMarkedRound, IsMarkedAnswer, IsMarkedGain, Given, given_by, may_answered, releases_answered}
 use Rattle.booth_world.specs.Calls.{mark_at, Caller, IsMember, MayCall, Gives, GivesIn}
 use Rattle.booth_world.specs.Rules.{MemberMessage, CoreCall, Asks, Hears, Greets, MeetsDeadline, MakesNote, RenewsLease, GivesBack, lease_call}
-use Rattle.booth_world.specs.Cores.{CoreEntry, ReadsTime, CallsCore, HasAnswer, Stops, StartsWith, CorePlace, Cores, opening_cores, Cast, IsCast, MayCallCore, MayEnter, said_more, has_given, after_call, after_answer, mark_in, entered, AreEntered, cores_after, setup_in, TimePasses}
+use Rattle.booth_world.specs.Cores.{Session, CoreEntry, ReadsTime, CallsCore, HasAnswer, Stops, StartsWith, CorePlace, Cores, opening_cores, Cast, IsCast, MayCallCore, MayEnter, said_more, has_given, after_call, after_answer, mark_in, entered, AreEntered, cores_after, setup_in, TimePasses}
 use Rattle.booth_world.proofs.Lists.{none_is, some_same, put_all}
 use Rattle.booth_world.proofs.Invariant.{Good}
 use Rattle.booth_world.proofs.AskSteps.{the_value}
@@ -42,12 +42,12 @@ put_both {A} {B} Q f g m x y here there k = go (k == m) refl
 -- a member's place and its state
 pub record CorePlaceHolds (c : Cluster) (cast : Cast) (f : Facts) (m : ℕ) (x : MemberState) (s : CorePlace) : Type 0 where
   pub same_may : records_in cast.id_of x.may ≡ s.may
-  pub same_second : x.second ≡ s.second
+  pub same_second : x.second ≡ s.session.second
   pub same_reading : x.reading ≡ s.reading
   pub same_at : x.at ≡ s.at
   pub down : s.view ≡ None → x.up ≡ false
   pub agrees : (view : View) → s.view ≡ Some view → Agrees c cast.id_of f m view x
-  pub view_facts : (view : View) → s.view ≡ Some view → ViewFacts (cast.setup m s.second) view
+  pub view_facts : (view : View) → s.view ≡ Some view → ViewFacts (cast.setup m s.session) view
 
 -- each round, answer and lease bears the mark of an entry
 pub record IsMarked (marks : List Mark) (f : Facts) : Type 0 where
@@ -161,19 +161,19 @@ module _ (c : Cluster) (cast : Cast) (clocks : HasClocks c) (is_cast : IsCast c 
     now = i.same_now j;
   }
 
-  given_holds : (cores : Cores) (steps : List WorldStep) (m : ℕ) (second : Bool) (given : Given) → IsRun c (opening c) steps → CoresHold c cast cores (world_of c steps)
-      → m < c.members → GivesIn second c cast.id_of (world_of c steps) m given → ViewFacts (cast.setup m second) given.view
-      → Reached c cast (has_given cores m second given) steps (second ≡ true)
-  given_holds cores steps m second given run i below gives view_facts =
+  given_holds : (cores : Cores) (steps : List WorldStep) (m : ℕ) (session : Session) (given : Given) → IsRun c (opening c) steps → CoresHold c cast cores (world_of c steps)
+      → m < c.members → GivesIn session.second c cast.id_of (world_of c steps) m given → ViewFacts (cast.setup m session) given.view
+      → Reached c cast (has_given cores m session given) steps (session.second ≡ true)
+  given_holds cores steps m session given run i below gives view_facts =
       let w = world_of c steps in
-      let call = calls_lead_on c cast.id_of w m second given below gives in
+      let call = calls_lead_on c cast.id_of w m session.second given below gives in
       let next = call.2 in
       let z = after_steps c w call.0 in
-      goes_on c cast (has_given cores m second given) steps call.0 (second ≡ true) call.3 run call.1
+      goes_on c cast (has_given cores m session given) steps call.0 (session.second ≡ true) call.3 run call.1
       (record {
         same_now = next.same_time ∙ i.same_now;
         each = put_all (λ (k : ℕ) (s : CorePlace). k < c.members → CorePlaceHolds c cast z.facts k (z.member k) s)
-            cores.place m (record (cores.place m) { view = Some given.view; second = second; may = given.may })
+            cores.place m (record (cores.place m) { view = Some given.view; session = session; may = given.may })
             (λ within. record {
               same_may = next.reached.may_now;
               same_second = next.reached.same_second;
@@ -181,15 +181,15 @@ module _ (c : Cluster) (cast : Cast) (clocks : HasClocks c) (is_cast : IsCast c 
               same_at = next.reached.same_at ∙ (i.each m below).same_at;
               down = λ e. absurd (none_is given.view (sym e));
               agrees = λ view e. subst (λ (v : View). Agrees c cast.id_of z.facts m v (z.member m)) (some_same given.view view e) next.reached.agrees;
-              view_facts = λ view e. subst (λ (v : View). ViewFacts (cast.setup m second) v) (some_same given.view view e) view_facts;
+              view_facts = λ view e. subst (λ (v : View). ViewFacts (cast.setup m session) v) (some_same given.view view e) view_facts;
             })
             (λ k other within. others_stay w.facts z.facts k (w.member k) (z.member k) (cores.place k) (next.unmoved k other)
             (λ view a. next.others_agree k view other a) (i.each k within));
         heard_now = messages_hold z.facts m given.say cores.said below next.reached.said
             (λ l h. let q = i.heard_now l h in (q.0, next.said_on l.sender l.head l.part l.head.cmd q.1));
         same_releases = next.adds.releases_now;
-        marked = subst (λ (mark : Mark). IsMarked (record mark { second = second } ∷ cores.marks) z.facts) (same_mark cores w m i below)
-            (marks_more (record (mark_at w m) { second = second }) cores.marks given.releases w.facts z.facts i.marked next.adds);
+        marked = subst (λ (mark : Mark). IsMarked (record mark { second = session.second } ∷ cores.marks) z.facts) (same_mark cores w m i below)
+            (marks_more (record (mark_at w m) { second = session.second }) cores.marks given.releases w.facts z.facts i.marked next.adds);
       })
 
   member_in : (cores : Cores) (w : WorldState) (m : ℕ) (view : View) → CoresHold c cast cores w → m < c.members → (cores.place m).view ≡ Some view
@@ -197,8 +197,8 @@ module _ (c : Cluster) (cast : Cast) (clocks : HasClocks c) (is_cast : IsCast c 
   member_in cores w m view i below e = record {
     ids = is_cast.ids;
     below = below;
-    seated = subst (λ (b : Bool). IsSeated c cast.id_of m b (setup_in cast cores m)) (sym (i.each m below).same_second) (is_cast.seated m below (cores.place m).second);
-    sound = is_cast.sound m below (cores.place m).second;
+    seated = subst (λ (b : Bool). IsSeated c cast.id_of m b (setup_in cast cores m)) (sym (i.each m below).same_second) (is_cast.seated m below (cores.place m).session);
+    sound = is_cast.sound m below (cores.place m).session;
     view_facts = (i.each m below).view_facts view e;
     agrees = (i.each m below).agrees view e;
   }
@@ -231,7 +231,7 @@ module _ (c : Cluster) (cast : Cast) (clocks : HasClocks c) (is_cast : IsCast c 
 
   -- the session's version is the member's
   in_version : (cores : Cores) (w : WorldState) (m : ℕ) → CoresHold c cast cores w → m < c.members → (given : Given)
-      → Gives c cast.id_of w m given → GivesIn (cores.place m).second c cast.id_of w m given
+      → Gives c cast.id_of w m given → GivesIn (cores.place m).session.second c cast.id_of w m given
   in_version cores w m i below given gives =
       subst (λ (b : Bool). GivesIn b c cast.id_of w m given) (i.each m below).same_second gives
 
@@ -249,7 +249,7 @@ module _ (c : Cluster) (cast : Cast) (clocks : HasClocks c) (is_cast : IsCast c 
   -- what the world gives is what the entries count
   called : (cores : Cores) (steps : List WorldStep) (m : ℕ) (view : View) (call : CoreCall) → IsRun c (opening c) steps
       → CoresHold c cast cores (world_of c steps) → m < c.members → (cores.place m).view ≡ Some view → view.waiting ≡ None → MayCallCore cast cores m view call
-      → Reached c cast (after_call cast cores m call (Some view)) steps ((cores.place m).second ≡ true)
+      → Reached c cast (after_call cast cores m call (Some view)) steps ((cores.place m).session.second ≡ true)
   called cores steps m view call run i below e none may =
       let w = world_of c steps in
       let one = i.each m below in
@@ -257,13 +257,13 @@ module _ (c : Cluster) (cast : Cast) (clocks : HasClocks c) (is_cast : IsCast c 
       let by_reading = subst (λ (r : ℕ). Gives c cast.id_of w m (given_by (lease_call (setup_in cast cores m) view r call) (records_in cast.id_of (w.member m).may) w.facts.releases)) one.same_reading gives in
       let by_may = subst (λ (l : List Record). Gives c cast.id_of w m (given_by (lease_call (setup_in cast cores m) view (cores.place m).reading call) l w.facts.releases)) one.same_may by_reading in
       let by_all = subst (λ (l : List Release). Gives c cast.id_of w m (given_by (lease_call (setup_in cast cores m) view (cores.place m).reading call) (cores.place m).may l)) i.same_releases by_may in
-      given_holds cores steps m (cores.place m).second _ run i below (in_version cores w m i below _ by_all)
+      given_holds cores steps m (cores.place m).session _ run i below (in_version cores w m i below _ by_all)
       (call_facts cores m view (cores.place m).reading call none may
       (subst (λ (r : ℕ). r < 2 ^ 62) one.same_reading (early w m (good_world c clocks steps run) below)) (one.view_facts view e))
 
   answered : (cores : Cores) (steps : List WorldStep) (m : ℕ) (view : View) (ok : Bool) → IsRun c (opening c) steps
       → CoresHold c cast cores (world_of c steps) → m < c.members → (cores.place m).view ≡ Some view
-      → Reached c cast (after_answer cast cores m ok (Some view)) steps ((cores.place m).second ≡ true)
+      → Reached c cast (after_answer cast cores m ok (Some view)) steps ((cores.place m).session.second ≡ true)
   answered cores steps m view ok run i below e =
       let w = world_of c steps in
       let one = i.each m below in
@@ -274,7 +274,7 @@ module _ (c : Cluster) (cast : Cast) (clocks : HasClocks c) (is_cast : IsCast c 
       let by_version = subst (λ (b : Bool). Gives c cast.id_of w m (given_by (finish (setup_in cast cores m) view (cores.place m).reading ok) (may_answered view.waiting ok (records_in cast.id_of (w.member m).may)) (releases_answered (record { member = m; second = b; reading = (cores.place m).reading; at = (cores.place m).at; now = cores.now }) view.waiting ok w.facts.releases))) one.same_second by_now in
       let by_may = subst (λ (l : List Record). Gives c cast.id_of w m (given_by (finish (setup_in cast cores m) view (cores.place m).reading ok) (may_answered view.waiting ok l) (releases_answered (mark_in cores m) view.waiting ok w.facts.releases))) one.same_may by_version in
       let by_all = subst (λ (l : List Release). Gives c cast.id_of w m (given_by (finish (setup_in cast cores m) view (cores.place m).reading ok) (may_answered view.waiting ok (cores.place m).may) (releases_answered (mark_in cores m) view.waiting ok l))) i.same_releases by_may in
-      given_holds cores steps m (cores.place m).second _ run i below (in_version cores w m i below _ by_all)
+      given_holds cores steps m (cores.place m).session _ run i below (in_version cores w m i below _ by_all)
       (finish_good (setup_in cast cores m) view (cores.place m).reading ok
       (subst (λ (r : ℕ). r < 2 ^ 62) one.same_reading (early w m (good_world c clocks steps run) below)) (one.view_facts view e)).facts
 
@@ -288,7 +288,7 @@ module _ (c : Cluster) (cast : Cast) (clocks : HasClocks c) (is_cast : IsCast c 
       (record { same_now = refl; each = i.each; heard_now = i.heard_now; same_releases = i.same_releases; marked = i.marked })
 
   time_read : (cores : Cores) (steps : List WorldStep) (m time : ℕ) → IsRun c (opening c) steps → CoresHold c cast cores (world_of c steps)
-      → m < c.members → cores.now ≤ time → time < c.span → ((cores.place m).second ≡ true → ForSome (cores.place m).view (λ view. view.waiting ≡ None))
+      → m < c.members → cores.now ≤ time → time < c.span → ((cores.place m).session.second ≡ true → ForSome (cores.place m).view (λ view. view.waiting ≡ None))
       → Reached c cast (entered c cast cores (ReadsTime m time)) steps (Unit {0})
   time_read cores steps m time run i below later within idle =
       let w = world_of c steps in
@@ -343,23 +343,23 @@ module _ (c : Cluster) (cast : Cast) (clocks : HasClocks c) (is_cast : IsCast c 
   start_premise : (cores : Cores) (w : WorldState) (m : ℕ) (kept : Record) → CoresHold c cast cores w → m < c.members → Has (cores.place m).may kept → Has (records_in cast.id_of (w.member m).may) kept
   start_premise cores w m kept i below has = subst (λ (l : List Record). Has l kept) (sym (i.each m below).same_may) has
 
-  starts_again : (cores : Cores) (steps : List WorldStep) (m : ℕ) (second : Bool) (kept : Record) → IsRun c (opening c) steps → CoresHold c cast cores (world_of c steps)
-      → m < c.members → (cores.place m).view ≡ None → Has (cores.place m).may kept → ((cores.place m).second ≡ true → second ≡ true) → Reached c cast (entered c cast cores (StartsWith m second kept)) steps (second ≡ true)
-  starts_again cores steps m second kept run i below down has stays =
+  starts_again : (cores : Cores) (steps : List WorldStep) (m : ℕ) (session : Session) (kept : Record) → IsRun c (opening c) steps → CoresHold c cast cores (world_of c steps)
+      → m < c.members → (cores.place m).view ≡ None → Has (cores.place m).may kept → ((cores.place m).session.second ≡ true → session.second ≡ true) → Reached c cast (entered c cast cores (StartsWith m session kept)) steps (session.second ≡ true)
+  starts_again cores steps m session kept run i below down has stays =
       let w = world_of c steps in
       let one = i.each m below in
-      let gives = calls_are_steps.start_gives c clocks steps run cast.id_of m second (cast.setup m second) is_cast.ids below (is_cast.seated m below second) (one.down down) (λ was. stays (sym one.same_second ∙ was)) kept (start_premise cores w m kept i below has) in
-      let by_reading = subst (λ (r : ℕ). GivesIn second c cast.id_of w m (record { view = started (cast.setup m second) kept r; say = says.Nothing; may = kept ∷ []; releases = w.facts.releases })) one.same_reading gives in
-      let by_all = subst (λ (l : List Release). GivesIn second c cast.id_of w m (record { view = started (cast.setup m second) kept (cores.place m).reading; say = says.Nothing; may = kept ∷ []; releases = l })) i.same_releases by_reading in
-      given_holds cores steps m second _ run i below by_all (start_facts (cast.setup m second) kept (cores.place m).reading)
+      let gives = calls_are_steps.start_gives c clocks steps run cast.id_of m session.second (cast.setup m session) is_cast.ids below (is_cast.seated m below session) (one.down down) (λ was. stays (sym one.same_second ∙ was)) kept (start_premise cores w m kept i below has) in
+      let by_reading = subst (λ (r : ℕ). GivesIn session.second c cast.id_of w m (record { view = started (cast.setup m session) kept r; say = says.Nothing; may = kept ∷ []; releases = w.facts.releases })) one.same_reading gives in
+      let by_all = subst (λ (l : List Release). GivesIn session.second c cast.id_of w m (record { view = started (cast.setup m session) kept (cores.place m).reading; say = says.Nothing; may = kept ∷ []; releases = l })) i.same_releases by_reading in
+      given_holds cores steps m session _ run i below by_all (start_facts (cast.setup m session) kept (cores.place m).reading)
 
   -- ---- entries
 
   -- what makes the steps of an entry start in version 2 alone
   abbrev pub IsSecondAt : Cores → CoreEntry → Type 0
-  IsSecondAt cores (CallsCore m call) = (cores.place m).second ≡ true
-  IsSecondAt cores (HasAnswer m kept ok) = (cores.place m).second ≡ true
-  IsSecondAt cores (StartsWith m second kept) = second ≡ true
+  IsSecondAt cores (CallsCore m call) = (cores.place m).session.second ≡ true
+  IsSecondAt cores (HasAnswer m kept ok) = (cores.place m).session.second ≡ true
+  IsSecondAt cores (StartsWith m session kept) = session.second ≡ true
   IsSecondAt cores entry = Unit {0}
 
   abbrev pub AreSecondFrom : Cores → List CoreEntry → Type 0
@@ -372,14 +372,14 @@ module _ (c : Cluster) (cast : Cast) (clocks : HasClocks c) (is_cast : IsCast c 
   enters cores (ReadsTime m time) steps run i may = time_read cores steps m time run i may.0 may.1 may.2 may.3
   enters cores (CallsCore m call) steps run i may =
       let v = the_value _ (cores.place m).view may.1 in
-      subst (λ (o : Option View). Reached c cast (after_call cast cores m call o) steps ((cores.place m).second ≡ true)) (sym v.1) (called cores steps m v.0 call run i may.0 v.1 v.2.0 v.2.1)
+      subst (λ (o : Option View). Reached c cast (after_call cast cores m call o) steps ((cores.place m).session.second ≡ true)) (sym v.1) (called cores steps m v.0 call run i may.0 v.1 v.2.0 v.2.1)
   enters cores (HasAnswer m kept ok) steps run i may =
       let v = the_value _ (cores.place m).view may.1 in
-      subst (λ (o : Option View). Reached c cast (after_answer cast cores m ok o) steps ((cores.place m).second ≡ true)) (sym v.1) (answered cores steps m v.0 ok run i may.0 v.1)
+      subst (λ (o : Option View). Reached c cast (after_answer cast cores m ok o) steps ((cores.place m).session.second ≡ true)) (sym v.1) (answered cores steps m v.0 ok run i may.0 v.1)
   enters cores (Stops m) steps run i may =
       let v = the_value _ (cores.place m).view may.1 in
       stopped cores steps m v.0 run i may.0 v.1
-  enters cores (StartsWith m second kept) steps run i may = starts_again cores steps m second kept run i may.0 may.1 may.2 may.3
+  enters cores (StartsWith m session kept) steps run i may = starts_again cores steps m session kept run i may.0 may.1 may.2 may.3
 
   pub enter_all : (cores : Cores) (entries : List CoreEntry) (steps : List WorldStep) → IsRun c (opening c) steps → CoresHold c cast cores (world_of c steps) → AreEntered c cast cores entries
       → Reached c cast (cores_after c cast cores entries) steps (AreSecondFrom cores entries)

@@ -10,13 +10,13 @@ use Rattle.booth_ticket.specs.Saying.{say_each, say_to}
 use Rattle.booth_ticket.specs.Requests.{acquire_for, follow_request, release_for, reply}
 use Rattle.booth_ticket.specs.Automatic.{come_due, hear, hear_message, tick}
 use Rattle.booth_node.specs.Session.{AreSessions, Down}
-use Rattle.booth_node.specs.World.{HasForm, HasConfiguration, HasTrueClocks, entries_of, members_of, AtEach, HearsSent, ReadsKept, stand_after}
+use Rattle.booth_node.specs.World.{HasForm, HasConfiguration, HasTrueClocks, entries_of, members_of, AtEach, HearsSent, ReadsKept, stand_after, IsOneTicket}
 use Rattle.booth_node.specs.Held.{Moment}
-use Rattle.booth_world.specs.Premises.{Premise, OneConfiguration, TrueClocks, RecordsReturn, VersionsRise, MembersSpeak, OneDaemon, Meets, IsWorldBut, TwoHold, NothingHeld}
+use Rattle.booth_world.specs.Premises.{Premise, SameMembers, TrueClocks, RecordsReturn, VersionsRise, MembersSpeak, OneDaemon, Meets, IsWorldBut, TwoHold, NothingHeld}
 use Rattle.booth_world.specs.WorldExamples.{site_one, site_two, arbitrator, three_members, at, sends, port_of, web, lease, grant_it, asks_votes, votes}
 use Rattle.booth_world.specs.VersionExamples.{with_a_falling_version}
 use Rattle.booth_world.proofs.AlongWorlds.{◌&◌, at_each, reads_true, only_web, from_client, from_member, is_read_below}
-use Rattle.booth_world.proofs.WorldParts.{three_sound, has_form, exact_clocks, asks_votes_fit, votes_fit, is_open_fits, asks_state_fits}
+use Rattle.booth_world.proofs.WorldParts.{three_sound, has_form, exact_clocks, asks_votes_fit, votes_fit, is_open_fits, asks_state_fits, web_one}
 use Rattle.booth_world.proofs.Beginnings.{none_holds}
 
 session_one : AreSessions Down (entries_of 0 with_a_falling_version.entries)
@@ -91,9 +91,9 @@ messages =
 
 configured : AtEach with_a_falling_version (λ before entry. HasConfiguration with_a_falling_version entry entry.what)
 configured =
-    at_each with_a_falling_version _ (refl
-    & refl
-    & refl
+    at_each with_a_falling_version _ (record { sound = three_sound; members = refl; me = refl }
+    & record { sound = three_sound; members = refl; me = refl }
+    & record { sound = three_sound; members = refl; me = refl }
     & tt
     & tt
     & tt
@@ -108,8 +108,8 @@ configured =
     & tt
     & tt
     & tt
-    & refl
-    & refl
+    & record { sound = three_sound; members = refl; me = refl }
+    & record { sound = three_sound; members = refl; me = refl }
     & tt
     & tt
     & tt
@@ -122,7 +122,7 @@ configured =
     & tt
     & tt
     & tt
-    & refl
+    & record { sound = three_sound; members = refl; me = refl }
     & tt
     & tt
     & tt
@@ -235,7 +235,7 @@ records =
 
 form : HasForm with_a_falling_version
 form =
-    has_form with_a_falling_version three_sound ((omega arith, omega arith, omega arith)
+    has_form with_a_falling_version three_sound refl ((omega arith, omega arith, omega arith)
     & (omega arith, omega arith, omega arith)
     & (omega arith, omega arith, omega arith)
     & (omega arith, omega arith, omega arith)
@@ -283,7 +283,7 @@ form =
 
 meets : (premise : Premise) → premise ≢ VersionsRise → Meets with_a_falling_version premise
 meets NothingHeld other = none_holds with_a_falling_version (λ m place. refl)
-meets OneConfiguration other = configured
+meets SameMembers other = configured
 meets TrueClocks other = clocks
 meets RecordsReturn other = records
 meets VersionsRise other = absurd (other refl)
@@ -304,11 +304,59 @@ last = record {
   within = omega arith;
 }
 
+-- each start has the ticket as it is
+one_web : IsOneTicket with_a_falling_version web
+one_web =
+    web_one with_a_falling_version three_members three_sound (refl
+    & refl
+    & refl
+    & tt
+    & tt
+    & tt
+    & tt
+    & tt
+    & tt
+    & tt
+    & tt
+    & tt
+    & tt
+    & tt
+    & tt
+    & tt
+    & tt
+    & refl
+    & refl
+    & tt
+    & tt
+    & tt
+    & tt
+    & tt
+    & tt
+    & tt
+    & tt
+    & tt
+    & tt
+    & tt
+    & tt
+    & refl
+    & tt
+    & tt
+    & tt
+    & tt
+    & tt
+    & tt
+    & tt
+    & tt
+    & tt
+    & tt
+    & tt
+    & tt
+    & tt)
+
 pub two_hold : TwoHold with_a_falling_version
 two_hold = record {
-  place = 0;
   ticket = web;
-  automatic = (refl, refl);
+  automatic = (one_web, refl);
   moment = last;
   first = 0;
   second = 1;

@@ -11,14 +11,14 @@ use Rattle.booth_ticket.specs.Requests.{acquire_for, follow_request, release_for
 use Rattle.booth_ticket.specs.Automatic.{come_due, hear, hear_message, tick}
 use Rattle.booth_node.specs.Clock.{IsClock}
 use Rattle.booth_node.specs.Session.{AreSessions, Down}
-use Rattle.booth_node.specs.World.{HasForm, entries_of}
+use Rattle.booth_node.specs.World.{HasForm, entries_of, IsOneTicket}
 use Rattle.booth_node.specs.Held.{Moment}
 use Rattle.std.proofs.lemmas.List.FromFn.{length-range_with_len, length-map-range_with_len}
-use Rattle.booth_world.specs.Premises.{Premise, OneConfiguration, TrueClocks, RecordsReturn, VersionsRise, MembersSpeak, OneDaemon, Meets, IsWorldBut, TwoHold, NothingHeld}
-use Rattle.booth_world.specs.WorldExamples.{site_one, site_two, arbitrator, at, sends, port_of, web, lease, grant_it, asks_votes, votes}
+use Rattle.booth_world.specs.Premises.{Premise, SameMembers, TrueClocks, RecordsReturn, VersionsRise, MembersSpeak, OneDaemon, Meets, IsWorldBut, TwoHold, NothingHeld}
+use Rattle.booth_world.specs.WorldExamples.{site_one, site_two, arbitrator, at, sends, port_of, web, lease, grant_it, asks_votes, votes, three_members}
 use Rattle.booth_world.specs.PremiseExamples.{with_a_fast_clock, AreTrueBut}
 use Rattle.booth_world.proofs.AlongWorlds.{◌&◌, at_each, versions_first, reads_true, only_web, from_client, from_member, is_read_below, reads_double, is_double_below, true_clock}
-use Rattle.booth_world.proofs.WorldParts.{three_sound, has_form, asks_votes_fit, votes_fit, is_open_fits, asks_state_fits}
+use Rattle.booth_world.proofs.WorldParts.{three_sound, has_form, asks_votes_fit, votes_fit, is_open_fits, asks_state_fits, web_one}
 use Rattle.booth_world.proofs.Beginnings.{none_holds}
 
 first_session : AreSessions Down (entries_of 0 with_a_fast_clock.entries)
@@ -162,10 +162,10 @@ messages =
 
 meets : (premise : Premise) → premise ≢ TrueClocks → Meets with_a_fast_clock premise
 meets NothingHeld other = none_holds with_a_fast_clock (λ m place. refl)
-meets OneConfiguration other =
-    at_each with_a_fast_clock _ (refl
-    & refl
-    & refl
+meets SameMembers other =
+    at_each with_a_fast_clock _ (record { sound = three_sound; members = refl; me = refl }
+    & record { sound = three_sound; members = refl; me = refl }
+    & record { sound = three_sound; members = refl; me = refl }
     & tt
     & tt
     & tt
@@ -231,7 +231,7 @@ meets OneDaemon other = one_daemon
 
 form : HasForm with_a_fast_clock
 form =
-    has_form with_a_fast_clock three_sound ((omega arith, omega arith, omega arith)
+    has_form with_a_fast_clock three_sound refl ((omega arith, omega arith, omega arith)
     & (omega arith, omega arith, omega arith)
     & (omega arith, omega arith, omega arith)
     & (omega arith, omega arith, omega arith)
@@ -276,11 +276,44 @@ last = record {
   within = omega arith;
 }
 
+-- each start has the ticket as it is
+one_web : IsOneTicket with_a_fast_clock web
+one_web =
+    web_one with_a_fast_clock three_members three_sound (refl
+    & refl
+    & refl
+    & tt
+    & tt
+    & tt
+    & tt
+    & tt
+    & tt
+    & tt
+    & tt
+    & tt
+    & tt
+    & tt
+    & tt
+    & tt
+    & tt
+    & tt
+    & tt
+    & tt
+    & tt
+    & tt
+    & tt
+    & tt
+    & tt
+    & tt
+    & tt
+    & tt
+    & tt
+    & tt)
+
 pub two_hold : TwoHold with_a_fast_clock
 two_hold = record {
-  place = 0;
   ticket = web;
-  automatic = (refl, refl);
+  automatic = (one_web, refl);
   moment = last;
   first = 0;
   second = 1;

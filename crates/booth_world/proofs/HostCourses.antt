@@ -9,7 +9,7 @@ use Rattle.booth_world.specs.States.{Cluster}
 use Rattle.booth_world.specs.Facts.{Has, Release}
 use Rattle.booth_world.specs.Cores.{CoreEntry, opening_cores, Cast, cores_after}
 use Rattle.booth_world.specs.CoreLaws.{CoreCourse, early_cores, late_cores, IsReleaseIn}
-use Rattle.booth_world.specs.Held.{AreApart, GivesBackLease}
+use Rattle.booth_world.specs.Held.{IsApartFrom, GivesBackLease}
 use Rattle.booth_world.specs.Turns.{Keeps, TurnTree}
 use Rattle.booth_world.specs.Hosts.{HostEntry, opening_hosts, hosts_after}
 use Rattle.booth_world.specs.HostLaws.{IsHostReleaseIn, host_may, HostCourse, early_hosts, late_hosts, HostsHoldOne, HostsAreApart, HostTermsNeverFall, LaterHostHasLaterTerm}
@@ -60,8 +60,9 @@ hosts_are_apart c cast early late course s t other k hs ht =
     let w = early_cores c cast f.first in
     let z = late_cores c cast f.first f.second in
     ⊎_elim
-    (λ (apart : AreApart c w.now z.now). inl (subst (λ (a : ℕ). AreApart c a (late_hosts c cast early late).now) f.early_holds.same_now
-    (subst (λ (b : ℕ). AreApart c w.now b) f.late_holds.same_now apart)))
+    (λ (apart : IsApartFrom c s k w.now z.now).
+    inl (subst (λ (a : ℕ). IsApartFrom c s k a (late_hosts c cast early late).now) f.early_holds.same_now
+    (subst (λ (b : ℕ). IsApartFrom c s k w.now b) f.late_holds.same_now apart)))
     (λ (b : (release : Release) × IsReleaseIn c cast w f.second release × GivesBackLease s k.lease release).
     inr (b.0, f.released b.0 b.1, b.2))
     (cores_are_apart c cast f.first f.second f.course s t other k

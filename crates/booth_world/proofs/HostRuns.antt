@@ -63,7 +63,7 @@ module _ (c : Cluster) (cast : Cast) where
       pub tree_now : ((hosts_after c cast hosts (says tree)).place m).tree ≡ Some (skip tree)
       pub same_reading : ((hosts_after c cast hosts (says tree)).place m).reading ≡ (hosts.place m).reading
       pub same_may : ((hosts_after c cast hosts (says tree)).place m).may ≡ (hosts.place m).may
-      pub same_second : ((hosts_after c cast hosts (says tree)).place m).second ≡ (hosts.place m).second
+      pub same_session : ((hosts_after c cast hosts (says tree)).place m).session ≡ (hosts.place m).session
       pub all_sent : (hosts_after c cast hosts (says tree)).sent ≡ sent_by tree hosts.sent
       pub unreleased : (z : Release) → IsHostReleaseIn c cast hosts (says tree) z → ⊥
       pub unread : (k time : ℕ) → ReadsIn (says tree) k time → ⊥
@@ -75,9 +75,9 @@ module _ (c : Cluster) (cast : Cast) where
 
     pub all_said : (hosts : Hosts) (tree : TurnTree) → (hosts.place m).tree ≡ Some tree → AreSaid hosts tree
     all_said hosts (Ends view) is =
-        record { hosted_all = tt; own = of_none m hosts; tree_now = is; same_reading = refl; same_may = refl; same_second = refl; all_sent = refl; unreleased = λ z r. r; unread = λ k t r. r; unstarted = λ b r. r }
+        record { hosted_all = tt; own = of_none m hosts; tree_now = is; same_reading = refl; same_may = refl; same_session = refl; all_sent = refl; unreleased = λ z r. r; unread = λ k t r. r; unstarted = λ b r. r }
     all_said hosts (Does (Keeps kept) go) is =
-        record { hosted_all = tt; own = of_none m hosts; tree_now = is; same_reading = refl; same_may = refl; same_second = refl; all_sent = refl; unreleased = λ z r. r; unread = λ k t r. r; unstarted = λ b r. r }
+        record { hosted_all = tt; own = of_none m hosts; tree_now = is; same_reading = refl; same_may = refl; same_session = refl; all_sent = refl; unreleased = λ z r. r; unread = λ k t r. r; unstarted = λ b r. r }
     all_said hosts (Does (Sends message) go) is =
         let next_hosts : Hosts = hosted c cast hosts (DoesAsk m (Sends message) true) in
         let there : (next_hosts.place m).tree ≡ Some (go true) =
@@ -90,11 +90,11 @@ module _ (c : Cluster) (cast : Cast) where
           tree_now = rest.tree_now;
           same_reading = rest.same_reading ∙ ap (λ (p : HostPlace). p.reading) (put_same hosts.place m _);
           same_may = rest.same_may ∙ ap (λ (p : HostPlace). p.may) (put_same hosts.place m _);
-          same_second = rest.same_second ∙ ap (λ (p : HostPlace). p.second) (put_same hosts.place m _);
+          same_session = rest.same_session ∙ ap (λ (p : HostPlace). p.session) (put_same hosts.place m _);
           all_sent = rest.all_sent;
           unreleased = λ z r. ⊎_elim (λ (x : ⊥). x) (rest.unreleased z) r;
           unread = λ k t r. ⊎_elim (λ (x : ⊥). x) (rest.unread k t) r;
           unstarted = λ b r. ⊎_elim (λ (x : ⊥). x) (rest.unstarted b) r;
         }
     all_said hosts (Does AsksElse go) is =
-        record { hosted_all = tt; own = of_none m hosts; tree_now = is; same_reading = refl; same_may = refl; same_second = refl; all_sent = refl; unreleased = λ z r. r; unread = λ k t r. r; unstarted = λ b r. r }
+        record { hosted_all = tt; own = of_none m hosts; tree_now = is; same_reading = refl; same_may = refl; same_session = refl; all_sent = refl; unreleased = λ z r. r; unread = λ k t r. r; unstarted = λ b r. r }

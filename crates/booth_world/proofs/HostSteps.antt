@@ -15,7 +15,7 @@ use Rattle.booth_world.specs.Facts.{Has, Release}
 use Rattle.booth_world.specs.States.{put, Cluster, HasClocks, reads}
 use Rattle.booth_world.specs.Gives.{Given, may_answered}
 use Rattle.booth_world.specs.Rules.{MemberMessage}
-use Rattle.booth_world.specs.Cores.{CoreEntry, TimePasses, ReadsTime, HasAnswer, Stops, StartsWith, CorePlace, Cores, opening_cores, Cast, IsCast, MayEnter, has_given, answer_given, after_answer, entered, AreEntered, cores_after}
+use Rattle.booth_world.specs.Cores.{Session, opening_session, CoreEntry, TimePasses, ReadsTime, HasAnswer, Stops, StartsWith, CorePlace, Cores, opening_cores, Cast, IsCast, MayEnter, has_given, answer_given, after_answer, entered, AreEntered, cores_after}
 use Rattle.booth_world.specs.CoreLaws.{CoreHoldsBy, IsReleaseAt, IsReleaseIn}
 use Rattle.booth_world.specs.Turns.{TicketAsk, Keeps, Sends, AsksElse, TurnTree, Plan, turn_tree, MayTurn}
 use Rattle.booth_world.specs.Hosts.{MayBegin, HostEntry, LetsPass, BeginsTurn, DoesAsk, Halts, Boots, HostPlace, Hosts, opening_hosts, pending_in, pending, IsNextAsk, MayHost, begun, went_on, may_left, hosted, AreHosted, hosts_after}
@@ -31,8 +31,8 @@ use Rattle.booth_world.proofs.TurnPlaces.{IsOwn, own_given, put_other, MayMore, 
 -- a member's place at its host, and its place
 pub record PlaceHolds (c : Cluster) (cast : Cast) (m : ℕ) (cores : Cores) (p : HostPlace) : Type 0 where
   pub down : p.tree ≡ None → (cores.place m).view ≡ None
-  pub in_version : (cores.place m).second ≡ p.second
-  pub stands_at : (t : TurnTree) → p.tree ≡ Some t → At c cast m p.reading p.second p.may t cores
+  pub in_version : (cores.place m).session ≡ p.session
+  pub stands_at : (t : TurnTree) → p.tree ≡ Some t → At c cast m p.reading p.session p.may t cores
   pub is_up : (t : TurnTree) → p.tree ≡ Some t → IsUp (cores.place m)
   pub more : MayMore (pending p.tree p.may) (cores.place m).may
   pub only : MayMore (cores.place m).may (pending p.tree p.may)
@@ -52,8 +52,8 @@ module _ (c : Cluster) (cast : Cast) (clocks : HasClocks c) (is_cast : IsCast c 
   place_later : (k : ℕ) (cores cores' : Cores) (p : HostPlace) → IsLater k cores cores' → PlaceHolds c cast k cores p → PlaceHolds c cast k cores' p
   place_later k cores cores' p later i = record {
     down = λ e. ap (λ (s : CorePlace). s.view) later.same ∙ i.down e;
-    in_version = ap (λ (s : CorePlace). s.second) later.same ∙ i.in_version;
-    stands_at = λ t e. at_later c cast k p.reading p.second p.may t cores cores' later (i.stands_at t e);
+    in_version = ap (λ (s : CorePlace). s.session) later.same ∙ i.in_version;
+    stands_at = λ t e. at_later c cast k p.reading p.session p.may t cores cores' later (i.stands_at t e);
     is_up = λ t e. subst (λ (s : CorePlace). IsUp s) (sym later.same) (i.is_up t e);
     more = λ r h. subst (λ (s : CorePlace). Has s.may r) (sym later.same) (i.more r h);
     only = subst (λ (s : CorePlace). MayMore s.may (pending p.tree p.may)) (sym later.same) i.only;
@@ -72,22 +72,22 @@ module _ (c : Cluster) (cast : Cast) (clocks : HasClocks c) (is_cast : IsCast c 
   }
 
   -- what comes next is among what may be kept
-  pending_more : (m now : ℕ) (second : Bool) (t : TurnTree) (may : List Record) (cores : Cores) → At c cast m now second may t cores → MayMore may (cores.place m).may → MayMore (pending_in t may) (cores.place m).may
-  pending_more m now second (Ends view) may cores h more = more
-  pending_more m now second (Does (Keeps kept) g) may cores h more =
+  pending_more : (m now : ℕ) (session : Session) (t : TurnTree) (may : List Record) (cores : Cores) → At c cast m now session may t cores → MayMore may (cores.place m).may → MayMore (pending_in t may) (cores.place m).may
+  pending_more m now session (Ends view) may cores h more = more
+  pending_more m now session (Does (Keeps kept) g) may cores h more =
       λ k i. ⊎_elim (λ (e : kept ≡ k). subst (λ (k : Record). Has (cores.place m).may k) e h.0) (λ (old : Has may k). more k old) i
-  pending_more m now second (Does (Sends message) g) may cores h more = more
-  pending_more m now second (Does AsksElse g) may cores h more = more
+  pending_more m now session (Does (Sends message) g) may cores h more = more
+  pending_more m now session (Does AsksElse g) may cores h more = more
 
-  stands : (m : ℕ) (p : HostPlace) (t : TurnTree) (cores : Cores) → p.tree ≡ Some t → (cores.place m).second ≡ p.second → At c cast m p.reading p.second p.may t cores → IsUp (cores.place m) → MayMore p.may (cores.place m).may
+  stands : (m : ℕ) (p : HostPlace) (t : TurnTree) (cores : Cores) → p.tree ≡ Some t → (cores.place m).session ≡ p.session → At c cast m p.reading p.session p.may t cores → IsUp (cores.place m) → MayMore p.may (cores.place m).may
       → PlaceHolds c cast m cores p
   stands m p t cores e version h up more = record {
     in_version = version;
     down = λ none. absurd (none_is t (sym none ∙ e));
-    stands_at = λ u d. subst (λ (t : TurnTree). At c cast m p.reading p.second p.may t cores) (some_same t u (sym e ∙ d)) h;
+    stands_at = λ u d. subst (λ (t : TurnTree). At c cast m p.reading p.session p.may t cores) (some_same t u (sym e ∙ d)) h;
     is_up = λ u d. up;
-    more = subst (λ (o : Option TurnTree). MayMore (pending o p.may) (cores.place m).may) (sym e) (pending_more m p.reading p.second t p.may cores h more);
-    only = subst (λ (o : Option TurnTree). MayMore (cores.place m).may (pending o p.may)) (sym e) (at_no_more c cast m p.reading p.second p.may t cores h);
+    more = subst (λ (o : Option TurnTree). MayMore (pending o p.may) (cores.place m).may) (sym e) (pending_more m p.reading p.session t p.may cores h more);
+    only = subst (λ (o : Option TurnTree). MayMore (cores.place m).may (pending o p.may)) (sym e) (at_no_more c cast m p.reading p.session p.may t cores h);
   }
 
   still : (m : ℕ) (p : HostPlace) (cores : Cores) → PlaceHolds c cast m cores p → MayMore p.may (cores.place m).may
@@ -103,34 +103,34 @@ module _ (c : Cluster) (cast : Cast) (clocks : HasClocks c) (is_cast : IsCast c 
       by_tree None more = more
       by_tree (Some t) more = by_pending t more
 
-  own_place : (m : ℕ) (second : Bool) → m < c.members → IsSeatedAt c cast m second
-  own_place m second below = (ap (λ (s : Setup). s.place) (is_cast.seated m below second), ap (λ (s : Setup). s.members) (is_cast.seated m below second))
+  own_place : (m : ℕ) (session : Session) → m < c.members → IsSeatedAt c cast m session
+  own_place m session below = (ap (λ (s : Setup). s.place) (is_cast.seated m below session), ap (λ (s : Setup). s.members) (is_cast.seated m below session))
 
   small : (m time : ℕ) → m < c.members → time < c.span → reads c m time < 2 ^ 62
   small m time below within = let e = clocks.long m below in (clocks.clocks m below).small time (omega arith)
 
   -- nothing waits at a core that is idle
-  at_rest_of : (place : CorePlace) (view : View) {s : Setup} {second : Bool} {now : ℕ} → IsIdle s second now view place → ForSome place.view (λ v. v.waiting ≡ None)
+  at_rest_of : (place : CorePlace) (view : View) {s : Setup} {session : Session} {now : ℕ} → IsIdle s session now view place → ForSome place.view (λ v. v.waiting ≡ None)
   at_rest_of place view idle v e = ap (λ (v : View). v.waiting) (some_same v view (sym e ∙ idle.shows)) ∙ idle.at_rest
 
   -- ---- a turn
 
-  after_reading : (m time : ℕ) (second : Bool) (view : View) (cores : Cores) (reading : ℕ) → IsIdle (cast.setup m second) second reading view (cores.place m)
-      → IsIdle (cast.setup m second) second (reads c m time) view ((entered c cast cores (ReadsTime m time)).place m)
-  after_reading m time second view cores reading i =
-      subst (λ (s : CorePlace). IsIdle (cast.setup m second) second (reads c m time) view s) (sym (put_same cores.place m _))
+  after_reading : (m time : ℕ) (session : Session) (view : View) (cores : Cores) (reading : ℕ) → IsIdle (cast.setup m session) session reading view (cores.place m)
+      → IsIdle (cast.setup m session) session (reads c m time) view ((entered c cast cores (ReadsTime m time)).place m)
+  after_reading m time session view cores reading i =
+      subst (λ (s : CorePlace). IsIdle (cast.setup m session) session (reads c m time) view s) (sym (put_same cores.place m _))
       (record { shows = i.shows; in_version = i.in_version; at_rest = i.at_rest; at_reading = refl; view_facts = i.view_facts })
 
-  turn_soon : (m time : ℕ) (second : Bool) (base : List Record) (view : View) (came : Option MemberMessage) (plan : View → Plan) (cores : Cores) → m < c.members → time < c.span
-      → IsIdle (cast.setup m second) second (reads c m time) view (cores.place m) → (cores.place m).at ≡ cores.now
+  turn_soon : (m time : ℕ) (session : Session) (base : List Record) (view : View) (came : Option MemberMessage) (plan : View → Plan) (cores : Cores) → m < c.members → time < c.span
+      → IsIdle (cast.setup m session) session (reads c m time) view (cores.place m) → (cores.place m).at ≡ cores.now
       → MayMore (cores.place m).may base → ForSome came (λ l. (Has cores.said l) × (l.head.from ≡ cast.id_of l.sender))
-      → MayTurn (cast.setup m second) (reads c m time) view came plan
-      → Soon c cast m (reads c m time) second (At c cast m (reads c m time) second base (turn_tree (cast.setup m second) (reads c m time) view came plan)) cores
-  turn_soon m time second base view None plan cores below within idle timely only so may =
-      plan_at c cast m (reads c m time) second below (small m time below within) (own_place m second below) (plan view) base view cores idle only may
-  turn_soon m time second base view (Some message) plan cores below within idle timely only so may =
+      → MayTurn (cast.setup m session) (reads c m time) view came plan
+      → Soon c cast m (reads c m time) session (At c cast m (reads c m time) session base (turn_tree (cast.setup m session) (reads c m time) view came plan)) cores
+  turn_soon m time session base view None plan cores below within idle timely only so may =
+      plan_at c cast m (reads c m time) session below (small m time below within) (own_place m session below) (plan view) base view cores idle only may
+  turn_soon m time session base view (Some message) plan cores below within idle timely only so may =
       let l = so message refl in
-      heard_at c cast m (reads c m time) second below (small m time below within) (own_place m second below) message plan base view cores idle only (l.0, l.1, timely) may
+      heard_at c cast m (reads c m time) session below (small m time below within) (own_place m session below) message plan base view cores idle only (l.0, l.1, timely) may
 
   begins : (hosts : Hosts) (cores : Cores) (m time : ℕ) (came : Option MemberMessage) (plan : View → Plan) → HostsHold c cast hosts cores → MayHost c cast hosts (BeginsTurn m time came plan)
       → Follows c cast (hosted c cast hosts (BeginsTurn m time came plan)) cores (IsHostReleaseAt c hosts (BeginsTurn m time came plan)) (ReadsAt (BeginsTurn m time came plan)) (StartsAt (BeginsTurn m time came plan))
@@ -138,29 +138,29 @@ module _ (c : Cluster) (cast : Cast) (clocks : HasClocks c) (is_cast : IsCast c 
       let p = the_value _ (hosts.place m).tree may.3 in
       by_tree p.0 p.1 p.2
     where
-      by_tree : (t : TurnTree) → (hosts.place m).tree ≡ Some t → MayBegin (cast.setup m (hosts.place m).second) (reads c m time) came plan t → Follows c cast (hosted c cast hosts (BeginsTurn m time came plan)) cores (IsHostReleaseAt c hosts (BeginsTurn m time came plan)) (ReadsAt (BeginsTurn m time came plan)) (StartsAt (BeginsTurn m time came plan))
+      by_tree : (t : TurnTree) → (hosts.place m).tree ≡ Some t → MayBegin (cast.setup m (hosts.place m).session) (reads c m time) came plan t → Follows c cast (hosted c cast hosts (BeginsTurn m time came plan)) cores (IsHostReleaseAt c hosts (BeginsTurn m time came plan)) (ReadsAt (BeginsTurn m time came plan)) (StartsAt (BeginsTurn m time came plan))
       by_tree (Does ask g) e none = absurd none
       by_tree (Ends view) e turns =
           let now = reads c m time in
           let one = entered c cast cores (ReadsTime m time) in
           let here = i.each m may.0 in
           let read = put_same cores.place m (record (cores.place m) { reading = now; at = time }) in
-          let second = (hosts.place m).second in
-          let soon = turn_soon m time second (hosts.place m).may view came plan one may.0 may.2
-          (after_reading m time second view cores (hosts.place m).reading (here.stands_at (Ends view) e).0)
+          let session = (hosts.place m).session in
+          let soon = turn_soon m time session (hosts.place m).may view came plan one may.0 may.2
+          (after_reading m time session view cores (hosts.place m).reading (here.stands_at (Ends view) e).0)
           (ap (λ (s : CorePlace). s.at) read)
           (subst (λ (s : CorePlace). MayMore s.may (hosts.place m).may) (sym read) (here.stands_at (Ends view) e).1)
           (λ l e. let q = may.4 l e in (i.said l q.0, q.1)) turns in
           let end = cores_after c cast one soon.0 in
-          let led : IsLed c cast m now second one soon.0 = soon.2 in (
+          let led : IsLed c cast m now session one soon.0 = soon.2 in (
             ReadsTime m time ∷ soon.0,
             ((may.0, (let t = i.same_now in let l = may.1 in omega (arith, t, l)), may.2, λ so. at_rest_of (cores.place m) view (here.stands_at (Ends view) e).0), soon.1),
             moved hosts cores end m time _ hosts.sent i led.own.same_time
                 (λ k other. led.own.others k other ∙ put_other cores.place m k _ other)
                 (λ l h. led.own.said_on l h)
-                (stands m (record (hosts.place m) { tree = begun (cast.setup m second) now came plan (hosts.place m).tree; reading = now })
-                (turn_tree (cast.setup m second) now view came plan) end
-                (ap (λ (o : Option TurnTree). begun (cast.setup m second) now came plan o) e) (led.same_version ∙ ap (λ (s : CorePlace). s.second) read ∙ here.in_version) soon.3
+                (stands m (record (hosts.place m) { tree = begun (cast.setup m session) now came plan (hosts.place m).tree; reading = now })
+                (turn_tree (cast.setup m session) now view came plan) end
+                (ap (λ (o : Option TurnTree). begun (cast.setup m session) now came plan o) e) (led.same_version ∙ ap (λ (s : CorePlace). s.session) read ∙ here.in_version) soon.3
                 (led.up_still (subst (λ (s : CorePlace). IsUp s) (sym read) (here.is_up (Ends view) e)))
                 (λ k h. led.more k (subst (λ (s : CorePlace). Has s.may k) (sym read) (still m (hosts.place m) cores here k h))))
                 (λ l h. led.own.said_on l (i.said l h)),
@@ -169,8 +169,8 @@ module _ (c : Cluster) (cast : Cast) (clocks : HasClocks c) (is_cast : IsCast c 
             (tt, calls_start (StartsAt (BeginsTurn m time came plan)) soon.0 led.are_calls),
           )
 
-  version_given : (cores : Cores) (m : ℕ) (given : Given) → ((has_given cores m (cores.place m).second given).place m).second ≡ (cores.place m).second
-  version_given cores m given = ap (λ (s : CorePlace). s.second) (put_same cores.place m _)
+  version_given : (cores : Cores) (m : ℕ) (given : Given) → ((has_given cores m (cores.place m).session given).place m).session ≡ (cores.place m).session
+  version_given cores m given = ap (λ (s : CorePlace). s.session) (put_same cores.place m _)
 
   -- ---- an ask
 
@@ -191,12 +191,12 @@ module _ (c : Cluster) (cast : Cast) (clocks : HasClocks c) (is_cast : IsCast c 
 
   answer_own : (cores : Cores) (m : ℕ) (kept : Record) (ok : Bool) → MayEnter c cast cores (HasAnswer m kept ok)
       → IsOwn m cores (entered c cast cores (HasAnswer m kept ok)) × IsUp ((entered c cast cores (HasAnswer m kept ok)).place m)
-      × (((entered c cast cores (HasAnswer m kept ok)).place m).second ≡ (cores.place m).second)
+      × (((entered c cast cores (HasAnswer m kept ok)).place m).session ≡ (cores.place m).session)
   answer_own cores m kept ok enter =
       let v = the_value _ (cores.place m).view enter.1 in
       subst (λ (o : Option View). IsOwn m cores (after_answer cast cores m ok o) × IsUp ((after_answer cast cores m ok o).place m)
-      × (((after_answer cast cores m ok o).place m).second ≡ (cores.place m).second)) (sym v.1)
-      (own_given cores m (cores.place m).second (answer_given cast cores m ok v.0), up_given cores m (cores.place m).second (answer_given cast cores m ok v.0), version_given cores m (answer_given cast cores m ok v.0))
+      × (((after_answer cast cores m ok o).place m).session ≡ (cores.place m).session)) (sym v.1)
+      (own_given cores m (cores.place m).session (answer_given cast cores m ok v.0), up_given cores m (cores.place m).session (answer_given cast cores m ok v.0), version_given cores m (answer_given cast cores m ok v.0))
 
   asks : (hosts : Hosts) (cores : Cores) (m : ℕ) (ask : TicketAsk) (ok : Bool) → HostsHold c cast hosts cores → MayHost c cast hosts (DoesAsk m ask ok)
       → Follows c cast (hosted c cast hosts (DoesAsk m ask ok)) cores (IsHostReleaseAt c hosts (DoesAsk m ask ok)) (ReadsAt (DoesAsk m ask ok)) (StartsAt (DoesAsk m ask ok))
@@ -225,7 +225,7 @@ module _ (c : Cluster) (cast : Cast) (clocks : HasClocks c) (is_cast : IsCast c 
           let q = h_at.2 ok cores (record { same = refl; said_still = λ l h. h }) in
           let one = entered c cast cores (HasAnswer m kept ok) in
           let end = cores_after c cast one q.1.0 in
-          let led : IsLed c cast m (hosts.place m).reading (hosts.place m).second one q.1.0 = q.1.2 in
+          let led : IsLed c cast m (hosts.place m).reading (hosts.place m).session one q.1.0 = q.1.2 in
           let own = answer_own cores m kept ok q.0 in
           subst (λ (a : TicketAsk). Follows c cast (hosted c cast hosts (DoesAsk m a ok)) cores (IsHostReleaseAt c hosts (DoesAsk m a ok)) (ReadsAt (DoesAsk m a ok)) (StartsAt (DoesAsk m a ok))) same (
             HasAnswer m kept ok ∷ q.1.0,
@@ -247,7 +247,7 @@ module _ (c : Cluster) (cast : Cast) (clocks : HasClocks c) (is_cast : IsCast c 
           let h = here.stands_at (Does (Sends message) g) e in
           let q = h.2 ok cores (record { same = refl; said_still = λ l h. h }) in
           let end = cores_after c cast cores q.0 in
-          let led : IsLed c cast m (hosts.place m).reading (hosts.place m).second cores q.0 = q.2 in
+          let led : IsLed c cast m (hosts.place m).reading (hosts.place m).session cores q.0 = q.2 in
           subst (λ (a : TicketAsk). Follows c cast (hosted c cast hosts (DoesAsk m a ok)) cores (IsHostReleaseAt c hosts (DoesAsk m a ok)) (ReadsAt (DoesAsk m a ok)) (StartsAt (DoesAsk m a ok))) same (
             q.0,
             q.1,
@@ -266,7 +266,7 @@ module _ (c : Cluster) (cast : Cast) (clocks : HasClocks c) (is_cast : IsCast c 
           let h = here.stands_at (Does AsksElse g) e in
           let q = h.1 ok cores (record { same = refl; said_still = λ l h. h }) in
           let end = cores_after c cast cores q.0 in
-          let led : IsLed c cast m (hosts.place m).reading (hosts.place m).second cores q.0 = q.2 in
+          let led : IsLed c cast m (hosts.place m).reading (hosts.place m).session cores q.0 = q.2 in
           subst (λ (a : TicketAsk). Follows c cast (hosted c cast hosts (DoesAsk m a ok)) cores (IsHostReleaseAt c hosts (DoesAsk m a ok)) (ReadsAt (DoesAsk m a ok)) (StartsAt (DoesAsk m a ok))) same (
             q.0,
             q.1,
@@ -296,7 +296,7 @@ module _ (c : Cluster) (cast : Cast) (clocks : HasClocks c) (is_cast : IsCast c 
             (λ l h. h)
             (record {
               down = λ e. ap (λ (s : CorePlace). s.view) gone;
-              in_version = ap (λ (s : CorePlace). s.second) gone ∙ here.in_version;
+              in_version = ap (λ (s : CorePlace). s.session) gone ∙ here.in_version;
               stands_at = λ t e. absurd (none_is t e);
               is_up = λ t e. absurd (none_is t e);
               more = λ k h. subst (λ (s : CorePlace). Has s.may k) (sym gone) (here.more k h);
@@ -308,17 +308,17 @@ module _ (c : Cluster) (cast : Cast) (clocks : HasClocks c) (is_cast : IsCast c 
         (tt, tt),
       )
 
-  boots : (hosts : Hosts) (cores : Cores) (m time : ℕ) (second : Bool) (kept : Record) → HostsHold c cast hosts cores → MayHost c cast hosts (Boots m time second kept)
-      → Follows c cast (hosted c cast hosts (Boots m time second kept)) cores (IsHostReleaseAt c hosts (Boots m time second kept)) (ReadsAt (Boots m time second kept)) (StartsAt (Boots m time second kept))
-  boots hosts cores m time second kept i may =
+  boots : (hosts : Hosts) (cores : Cores) (m time : ℕ) (session : Session) (kept : Record) → HostsHold c cast hosts cores → MayHost c cast hosts (Boots m time session kept)
+      → Follows c cast (hosted c cast hosts (Boots m time session kept)) cores (IsHostReleaseAt c hosts (Boots m time session kept)) (ReadsAt (Boots m time session kept)) (StartsAt (Boots m time session kept))
+  boots hosts cores m time session kept i may =
       let here = i.each m may.0 in
       let now = reads c m time in
       let one = entered c cast cores (ReadsTime m time) in
       let read = put_same cores.place m (record (cores.place m) { reading = now; at = time }) in
-      let end = entered c cast one (StartsWith m second kept) in
-      let up = put_same one.place m (record (one.place m) { view = Some (started (cast.setup m second) kept (one.place m).reading); second = second; may = kept ∷ [] }) in
+      let end = entered c cast one (StartsWith m session kept) in
+      let up = put_same one.place m (record (one.place m) { view = Some (started (cast.setup m session) kept (one.place m).reading); session = session; may = kept ∷ [] }) in
       let reading : (one.place m).reading ≡ now = ap (λ (s : CorePlace). s.reading) read in (
-        ReadsTime m time ∷ StartsWith m second kept ∷ [],
+        ReadsTime m time ∷ StartsWith m session kept ∷ [],
         (
           (may.0, (let t = i.same_now in let l = may.1 in omega (arith, t, l)), may.2, λ so view e. absurd (none_is view (sym (here.down may.3) ∙ e))),
           (
@@ -326,7 +326,7 @@ module _ (c : Cluster) (cast : Cast) (clocks : HasClocks c) (is_cast : IsCast c 
               may.0,
               ap (λ (s : CorePlace). s.view) read ∙ here.down may.3,
               subst (λ (s : CorePlace). Has s.may kept) (sym read) (still m (hosts.place m) cores here kept may.4),
-              λ was. may.5 (sym here.in_version ∙ (ap (λ (s : CorePlace). s.second) (sym read) ∙ was)),
+              λ was. may.5 (ap (λ (s : Session). s.second) (sym here.in_version) ∙ (ap (λ (s : CorePlace). s.session.second) (sym read) ∙ was)),
             ),
             tt,
           ),
@@ -334,15 +334,15 @@ module _ (c : Cluster) (cast : Cast) (clocks : HasClocks c) (is_cast : IsCast c 
         moved hosts cores end m time _ hosts.sent i refl
             (λ k other. put_other one.place m k _ other ∙ put_other cores.place m k _ other)
             (λ l h. h)
-            (stands m (record { tree = Some (Ends (started (cast.setup m second) kept now)); second = second; reading = now; may = kept ∷ [] })
-            (Ends (started (cast.setup m second) kept now)) end refl (ap (λ (s : CorePlace). s.second) up) (
-              subst (λ (s : CorePlace). IsIdle (cast.setup m second) second now (started (cast.setup m second) kept now) s) (sym up)
+            (stands m (record { tree = Some (Ends (started (cast.setup m session) kept now)); session = session; reading = now; may = kept ∷ [] })
+            (Ends (started (cast.setup m session) kept now)) end refl (ap (λ (s : CorePlace). s.session) up) (
+              subst (λ (s : CorePlace). IsIdle (cast.setup m session) session now (started (cast.setup m session) kept now) s) (sym up)
                   (record {
-                    shows = ap (λ (r : ℕ). let o : Option View = Some (started (cast.setup m second) kept r) in o) reading;
+                    shows = ap (λ (r : ℕ). let o : Option View = Some (started (cast.setup m session) kept r) in o) reading;
                     in_version = refl;
                     at_rest = refl;
                     at_reading = reading;
-                    view_facts = start_facts (cast.setup m second) kept now;
+                    view_facts = start_facts (cast.setup m session) kept now;
                   }),
               subst (λ (s : CorePlace). MayMore s.may (kept ∷ [])) (sym up) (λ k h. h),
             )
@@ -352,7 +352,7 @@ module _ (c : Cluster) (cast : Cast) (clocks : HasClocks c) (is_cast : IsCast c 
         λ z h. ⊎_elim (λ (n : ⊥). n) (λ (h : ⊥ ⊎ ⊥). ⊎_elim (λ (n : ⊥). n) (λ (n : ⊥). n) h) h,
         (
           (refl, refl),
-          (subst (λ (s : CorePlace). HasRead c cast (ReadsAt (Boots m time second kept)) m s) (sym read) ((refl, refl), refl), tt),
+          (subst (λ (s : CorePlace). HasRead c cast (ReadsAt (Boots m time session kept)) m s) (sym read) ((refl, refl), refl), tt),
         ),
         (tt, (refl, tt)),
       )
@@ -378,21 +378,21 @@ module _ (c : Cluster) (cast : Cast) (clocks : HasClocks c) (is_cast : IsCast c 
   follows hosts cores (BeginsTurn m time came plan) i may = begins hosts cores m time came plan i may
   follows hosts cores (DoesAsk m ask ok) i may = asks hosts cores m ask ok i may
   follows hosts cores (Halts m) i may = halts hosts cores m i may
-  follows hosts cores (Boots m time second kept) i may = boots hosts cores m time second kept i may
+  follows hosts cores (Boots m time session kept) i may = boots hosts cores m time session kept i may
 
   pub follow_all : (hosts : Hosts) (cores : Cores) (entries : List HostEntry) → HostsHold c cast hosts cores → AreHosted c cast hosts entries → Follows c cast (hosts_after c cast hosts entries) cores (IsHostReleaseIn c cast hosts entries) (ReadsIn entries) (StartsIn entries)
   follow_all hosts cores [] i all = ([], tt, i, λ z n. n, tt, tt)
   follow_all hosts cores (entry ∷ entries) i all =
       let one = follows hosts cores entry i all.0 in
       let rest = follow_all (hosted c cast hosts entry) (cores_after c cast cores one.0) entries one.2 all.1 in
-      let j = entries_join c cast 0 0 false cores one.0 rest.0 one.1 rest.1 in (
+      let j = entries_join c cast 0 0 (opening_session false) cores one.0 rest.0 one.1 rest.1 in (
         one.0 ++ rest.0,
         j.0,
         subst (λ (n : Cores). HostsHold c cast (hosts_after c cast (hosted c cast hosts entry) entries) n) (sym j.1) rest.2,
         λ z h. ⊎_elim
             (λ (first : IsReleaseIn c cast cores one.0 z). inl (one.3 z first))
             (λ (second : IsReleaseIn c cast (cores_after c cast cores one.0) rest.0 z). inr (rest.3 z second))
-            (release_split c cast 0 0 false cores one.0 rest.0 z h),
+            (release_split c cast 0 0 (opening_session false) cores one.0 rest.0 z h),
         read_join c cast (ReadsIn (entry ∷ entries)) cores one.0 rest.0
             (read_more c cast (ReadsAt entry) (ReadsIn (entry ∷ entries)) (λ m time r. inl r) cores one.0 one.4)
             (read_more c cast (ReadsIn entries) (ReadsIn (entry ∷ entries)) (λ m time r. inr r) (cores_after c cast cores one.0) rest.0 rest.4),

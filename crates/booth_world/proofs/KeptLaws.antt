@@ -21,7 +21,6 @@ use Rattle.booth_ticket.specs.Keeping.{carry_out, keep_of, keep_once}
 use Rattle.booth_ticket.specs.Saying.{others, places_in, say, say_each, say_to}
 use Rattle.booth_node.specs.World.{stand_after}
 use Rattle.booth_world.specs.Kept.{AreOver, EndsByFailure, FailedKeepsSayNothing, RestsInKind, TicketsKeepTheirKinds}
-use Rattle.booth_world.proofs.Configured.{names_apart, setting_of}
 use Rattle.booth_world.proofs.ManualTerms.{stands_by_hand}
 use Rattle.booth_world.proofs.TellerWorlds.{stands_by_votes}
 
@@ -96,11 +95,8 @@ failed_keeps_say_nothing from now begun = by_keep begun.deed.keep
 -- ---- kinds
 
 pub tickets_keep_their_kinds : TicketsKeepTheirKinds
-tickets_keep_their_kinds w is_world place ticket there m below moment = by_kind ticket.manual refl
+tickets_keep_their_kinds w is_world ticket one m below moment = by_kind ticket.manual refl
   where
-    by_kind : (manual : Bool) → ticket.manual ≡ manual → RestsInKind place ticket (stand_after m moment.before)
-    by_kind false automatic =
-        stands_by_votes w is_world place ticket (setting_of w is_world.form.sound place ticket there automatic) m below moment
-    by_kind true by_hand =
-        stands_by_hand w is_world place ticket m below there by_hand
-        (λ other t at ne. names_apart w.config is_world.form.sound place other ticket t there at ne) moment
+    by_kind : (manual : Bool) → ticket.manual ≡ manual → RestsInKind ticket (stand_after m moment.before)
+    by_kind false automatic = stands_by_votes w is_world ticket one automatic m below moment
+    by_kind true by_hand = stands_by_hand w is_world ticket one by_hand m below moment

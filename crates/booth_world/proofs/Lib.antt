@@ -42,11 +42,13 @@ pub mod NodeTrees
 pub mod ManualKeeps
 pub mod NodeTurns
 pub mod NodeArrivals
+pub mod AbsentTurns
 pub mod HostRuns
 pub mod WorldSteps
 pub mod Beginnings
 pub mod WorldEntries
 pub mod WorldHosts
+pub mod WorldGoes
 pub mod WorldRuns
 pub mod ManualTerms
 pub mod Configured
@@ -76,3 +78,4 @@ pub mod TellerNodes
 pub mod TellerMembers
 pub mod TellerWorlds
 pub mod KeptLaws
+pub mod WaitingLaws

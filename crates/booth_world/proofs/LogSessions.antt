@@ -1,5 +1,5 @@
 -- The calls of a node log are those of a session, also where its last turn stopped.
-use Rattle.std.proofs.Common.{◌≡◌, ℕ, Bool, List, [], ◌∷◌, ◌++◌, refl, sym, ap, subst}
+use Rattle.std.proofs.Common.{◌≡◌, Bool, List, [], ◌∷◌, ◌++◌, refl, sym, ap, subst}
 use Rattle.std.specs.Prelude.{Option}
 use Rattle.booth_keys.specs.declared.ring.Ring.{Ring}
 use Rattle.booth_base.specs.Tree.{Deeds, Ends, Does, Leads}

@@ -4,7 +4,7 @@ use Rattle.booth_base.specs.Tree.{Ends, Does}
 use Rattle.booth_base.specs.declared.name.Name.{Name}
 use Rattle.booth_raft.specs.declared.view.View.{View}
 use Rattle.booth_world.specs.States.{HasClocks}
-use Rattle.booth_world.specs.Cores.{IsCast}
+use Rattle.booth_world.specs.Cores.{IsCast, opening_session}
 use Rattle.booth_world.specs.CoreLaws.{CoreCourse, CoreHolds, early_cores}
 use Rattle.booth_world.specs.Rules.{Asks, Greets, lease_rules}
 use Rattle.booth_world.specs.Turns.{TurnTree, call_tree, LeavesAlways}
@@ -61,7 +61,7 @@ left_so P so (Does ask go) = λ ok. left_so P so (go ok)
 -- the deeds of its call
 abbrev asks_tree : Name → TurnTree
 asks_tree ticket =
-    let s = (lone_cast ticket).setup 0 false in
+    let s = (lone_cast ticket).setup 0 (opening_session false) in
     let view = lease_rules.start s no_record 0 in
     call_tree s 6 (lease_rules.call s view 6 Greets).view (Asks 0)
 

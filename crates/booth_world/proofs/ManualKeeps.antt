@@ -58,6 +58,7 @@ use Rattle.booth_node.specs.Reaction.{Action, Drops, Hears, Asks, Attends, Answe
 use Rattle.booth_node.specs.State.{State, with_ticket}
 use Rattle.booth_ticket.proofs.WalkLemmas.{Any}
 use Rattle.booth_world.proofs.Lists.{some_same}
+use Rattle.booth_world.proofs.TellerClaims.{found_or_not}
 use Rattle.booth_world.proofs.NodeTrees.{Minds, HasSetup, lifts, sends_on, minds_asked, minds_due, minds_heard, minds_over}
 
 -- ---- one ticket's deeds
@@ -349,13 +350,17 @@ over_high moment number service s (Manual known) waiters spare term ready job h 
 
 -- ---- the node's deeds
 
-module _ (name : List ℕ) (place : ℕ) where
-  -- the manual ticket stands at its place with at least this term, and no other has its name
-  pub record IsPlaced (term : ℕ) (tickets : List TicketState) : Type 0 where
+module _ (name : List ℕ) (found : Option ℕ) where
+  -- a manual ticket stands at a place with at least this term
+  pub record IsHighOwn (place term : ℕ) (tickets : List TicketState) : Type 0 where
     pub ticket : TicketState
     pub own : slice_get tickets place ≡ Some ticket
     pub high : IsHigh term ticket.known
-    pub others : (other : ℕ) (t : TicketState) → slice_get tickets other ≡ Some t → other ≢ place → t.setup.ticket ≢ name
+
+  -- where the ticket was found, it stands so, and no other has its name
+  pub record IsPlaced (term : ℕ) (tickets : List TicketState) : Type 0 where
+    pub own : (place : ℕ) → found ≡ Some place → IsHighOwn place term tickets
+    pub others : (other : ℕ) (t : TicketState) → slice_get tickets other ≡ Some t → found ≢ Some other → t.setup.ticket ≢ name
 
   -- the same of the node's deeds, in which other tickets' keeps stand between
   abbrev pub KeepsHigh : ℕ → Deeds Ask State → Type 0
@@ -368,9 +373,8 @@ module _ (name : List ℕ) (place : ℕ) where
 
   placed_lower : (term higher : ℕ) (tickets : List TicketState) → term ≤ higher → IsPlaced higher tickets → IsPlaced term tickets
   placed_lower term higher tickets less at = record {
-    ticket = at.ticket;
-    own = at.own;
-    high = high_lower term higher at.ticket.known less at.high;
+    own = λ place here. let old : IsHighOwn place higher tickets = at.own place here in
+        record { ticket = old.ticket; own = old.own; high = high_lower term higher old.ticket.known less old.high };
     others = at.others;
   }
 
@@ -428,26 +432,36 @@ module _ (name : List ℕ) (place : ℕ) where
         by_peer (Some peer) more = λ ok. more (count_send common to ok)
 
     -- what a ticket left stands in its place
-    own_left : (state : State) (term least : ℕ) (counted : Common) (left : TicketLeft) → IsPlaced term state.tickets → IsHighLeft least left
-        → IsPlaced least (with_ticket state place counted left).tickets
-    own_left state term least counted left at high = record {
-      ticket = left.ticket;
-      own = slice_get-set_same state.tickets place left.ticket (slice_get_within state.tickets place at.ticket at.own);
-      high = high;
-      others = λ other t is ne. at.others other t (sym (slice_get-set_other state.tickets place other left.ticket ne) ∙ is) ne;
-    }
+    own_left : (state : State) (place term least : ℕ) (counted : Common) (left : TicketLeft) → IsPlaced term state.tickets → found ≡ Some place
+        → IsHighLeft least left → IsPlaced least (with_ticket state place counted left).tickets
+    own_left state place term least counted left at here high =
+        let old : IsHighOwn place term state.tickets = at.own place here in
+        let new : IsHighOwn place least (with_ticket state place counted left).tickets = record {
+          ticket = left.ticket;
+          own = slice_get-set_same state.tickets place left.ticket (slice_get_within state.tickets place old.ticket old.own);
+          high = high;
+        } in
+        record {
+          own = λ p e. subst (λ (n : ℕ). IsHighOwn n least (with_ticket state place counted left).tickets) (some_same place p (sym here ∙ e)) new;
+          others = λ other t is ne.
+              at.others other t
+              (sym (slice_get-set_other state.tickets place other left.ticket (λ q. ne (here ∙ ap (λ (n : ℕ). Some n) (sym q)))) ∙ is) ne;
+        }
 
     other_left : (state : State) (other term : ℕ) (t : TicketState) (counted : Common) (left : TicketLeft) → IsPlaced term state.tickets
-        → slice_get state.tickets other ≡ Some t → other ≢ place → left.ticket.setup ≡ t.setup
+        → slice_get state.tickets other ≡ Some t → found ≢ Some other → left.ticket.setup ≡ t.setup
         → IsPlaced term (with_ticket state other counted left).tickets
     other_left state other term t counted left at is ne same = record {
-      ticket = at.ticket;
-      own = slice_get-set_other state.tickets other place left.ticket (λ e. ne (sym e)) ∙ at.own;
-      high = at.high;
+      own = λ p e. let old : IsHighOwn p term state.tickets = at.own p e in
+          record {
+            ticket = old.ticket;
+            own = slice_get-set_other state.tickets other p left.ticket (λ q. ne (e ∙ ap (λ (n : ℕ). Some n) q)) ∙ old.own;
+            high = old.high;
+          };
       others = λ o u read away. by_place o u read away (same_or_not o other);
     }
       where
-        by_place : (o : ℕ) (u : TicketState) → slice_get (set state.tickets other left.ticket) o ≡ Some u → o ≢ place → (o ≡ other) ⊎ (o ≢ other)
+        by_place : (o : ℕ) (u : TicketState) → slice_get (set state.tickets other left.ticket) o ≡ Some u → found ≢ Some o → (o ≡ other) ⊎ (o ≢ other)
             → u.setup.ticket ≢ name
         by_place o u read away (inl e) =
             let there : slice_get (set state.tickets other left.ticket) other ≡ Some left.ticket =
@@ -466,20 +480,21 @@ module _ (name : List ℕ) (place : ℕ) where
 
     acts_keep : (state : State) (at_place term : ℕ) (event : Befalling) → BefallsHigh moment event → MindsEvent event
         → IsPlaced term state.tickets → KeepsHigh term (acts node moment state at_place event)
-    acts_keep state at_place term event own_high minds at = by_place (same_or_not at_place place)
+    acts_keep state at_place term event own_high minds at = by_place (found_or_not found at_place)
       where
-        own : KeepsHigh term (acts node moment state place event)
-        own =
-            subst (λ (o : Option TicketState). KeepsHigh term (acts_as node moment state place event o)) (sym at.own)
-            (own_keeps at.ticket.setup.ticket term state.common
-            (befalls at.ticket (waiting_at state.waiters place) (spare_in state.waiters) (is_ready node state.attributes place)
-            (job_at node place state.common) event moment)
-            (λ common left. Ends (with_ticket state place common left))
-            (own_high at.ticket.setup at.ticket.known (waiting_at state.waiters place) (spare_in state.waiters) term
-            (is_ready node state.attributes place) (job_at node place state.common) at.high)
-            (λ least counted left high. own_left state term least counted left at high))
+        own : found ≡ Some at_place → KeepsHigh term (acts node moment state at_place event)
+        own here =
+            let placed : IsHighOwn at_place term state.tickets = at.own at_place here in
+            subst (λ (o : Option TicketState). KeepsHigh term (acts_as node moment state at_place event o)) (sym placed.own)
+            (own_keeps placed.ticket.setup.ticket term state.common
+            (befalls placed.ticket (waiting_at state.waiters at_place) (spare_in state.waiters) (is_ready node state.attributes at_place)
+            (job_at node at_place state.common) event moment)
+            (λ common left. Ends (with_ticket state at_place common left))
+            (own_high placed.ticket.setup placed.ticket.known (waiting_at state.waiters at_place) (spare_in state.waiters) term
+            (is_ready node state.attributes at_place) (job_at node at_place state.common) placed.high)
+            (λ least counted left high. own_left state at_place term least counted left at here high))
 
-        other : at_place ≢ place → (o : Option TicketState) → slice_get state.tickets at_place ≡ o
+        other : found ≢ Some at_place → (o : Option TicketState) → slice_get state.tickets at_place ≡ o
             → KeepsHigh term (acts_as node moment state at_place event o)
         other ne None is = at
         other ne (Some t) is =
@@ -491,8 +506,8 @@ module _ (name : List ℕ) (place : ℕ) where
             (job_at node at_place state.common))
             (λ counted left same. other_left state at_place term t counted left at is ne same)
 
-        by_place : (at_place ≡ place) ⊎ (at_place ≢ place) → KeepsHigh term (acts node moment state at_place event)
-        by_place (inl e) = subst (λ (n : ℕ). KeepsHigh term (acts node moment state n event)) (sym e) own
+        by_place : (found ≡ Some at_place) ⊎ (found ≢ Some at_place) → KeepsHigh term (acts node moment state at_place event)
+        by_place (inl here) = own here
         by_place (inr ne) = other ne (slice_get state.tickets at_place) refl
 
     due_acts : (state : State) (at_place term : ℕ) → IsPlaced term state.tickets → KeepsHigh term (acts node moment state at_place comes_due)

@@ -76,7 +76,7 @@ AreReplies node [] = Unit {0}
 AreReplies node (message ∷ messages) = IsReply node message × AreReplies node messages
 
 -- what an action that hears or answers comes from
-abbrev Comes : NodeConfig → Result PlainMessage DropFault → Action → Type 0
+abbrev pub Comes : NodeConfig → Result PlainMessage DropFault → Action → Type 0
 Comes node r (Hears member place head part) = IsLetIn node r member place head part
 Comes node r (Answers messages) = AreReplies node messages
 Comes node r act = Unit {0}
@@ -176,7 +176,7 @@ module _ (node : NodeConfig) (now : ℕ) (tickets : List TicketState) (common : 
   from_routed from message ToClient e is = tt
   from_routed from message BetweenMembers e is = from_said message message.content refl is e
 
-  comes : (from : Peer) (o : Result PlainMessage DropFault) → r ≡ o → Comes node r (demanded node now tickets common from o)
+  pub comes : (from : Peer) (o : Result PlainMessage DropFault) → r ≡ o → Comes node r (demanded node now tickets common from o)
   comes from (Err fault) e = tt
   comes from (Ok message) e = from_routed from message (direction_of message.head.cmd) refl e
 

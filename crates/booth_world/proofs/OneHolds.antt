@@ -8,16 +8,16 @@ use Rattle.booth_ticket.specs.Saying.{say_each, say_to}
 use Rattle.booth_ticket.specs.Requests.{acquire_for, follow_request, release_for, reply}
 use Rattle.booth_ticket.specs.Automatic.{come_due, hear, hear_message, tick}
 use Rattle.booth_node.specs.Session.{AreSessions, Down}
-use Rattle.booth_node.specs.World.{HasForm, HasTrueClocks, IsWorld, entries_of, members_of, AtEach, HearsSent, ReadsKept, stand_after}
+use Rattle.booth_node.specs.World.{HasForm, HasTrueClocks, IsWorld, entries_of, members_of, AtEach, HearsSent, ReadsKept, stand_after, IsOneTicket}
 use Rattle.booth_node.specs.Held.{Moment}
 use Rattle.booth_world.specs.Premises.{HoldsAt}
 use Rattle.booth_world.specs.WorldExamples.{alone, one_holds, grant_it, lease, web}
 use Rattle.booth_world.proofs.AlongWorlds.{at_each, versions_first, reads_true, only_web, from_client, is_read_below}
-use Rattle.booth_world.proofs.WorldParts.{one_sound, has_form, exact_clocks}
+use Rattle.booth_world.proofs.WorldParts.{one_sound, has_form, exact_clocks, web_one}
 use Rattle.booth_world.proofs.Beginnings.{none_holds}
 
 one_form : HasForm one_holds
-one_form = has_form one_holds one_sound ((omega arith, omega arith, omega arith), ((omega arith, omega arith, omega arith), ((omega arith, omega arith, omega arith), ((omega arith, omega arith, omega arith), ((omega arith, omega arith, omega arith), tt)))))
+one_form = has_form one_holds one_sound refl ((omega arith, omega arith, omega arith), ((omega arith, omega arith, omega arith), ((omega arith, omega arith, omega arith), ((omega arith, omega arith, omega arith), ((omega arith, omega arith, omega arith), tt)))))
 
 one_clocks : HasTrueClocks one_holds
 one_clocks = exact_clocks alone _ (sym (reads_true 60000 0 (omega arith)), (tt, (sym (reads_true 60000 7000 (omega arith)), (tt, (tt, tt)))))
@@ -41,7 +41,7 @@ pub one_is_world : IsWorld one_holds
 one_is_world = record {
   form = one_form;
   nothing_held = none_holds one_holds (λ m place. refl);
-  one_configuration = at_each one_holds _ (refl, (tt, (tt, (tt, (tt, tt)))));
+  same_members = at_each one_holds _ (record { sound = one_sound; members = refl; me = refl }, (tt, (tt, (tt, (tt, tt)))));
   true_clocks = one_clocks;
   records_return = one_reads;
   versions_rise = versions_first one_holds (λ m. refl) refl;
@@ -60,9 +60,14 @@ at_last = record {
   within = omega arith;
 }
 
-pub one_is_held : HoldsAt one_holds 0 web 0 12999
+-- each start has the ticket as it is
+one_web : IsOneTicket one_holds web
+one_web =
+    web_one one_holds alone one_sound (refl, (tt, (tt, (tt, (tt, tt)))))
+
+pub one_is_held : HoldsAt one_holds web 0 12999
 one_is_held = record {
-  automatic = (refl, refl);
+  automatic = (one_web, refl);
   moment = at_last;
   at = refl;
   holds = (lease 1 13000, (omega arith, inl refl, is_read_below 60000 12999 13000 (omega arith) (omega arith)));

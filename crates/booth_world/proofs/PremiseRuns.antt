@@ -8,13 +8,13 @@ use Rattle.booth_ticket.specs.Saying.{say_each, say_to}
 use Rattle.booth_ticket.specs.Requests.{acquire_for, follow_request, release_for, reply}
 use Rattle.booth_ticket.specs.Automatic.{come_due, hear, hear_message, tick}
 use Rattle.booth_node.specs.Session.{AreSessions, Down}
-use Rattle.booth_node.specs.World.{HasForm, entries_of}
+use Rattle.booth_node.specs.World.{HasForm, entries_of, IsOneTicket}
 use Rattle.booth_node.specs.Held.{Moment}
-use Rattle.booth_world.specs.Premises.{Premise, OneConfiguration, TrueClocks, RecordsReturn, VersionsRise, MembersSpeak, OneDaemon, Meets, IsWorldBut, TwoHold, NothingHeld}
+use Rattle.booth_world.specs.Premises.{Premise, SameMembers, TrueClocks, RecordsReturn, VersionsRise, MembersSpeak, OneDaemon, Meets, IsWorldBut, TwoHold, NothingHeld}
 use Rattle.booth_world.specs.WorldExamples.{site_one, site_two, two_sites, web, lease}
 use Rattle.booth_world.specs.PremiseExamples.{with_foreign_records, with_leases_at_first, with_forged_votes}
 use Rattle.booth_world.proofs.AlongWorlds.{◌&◌, at_each, versions_first, reads_true, only_web, is_read_below}
-use Rattle.booth_world.proofs.WorldParts.{two_sound, has_form, exact_clocks, asks_votes_fit, is_open_fits}
+use Rattle.booth_world.proofs.WorldParts.{two_sound, has_form, exact_clocks, asks_votes_fit, is_open_fits, web_one}
 use Rattle.booth_world.proofs.Beginnings.{none_holds}
 
 -- ---- records that were never kept
@@ -26,7 +26,7 @@ foreign_daemons (suc (suc m)) below = absurd (omega (arith, below))
 
 foreign_meets : (premise : Premise) → premise ≢ RecordsReturn → Meets with_foreign_records premise
 foreign_meets NothingHeld other = none_holds with_foreign_records (λ m place. refl)
-foreign_meets OneConfiguration other = at_each with_foreign_records _ (refl, (refl, tt))
+foreign_meets SameMembers other = at_each with_foreign_records _ (record { sound = two_sound; members = refl; me = refl }, (record { sound = two_sound; members = refl; me = refl }, tt))
 foreign_meets TrueClocks other = exact_clocks two_sites _ (sym (reads_true 60000 0 (omega arith)), (sym (reads_true 60000 0 (omega arith)), tt))
 foreign_meets RecordsReturn other = absurd (other refl)
 foreign_meets VersionsRise other = versions_first with_foreign_records (λ m. refl) refl
@@ -34,7 +34,7 @@ foreign_meets MembersSpeak other = at_each with_foreign_records _ (tt, (tt, tt))
 foreign_meets OneDaemon other = foreign_daemons
 
 pub foreign_but : IsWorldBut RecordsReturn with_foreign_records
-foreign_but = (has_form with_foreign_records two_sound ((omega arith, omega arith, omega arith), ((omega arith, omega arith, omega arith), tt)), foreign_meets)
+foreign_but = (has_form with_foreign_records two_sound refl ((omega arith, omega arith, omega arith), ((omega arith, omega arith, omega arith), tt)), foreign_meets)
 
 abbrev foreign_moment : Moment with_foreign_records
 foreign_moment = record {
@@ -47,11 +47,15 @@ foreign_moment = record {
   within = omega arith;
 }
 
+-- each start has the ticket as it is
+foreign_web : IsOneTicket with_foreign_records web
+foreign_web =
+    web_one with_foreign_records two_sites two_sound (refl, (refl, tt))
+
 pub foreign_two : TwoHold with_foreign_records
 foreign_two = record {
-  place = 0;
   ticket = web;
-  automatic = (refl, refl);
+  automatic = (foreign_web, refl);
   moment = foreign_moment;
   first = 0;
   second = 1;
@@ -69,7 +73,7 @@ first_clocks =
 
 first_meets : (premise : Premise) → premise ≢ NothingHeld → Meets with_leases_at_first premise
 first_meets NothingHeld other = absurd (other refl)
-first_meets OneConfiguration other = at_each with_leases_at_first _ (refl, (refl, tt))
+first_meets SameMembers other = at_each with_leases_at_first _ (record { sound = two_sound; members = refl; me = refl }, (record { sound = two_sound; members = refl; me = refl }, tt))
 first_meets TrueClocks other = first_clocks
 first_meets RecordsReturn other = at_each with_leases_at_first _ (only_web _ (inl refl), (only_web _ (inl refl), tt))
 first_meets VersionsRise other = versions_first with_leases_at_first (λ m. refl) refl
@@ -77,7 +81,7 @@ first_meets MembersSpeak other = at_each with_leases_at_first _ (tt, (tt, tt))
 first_meets OneDaemon other = foreign_daemons
 
 pub first_but : IsWorldBut NothingHeld with_leases_at_first
-first_but = (has_form with_leases_at_first two_sound ((omega arith, omega arith, omega arith), ((omega arith, omega arith, omega arith), tt)), first_meets)
+first_but = (has_form with_leases_at_first two_sound refl ((omega arith, omega arith, omega arith), ((omega arith, omega arith, omega arith), tt)), first_meets)
 
 abbrev first_moment : Moment with_leases_at_first
 first_moment = record {
@@ -90,11 +94,15 @@ first_moment = record {
   within = omega arith;
 }
 
+-- each start has the ticket as it is
+first_web : IsOneTicket with_leases_at_first web
+first_web =
+    web_one with_leases_at_first two_sites two_sound (refl, (refl, tt))
+
 pub first_two : TwoHold with_leases_at_first
 first_two = record {
-  place = 0;
   ticket = web;
-  automatic = (refl, refl);
+  automatic = (first_web, refl);
   moment = first_moment;
   first = 0;
   second = 1;
@@ -120,9 +128,9 @@ forged_daemons (suc (suc m)) below = absurd (omega (arith, below))
 
 forged_meets : (premise : Premise) → premise ≢ MembersSpeak → Meets with_forged_votes premise
 forged_meets NothingHeld other = none_holds with_forged_votes (λ m place. refl)
-forged_meets OneConfiguration other =
-    at_each with_forged_votes _ (refl
-    & refl
+forged_meets SameMembers other =
+    at_each with_forged_votes _ (record { sound = two_sound; members = refl; me = refl }
+    & record { sound = two_sound; members = refl; me = refl }
     & tt
     & tt
     & tt
@@ -189,7 +197,7 @@ forged_but = (forged_form, forged_meets)
   where
     forged_form : HasForm with_forged_votes
     forged_form =
-        has_form with_forged_votes two_sound ((omega arith, omega arith, omega arith)
+        has_form with_forged_votes two_sound refl ((omega arith, omega arith, omega arith)
         & (omega arith, omega arith, omega arith)
         & (omega arith, omega arith, omega arith)
         & (omega arith, omega arith, omega arith)
@@ -220,11 +228,33 @@ forged_moment = record {
   within = omega arith;
 }
 
+-- each start has the ticket as it is
+forged_web : IsOneTicket with_forged_votes web
+forged_web =
+    web_one with_forged_votes two_sites two_sound (refl
+    & refl
+    & tt
+    & tt
+    & tt
+    & tt
+    & tt
+    & tt
+    & tt
+    & tt
+    & tt
+    & tt
+    & tt
+    & tt
+    & tt
+    & tt
+    & tt
+    & tt
+    & tt)
+
 pub forged_two : TwoHold with_forged_votes
 forged_two = record {
-  place = 0;
   ticket = web;
-  automatic = (refl, refl);
+  automatic = (forged_web, refl);
   moment = forged_moment;
   first = 0;
   second = 1;

@@ -10,13 +10,13 @@ use Rattle.booth_ticket.specs.Saying.{say_each, say_to}
 use Rattle.booth_ticket.specs.Requests.{acquire_for, follow_request, release_for, reply}
 use Rattle.booth_ticket.specs.Automatic.{come_due, hear, hear_message, tick}
 use Rattle.booth_node.specs.Session.{AreSessions, Down}
-use Rattle.booth_node.specs.World.{HasForm, HasConfiguration, HasTrueClocks, IsWorld, entries_of, members_of, AtEach, HearsSent, ReadsKept, StaysSecond, stand_after}
+use Rattle.booth_node.specs.World.{HasForm, HasConfiguration, HasTrueClocks, IsWorld, entries_of, members_of, AtEach, HearsSent, ReadsKept, StaysSecond, stand_after, IsOneTicket}
 use Rattle.booth_node.specs.Held.{Moment}
 use Rattle.booth_world.specs.Premises.{HoldsAt}
 use Rattle.booth_world.specs.WorldExamples.{site_one, site_two, arbitrator, three_members, at, sends, port_of, web, lease, grant_it, asks_votes, votes}
 use Rattle.booth_world.specs.VersionExamples.{granted_before, begins_to_keep, answers_at_once, promises_kept}
 use Rattle.booth_world.proofs.AlongWorlds.{◌&◌, at_each, reads_true, only_web, from_client, from_member, is_read_below, never_second}
-use Rattle.booth_world.proofs.WorldParts.{three_sound, has_form, exact_clocks, asks_votes_fit, votes_fit, is_open_fits, asks_state_fits}
+use Rattle.booth_world.proofs.WorldParts.{three_sound, has_form, exact_clocks, asks_votes_fit, votes_fit, is_open_fits, asks_state_fits, web_one}
 use Rattle.booth_world.proofs.Beginnings.{none_holds}
 
 session_one : AreSessions Down (entries_of 0 promises_kept.entries)
@@ -83,9 +83,9 @@ messages =
 
 configured : AtEach promises_kept (λ before entry. HasConfiguration promises_kept entry entry.what)
 configured =
-    at_each promises_kept _ (refl
-    & refl
-    & refl
+    at_each promises_kept _ (record { sound = three_sound; members = refl; me = refl }
+    & record { sound = three_sound; members = refl; me = refl }
+    & record { sound = three_sound; members = refl; me = refl }
     & tt
     & tt
     & tt
@@ -100,8 +100,8 @@ configured =
     & tt
     & tt
     & tt
-    & refl
-    & refl
+    & record { sound = three_sound; members = refl; me = refl }
+    & record { sound = three_sound; members = refl; me = refl }
     & tt
     & tt
     & tt
@@ -111,7 +111,7 @@ configured =
     & tt
     & tt
     & tt
-    & refl
+    & record { sound = three_sound; members = refl; me = refl }
     & tt
     & tt
     & tt
@@ -203,7 +203,7 @@ records =
 
 form : HasForm promises_kept
 form =
-    has_form promises_kept three_sound ((omega arith, omega arith, omega arith)
+    has_form promises_kept three_sound refl ((omega arith, omega arith, omega arith)
     & (omega arith, omega arith, omega arith)
     & (omega arith, omega arith, omega arith)
     & (omega arith, omega arith, omega arith)
@@ -285,7 +285,7 @@ pub is_world : IsWorld promises_kept
 is_world = record {
   form = form;
   nothing_held = none_holds promises_kept (λ m place. refl);
-  one_configuration = configured;
+  same_members = configured;
   true_clocks = clocks;
   records_return = records;
   versions_rise = versions;
@@ -315,17 +315,58 @@ late = record {
   within = omega arith;
 }
 
-pub first_holds : HoldsAt promises_kept 0 web 0 12999
+-- each start has the ticket as it is
+one_web : IsOneTicket promises_kept web
+one_web =
+    web_one promises_kept three_members three_sound (refl
+    & refl
+    & refl
+    & tt
+    & tt
+    & tt
+    & tt
+    & tt
+    & tt
+    & tt
+    & tt
+    & tt
+    & tt
+    & tt
+    & tt
+    & tt
+    & tt
+    & refl
+    & refl
+    & tt
+    & tt
+    & tt
+    & tt
+    & tt
+    & tt
+    & tt
+    & tt
+    & tt
+    & refl
+    & tt
+    & tt
+    & tt
+    & tt
+    & tt
+    & tt
+    & tt
+    & tt)
+
+pub first_holds : HoldsAt promises_kept web 0 12999
 first_holds = record {
-  automatic = (refl, refl);
+  automatic = (one_web, refl);
   moment = early;
   at = refl;
   holds = (lease 1 13000, (omega arith, inl refl, is_read_below 60000 12999 13000 (omega arith) (omega arith)));
 }
 
-pub second_holds : HoldsAt promises_kept 0 web 1 25999
+pub second_holds : HoldsAt promises_kept web 1 25999
 second_holds = record {
-  automatic = (refl, refl);
+  automatic = (one_web, refl);
   moment = late;
   at = refl;
   holds = (lease 2 26000, (omega arith, inl refl, is_read_below 60000 25999 26000 (omega arith) (omega arith)));

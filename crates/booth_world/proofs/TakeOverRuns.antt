@@ -10,18 +10,18 @@ use Rattle.booth_ticket.specs.Saying.{say_each, say_to}
 use Rattle.booth_ticket.specs.Requests.{acquire_for, follow_request, release_for, reply}
 use Rattle.booth_ticket.specs.Automatic.{come_due, hear, hear_message, tick}
 use Rattle.booth_node.specs.Session.{AreSessions, Down}
-use Rattle.booth_node.specs.World.{HasForm, HasTrueClocks, IsWorld, entries_of, members_of, AtEach, HearsSent, ReadsKept, stand_after}
+use Rattle.booth_node.specs.World.{HasForm, HasTrueClocks, IsWorld, entries_of, members_of, AtEach, HearsSent, ReadsKept, stand_after, IsOneTicket}
 use Rattle.booth_node.specs.Held.{Moment}
 use Rattle.booth_world.specs.Premises.{HoldsAt}
 use Rattle.booth_world.specs.WorldExamples.{site_one, site_two, arbitrator, three_members, at, sends, port_of, web, lease, grant_it, revoke_it, asks_votes, votes, tells_lease, is_cut_sending}
 use Rattle.booth_world.specs.TakeOverExample.{taken_over, it_is_granted, its_holder_crashes, another_takes_it_over}
 use Rattle.booth_world.proofs.Beginnings.{none_holds}
 use Rattle.booth_world.proofs.AlongWorlds.{◌&◌, at_each, versions_first, reads_true, only_web, from_client, from_member, is_read_below}
-use Rattle.booth_world.proofs.WorldParts.{three_sound, has_form, exact_clocks, asks_votes_fit, votes_fit, is_open_fits, tells_lease_fits, asks_state_fits}
+use Rattle.booth_world.proofs.WorldParts.{three_sound, has_form, exact_clocks, asks_votes_fit, votes_fit, is_open_fits, tells_lease_fits, asks_state_fits, web_one}
 
 form : HasForm taken_over
 form =
-    has_form taken_over three_sound ((omega arith, omega arith, omega arith)
+    has_form taken_over three_sound refl ((omega arith, omega arith, omega arith)
     & (omega arith, omega arith, omega arith)
     & (omega arith, omega arith, omega arith)
     & (omega arith, omega arith, omega arith)
@@ -328,10 +328,10 @@ pub taken_over_is_world : IsWorld taken_over
 taken_over_is_world = record {
   form = form;
   nothing_held = none_holds taken_over (λ m place. refl);
-  one_configuration =
-      at_each taken_over _ (refl
-      & refl
-      & refl
+  same_members =
+      at_each taken_over _ (record { sound = three_sound; members = refl; me = refl }
+      & record { sound = three_sound; members = refl; me = refl }
+      & record { sound = three_sound; members = refl; me = refl }
       & tt
       & tt
       & tt
@@ -351,7 +351,7 @@ taken_over_is_world = record {
       & tt
       & tt
       & tt
-      & refl
+      & record { sound = three_sound; members = refl; me = refl }
       & tt
       & tt
       & tt
@@ -400,17 +400,60 @@ late = record {
   within = omega arith;
 }
 
-pub first_holds : HoldsAt taken_over 0 web 0 12999
+-- each start has the ticket as it is
+pub one_web : IsOneTicket taken_over web
+one_web =
+    web_one taken_over three_members three_sound (refl
+    & refl
+    & refl
+    & tt
+    & tt
+    & tt
+    & tt
+    & tt
+    & tt
+    & tt
+    & tt
+    & tt
+    & tt
+    & tt
+    & tt
+    & tt
+    & tt
+    & tt
+    & tt
+    & tt
+    & tt
+    & tt
+    & refl
+    & tt
+    & tt
+    & tt
+    & tt
+    & tt
+    & tt
+    & tt
+    & tt
+    & tt
+    & tt
+    & tt
+    & tt
+    & tt
+    & tt
+    & tt
+    & tt)
+
+pub first_holds : HoldsAt taken_over web 0 12999
 first_holds = record {
-  automatic = (refl, refl);
+  automatic = (one_web, refl);
   moment = early;
   at = refl;
   holds = (lease 1 13000, (omega arith, inl refl, is_read_below 60000 12999 13000 (omega arith) (omega arith)));
 }
 
-pub second_holds : HoldsAt taken_over 0 web 1 25999
+pub second_holds : HoldsAt taken_over web 1 25999
 second_holds = record {
-  automatic = (refl, refl);
+  automatic = (one_web, refl);
   moment = late;
   at = refl;
   holds = (lease 2 26000, (omega arith, inl refl, is_read_below 60000 25999 26000 (omega arith) (omega arith)));

@@ -1,9 +1,10 @@
 -- What a member tells of a ticket, and the records that bear it out.
-use Rattle.std.proofs.Common.{◌≡◌, ◌≢◌, ◌⊎◌, ⊎_elim, ℕ, ◌<◌, List, slice_get, sym, ◌∙◌, arith}
+use Rattle.std.proofs.Common.{◌≡◌, ◌≢◌, ◌⊎◌, ⊎_elim, inl, inr, ℕ, ◌<◌, List, [], ◌∷◌, slice_get, refl, sym, ap, ◌∙◌, subst, arith}
 use Rattle.std.specs.Prelude.{Option, Some, None, IsSomeAnd, is_some}
 use Rattle.booth_keys.specs.declared.ring.Ring.{Ring}
 use Rattle.booth_base.specs.declared.address.Address.{Address}
 use Rattle.booth_base.specs.declared.address.MemberId.{MemberId}
+use Rattle.booth_chain.proofs.NodesLemmas.{same_or_not}
 use Rattle.booth_rec.specs.declared.record.Lease.{Lease}
 use Rattle.booth_rec.specs.declared.record.Record.{Record}
 use Rattle.booth_rec.specs.Record.{lease_end}
@@ -15,11 +16,23 @@ use Rattle.booth_host.specs.declared.host.Job.{Job}
 use Rattle.booth_ticket.specs.Ticket.{TicketState, Known}
 use Rattle.booth_node.specs.Records.{Has}
 use Rattle.booth_world.specs.Tellers.{Claim, IsGranted, HasLeft, EndsIn, IsListed, BearsOut, HasNone, JobTells, ListTells, MessageTells}
+use Rattle.booth_world.proofs.Lists.{none_is, some_same}
 use Rattle.booth_world.proofs.TellerTickets.{IsHonest}
 
--- one of these records has a lease that bears the claim out
+-- one of these records may be kept; and where a grant's success is told, it is kept, as no other may be
+abbrev pub IsKeptFor : List Record → Record → Claim → Type 0
+IsKeptFor may k (IsGranted head) = may ≡ k ∷ []
+IsKeptFor may k claim = Has may k
+
+pub any_kept : (may : List Record) (k : Record) (claim : Claim) → IsKeptFor may k claim → Has may k
+any_kept may k (IsGranted head) kept = subst (λ (rs : List Record). Has rs k) (sym kept) (inl refl)
+any_kept may k (HasLeft head seconds) kept = kept
+any_kept may k (EndsIn second) kept = kept
+any_kept may k (IsListed digits) kept = kept
+
+-- such a record has a lease that bears the claim out
 abbrev pub IsBacked : List Record → Claim → Type 0
-IsBacked may claim = (k : Record) × Has may k × IsSomeAnd k.lease (λ lease. BearsOut claim lease.until)
+IsBacked may claim = (k : Record) × IsKeptFor may k claim × IsSomeAnd k.lease (λ lease. BearsOut claim lease.until)
 
 -- by whom is told what: the ticket's name, the member's id and its address
 pub record Teller : Type 0 where
@@ -82,11 +95,25 @@ told_of_none by ring may message truly none other = (
       (λ (t : ListTells by.name by.address message claim). absurd (other (list_is by.name by.address message claim t).1)) told,
 )
 
-module _ (s : Setup) (place : ℕ) where
-  -- the ticket stands at its place, at rest, with a record that may be kept; no other has its name, and no name has a gap
-  pub record IsPlaced (may : List Record) (tickets : List TicketState) : Type 0 where
+-- a place was found, or another or none
+pub found_or_not : (found : Option ℕ) (place : ℕ) → (found ≡ Some place) ⊎ (found ≢ Some place)
+found_or_not None place = inr (λ e. none_is place e)
+found_or_not (Some p) place = by_place (same_or_not p place)
+  where
+    by_place : (p ≡ place) ⊎ (p ≢ place) → (Some p ≡ Some place) ⊎ (Some p ≢ Some place)
+    by_place (inl e) = inl (ap (λ (n : ℕ). Some n) e)
+    by_place (inr ne) = inr (λ e. ne (some_same p place e))
+
+module _ (s : Setup) (found : Option ℕ) where
+  -- A ticket that stands at a place, at rest, with a record that may be kept.
+  pub record IsOwn (place : ℕ) (may : List Record) (tickets : List TicketState) : Type 0 where
     pub known : Known
     pub own : slice_get tickets place ≡ Some (record { setup = s; known = known })
     pub honest : IsHonest s may known
-    pub others : (other : ℕ) (t : TicketState) → slice_get tickets other ≡ Some t → other ≢ place → t.setup.ticket ≢ s.ticket
+
+  -- Where the ticket was found, it stands so; no other has its name, and no name has a gap.
+  pub record IsPlaced (may : List Record) (tickets : List TicketState) : Type 0 where
+    pub own : (place : ℕ) → found ≡ Some place → IsOwn place may tickets
+    pub others : (other : ℕ) (t : TicketState) → slice_get tickets other ≡ Some t → found ≢ Some other → t.setup.ticket ≢ s.ticket
     pub named : (other : ℕ) (t : TicketState) → slice_get tickets other ≡ Some t → HasNone 10 t.setup.ticket × HasNone 32 t.setup.ticket
+    pub clear : HasNone 32 s.ticket

@@ -8,7 +8,6 @@ use Rattle.booth_base.specs.declared.address.Address.{Address}
 use Rattle.booth_base.specs.declared.address.MemberId.{MemberId}
 use Rattle.booth_base.specs.Address.{IsAddress, Spells, id_of, printed}
 use Rattle.booth_base.proofs.AddressLemmas.{one_address, printed_spells}
-use Rattle.booth_chain.proofs.NodesLemmas.{same_or_not}
 use Rattle.booth_conf.specs.Config.{ConfigSays, has_id}
 use Rattle.booth_conf.specs.declared.members.Member.{Member}
 use Rattle.booth_rec.specs.declared.record.Record.{Record}
@@ -23,7 +22,7 @@ use Rattle.booth_node.specs.Records.{Has}
 use Rattle.booth_node.specs.Replies.{list_line, owner_at, owner_in, owner_text, spaced}
 use Rattle.booth_world.specs.Tellers.{IsListed, BearsOut, HasNone}
 use Rattle.booth_world.proofs.Lists.{none_is, some_same}
-use Rattle.booth_world.proofs.TellerClaims.{IsBacked, IsPlaced, in_lease}
+use Rattle.booth_world.proofs.TellerClaims.{IsBacked, IsOwn, IsPlaced, found_or_not, in_lease}
 use Rattle.booth_world.proofs.TellerRules.{OwnShown}
 use Rattle.booth_world.proofs.TellerTickets.{IsHonest}
 use Rattle.booth_world.proofs.TellerTexts.{AllOf, IsLineOf, cut_same, none_in_address, none_in_both, none_in_decimal, none_is_no_address}
@@ -47,7 +46,7 @@ spelled (x ∷ name) text = ap (λ (l : List ℕ). x ∷ l) (spelled name text)
 none_in_nobody : HasNone 10 (codes "none 0")
 none_in_nobody = ((λ e. omega (arith, e)), ((λ e. omega (arith, e)), ((λ e. omega (arith, e)), ((λ e. omega (arith, e)), ((λ e. omega (arith, e)), ((λ e. omega (arith, e)), tt))))))
 
-module _ (s : Setup) (place : ℕ) (config : ConfigSays) (address : Address) (theirs : AreTheirs config s.me address) (now : ℕ) where
+module _ (s : Setup) (found_at : Option ℕ) (config : ConfigSays) (address : Address) (theirs : AreTheirs config s.me address) (now : ℕ) where
   -- what a list says with these digits as the end
   abbrev own_line : List ℕ → List ℕ
   own_line digits = s.ticket ++ 32 ∷ (printed address ++ 32 ∷ digits)
@@ -148,7 +147,7 @@ module _ (s : Setup) (place : ℕ) (config : ConfigSays) (address : Address) (th
               )
           by_time false over q = absurd (none_is found q)
 
-  pub lines_told : (may : List Record) (tickets : List TicketState) → IsPlaced s place may tickets
+  pub lines_told : (may : List Record) (tickets : List TicketState) → IsPlaced s found_at may tickets
       → AllOf (IsLineOf (IsLineTold may)) (map (list_line config now) tickets)
   lines_told may tickets at = each_mapped (IsLineOf (IsLineTold may)) (list_line config now) tickets one_line
     where
@@ -164,13 +163,10 @@ module _ (s : Setup) (place : ℕ) (config : ConfigSays) (address : Address) (th
           text = owner_text config (owner t.setup t.known now)
 
           tells : IsLineTold may (t.setup.ticket ++ 32 ∷ text)
-          tells digits e = by_place (same_or_not i place)
+          tells digits e = by_place (found_or_not found_at i)
             where
-              own_named : HasNone 32 s.ticket
-              own_named = (at.named place (record { setup = s; known = at.known }) at.own).1
-
               both : (t.setup.ticket ≡ s.ticket) × (text ≡ printed address ++ 32 ∷ digits)
-              both = cut_same 32 t.setup.ticket s.ticket text (printed address ++ 32 ∷ digits) (at.named i t is).1 own_named e
+              both = cut_same 32 t.setup.ticket s.ticket text (printed address ++ 32 ∷ digits) (at.named i t is).1 at.clear e
 
               by_known : (known : Known) → IsHonest s may known → owner_text config (owner s known now) ≡ printed address ++ 32 ∷ digits
                   → IsBacked may (IsListed digits)
@@ -179,11 +175,11 @@ module _ (s : Setup) (place : ℕ) (config : ConfigSays) (address : Address) (th
                   let found = own_text (shown_owner view.shown now) digits q in
                   backed may view h.0 h.1 h.2.same h.2.own found.0 found.1 found.2 digits found.3
 
-              by_place : (i ≡ place) ⊎ (i ≢ place) → IsBacked may (IsListed digits)
+              by_place : (found_at ≡ Some i) ⊎ (found_at ≢ Some i) → IsBacked may (IsListed digits)
               by_place (inr ne) = absurd (at.others i t is ne both.0)
               by_place (inl same) =
-                  let t_is : t ≡ record { setup = s; known = at.known } =
-                  some_same t (record { setup = s; known = at.known })
-                  (sym (subst (λ (n : ℕ). slice_get tickets n ≡ Some t) same is) ∙ at.own) in
-                  by_known at.known at.honest
+                  let own : IsOwn s found_at i may tickets = at.own i same in
+                  let t_is : t ≡ record { setup = s; known = own.known } =
+                  some_same t (record { setup = s; known = own.known }) (sym is ∙ own.own) in
+                  by_known own.known own.honest
                   (subst (λ (x : TicketState). owner_text config (owner x.setup x.known now) ≡ printed address ++ 32 ∷ digits) t_is both.1)

@@ -37,19 +37,25 @@ member_so member passes =
     equal : (a b : ℕ) → a == b ≡ true → a ≡ b
     equal a b e = grind (arith, nat_tests)
 
-pub theirs_of : (w : World) → IsSound w.config → (m : ℕ) → m < members_of w → AreTheirs w.config (id_at w m) (address_at w m)
-theirs_of w sound m below = by_member (slice_get w.config.members m) refl
+pub theirs_of : (w : World) (config : ConfigSays) → IsSound config → config.members ≡ w.members → (m : ℕ) → m < members_of w
+    → AreTheirs config (id_at w m) (address_at w m)
+theirs_of w config sound same m below =
+    subst (λ (ms : List Member). AreTheirs config (option_map_or (λ (member : Member). member.id) (slice_get ms m) NO_ONE) (address_in (slice_get ms m)))
+    same (by_member (slice_get config.members m) refl)
   where
-    all : (p : ℕ) (member : Member) → slice_get w.config.members p ≡ Some member → IsAddress member.address × (member.id.0 ≡ id_of member.address)
-    all p member is = member_so member (passes_at is_member w.config.members p member sound.members is)
+    all : (p : ℕ) (member : Member) → slice_get config.members p ≡ Some member → IsAddress member.address × (member.id.0 ≡ id_of member.address)
+    all p member is = member_so member (passes_at is_member config.members p member sound.members is)
 
-    by_member : (o : Option Member) → slice_get w.config.members m ≡ o
-        → AreTheirs w.config (option_map_or (λ (member : Member). member.id) o NO_ONE) (address_in o)
+    inside : m < length config.members
+    inside = subst (λ (ms : List Member). m < length ms) (sym same) below
+
+    by_member : (o : Option Member) → slice_get config.members m ≡ o
+        → AreTheirs config (option_map_or (λ (member : Member). member.id) o NO_ONE) (address_in o)
     by_member None e =
         ⊎_elim
         (λ some. absurd (none_is some.0 (sym e ∙ some.2)))
-        (λ past. let out = past.0 in absurd (omega (arith, out, below)))
-        (slice_get_cases w.config.members m).1
+        (λ past. let out = past.0 in absurd (omega (arith, out, inside)))
+        (slice_get_cases config.members m).1
     by_member (Some member) e = record { each = all; whole = (all m member e).0; mine = (all m member e).1 }
 
 -- ---- tickets

@@ -65,9 +65,9 @@ use Rattle.booth_node.specs.State.{State, with_ticket}
 use Rattle.booth_world.specs.Tellers.{Claim, IsGranted, HasLeft, EndsIn, IsListed, BearsOut, HasLine, HasNone, ListTells, MessageTells, PartTells}
 use Rattle.booth_world.proofs.Lists.{some_same}
 use Rattle.booth_world.proofs.NodeTrees.{lifts, sends_on}
-use Rattle.booth_world.proofs.TellerClaims.{IsBacked, IsHonestJob, IsHonestMessage, IsPlaced, Teller, in_lease, same_part, same_text, text_is_none, told_of_none, told_of_ticket}
+use Rattle.booth_world.proofs.TellerClaims.{IsBacked, IsHonestJob, IsHonestMessage, IsOwn, IsPlaced, Teller, found_or_not, in_lease, same_part, same_text, text_is_none, told_of_none, told_of_ticket}
 use Rattle.booth_world.proofs.TellerLists.{AreTheirs, IsLineTold, lines_told}
-use Rattle.booth_world.proofs.TellerTexts.{AllOf, AllParts, IsLineOf, cut_of_all, line_found}
+use Rattle.booth_world.proofs.TellerTexts.{AllOf, AllParts, IsLineOf, cut_of_all, line_found, named_is_some}
 use Rattle.booth_world.proofs.TellerTickets.{Honest, IsHonest, IsHonestLeft, IsTrueJob, IsTrueOf, ticket_asked_honest, ticket_due_honest, ticket_heard_honest, ticket_over_honest}
 
 -- ---- what other tickets ask
@@ -100,13 +100,13 @@ names_allowed s waiters = record {
 
 -- ---- the node's deeds
 
-module _ (s : Setup) (place : ℕ) (lasts : 0 < s.times.expire) (address : Address) where
+module _ (s : Setup) (at_found : Option ℕ) (lasts : 0 < s.times.expire) (address : Address) where
   abbrev by : Teller
   by = record { name = s.ticket; me = s.me; address = address }
 
   -- All that the node tells of the ticket is borne out by the records that may be kept then.
   abbrev pub KeepsHonest : Option Ring → List Record → Deeds Ask State → Type 0
-  KeepsHonest ring may (Ends state) = IsPlaced s place may state.tickets
+  KeepsHonest ring may (Ends state) = IsPlaced s at_found may state.tickets
   KeepsHonest ring may (Does (Send peer message) go) =
       IsHonestMessage by ring may message × ((ok : Bool) → KeepsHonest ring may (go ok))
   KeepsHonest ring may (Does (Keep ticket_name tried) go) =
@@ -115,7 +115,7 @@ module _ (s : Setup) (place : ℕ) (lasts : 0 < s.times.expire) (address : Addre
   KeepsHonest ring may (Does (Start job) go) = IsHonestJob s.ticket may job × ((ok : Bool) → KeepsHonest ring may (go ok))
 
   keeps_next : (ring : Option Ring) (f : State → Deeds Ask State) (may : List Record) (deeds : Deeds Ask State)
-      → ((later : List Record) (state : State) → IsPlaced s place later state.tickets → KeepsHonest ring later (f state))
+      → ((later : List Record) (state : State) → IsPlaced s at_found later state.tickets → KeepsHonest ring later (f state))
       → KeepsHonest ring may deeds → KeepsHonest ring may (deeds >>= f)
   keeps_next ring f may (Ends state) on h = on may state h
   keeps_next ring f may (Does (Send peer message) go) on h = (h.0, λ ok. keeps_next ring f may (go ok) on (h.1 ok))
@@ -240,38 +240,49 @@ module _ (s : Setup) (place : ℕ) (lasts : 0 < s.times.expire) (address : Addre
             (so at_place t is))
         by_place (inr apart) = so other u (sym (slice_get-set_other tickets at_place other new apart) ∙ read)
 
-    others_stay : (may : List Record) (tickets : List TicketState) (at_place : ℕ) (t new : TicketState) → IsPlaced s place may tickets
+    others_stay : (may : List Record) (tickets : List TicketState) (at_place : ℕ) (t new : TicketState) → IsPlaced s at_found may tickets
         → slice_get tickets at_place ≡ Some t → new.setup ≡ t.setup
-        → (other : ℕ) (u : TicketState) → slice_get (set tickets at_place new) other ≡ Some u → other ≢ place → u.setup.ticket ≢ s.ticket
+        → (other : ℕ) (u : TicketState) → slice_get (set tickets at_place new) other ≡ Some u → at_found ≢ Some other → u.setup.ticket ≢ s.ticket
     others_stay may tickets at_place t new at is same =
-        names_stay (λ other name. other ≢ place → name ≢ s.ticket) tickets at_place t new is same at.others
+        names_stay (λ other name. at_found ≢ Some other → name ≢ s.ticket) tickets at_place t new is same at.others
 
-    named_stay : (may : List Record) (tickets : List TicketState) (at_place : ℕ) (t new : TicketState) → IsPlaced s place may tickets
+    named_stay : (may : List Record) (tickets : List TicketState) (at_place : ℕ) (t new : TicketState) → IsPlaced s at_found may tickets
         → slice_get tickets at_place ≡ Some t → new.setup ≡ t.setup
         → (other : ℕ) (u : TicketState) → slice_get (set tickets at_place new) other ≡ Some u → HasNone 10 u.setup.ticket × HasNone 32 u.setup.ticket
     named_stay may tickets at_place t new at is same =
         names_stay (λ other name. HasNone 10 name × HasNone 32 name) tickets at_place t new is same at.named
 
-    own_left : (state : State) (may later : List Record) (counted : Common) (left : TicketLeft) → IsPlaced s place may state.tickets → IsHonestLeft s later left
-        → IsPlaced s place later (with_ticket state place counted left).tickets
-    own_left state may later counted left at h = record {
-      known = left.ticket.known;
-      own = slice_get-set_same state.tickets place left.ticket (slice_get_within state.tickets place _ at.own)
-          ∙ ap (λ (x : Setup). Some (record { setup = x; known = left.ticket.known })) h.0;
-      honest = h.1;
-      others = others_stay may state.tickets place (record { setup = s; known = at.known }) left.ticket at at.own h.0;
-      named = named_stay may state.tickets place (record { setup = s; known = at.known }) left.ticket at at.own h.0;
-    }
+    own_left : (state : State) (place : ℕ) (may later : List Record) (counted : Common) (left : TicketLeft) → IsPlaced s at_found may state.tickets
+        → at_found ≡ Some place → IsHonestLeft s later left
+        → IsPlaced s at_found later (with_ticket state place counted left).tickets
+    own_left state place may later counted left at here h =
+        let old : IsOwn s at_found place may state.tickets = at.own place here in
+        let new : IsOwn s at_found place later (with_ticket state place counted left).tickets = record {
+          known = left.ticket.known;
+          own = slice_get-set_same state.tickets place left.ticket (slice_get_within state.tickets place _ old.own)
+              ∙ ap (λ (x : Setup). Some (record { setup = x; known = left.ticket.known })) h.0;
+          honest = h.1;
+        } in
+        record {
+          own = λ p e. subst (λ (n : ℕ). IsOwn s at_found n later (with_ticket state place counted left).tickets) (some_same place p (sym here ∙ e)) new;
+          others = others_stay may state.tickets place (record { setup = s; known = old.known }) left.ticket at old.own h.0;
+          named = named_stay may state.tickets place (record { setup = s; known = old.known }) left.ticket at old.own h.0;
+          clear = at.clear;
+        }
 
-    other_left : (state : State) (other : ℕ) (may : List Record) (t : TicketState) (counted : Common) (left : TicketLeft) → IsPlaced s place may state.tickets
-        → slice_get state.tickets other ≡ Some t → other ≢ place → left.ticket.setup ≡ t.setup
-        → IsPlaced s place may (with_ticket state other counted left).tickets
+    other_left : (state : State) (other : ℕ) (may : List Record) (t : TicketState) (counted : Common) (left : TicketLeft) → IsPlaced s at_found may state.tickets
+        → slice_get state.tickets other ≡ Some t → at_found ≢ Some other → left.ticket.setup ≡ t.setup
+        → IsPlaced s at_found may (with_ticket state other counted left).tickets
     other_left state other may t counted left at is ne same = record {
-      known = at.known;
-      own = slice_get-set_other state.tickets other place left.ticket (λ e. ne (sym e)) ∙ at.own;
-      honest = at.honest;
+      own = λ p e. let old : IsOwn s at_found p may state.tickets = at.own p e in
+          record {
+            known = old.known;
+            own = slice_get-set_other state.tickets other p left.ticket (λ q. ne (e ∙ ap (λ (n : ℕ). Some n) q)) ∙ old.own;
+            honest = old.honest;
+          };
       others = others_stay may state.tickets other t left.ticket at is same;
       named = named_stay may state.tickets other t left.ticket at is same;
+      clear = at.clear;
     }
 
     -- ---- what befalls a ticket
@@ -287,21 +298,22 @@ module _ (s : Setup) (place : ℕ) (lasts : 0 < s.times.expire) (address : Addre
         → Always (Names t.setup.ticket) (λ (left : TicketLeft). left.ticket.setup ≡ t.setup) (befalls t waiters spare ready job event moment)
 
     acts_keep : (state : State) (at_place : ℕ) (may : List Record) (event : Befalling) → OwnIsHonest event → OthersName event
-        → IsPlaced s place may state.tickets → KeepsHonest node.ring may (acts node moment state at_place event)
-    acts_keep state at_place may event own_honest names at = by_place (same_or_not at_place place)
+        → IsPlaced s at_found may state.tickets → KeepsHonest node.ring may (acts node moment state at_place event)
+    acts_keep state at_place may event own_honest names at = by_place (found_or_not at_found at_place)
       where
-        own : KeepsHonest node.ring may (acts node moment state place event)
-        own =
-            subst (λ (o : Option TicketState). KeepsHonest node.ring may (acts_as node moment state place event o)) (sym at.own)
+        own : at_found ≡ Some at_place → KeepsHonest node.ring may (acts node moment state at_place event)
+        own here =
+            let placed : IsOwn s at_found at_place may state.tickets = at.own at_place here in
+            subst (λ (o : Option TicketState). KeepsHonest node.ring may (acts_as node moment state at_place event o)) (sym placed.own)
             (own_keeps may state.common
-            (befalls (record { setup = s; known = at.known }) (waiting_at state.waiters place) (spare_in state.waiters)
-            (is_ready node state.attributes place) (job_at node place state.common) event moment)
-            (λ common left. Ends (with_ticket state place common left))
-            (own_honest at.known (waiting_at state.waiters place) (spare_in state.waiters) may
-            (is_ready node state.attributes place) (job_at node place state.common) at.honest)
-            (λ later counted left h. own_left state may later counted left at h))
+            (befalls (record { setup = s; known = placed.known }) (waiting_at state.waiters at_place) (spare_in state.waiters)
+            (is_ready node state.attributes at_place) (job_at node at_place state.common) event moment)
+            (λ common left. Ends (with_ticket state at_place common left))
+            (own_honest placed.known (waiting_at state.waiters at_place) (spare_in state.waiters) may
+            (is_ready node state.attributes at_place) (job_at node at_place state.common) placed.honest)
+            (λ later counted left h. own_left state at_place may later counted left at here h))
 
-        other : at_place ≢ place → (o : Option TicketState) → slice_get state.tickets at_place ≡ o
+        other : at_found ≢ Some at_place → (o : Option TicketState) → slice_get state.tickets at_place ≡ o
             → KeepsHonest node.ring may (acts_as node moment state at_place event o)
         other ne None is = at
         other ne (Some t) is =
@@ -313,11 +325,11 @@ module _ (s : Setup) (place : ℕ) (lasts : 0 < s.times.expire) (address : Addre
             (job_at node at_place state.common))
             (λ counted left same. other_left state at_place may t counted left at is ne same)
 
-        by_place : (at_place ≡ place) ⊎ (at_place ≢ place) → KeepsHonest node.ring may (acts node moment state at_place event)
-        by_place (inl e) = subst (λ (n : ℕ). KeepsHonest node.ring may (acts node moment state n event)) (sym e) own
+        by_place : (at_found ≡ Some at_place) ⊎ (at_found ≢ Some at_place) → KeepsHonest node.ring may (acts node moment state at_place event)
+        by_place (inl here) = own here
         by_place (inr ne) = other ne (slice_get state.tickets at_place) refl
 
-    due_acts : (state : State) (at_place : ℕ) (may : List Record) → IsPlaced s place may state.tickets → KeepsHonest node.ring may (acts node moment state at_place comes_due)
+    due_acts : (state : State) (at_place : ℕ) (may : List Record) → IsPlaced s at_found may state.tickets → KeepsHonest node.ring may (acts node moment state at_place comes_due)
     due_acts state at_place may at =
         acts_keep state at_place may comes_due
         (λ known waiters spare may ready job h. ticket_due_honest s moment lasts may known waiters (ready kinds.Auto) job h)
@@ -326,7 +338,7 @@ module _ (s : Setup) (place : ℕ) (lasts : 0 < s.times.expire) (address : Addre
         at
 
     heard_acts : (state : State) (at_place : ℕ) (may : List Record) (member : ℕ) (head : Head) (part : TicketPart) → (head.from ≡ s.me → ⊥)
-        → IsPlaced s place may state.tickets → KeepsHonest node.ring may (acts node moment state at_place (is_told member head part))
+        → IsPlaced s at_found may state.tickets → KeepsHonest node.ring may (acts node moment state at_place (is_told member head part))
     heard_acts state at_place may member head part not_own at =
         acts_keep state at_place may (is_told member head part)
         (λ known waiters spare may ready job h. ticket_heard_honest s moment lasts may known waiters member head part not_own h)
@@ -334,7 +346,7 @@ module _ (s : Setup) (place : ℕ) (lasts : 0 < s.times.expire) (address : Addre
         at
 
     asked_acts : (state : State) (at_place : ℕ) (may : List Record) (request : Request)
-        → IsPlaced s place may state.tickets → KeepsHonest node.ring may (acts node moment state at_place (is_asked request))
+        → IsPlaced s at_found may state.tickets → KeepsHonest node.ring may (acts node moment state at_place (is_asked request))
     asked_acts state at_place may request at =
         acts_keep state at_place may (is_asked request)
         (λ known waiters spare may ready job h. ticket_asked_honest s moment lasts may known waiters spare (ready kinds.Manual) job request h)
@@ -343,7 +355,7 @@ module _ (s : Setup) (place : ℕ) (lasts : 0 < s.times.expire) (address : Addre
         at
 
     over_acts : (state : State) (at_place : ℕ) (may : List Record) (number : ℕ) (service : Service)
-        → IsPlaced s place may state.tickets → KeepsHonest node.ring may (acts node moment state at_place (ends_job number service))
+        → IsPlaced s at_found may state.tickets → KeepsHonest node.ring may (acts node moment state at_place (ends_job number service))
     over_acts state at_place may number service at =
         acts_keep state at_place may (ends_job number service)
         (λ known waiters spare may ready job h. ticket_over_honest s moment lasts may known waiters number service h)
@@ -362,7 +374,7 @@ module _ (s : Setup) (place : ℕ) (lasts : 0 < s.times.expire) (address : Addre
     IsHonestAction may (Answers messages) = AreHonest may messages
     IsHonestAction may a = Unit {0}
 
-    met_keeps : (state : State) (from : Peer) (a : Action) (may : List Record) → IsHonestAction may a → IsPlaced s place may state.tickets
+    met_keeps : (state : State) (from : Peer) (a : Action) (may : List Record) → IsHonestAction may a → IsPlaced s at_found may state.tickets
         → KeepsHonest node.ring may (met node moment state from a)
     met_keeps state from (Drops fault) may so at = at
     met_keeps state from (Hears member ticket head part) may so at = heard_acts (accepted state member moment) ticket may member head part so at
@@ -446,7 +458,7 @@ module _ (s : Setup) (place : ℕ) (lasts : 0 < s.times.expire) (address : Addre
 
     module _ (theirs : AreTheirs node.config s.me address) where
       abbrev IsTrueLine : List Record → List ℕ → Type 0
-      IsTrueLine may = IsLineOf (IsLineTold s place node.config address theirs moment may)
+      IsTrueLine may = IsLineOf (IsLineTold s at_found node.config address theirs moment may)
 
       part_honest : (may : List Record) (request number result : ℕ) (part : List (List ℕ)) → AllOf (IsTrueLine may) part
           → IsHonestMessage by node.ring may (stamped node.ring moment (part_message node.me request number result (part_text part)))
@@ -467,7 +479,8 @@ module _ (s : Setup) (place : ℕ) (lasts : 0 < s.times.expire) (address : Addre
           by_claim (HasLeft head seconds) t = absurd t
           by_claim (EndsIn second) t = absurd t
           by_claim (IsListed digits) t =
-              line_found (IsLineTold s place node.config address theirs moment may) part lines (s.ticket ++ 32 ∷ (printed address ++ 32 ∷ digits))
+              line_found (IsLineTold s at_found node.config address theirs moment may) part lines (s.ticket ++ 32 ∷ (printed address ++ 32 ∷ digits))
+              (named_is_some s.ticket (printed address ++ 32 ∷ digits))
               (subst (λ (text : List ℕ). HasLine text (s.ticket ++ 32 ∷ (printed address ++ 32 ∷ digits))) (sym (same_text (part_text part) t.0 t.2)) t.3)
               digits refl
 
@@ -478,12 +491,12 @@ module _ (s : Setup) (place : ℕ) (lasts : 0 < s.times.expire) (address : Addre
       parts_honest may request number (part ∷ next ∷ parts) all =
           (part_honest may request number MORE part all.0, parts_honest may request (number + 1) (next ∷ parts) all.1)
 
-      replies_honest : (may : List Record) (tickets : List TicketState) (common : Common) (message : PlainMessage) → IsPlaced s place may tickets
+      replies_honest : (may : List Record) (tickets : List TicketState) (common : Common) (message : PlainMessage) → IsPlaced s at_found may tickets
           → AreHonestUnstamped may (replies_to node moment tickets common message)
       replies_honest may tickets common message at =
           on_cond (AreHonestUnstamped may) (is_list message.head.cmd) _ _
           (parts_honest may message.head.request 0 (cut_lines 0 (list_lines node moment tickets))
-          (cut_of_all (IsTrueLine may) 0 (list_lines node moment tickets) (lines_told s place node.config address theirs moment may tickets at)))
+          (cut_of_all (IsTrueLine may) 0 (list_lines node moment tickets) (lines_told s at_found node.config address theirs moment may tickets at)))
           (answer_honest may message.head.request (text_for node common message.head.cmd) message.head.cmd message.content)
 
     answers_honest : (may : List Record) (messages : List PlainMessage) → AreHonestUnstamped may messages
@@ -525,7 +538,7 @@ module _ (s : Setup) (place : ℕ) (lasts : 0 < s.times.expire) (address : Addre
             the_message a b e = cc
 
     module _ (own_id : s.me ≡ node.me) (theirs : AreTheirs node.config s.me address) where
-      action_honest : (may : List Record) (tickets : List TicketState) (common : Common) (from : Peer) (bytes : List ℕ) → IsPlaced s place may tickets
+      action_honest : (may : List Record) (tickets : List TicketState) (common : Common) (from : Peer) (bytes : List ℕ) → IsPlaced s at_found may tickets
           → IsHonestAction may (action node moment tickets common from bytes)
       action_honest may tickets common from bytes at = by_verdict (verdict node.config node.ring node.me moment bytes) refl
         where
@@ -556,10 +569,10 @@ module _ (s : Setup) (place : ℕ) (lasts : 0 < s.times.expire) (address : Addre
 
           by_request : (message : PlainMessage) (o : Option (TicketPart × Request)) → IsHonestAction may (requested node moment tickets common message o)
           by_request message None = by_attribute message (attr_request_in message)
-          by_request message (Some found) = by_place (position (is_called found.0.ticket) node.config.tickets)
+          by_request message (Some asked) = by_place (position (is_called asked.0.ticket) node.config.tickets)
             where
               by_place : (o : Option ℕ)
-                  → IsHonestAction may (asks o found.1 (answers node.ring moment (replies_to node moment tickets common message)))
+                  → IsHonestAction may (asks o asked.1 (answers node.ring moment (replies_to node moment tickets common message)))
               by_place None = at_once message
               by_place (Some ticket) = tt
 
@@ -578,7 +591,7 @@ module _ (s : Setup) (place : ℕ) (lasts : 0 < s.times.expire) (address : Addre
 
       -- ---- the turn
 
-      over_keeps : (number : ℕ) (service : Service) (places : List ℕ) (may : List Record) (state : State) → IsPlaced s place may state.tickets
+      over_keeps : (number : ℕ) (service : Service) (places : List ℕ) (may : List Record) (state : State) → IsPlaced s at_found may state.tickets
           → KeepsHonest node.ring may (each_over node moment number service places state)
       over_keeps number service [] may state at = at
       over_keeps number service (p ∷ places) may state at =
@@ -586,7 +599,7 @@ module _ (s : Setup) (place : ℕ) (lasts : 0 < s.times.expire) (address : Addre
           (λ later left placed. over_keeps number service places later left placed)
           (over_acts state p may number service at)
 
-      arrived_keeps : (state : State) (arrival : Result Arrival Failed) (bytes : List ℕ) (may : List Record) → IsPlaced s place may state.tickets
+      arrived_keeps : (state : State) (arrival : Result Arrival Failed) (bytes : List ℕ) (may : List Record) → IsPlaced s at_found may state.tickets
           → KeepsHonest node.ring may (arrived node moment state arrival bytes)
       arrived_keeps state (Ok (arrivals.Datagram from)) bytes may at =
           met_keeps state from (action node moment state.tickets state.common from bytes) may
@@ -597,19 +610,19 @@ module _ (s : Setup) (place : ℕ) (lasts : 0 < s.times.expire) (address : Addre
       arrived_keeps state (Ok arrivals.Stop) bytes may at = at
       arrived_keeps state (Err failed) bytes may at = at
 
-      each_keeps : (places : List ℕ) (may : List Record) (state : State) → IsPlaced s place may state.tickets
+      each_keeps : (places : List ℕ) (may : List Record) (state : State) → IsPlaced s at_found may state.tickets
           → KeepsHonest node.ring may (each_due node moment places state)
       each_keeps [] may state at = at
       each_keeps (p ∷ places) may state at =
           keeps_next node.ring (each_due node moment places) may (acts node moment state p comes_due)
           (λ later left placed. each_keeps places later left placed) (due_acts state p may at)
 
-      dues_keep : (turn : Turn) (may : List Record) (state : State) → IsPlaced s place may state.tickets → KeepsHonest node.ring may (dues node moment turn state)
+      dues_keep : (turn : Turn) (may : List Record) (state : State) → IsPlaced s at_found may state.tickets → KeepsHonest node.ring may (dues node moment turn state)
       dues_keep Went may state at = each_keeps (due_places moment state.tickets) may state at
       dues_keep Stopped may state at = at
 
       -- all that a turn tells of the ticket is borne out
-      pub turn_honest : (state : State) (arrival : Result Arrival Failed) (bytes : List ℕ) (may : List Record) → IsPlaced s place may state.tickets
+      pub turn_honest : (state : State) (arrival : Result Arrival Failed) (bytes : List ℕ) (may : List Record) → IsPlaced s at_found may state.tickets
           → KeepsHonest node.ring may (react node state moment arrival bytes)
       turn_honest state arrival bytes may at =
           keeps_next node.ring (dues node moment (turn_end arrival)) may

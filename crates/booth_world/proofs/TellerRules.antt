@@ -33,7 +33,7 @@ use Rattle.booth_raft.specs.declared.view.View.{View}
 use Rattle.booth_raft.specs.declared.view.Waiting.{Waiting}
 use Rattle.booth_raft.specs.AskAndRenew.{answers_itself, are_terms_spent, ask, asked_all, asking, begin_round, bound_itself, finish, goes_on, in_next_term, needs_term, new_round, own_answer, promised_itself, renew, renew_by_term, with_own_promise, with_round}
 use Rattle.booth_raft.specs.Deadlines.{candidate_due, due_now, follower_due, is_tried, leader_due, resends_or_renews, waits_or_acquires}
-use Rattle.booth_raft.specs.GainReleaseLost.{gain, lost, own_end, release, round_ends}
+use Rattle.booth_raft.specs.GainReleaseLost.{gain, lease_record, lost, own_end, release, round_ends}
 use Rattle.booth_raft.specs.Members.{is_candidate, is_follower, is_leader, is_majority, is_promised_elsewhere, is_same}
 use Rattle.booth_raft.specs.Messages.{owner_now, part_of, revokes, round_part, shown_end, state_part}
 use Rattle.booth_raft.specs.Notes.{noted}
@@ -43,7 +43,7 @@ use Rattle.booth_raft.specs.Outcome.{Outcome, keeping, quiet, saying, telling}
 use Rattle.booth_raft.specs.RoundsAndAnswers.{answered_round, hear_answer, hear_round, is_answer_to, may_answer, promised, shows_site, stood_down, told_by_answer, wins, with_answer, with_site}
 use Rattle.booth_raft.specs.StartAndLearn.{awaits_failover, holds_at_start, learned, shows_leader, started, with_seen, with_shown}
 use Rattle.booth_raft.proofs.AnswerLemmas.{same-is_same}
-use Rattle.booth_raft.proofs.FactsLemmas.{on_active, on_cond, on_option, on_role, on_test}
+use Rattle.booth_raft.proofs.FactsLemmas.{on_active, on_cond, on_option, on_role, on_test, untrue}
 use Rattle.booth_world.proofs.Lists.{none_is, some_same}
 
 -- ---- what is to be shown
@@ -89,19 +89,21 @@ Tracks base None kept = kept ≡ base
 Tracks base (Some tried) kept = (kept ≡ base) ⊎ (kept ≡ tried)
 
 -- what an outcome shows and says is borne out by the record that was kept
-pub record Shows (s : Setup) (now : ℕ) (base : Record) (o : Outcome) : Type 0 where
+pub record Shows (s : Setup) (now : ℕ) (base : Record) (Q : Type 0) (o : Outcome) : Type 0 where
   pub own : OwnShown s.me o.view.kept o.view.shown
   pub track : Tracks base o.deed.keep o.view.kept
   pub said : AreBorne s.me (lease_end base.lease) now o.deed.say
-  pub told : IsGained o.deed.told → now < lease_end base.lease
+  pub told : IsGained o.deed.told → (now < lease_end base.lease) × Q
   pub waits : IsReady now o.view.kept o.deed.keep o.view.waiting
   pub wants : (o.deed.keep ≡ None) ⊎ (o.deed.want ≡ wants.Nothing)
+  pub trusted : o.deed.keep ≡ None → o.view.sure ≡ true → Q
 
 -- a view at rest
-pub record IsCalm (s : Setup) (base : Record) (view : View) : Type 0 where
+pub record IsCalm (s : Setup) (base : Record) (Q : Type 0) (view : View) : Type 0 where
   pub own : OwnShown s.me view.kept view.shown
   pub same : view.kept ≡ base
   pub rests : view.waiting ≡ None
+  pub trusted : view.sure ≡ true → Q
 
 for_this : {A : Type 0} (P : A → Type 0) (y : A) → P y → ForSome (Some y) P
 for_this P y p x e = subst P (some_same y x e) p
@@ -115,11 +117,11 @@ none_left now end over some = omega (arith, over, some)
 some_left : (now end : ℕ) → 0 < seconds_left end now → now < end
 some_left now end some = omega (arith, some)
 
-module _ (s : Setup) (now : ℕ) (base : Record) where
+module _ (s : Setup) (now : ℕ) (base : Record) (Q : Type 0) where
   abbrev pub end_of : ℕ
   end_of = lease_end base.lease
 
-  pub state_borne : (view : View) → IsCalm s base view → IsBorne s.me end_of now (state_part s view now)
+  pub state_borne : (view : View) → IsCalm s base Q view → IsBorne s.me end_of now (state_part s view now)
   state_borne view calm leads some = by_shown view.shown calm.own leads some
     where
       by_shown : (o : Option Shown) → OwnShown s.me view.kept o → owner_now o now ≡ s.me → 0 < seconds_left (shown_end o) now
@@ -145,8 +147,8 @@ module _ (s : Setup) (now : ℕ) (base : Record) where
   -- ---- outcomes
 
   -- nothing is kept
-  pub calmly : (o : Outcome) → IsCalm s base o.view → o.deed.keep ≡ None → AreBorne s.me end_of now o.deed.say
-      → (IsGained o.deed.told → now < end_of) → Shows s now base o
+  pub calmly : (o : Outcome) → IsCalm s base Q o.view → o.deed.keep ≡ None → AreBorne s.me end_of now o.deed.say
+      → (IsGained o.deed.told → (now < end_of) × Q) → Shows s now base Q o
   calmly o calm none said told = record {
     own = calm.own;
     track = subst (λ (k : Option Record). Tracks base k o.view.kept) (sym none) calm.same;
@@ -154,14 +156,15 @@ module _ (s : Setup) (now : ℕ) (base : Record) where
     told = told;
     waits = subst (λ (k : Option Record). IsReady now o.view.kept k o.view.waiting) (sym none) calm.rests;
     wants = inl none;
+    trusted = λ e. calm.trusted;
   }
 
-  pub quietly : (view : View) → IsCalm s base view → Shows s now base (quiet view)
+  pub quietly : (view : View) → IsCalm s base Q view → Shows s now base Q (quiet view)
   quietly view calm = calmly (quiet view) calm refl tt (λ e. absurd e)
 
   -- a record is to be kept, and the view has its own still
-  tries : (view : View) (rule : Rule) (tried : Record) → IsCalm s base view → MayGoOn now view.kept rule tried
-      → Shows s now base (keeping view rule tried now)
+  tries : (view : View) (rule : Rule) (tried : Record) → IsCalm s base Q view → MayGoOn now view.kept rule tried
+      → Shows s now base Q (keeping view rule tried now)
   tries view rule tried calm may = record {
     own = calm.own;
     track = inl calm.same;
@@ -169,9 +172,10 @@ module _ (s : Setup) (now : ℕ) (base : Record) where
     told = λ e. absurd e;
     waits = (refl, may);
     wants = inr refl;
+    trusted = λ e sure. absurd (none_is tried (sym e));
   }
 
-  gains : (view : View) (round : Round) → now < round.opened + s.times.expire → Shows s now base (gain s view round now)
+  gains : (view : View) (round : Round) → now < round.opened + s.times.expire → Shows s now base Q (gain s view round now)
   gains view round early = record {
     own = for_this (λ (x : Shown). x.owner ≡ s.me → x.until ≡ round.opened + s.times.expire)
         (record { owner = s.me; until = round.opened + s.times.expire }) (λ own. refl);
@@ -180,63 +184,67 @@ module _ (s : Setup) (now : ℕ) (base : Record) where
     told = λ e. absurd e;
     waits = (refl, (refl, early));
     wants = inr refl;
+    trusted = λ e sure. absurd (none_is (lease_record s view round) (sym e));
   }
 
   -- ---- what is heard
 
-  calm_if : (b : Bool) (x y : View) → IsCalm s base x → IsCalm s base y → IsCalm s base (if b then x else y)
-  calm_if b x y p q = on_cond (IsCalm s base) b x y p q
+  calm_if : (b : Bool) (x y : View) → IsCalm s base Q x → IsCalm s base Q y → IsCalm s base Q (if b then x else y)
+  calm_if b x y p q = on_cond (IsCalm s base Q) b x y p q
 
-  module _ (view : View) (calm : IsCalm s base view) where
-    shows_other : (owner : MemberId) (until : ℕ) → (owner ≡ s.me → ⊥) → IsCalm s base (with_shown view owner until)
+  module _ (view : View) (calm : IsCalm s base Q view) where
+    shows_other : (owner : MemberId) (until : ℕ) → (owner ≡ s.me → ⊥) → IsCalm s base Q (with_shown view owner until)
     shows_other owner until other = record {
       own = for_this (λ (x : Shown). x.owner ≡ s.me → x.until ≡ lease_end view.kept.lease) (record { owner = owner; until = until })
           (λ own. absurd (other own));
       same = calm.same;
       rests = calm.rests;
+      trusted = calm.trusted;
     }
 
-    pub in_parts : (other : View) → other.shown ≡ view.shown → other.kept ≡ view.kept → other.waiting ≡ view.waiting → IsCalm s base other
-    in_parts other shown kept waiting = record {
+    pub in_parts : (other : View) → other.shown ≡ view.shown → other.kept ≡ view.kept → other.waiting ≡ view.waiting → other.sure ≡ view.sure → IsCalm s base Q other
+    in_parts other shown kept waiting sure = record {
       own = subst (λ (o : Option Shown). OwnShown s.me other.kept o) (sym shown)
           (subst (λ (r : Record). OwnShown s.me r view.shown) (sym kept) calm.own);
       same = kept ∙ calm.same;
       rests = waiting ∙ calm.rests;
+      trusted = λ e. calm.trusted (sym sure ∙ e);
     }
 
-    pub nobody_shown : (other : View) → other.shown ≡ None → other.kept ≡ view.kept → other.waiting ≡ view.waiting → IsCalm s base other
-    nobody_shown other shown kept waiting = record {
+    pub nobody_shown : (other : View) → other.shown ≡ None → other.kept ≡ view.kept → other.waiting ≡ view.waiting → other.sure ≡ view.sure → IsCalm s base Q other
+    nobody_shown other shown kept waiting sure = record {
       own = subst (λ (o : Option Shown). OwnShown s.me other.kept o) (sym shown)
           (for_none (λ (x : Shown). x.owner ≡ s.me → x.until ≡ lease_end other.kept.lease));
       same = kept ∙ calm.same;
       rests = waiting ∙ calm.rests;
+      trusted = λ e. calm.trusted (sym sure ∙ e);
     }
 
-  answered_calm : (view : View) (site : MemberId) (kind : RoundKind) (part : TicketPart) → (site ≡ s.me → ⊥) → IsCalm s base view
-      → IsCalm s base (answered_round s view site kind part now)
+  answered_calm : (view : View) (site : MemberId) (kind : RoundKind) (part : TicketPart) → (site ≡ s.me → ⊥) → IsCalm s base Q view
+      → IsCalm s base Q (answered_round s view site kind part now)
   answered_calm view site kind part other calm =
       let bound : View = promised s view site part.term now in
-      let first : IsCalm s base bound = in_parts view calm bound refl refl refl in
+      let first : IsCalm s base Q bound = in_parts view calm bound refl refl refl refl in
       let still : View = stood_down bound in
-      let second : IsCalm s base still =
-      on_active (IsCalm s base) bound.role (record bound { role = Follower; round = None }) (record bound { round = None }) bound
-      (in_parts view calm _ refl refl refl) (in_parts view calm _ refl refl refl) (λ rests. first) in
-      let third : IsCalm s base (with_site still site kind part now) =
+      let second : IsCalm s base Q still =
+      on_active (IsCalm s base Q) bound.role (record bound { role = Follower; round = None }) (record bound { round = None }) bound
+      (in_parts view calm _ refl refl refl refl) (in_parts view calm _ refl refl refl refl) (λ rests. first) in
+      let third : IsCalm s base Q (with_site still site kind part now) =
       calm_if (shows_site kind part) (with_shown still site (now + 1000 * part.valid_for)) still
       (shows_other still second site (now + 1000 * part.valid_for) other) second in
       calm_if (awaits_failover s (with_site still site kind part now) && (with_site still site kind part now).managed) _
-      (with_site still site kind part now) (in_parts (with_site still site kind part now) third _ refl refl refl) third
+      (with_site still site kind part now) (in_parts (with_site still site kind part now) third _ refl refl refl refl) third
 
   never_gained : (role : Role) → IsGained (told_by_answer role) → ⊥
   never_gained role = on_cond (λ (t : Told). IsGained t → ⊥) (is_candidate role) tells.RoundFailed tells.Nothing (λ e. e) (λ e. e)
 
-  hears_round : (view : View) (kind : RoundKind) (head : Head) (part : TicketPart) → (head.from ≡ s.me → ⊥) → IsCalm s base view
-      → Shows s now base (hear_round s view kind head part now)
+  hears_round : (view : View) (kind : RoundKind) (head : Head) (part : TicketPart) → (head.from ≡ s.me → ⊥) → IsCalm s base Q view
+      → Shows s now base Q (hear_round s view kind head part now)
   hears_round view kind head part other calm =
       let after : View = answered_round s view head.from kind part now in
-      let so : IsCalm s base after = answered_calm view head.from kind part other calm in
-      on_cond (Shows s now base) (may_answer view head.from part.term now) _ _
-      (on_cond (Shows s now base) s.second _ _
+      let so : IsCalm s base Q after = answered_calm view head.from kind part other calm in
+      on_cond (Shows s now base Q) (may_answer view head.from part.term now) _ _
+      (on_cond (Shows s now base Q) s.second _ _
       (tries after (rules.Answer kind head.from head.options head.request (told_by_answer view.role)) _ so (refl, never_gained view.role))
       (calmly _ so refl (nothing_left (part_of s head.from part.term 0) refl) (λ e. absurd (never_gained view.role e))))
       (calmly _ calm refl (state_borne view calm) (λ e. absurd e))
@@ -250,15 +258,15 @@ module _ (s : Setup) (now : ℕ) (base : Record) where
       by_tests true false d is h = absurd (cc)
       by_tests false b d is h = absurd (cc)
 
-  hears_answer : (view : View) (place : ℕ) (head : Head) (part : TicketPart) → IsCalm s base view
-      → Shows s now base (hear_answer s view place head part now)
+  hears_answer : (view : View) (place : ℕ) (head : Head) (part : TicketPart) → IsCalm s base Q view
+      → Shows s now base Q (hear_answer s view place head part now)
   hears_answer view place head part calm =
-      on_option (Shows s now base) view.round _ _ (λ none. quietly view calm)
+      on_option (Shows s now base Q) view.round _ _ (λ none. quietly view calm)
       (λ round is.
-      on_cond (Shows s now base) (is_answer_to s round head part) _ _
-      (on_test (Shows s now base) (wins s (with_answer round place) now) _ _
+      on_cond (Shows s now base Q) (is_answer_to s round head part) _ _
+      (on_test (Shows s now base Q) (wins s (with_answer round place) now) _ _
       (λ e. gains (record view { round = Some (with_answer round place) }) (with_answer round place) (wins_early (with_answer round place) e))
-      (λ e. quietly _ (in_parts view calm _ refl refl refl)))
+      (λ e. quietly _ (in_parts view calm _ refl refl refl refl)))
       (quietly view calm))
 
   leads_other : (view : View) (part : TicketPart) → shows_leader s view part now ≡ true → part.leader ≡ s.me → ⊥
@@ -271,49 +279,49 @@ module _ (s : Setup) (now : ℕ) (base : Record) where
       by_test false true c d e is h = cc
       by_test false false c d e is h = cc
 
-  learned_calm : (view : View) (part : TicketPart) → IsCalm s base view → IsCalm s base (learned s view part now)
+  learned_calm : (view : View) (part : TicketPart) → IsCalm s base Q view → IsCalm s base Q (learned s view part now)
   learned_calm view part calm =
       let seen : View = with_seen view part.term in
-      let seen_so : IsCalm s base seen = in_parts view calm seen refl refl refl in
-      on_test (IsCalm s base) (shows_leader s view part now) _ seen
+      let seen_so : IsCalm s base Q seen = in_parts view calm seen refl refl refl refl in
+      on_test (IsCalm s base Q) (shows_leader s view part now) _ seen
       (λ e.
       let shown : View = with_shown seen part.leader (now + 1000 * part.valid_for) in
-      let so : IsCalm s base shown = shows_other seen seen_so part.leader (now + 1000 * part.valid_for) (leads_other view part e) in
-      calm_if (awaits_failover s shown) _ shown (in_parts shown so _ refl refl refl) so)
+      let so : IsCalm s base Q shown = shows_other seen seen_so part.leader (now + 1000 * part.valid_for) (leads_other view part e) in
+      calm_if (awaits_failover s shown) _ shown (in_parts shown so _ refl refl refl refl) so)
       (λ e. seen_so)
 
-  revoked_calm : (view : View) (site : MemberId) (term reason : ℕ) → IsCalm s base view → IsCalm s base (revoked s view site term reason now)
+  revoked_calm : (view : View) (site : MemberId) (term reason : ℕ) → IsCalm s base Q view → IsCalm s base Q (revoked s view site term reason now)
   revoked_calm view site term reason calm =
       let free : View = freed view site term in
-      let so : IsCalm s base free =
-      calm_if (is_freed_by view.promise site term) (record view { promise = None }) view (in_parts view calm _ refl refl refl) calm in
+      let so : IsCalm s base Q free =
+      calm_if (is_freed_by view.promise site term) (record view { promise = None }) view (in_parts view calm _ refl refl refl refl) calm in
       let hidden : View = record free { shown = None } in
-      let hides : IsCalm s base hidden = nobody_shown free so hidden refl refl refl in
+      let hides : IsCalm s base Q hidden = nobody_shown free so hidden refl refl refl refl in
       calm_if (nat_le view.term term && is_owner view.shown site && not (reason == SPLT)) _ free
       (calm_if (reason == LOCF) _ _
-      (calm_if (is_follower hidden.role && s.site) _ hidden (in_parts hidden hides _ refl refl refl) hides)
-      (calm_if (is_follower hidden.role && hidden.repeat == 0) _ _ (in_parts hidden hides _ refl refl refl) (in_parts hidden hides _ refl refl refl)))
+      (calm_if (is_follower hidden.role && s.site) _ hidden (in_parts hidden hides _ refl refl refl refl) hides)
+      (calm_if (is_follower hidden.role && hidden.repeat == 0) _ _ (in_parts hidden hides _ refl refl refl refl) (in_parts hidden hides _ refl refl refl refl)))
       so
 
-  pub heard_shows : (view : View) (place : ℕ) (head : Head) (part : TicketPart) (cmd : Cmd) → (head.from ≡ s.me → ⊥) → IsCalm s base view
-      → Shows s now base (hear s view place head part now cmd)
+  pub heard_shows : (view : View) (place : ℕ) (head : Head) (part : TicketPart) (cmd : Cmd) → (head.from ≡ s.me → ⊥) → IsCalm s base Q view
+      → Shows s now base Q (hear s view place head part now cmd)
   heard_shows view place head part cmd other calm = by_cmd cmd
     where
-      seen : IsCalm s base (with_seen view part.term)
-      seen = in_parts view calm _ refl refl refl
+      seen : IsCalm s base Q (with_seen view part.term)
+      seen = in_parts view calm _ refl refl refl refl
 
-      learns : IsCalm s base (learned s view part now)
+      learns : IsCalm s base Q (learned s view part now)
       learns = learned_calm view part calm
 
-      by_cmd : (cmd : Cmd) → Shows s now base (hear s view place head part now cmd)
+      by_cmd : (cmd : Cmd) → Shows s now base Q (hear s view place head part now cmd)
       by_cmd cmds.RVot =
-          on_cond (Shows s now base) (head.options == 0) _ _ (hears_round (with_seen view part.term) Election head part other seen) (quietly _ seen)
+          on_cond (Shows s now base Q) (head.options == 0) _ _ (hears_round (with_seen view part.term) Election head part other seen) (quietly _ seen)
       by_cmd cmds.HrtB =
-          on_cond (Shows s now base) (head.options == 0) _ _ (quietly _ seen) (hears_round (with_seen view part.term) Renewal head part other seen)
+          on_cond (Shows s now base Q) (head.options == 0) _ _ (quietly _ seen) (hears_round (with_seen view part.term) Renewal head part other seen)
       by_cmd cmds.VtFr =
-          on_cond (Shows s now base) (head.options == 0) _ _ (hears_answer (with_seen view part.term) place head part seen) (quietly _ seen)
+          on_cond (Shows s now base Q) (head.options == 0) _ _ (hears_answer (with_seen view part.term) place head part seen) (quietly _ seen)
       by_cmd cmds.Ack =
-          on_cond (Shows s now base) (head.options == 0) _ _ (quietly _ seen) (hears_answer (with_seen view part.term) place head part seen)
+          on_cond (Shows s now base Q) (head.options == 0) _ _ (quietly _ seen) (hears_answer (with_seen view part.term) place head part seen)
       by_cmd cmds.Stat = calmly _ learns refl (state_borne (learned s view part now) learns) (λ e. absurd e)
       by_cmd cmds.MIdx = quietly _ learns
       by_cmd cmds.Rjc = quietly _ learns
@@ -337,194 +345,201 @@ module _ (s : Setup) (now : ℕ) (base : Record) where
   -- ---- rounds are opened
 
   module _ (lasts : 0 < s.times.expire) where
-    promised_calm : (view : View) → IsCalm s base view → IsCalm s base (promised_itself s view now)
+    promised_calm : (view : View) → IsCalm s base Q view → IsCalm s base Q (promised_itself s view now)
     promised_calm view calm =
-        calm_if (answers_itself s view now) (with_own_promise s view now) view (in_parts view calm _ refl refl refl) calm
+        calm_if (answers_itself s view now) (with_own_promise s view now) view (in_parts view calm _ refl refl refl refl) calm
 
-    begins : (view : View) (number : ℕ) → IsCalm s base view → Shows s now base (begin_round s view number now)
+    begins : (view : View) (number : ℕ) → IsCalm s base Q view → Shows s now base Q (begin_round s view number now)
     begins view number calm =
-        let promises : IsCalm s base (promised_itself s view now) = promised_calm view calm in
+        let promises : IsCalm s base Q (promised_itself s view now) = promised_calm view calm in
         let open_view : View = with_round s view number now in
-        let opens : IsCalm s base open_view = in_parts (promised_itself s view now) promises open_view refl refl refl in
-        let asked : IsCalm s base (asked_all s open_view now) =
-        calm_if (is_leader open_view.role) _ _ (in_parts open_view opens _ refl refl refl) (in_parts open_view opens _ refl refl refl) in
-        on_cond (Shows s now base) (is_majority s (own_answer s view now)) _ _
+        let opens : IsCalm s base Q open_view = in_parts (promised_itself s view now) promises open_view refl refl refl refl in
+        let asked : IsCalm s base Q (asked_all s open_view now) =
+        calm_if (is_leader open_view.role) _ _ (in_parts open_view opens _ refl refl refl refl) (in_parts open_view opens _ refl refl refl refl) in
+        on_cond (Shows s now base Q) (is_majority s (own_answer s view now)) _ _
         (gains open_view (new_round s view number now) (omega (arith, lasts)))
         (calmly _ asked refl (round_borne open_view opens.same) (λ e. absurd e))
 
-    asking_calm : (view : View) (reason : ℕ) → IsCalm s base view → IsCalm s base (asking s view reason now)
+    asking_calm : (view : View) (reason : ℕ) → IsCalm s base Q view → IsCalm s base Q (asking s view reason now)
     asking_calm view reason calm =
         let next : View = in_next_term view reason in
-        let so : IsCalm s base next = in_parts view calm next refl refl refl in
+        let so : IsCalm s base Q next = in_parts view calm next refl refl refl refl in
         calm_if s.second (bound_itself s next now) next
-        (calm_if (answers_itself s next now) _ next (in_parts next so _ refl refl refl) so) so
+        (calm_if (answers_itself s next now) _ next (in_parts next so _ refl refl refl refl) so) so
 
-    pub asked_shows : (view : View) (reason : ℕ) → IsCalm s base view → Shows s now base (ask s view reason now)
+    pub asked_shows : (view : View) (reason : ℕ) → IsCalm s base Q view → Shows s now base Q (ask s view reason now)
     asked_shows view reason calm =
-        let so : IsCalm s base (asking s view reason now) = asking_calm view reason calm in
+        let so : IsCalm s base Q (asking s view reason now) = asking_calm view reason calm in
         tries (asking s view reason now) (rules.Ask reason) _ so
         (ap (λ (r : Record). lease_end r.lease) (calm.same ∙ sym so.same))
 
-    renews_by_term : (view : View) → IsCalm s base view → Shows s now base (renew_by_term s view now)
+    renews_by_term : (view : View) → IsCalm s base Q view → Shows s now base Q (renew_by_term s view now)
     renews_by_term view calm =
-        on_cond (Shows s now base) (are_terms_spent view) _ _ (quietly _ (in_parts view calm _ refl refl refl)) (asked_shows view _ calm)
+        on_cond (Shows s now base Q) (are_terms_spent view) _ _ (quietly _ (in_parts view calm _ refl refl refl refl)) (asked_shows view _ calm)
 
-    pub renewed_shows : (view : View) → IsCalm s base view → Shows s now base (renew s view now)
+    pub renewed_shows : (view : View) → IsCalm s base Q view → Shows s now base Q (renew s view now)
     renewed_shows view calm =
-        on_option (Shows s now base) view.round _ _ (λ none. renews_by_term view calm)
+        on_option (Shows s now base Q) view.round _ _ (λ none. renews_by_term view calm)
         (λ round is.
-        on_cond (Shows s now base) (needs_term s view) _ _ (renews_by_term view calm)
-        (on_cond (Shows s now base) (round.number == LAST_NUMBER) _ _ (quietly _ (in_parts view calm _ refl refl refl))
-        (on_cond (Shows s now base) (s.second && answers_itself s view now) _ _
-        (tries (with_own_promise s view now) (rules.Renew (round.number + 1)) _ (in_parts view calm _ refl refl refl) refl)
+        on_cond (Shows s now base Q) (needs_term s view) _ _ (renews_by_term view calm)
+        (on_cond (Shows s now base Q) (round.number == LAST_NUMBER) _ _ (quietly _ (in_parts view calm _ refl refl refl refl))
+        (on_cond (Shows s now base Q) (s.second && answers_itself s view now) _ _
+        (tries (with_own_promise s view now) (rules.Renew (round.number + 1)) _ (in_parts view calm _ refl refl refl refl) refl)
         (begins view (round.number + 1) calm))))
 
-    pub released_shows : (view : View) (reason : ℕ) → IsCalm s base view → Shows s now base (release s view reason now)
+    pub released_shows : (view : View) (reason : ℕ) → IsCalm s base Q view → Shows s now base Q (release s view reason now)
     released_shows view reason calm = tries view (rules.Release reason) _ calm tt
 
-    pub lost_calm : (view : View) → IsCalm s base view → IsCalm s base (lost s view now)
-    lost_calm view calm = nobody_shown view calm _ refl refl refl
+    pub lost_calm : (view : View) → IsCalm s base Q view → IsCalm s base Q (lost s view now)
+    lost_calm view calm = nobody_shown view calm _ refl refl refl refl
 
-    pub noted_calm : (view : View) (note : Note) → IsCalm s base view → IsCalm s base (noted s view now note)
-    noted_calm view notes.Asked calm = in_parts view calm _ refl refl refl
+    pub noted_calm : (view : View) (note : Note) → IsCalm s base Q view → IsCalm s base Q (noted s view now note)
+    noted_calm view notes.Asked calm = in_parts view calm _ refl refl refl refl
     noted_calm view (notes.JobStarted job reason) calm =
-        calm_if (is_leader view.role) _ _ (in_parts view calm _ refl refl refl) (in_parts view calm _ refl refl refl)
-    noted_calm view notes.JobOver calm = in_parts view calm _ refl refl refl
-    noted_calm view notes.AskFailed calm = in_parts view calm _ refl refl refl
-    noted_calm view notes.HandlerFailed calm = in_parts view calm _ refl refl refl
-    noted_calm view notes.Unready calm = in_parts view calm _ refl refl refl
+        calm_if (is_leader view.role) _ _ (in_parts view calm _ refl refl refl refl) (in_parts view calm _ refl refl refl refl)
+    noted_calm view notes.JobOver calm = in_parts view calm _ refl refl refl refl
+    noted_calm view notes.AskFailed calm = in_parts view calm _ refl refl refl refl
+    noted_calm view notes.HandlerFailed calm = in_parts view calm _ refl refl refl refl
+    noted_calm view notes.Unready calm = in_parts view calm _ refl refl refl refl
 
     -- ---- deadlines
 
-    ends_round : (view : View) → IsCalm s base view → Shows s now base (round_ends s view now)
-    ends_round view calm = tries _ rules.EndRound _ (in_parts view calm _ refl refl refl) tt
+    ends_round : (view : View) → IsCalm s base Q view → Shows s now base Q (round_ends s view now)
+    ends_round view calm = tries _ rules.EndRound _ (in_parts view calm _ refl refl refl refl) tt
 
-    candidates : (view : View) → IsCalm s base view → Shows s now base (candidate_due s view now)
+    candidates : (view : View) → IsCalm s base Q view → Shows s now base Q (candidate_due s view now)
     candidates view calm =
-        on_option (Shows s now base) view.round _ _ (λ none. ends_round view calm)
-        (λ round is. on_cond (Shows s now base) (is_tried s round now) _ _
-        (calmly _ (in_parts view calm _ refl refl refl) refl (round_borne view calm.same) (λ e. absurd e)) (ends_round view calm))
+        on_option (Shows s now base Q) view.round _ _ (λ none. ends_round view calm)
+        (λ round is. on_cond (Shows s now base Q) (is_tried s round now) _ _
+        (calmly _ (in_parts view calm _ refl refl refl refl) refl (round_borne view calm.same) (λ e. absurd e)) (ends_round view calm))
 
-    resends : (view : View) → IsCalm s base view → Shows s now base (resends_or_renews s view now)
+    resends : (view : View) → IsCalm s base Q view → Shows s now base Q (resends_or_renews s view now)
     resends view calm =
-        on_option (Shows s now base) view.round _ _ (λ none. calmly _ calm refl tt (λ e. absurd e))
-        (λ round is. on_cond (Shows s now base) (not round.won && is_tried s round now) _ _
-        (calmly _ (in_parts view calm _ refl refl refl) refl (round_borne view calm.same) (λ e. absurd e))
+        on_option (Shows s now base Q) view.round _ _ (λ none. calmly _ calm refl tt (λ e. absurd e))
+        (λ round is. on_cond (Shows s now base Q) (not round.won && is_tried s round now) _ _
+        (calmly _ (in_parts view calm _ refl refl refl refl) refl (round_borne view calm.same) (λ e. absurd e))
         (calmly _ calm refl tt (λ e. absurd e)))
 
-    leaders : (view : View) → IsCalm s base view → Shows s now base (leader_due s view now)
+    leaders : (view : View) → IsCalm s base Q view → Shows s now base Q (leader_due s view now)
     leaders view calm =
-        on_cond (Shows s now base) (nat_le (own_end view) now) _ _ (calmly _ (lost_calm view calm) refl tt (λ e. absurd e))
-        (on_cond (Shows s now base) (is_some view.job) _ _
-        (released_shows (record view { job = None }) LOCF (in_parts view calm _ refl refl refl)) (resends view calm))
+        on_cond (Shows s now base Q) (nat_le (own_end view) now) _ _ (calmly _ (lost_calm view calm) refl tt (λ e. absurd e))
+        (on_cond (Shows s now base Q) (is_some view.job) _ _
+        (released_shows (record view { job = None }) LOCF (in_parts view calm _ refl refl refl refl)) (resends view calm))
 
-    acquires : (view : View) → IsCalm s base view → Shows s now base (waits_or_acquires s view now)
+    acquires : (view : View) → IsCalm s base Q view → Shows s now base Q (waits_or_acquires s view now)
     acquires view calm =
-        on_cond (Shows s now base) (nat_lt now (shown_end view.shown)) _ _ (quietly _ (in_parts view calm _ refl refl refl))
-        (on_cond (Shows s now base) (is_promised_elsewhere view.promise s.me now) _ _ (quietly _ (in_parts view calm _ refl refl refl))
-        (calmly _ (nobody_shown view calm _ refl refl refl) refl tt (λ e. absurd e)))
+        on_cond (Shows s now base Q) (nat_lt now (shown_end view.shown)) _ _ (quietly _ (in_parts view calm _ refl refl refl refl))
+        (on_cond (Shows s now base Q) (is_promised_elsewhere view.promise s.me now) _ _ (quietly _ (in_parts view calm _ refl refl refl refl))
+        (calmly _ (nobody_shown view calm _ refl refl refl refl) refl tt (λ e. absurd e)))
 
-    followers : (view : View) → IsCalm s base view → Shows s now base (follower_due s view now)
+    followers : (view : View) → IsCalm s base Q view → Shows s now base Q (follower_due s view now)
     followers view calm =
-        on_cond (Shows s now base) (nat_lt 0 view.repeat) _ _
-        (calmly _ (in_parts view calm _ refl refl refl) refl (nothing_left (part_of s NO_ONE view.repeat_term 0) refl) (λ e. absurd e))
-        (on_cond (Shows s now base) (s.site && view.managed) _ _ (acquires view calm) (quietly _ (in_parts view calm _ refl refl refl)))
+        on_cond (Shows s now base Q) (nat_lt 0 view.repeat) _ _
+        (calmly _ (in_parts view calm _ refl refl refl refl) refl (nothing_left (part_of s NO_ONE view.repeat_term 0) refl) (λ e. absurd e))
+        (on_cond (Shows s now base Q) (s.site && view.managed) _ _ (acquires view calm) (quietly _ (in_parts view calm _ refl refl refl refl)))
 
-    pub due_shows : (view : View) → IsCalm s base view → Shows s now base (due_now s view now)
+    pub due_shows : (view : View) → IsCalm s base Q view → Shows s now base Q (due_now s view now)
     due_shows view calm =
-        on_role (Shows s now base) view.role _ _ _ _ (followers view calm) (quietly view calm) (candidates view calm) (leaders view calm)
+        on_role (Shows s now base Q) view.role _ _ _ _ (followers view calm) (quietly view calm) (candidates view calm) (leaders view calm)
 
 -- ---- the answer of a keep
 
 module _ (s : Setup) (now : ℕ) (lasts : 0 < s.times.expire) where
   -- the record that was tried is kept now, and its lease is that of the one before
-  kept_calm : (view other : View) (tried : Record) → OwnShown s.me view.kept view.shown → lease_end tried.lease ≡ lease_end view.kept.lease
-      → other.shown ≡ view.shown → other.kept ≡ tried → other.waiting ≡ None → IsCalm s tried other
-  kept_calm view other tried own lease shown kept none = record {
+  kept_calm : (Q : Type 0) → Q → (view other : View) (tried : Record) → OwnShown s.me view.kept view.shown → lease_end tried.lease ≡ lease_end view.kept.lease
+      → other.shown ≡ view.shown → other.kept ≡ tried → other.waiting ≡ None → IsCalm s tried Q other
+  kept_calm Q q view other tried own lease shown kept none = record {
     own = subst (λ (o : Option Shown). OwnShown s.me other.kept o) (sym shown)
         (λ x e is. own x e is ∙ sym lease ∙ ap (λ (r : Record). lease_end r.lease) (sym kept));
     same = kept;
     rests = none;
+    trusted = λ e. q;
   }
 
-  hidden_calm : (other : View) (tried : Record) → other.shown ≡ None → other.kept ≡ tried → other.waiting ≡ None → IsCalm s tried other
-  hidden_calm other tried shown kept none = record {
+  hidden_calm : (Q : Type 0) → Q → (other : View) (tried : Record) → other.shown ≡ None → other.kept ≡ tried → other.waiting ≡ None → IsCalm s tried Q other
+  hidden_calm Q q other tried shown kept none = record {
     own = subst (λ (o : Option Shown). OwnShown s.me other.kept o) (sym shown)
         (for_none (λ (x : Shown). x.owner ≡ s.me → x.until ≡ lease_end other.kept.lease));
     same = kept;
     rests = none;
+    trusted = λ e. q;
   }
 
-  goes_kept : (view : View) (rule : Rule) (tried : Record) → OwnShown s.me view.kept view.shown → view.waiting ≡ None
-      → MayGoOn now view.kept rule tried → Shows s now tried (goes_on s view rule tried now true)
-  goes_kept view rules.Gain tried own none may =
-      let calm : IsCalm s tried view = record { own = own; same = may.0; rests = none } in
-      calmly s now tried _ (in_parts s now tried view calm _ refl refl refl) refl (state_borne s now tried view calm)
-      (λ e. subst (λ (r : Record). now < lease_end r.lease) may.0 may.1)
-  goes_kept view (rules.Ask reason) tried own none may =
-      begins s now tried lasts _ 0 (kept_calm view _ tried own may refl refl none)
-  goes_kept view (rules.Release reason) tried own none may =
-      on_cond (λ (v : View). Shows s now tried (saying v (revokes s view.term reason) tells.Released)) (reason == SPLT) _ _
-      (calmly s now tried _ (hidden_calm _ tried refl refl none) refl (nothing_left s now tried (part_of s NO_ONE view.term 0) refl) (λ e. absurd e))
-      (calmly s now tried _ (hidden_calm _ tried refl refl none) refl (nothing_left s now tried (part_of s NO_ONE view.term 0) refl) (λ e. absurd e))
-  goes_kept view rules.EndRound tried own none may =
-      calmly s now tried _ (hidden_calm _ tried refl refl none) refl (nothing_left s now tried (part_of s NO_ONE view.term 0) refl) (λ e. absurd e)
-  goes_kept view (rules.Answer kind to number request told) tried own none may =
-      calmly s now tried _ (kept_calm view _ tried own may.0 refl refl none) refl (nothing_left s now tried (part_of s to view.term 0) refl)
+  goes_kept : (Q : Type 0) → Q → (view : View) (rule : Rule) (tried : Record) → OwnShown s.me view.kept view.shown → view.waiting ≡ None
+      → MayGoOn now view.kept rule tried → Shows s now tried Q (goes_on s view rule tried now true)
+  goes_kept Q q view rules.Gain tried own none may =
+      let calm : IsCalm s tried Q view = record { own = own; same = may.0; rests = none; trusted = λ e. q } in
+      calmly s now tried Q _ (kept_calm Q q view _ tried own (ap (λ (r : Record). lease_end r.lease) (sym may.0)) refl may.0 none) refl (state_borne s now tried Q view calm)
+      (λ e. (subst (λ (r : Record). now < lease_end r.lease) may.0 may.1, q))
+  goes_kept Q q view (rules.Ask reason) tried own none may =
+      begins s now tried Q lasts _ 0 (kept_calm Q q view _ tried own may refl refl none)
+  goes_kept Q q view (rules.Release reason) tried own none may =
+      on_cond (λ (v : View). Shows s now tried Q (saying v (revokes s view.term reason) tells.Released)) (reason == SPLT) _ _
+      (calmly s now tried Q _ (hidden_calm Q q _ tried refl refl none) refl (nothing_left s now tried Q (part_of s NO_ONE view.term 0) refl) (λ e. absurd e))
+      (calmly s now tried Q _ (hidden_calm Q q _ tried refl refl none) refl (nothing_left s now tried Q (part_of s NO_ONE view.term 0) refl) (λ e. absurd e))
+  goes_kept Q q view rules.EndRound tried own none may =
+      calmly s now tried Q _ (hidden_calm Q q _ tried refl refl none) refl (nothing_left s now tried Q (part_of s NO_ONE view.term 0) refl) (λ e. absurd e)
+  goes_kept Q q view (rules.Answer kind to number request told) tried own none may =
+      calmly s now tried Q _ (kept_calm Q q view _ tried own may.0 refl refl none) refl (nothing_left s now tried Q (part_of s to view.term 0) refl)
       (λ e. absurd (may.1 e))
-  goes_kept view (rules.Renew number) tried own none may =
-      begins s now tried lasts _ number (kept_calm view _ tried own may refl refl none)
+  goes_kept Q q view (rules.Renew number) tried own none may =
+      begins s now tried Q lasts _ number (kept_calm Q q view _ tried own may refl refl none)
 
-  goes_failed : (view : View) (rule : Rule) (tried : Record) → OwnShown s.me view.kept view.shown → view.waiting ≡ None
-      → MayGoOn now view.kept rule tried → Shows s now view.kept (goes_on s view rule tried now false)
-  goes_failed view rule tried own none may = by_rule rule may
+  goes_failed : (Q : Type 0) (view : View) (rule : Rule) (tried : Record) → OwnShown s.me view.kept view.shown → view.waiting ≡ None
+      → MayGoOn now view.kept rule tried → Shows s now view.kept Q (goes_on s view rule tried now false)
+  goes_failed Q view rule tried own none may = by_rule rule may
     where
-      calm : IsCalm s view.kept view
-      calm = record { own = own; same = refl; rests = none }
+      so : (other : View) → other.shown ≡ view.shown → other.kept ≡ view.kept → other.waiting ≡ view.waiting → other.sure ≡ false
+          → IsCalm s view.kept Q other
+      so other shown kept waiting unsure = record {
+        own = subst (λ (o : Option Shown). OwnShown s.me other.kept o) (sym shown)
+            (subst (λ (r : Record). OwnShown s.me r view.shown) (sym kept) own);
+        same = kept;
+        rests = waiting ∙ none;
+        trusted = λ e. absurd (untrue (sym unsure ∙ e));
+      }
 
-      so : (other : View) → other.shown ≡ view.shown → other.kept ≡ view.kept → other.waiting ≡ view.waiting → IsCalm s view.kept other
-      so other shown kept waiting = in_parts s now view.kept view calm other shown kept waiting
+      ends : (told : Told) → (IsGained told → ⊥) → (other : View) → IsCalm s view.kept Q other → Shows s now view.kept Q (telling other told)
+      ends told never other other_calm = calmly s now view.kept Q _ other_calm refl tt (λ e. absurd (never e))
 
-      ends : (told : Told) → (IsGained told → ⊥) → (other : View) → IsCalm s view.kept other → Shows s now view.kept (telling other told)
-      ends told never other other_calm = calmly s now view.kept _ other_calm refl tt (λ e. absurd (never e))
-
-      by_rule : (rule : Rule) → MayGoOn now view.kept rule tried → Shows s now view.kept (goes_on s view rule tried now false)
-      by_rule rules.Gain may = ends (tells.Gained false) (λ e. e) _ (so _ refl refl refl)
+      by_rule : (rule : Rule) → MayGoOn now view.kept rule tried → Shows s now view.kept Q (goes_on s view rule tried now false)
+      by_rule rules.Gain may = ends (tells.Gained false) (λ e. e) _ (so _ refl refl refl refl)
       by_rule (rules.Ask reason) may =
-          on_cond (Shows s now view.kept) (is_leader view.role) _ _ (quietly s now view.kept _ (so _ refl refl refl))
-          (ends tells.AskFailed (λ e. e) _ (so _ refl refl refl))
+          on_cond (Shows s now view.kept Q) (is_leader view.role) _ _ (quietly s now view.kept Q _ (so _ refl refl refl refl))
+          (ends tells.AskFailed (λ e. e) _ (so _ refl refl refl refl))
       by_rule (rules.Release reason) may =
           ends tells.ReleaseFailed (λ e. e) _
-          (calm_if s now view.kept (reason == SPLT) _ _ (so _ refl refl refl)
-          (calm_if s now view.kept (is_leader view.role) _ _ (so _ refl refl refl) (so _ refl refl refl)))
-      by_rule rules.EndRound may = ends tells.RoundFailed (λ e. e) _ (so _ refl refl refl)
-      by_rule (rules.Answer kind to number request told) may = ends told may.1 _ (so _ refl refl refl)
-      by_rule (rules.Renew number) may = quietly s now view.kept _ (so _ refl refl refl)
+          (calm_if s now view.kept Q (reason == SPLT) _ _ (so _ refl refl refl refl)
+          (calm_if s now view.kept Q (is_leader view.role) _ _ (so _ refl refl refl refl) (so _ refl refl refl refl)))
+      by_rule rules.EndRound may = ends tells.RoundFailed (λ e. e) _ (so _ refl refl refl refl)
+      by_rule (rules.Answer kind to number request told) may = ends told may.1 _ (so _ refl refl refl refl)
+      by_rule (rules.Renew number) may = quietly s now view.kept Q _ (so _ refl refl refl refl)
 
-  pub answered_kept : (view : View) (waits : Waiting) → view.waiting ≡ Some waits → OwnShown s.me view.kept view.shown
-      → MayGoOn now view.kept waits.rule waits.tried → Shows s now waits.tried (finish s view now true)
-  answered_kept view waits is own may =
-      on_option (Shows s now waits.tried) view.waiting _ _ (λ none. absurd (none_is waits (sym none ∙ is)))
+  pub answered_kept : (Q : Type 0) → Q → (view : View) (waits : Waiting) → view.waiting ≡ Some waits → OwnShown s.me view.kept view.shown
+      → MayGoOn now view.kept waits.rule waits.tried → Shows s now waits.tried Q (finish s view now true)
+  answered_kept Q q view waits is own may =
+      on_option (Shows s now waits.tried Q) view.waiting _ _ (λ none. absurd (none_is waits (sym none ∙ is)))
       (λ w e.
       let same : waits ≡ w = some_same waits w (sym is ∙ e) in
-      subst (λ (x : Waiting). Shows s now waits.tried (goes_on s (record view { waiting = None }) x.rule x.tried now true)) same
-      (goes_kept (record view { waiting = None }) waits.rule waits.tried own refl may))
+      subst (λ (x : Waiting). Shows s now waits.tried Q (goes_on s (record view { waiting = None }) x.rule x.tried now true)) same
+      (goes_kept Q q (record view { waiting = None }) waits.rule waits.tried own refl may))
 
-  pub answered_failed : (view : View) (waits : Waiting) → view.waiting ≡ Some waits → OwnShown s.me view.kept view.shown
-      → MayGoOn now view.kept waits.rule waits.tried → Shows s now view.kept (finish s view now false)
-  answered_failed view waits is own may =
-      on_option (Shows s now view.kept) view.waiting _ _ (λ none. absurd (none_is waits (sym none ∙ is)))
+  pub answered_failed : (Q : Type 0) (view : View) (waits : Waiting) → view.waiting ≡ Some waits → OwnShown s.me view.kept view.shown
+      → MayGoOn now view.kept waits.rule waits.tried → Shows s now view.kept Q (finish s view now false)
+  answered_failed Q view waits is own may =
+      on_option (Shows s now view.kept Q) view.waiting _ _ (λ none. absurd (none_is waits (sym none ∙ is)))
       (λ w e.
       let same : waits ≡ w = some_same waits w (sym is ∙ e) in
-      subst (λ (x : Waiting). Shows s now view.kept (goes_on s (record view { waiting = None }) x.rule x.tried now false)) same
-      (goes_failed (record view { waiting = None }) waits.rule waits.tried own refl may))
+      subst (λ (x : Waiting). Shows s now view.kept Q (goes_on s (record view { waiting = None }) x.rule x.tried now false)) same
+      (goes_failed Q (record view { waiting = None }) waits.rule waits.tried own refl may))
 
 -- a start shows its record's lease
-pub started_calm : (s : Setup) (kept : Record) (now : ℕ) → IsCalm s kept (started s kept now)
-started_calm s kept now = record {
+pub started_calm : (s : Setup) (kept : Record) (Q : Type 0) → Q → (now : ℕ) → IsCalm s kept Q (started s kept now)
+started_calm s kept Q q now = record {
   own = on_cond (λ (o : Option Shown). OwnShown s.me kept o) (holds_at_start s kept now) _ None
       (for_this (λ (x : Shown). x.owner ≡ s.me → x.until ≡ lease_end kept.lease) (record { owner = s.me; until = lease_end kept.lease }) (λ own. refl))
       (for_none (λ (x : Shown). x.owner ≡ s.me → x.until ≡ lease_end kept.lease));
   same = refl;
   rests = refl;
+  trusted = λ e. q;
 }

@@ -15,7 +15,7 @@ use Rattle.booth_base.specs.Name.{is_name_byte}
 use Rattle.booth_conf.proofs.SegmentLemmas.{segments_below}
 use Rattle.booth_node.specs.Lists.{cut_lines, part_text, with_first}
 use Rattle.booth_raft.proofs.FactsLemmas.{on_cond}
-use Rattle.booth_world.specs.Tellers.{HasNone, EndsLine, HasLine}
+use Rattle.booth_world.specs.Tellers.{HasNone, BeginsLine, EndsLine, HasLine}
 
 -- ---- texts
 
@@ -25,6 +25,10 @@ heads x y xs ys e = (cc, cc)
 pub joins : (xs ys zs : List ℕ) → (xs ++ ys) ++ zs ≡ xs ++ (ys ++ zs)
 joins [] ys zs = refl
 joins (x ∷ xs) ys zs = ap (λ (l : List ℕ). x ∷ l) (joins xs ys zs)
+
+with_none : (xs : List ℕ) → xs ++ [] ≡ xs
+with_none [] = refl
+with_none (x ∷ xs) = ap (λ (l : List ℕ). x ∷ l) (with_none xs)
 
 pub none_in_both : (b : ℕ) (xs ys : List ℕ) → HasNone b xs → HasNone b ys → HasNone b (xs ++ ys)
 none_in_both b [] ys h k = k
@@ -90,9 +94,53 @@ found Q (l ∷ lines) all before line after e begins single =
         (cut_behind 10 body behind.0 (line ++ 10 ∷ after) (part_text lines) all.0.2
         (sym (joins behind.0 (10 ∷ []) (line ++ 10 ∷ after)) ∙ ap (λ (x : List ℕ). x ++ (line ++ 10 ∷ after)) (sym behind.1) ∙ sym spelled))
 
+-- a text of lines is empty, or ends with a line end
+text_ends : (Q : List ℕ → Type 0) (lines : List (List ℕ)) → AllOf (IsLineOf Q) lines
+    → (part_text lines ≡ []) ⊎ ((start : List ℕ) × (part_text lines ≡ start ++ 10 ∷ []))
+text_ends Q [] all = inl refl
+text_ends Q (l ∷ lines) all =
+    inr (⊎_elim
+    (λ (none : part_text lines ≡ []). (all.0.0, ap (λ (rest : List ℕ). l ++ rest) none ∙ with_none l ∙ all.0.1))
+    (λ (q : (start : List ℕ) × (part_text lines ≡ start ++ 10 ∷ [])).
+    (l ++ q.0, ap (λ (rest : List ℕ). l ++ rest) q.1 ∙ sym (joins l q.0 (10 ∷ []))))
+    (text_ends Q lines all.1))
+
+last_is_none : (start : List ℕ) → HasNone 10 (start ++ 10 ∷ []) → ⊥
+last_is_none [] h = h.0 refl
+last_is_none (x ∷ start) h = last_is_none start h.1
+
+none_behind : (before line : List ℕ) → before ++ line ≡ [] → line ≡ []
+none_behind [] line e = e
+none_behind (x ∷ before) line e = absurd cc
+
+-- what stands behind the last line end is empty
+rest_is_none : (before line start : List ℕ) → before ++ line ≡ start ++ 10 ∷ [] → HasNone 10 line → line ≡ []
+rest_is_none [] line start e h = absurd (last_is_none start (subst (λ (l : List ℕ). HasNone 10 l) e h))
+rest_is_none (x ∷ before) line [] e h = none_behind before line (heads x 10 (before ++ line) [] e).1
+rest_is_none (x ∷ before) line (y ∷ start) e h = rest_is_none before line start (heads x y (before ++ line) (start ++ 10 ∷ []) e).1 h
+
 -- each line of the text is one of these, so Q holds of it
-pub line_found : (Q : List ℕ → Type 0) (lines : List (List ℕ)) → AllOf (IsLineOf Q) lines → (line : List ℕ) → HasLine (part_text lines) line → Q line
-line_found Q lines all line has = found Q lines all has.before line has.after has.whole has.begins has.single
+pub line_found : (Q : List ℕ → Type 0) (lines : List (List ℕ)) → AllOf (IsLineOf Q) lines → (line : List ℕ) → line ≢ []
+    → HasLine (part_text lines) line → Q line
+line_found Q lines all line some has = by_end has.ends
+  where
+    at_end : has.after ≡ [] → part_text lines ≡ has.before ++ line
+    at_end none = has.whole ∙ ap (λ (rest : List ℕ). has.before ++ (line ++ rest)) none ∙ ap (λ (rest : List ℕ). has.before ++ rest) (with_none line)
+
+    by_end : BeginsLine has.after → Q line
+    by_end (inl none) =
+        absurd (some (⊎_elim
+        (λ (empty : part_text lines ≡ []). none_behind has.before line (sym (at_end none) ∙ empty))
+        (λ (q : (start : List ℕ) × (part_text lines ≡ start ++ 10 ∷ [])). rest_is_none has.before line q.0 (sym (at_end none) ∙ q.1) has.single)
+        (text_ends Q lines all)))
+    by_end (inr later) =
+        found Q lines all has.before line later.0
+        (has.whole ∙ ap (λ (rest : List ℕ). has.before ++ (line ++ rest)) later.1) has.begins has.single
+
+-- a name and what follows it
+pub named_is_some : (name rest : List ℕ) → name ++ 32 ∷ rest ≢ []
+named_is_some [] rest e = absurd cc
+named_is_some (x ∷ name) rest e = absurd cc
 
 -- ---- parts
 

@@ -47,7 +47,7 @@ use Rattle.booth_ticket.specs.Acts.{Ask, Keep, Say, Start}
 use Rattle.booth_ticket.specs.Automatic.{come_due, end_job, follow, hear, hear_job, hear_message, role_due, take_over, tick}
 use Rattle.booth_ticket.specs.Handling.{acquire, acquires, checks, goes_on, is_job, job_over, leads_on, renews_by, renews_or_releases, works, works_on}
 use Rattle.booth_ticket.specs.Keeping.{carry_out, keep_of, keep_once}
-use Rattle.booth_ticket.specs.Requests.{Answered, acquire_for, do_for, follow_request, grant, grant_result, is_holder, is_shown_elsewhere, refuse, refused_grant, refused_revoke, release_for, reply, revoke}
+use Rattle.booth_ticket.specs.Requests.{Answered, acquire_for, do_for, follow_request, grant, grant_result, holder_result, is_holder, is_shown_elsewhere, refuse, refused_grant, refused_revoke, release_for, reply, revoke}
 use Rattle.booth_ticket.specs.Saying.{others, places_in, say, say_each, say_to}
 use Rattle.booth_ticket.specs.Ticket.{Automatic, Known, Manual, TicketLeft, left_as, ticket_asked, ticket_due, ticket_heard, ticket_over}
 use Rattle.booth_ticket.specs.Waiting.{Left, commits, result_for, tell, tell_each, tell_one, tell_result, waits as wants_to_wait}
@@ -58,9 +58,9 @@ use Rattle.booth_world.proofs.TurnKeeps.{IsGainAtMost, second_gains, third_keeps
 
 -- ---- what deeds tell
 
--- one of these records has a lease that ends after now
+-- one record alone may be kept, so it is kept; and it has a lease that ends after now
 abbrev pub HasLease : ℕ → List Record → Type 0
-HasLease now may = (k : Record) × Has may k × (now < lease_end k.lease)
+HasLease now may = (k : Record) × (may ≡ k ∷ []) × (now < lease_end k.lease)
 
 -- what is said of this member as the leader is borne out by one of these records, and so is a grant that was done
 abbrev pub IsTrueOf : Setup → ℕ → List Record → Head → TicketPart → Type 0
@@ -95,7 +95,7 @@ Stays may later left = later ≡ may
 
 -- an automatic ticket at rest, whose record may be kept
 abbrev pub IsHonest : Setup → List Record → Known → Type 0
-IsHonest s may (Automatic view) = (base : Record) × Has may base × IsCalm s base view
+IsHonest s may (Automatic view) = (base : Record) × Has may base × IsCalm s base (may ≡ base ∷ []) view
 IsHonest s may (Manual known) = ⊥
 
 abbrev pub IsHonestLeft : Setup → List Record → TicketLeft → Type 0
@@ -146,16 +146,16 @@ module _ (s : Setup) (now : ℕ) (lasts : 0 < s.times.expire) where
     pub same : core.setup ≡ s
     pub base : Record
     pub based : Has may base
-    pub calm : IsCalm s base core.view
+    pub calm : IsCalm s base (may ≡ base ∷ []) core.view
 
   record IsStep (may : List Record) (x : Step) : Type 0 where
     pub same : x.core.setup ≡ s
     pub base : Record
     pub based : Has may base
-    pub shows : Shows s now base (record { view = x.core.view; deed = x.deed })
+    pub shows : Shows s now base (may ≡ base ∷ []) (record { view = x.core.view; deed = x.deed })
     pub speaks : IsSpeech s x.deed.say
 
-  step_of : (may : List Record) (base : Record) (view : View) (outcome : Outcome) → Has may base → Shows s now base outcome → Speaks s outcome
+  step_of : (may : List Record) (base : Record) (view : View) (outcome : Outcome) → Has may base → Shows s now base (may ≡ base ∷ []) outcome → Speaks s outcome
       → IsStep may (step (at view) outcome)
   step_of may base view outcome has shows speaks =
       record { same = refl; base = base; based = has; shows = shows; speaks = speaks }
@@ -188,8 +188,8 @@ module _ (s : Setup) (now : ℕ) (lasts : 0 < s.times.expire) where
           same = h.same;
           base = w.tried;
           based = inl (sym ready.0);
-          shows = subst (λ (t : Setup). Shows s now w.tried (finish t x.core.view now true)) (sym h.same)
-              (answered_kept s now lasts x.core.view w e h.shows.own ready.1);
+          shows = subst (λ (t : Setup). Shows s now w.tried (tried ∷ [] ≡ w.tried ∷ []) (finish t x.core.view now true)) (sym h.same)
+              (answered_kept s now lasts (tried ∷ [] ≡ w.tried ∷ []) (ap (λ (r : Record). r ∷ []) (sym ready.0)) x.core.view w e h.shows.own ready.1);
           speaks = subst (λ (t : Setup). IsSpeech s (finish t x.core.view now true).deed.say) (sym h.same)
               (rules_speak.answered s x.core.view now true);
         },
@@ -197,8 +197,8 @@ module _ (s : Setup) (now : ℕ) (lasts : 0 < s.times.expire) where
           same = h.same;
           base = x.core.view.kept;
           based = has_kept;
-          shows = subst (λ (t : Setup). Shows s now x.core.view.kept (finish t x.core.view now false)) (sym h.same)
-              (answered_failed s now lasts x.core.view w e h.shows.own ready.1);
+          shows = subst (λ (t : Setup). Shows s now x.core.view.kept (tried ∷ may ≡ x.core.view.kept ∷ []) (finish t x.core.view now false)) (sym h.same)
+              (answered_failed s now lasts (tried ∷ may ≡ x.core.view.kept ∷ []) x.core.view w e h.shows.own ready.1);
           speaks = subst (λ (t : Setup). IsSpeech s (finish t x.core.view now false).deed.say) (sym h.same)
               (rules_speak.answered s x.core.view now false);
         },
@@ -243,9 +243,10 @@ module _ (s : Setup) (now : ℕ) (lasts : 0 < s.times.expire) where
         own = h.0.shows.own;
         same = subst (λ (k : Option Record). Tracks h.0.base k x.core.view.kept) h.1 h.0.shows.track;
         rests = subst (λ (k : Option Record). IsReady now x.core.view.kept k x.core.view.waiting) h.1 h.0.shows.waits;
+        trusted = h.0.shows.trusted h.1;
       };
     };
-    told = λ e. (h.0.base, h.0.based, h.0.shows.told e);
+    told = λ e. let told = h.0.shows.told e in (h.0.base, told.1, told.0);
   }
 
   carried : (may : List Record) (from : Option ℕ) (x : Step) → IsStep may x → Honest s now IsLast may (carry_out from now x)
@@ -288,7 +289,7 @@ module _ (s : Setup) (now : ℕ) (lasts : 0 < s.times.expire) where
   state_true may core rest head granted = (
     λ leads some.
         let b = subst (λ (t : Setup). IsBorne s.me (lease_end rest.base.lease) now (state_part t core.view now)) (sym rest.same)
-        (state_borne s now rest.base core.view rest.calm) leads some in
+        (state_borne s now rest.base (may ≡ rest.base ∷ []) core.view rest.calm) leads some in
         (rest.base, rest.based, b.0, b.1),
     granted,
   )
@@ -345,113 +346,114 @@ module _ (s : Setup) (now : ℕ) (lasts : 0 < s.times.expire) where
 
   -- ---- what the rules give
 
-  abbrev Good : Record → Outcome → Type 0
-  Good base o = Shows s now base o × Speaks s o
+  abbrev Good : List Record → Record → Outcome → Type 0
+  Good may base o = Shows s now base (may ≡ base ∷ []) o × Speaks s o
 
-  good_step : (may : List Record) (base : Record) (view : View) (outcome : Outcome) → Has may base → Good base outcome
+  good_step : (may : List Record) (base : Record) (view : View) (outcome : Outcome) → Has may base → Good may base outcome
       → IsStep may (step (at view) outcome)
   good_step may base view outcome has good = step_of may base view outcome has good.0 good.1
 
-  acquire_good : (base : Record) (view : View) (reason : ℕ) → IsCalm s base view → Good base (acquire s view reason now)
-  acquire_good base view reason calm =
-      on_cond (Good base) (are_terms_spent view) (telling (acquisition_failed s view now) tells.AskFailed) (ask s view reason now)
-      (calmly s now base _ (noted_calm s now base lasts view notes.AskFailed calm) refl tt (λ e. absurd e), tt)
-      (asked_shows s now base lasts view reason calm, rules_speak.asked s view reason now)
+  acquire_good : (may : List Record) (base : Record) (view : View) (reason : ℕ) → IsCalm s base (may ≡ base ∷ []) view → Good may base (acquire s view reason now)
+  acquire_good may base view reason calm =
+      on_cond (Good may base) (are_terms_spent view) (telling (acquisition_failed s view now) tells.AskFailed) (ask s view reason now)
+      (calmly s now base (may ≡ base ∷ []) _ (noted_calm s now base (may ≡ base ∷ []) lasts view notes.AskFailed calm) refl tt (λ e. absurd e), tt)
+      (asked_shows s now base (may ≡ base ∷ []) lasts view reason calm, rules_speak.asked s view reason now)
 
-  failed_good : (base : Record) (view : View) → IsCalm s base view
-      → Good base (telling (noted s view now notes.HandlerFailed) tells.HandlerFailed)
-  failed_good base view calm =
-      (calmly s now base _ (noted_calm s now base lasts view notes.HandlerFailed calm) refl tt (λ e. absurd e), tt)
+  failed_good : (may : List Record) (base : Record) (view : View) → IsCalm s base (may ≡ base ∷ []) view
+      → Good may base (telling (noted s view now notes.HandlerFailed) tells.HandlerFailed)
+  failed_good may base view calm =
+      (calmly s now base (may ≡ base ∷ []) _ (noted_calm s now base (may ≡ base ∷ []) lasts view notes.HandlerFailed calm) refl tt (λ e. absurd e), tt)
 
-  works_good : (base : Record) (view : View) (job reason : ℕ) (ok : Bool) → IsCalm s base view → Good base (works s view job reason now ok)
-  works_good base view job reason true calm =
-      (quietly s now base _ (noted_calm s now base lasts view (notes.JobStarted job reason) calm), tt)
-  works_good base view job reason false calm = failed_good base view calm
+  works_good : (may : List Record) (base : Record) (view : View) (job reason : ℕ) (ok : Bool) → IsCalm s base (may ≡ base ∷ []) view → Good may base (works s view job reason now ok)
+  works_good may base view job reason true calm =
+      (quietly s now base (may ≡ base ∷ []) _ (noted_calm s now base (may ≡ base ∷ []) lasts view (notes.JobStarted job reason) calm), tt)
+  works_good may base view job reason false calm = failed_good may base view calm
 
-  released_good : (base : Record) (view : View) (reason : ℕ) → IsCalm s base view → Good base (release s view reason now)
-  released_good base view reason calm =
-      (released_shows s now base lasts view reason calm, rules_speak.released s view reason now)
+  released_good : (may : List Record) (base : Record) (view : View) (reason : ℕ) → IsCalm s base (may ≡ base ∷ []) view → Good may base (release s view reason now)
+  released_good may base view reason calm =
+      (released_shows s now base (may ≡ base ∷ []) lasts view reason calm, rules_speak.released s view reason now)
 
-  checks_good : (base : Record) (view : View) (job : ℕ) (ok : Bool) → IsCalm s base view → Good base (checks s view job now ok)
-  checks_good base view job true calm =
-      (quietly s now base _ (noted_calm s now base lasts view (notes.JobStarted job RACQ) calm), tt)
-  checks_good base view job false calm = released_good base view LOCF calm
+  checks_good : (may : List Record) (base : Record) (view : View) (job : ℕ) (ok : Bool) → IsCalm s base (may ≡ base ∷ []) view → Good may base (checks s view job now ok)
+  checks_good may base view job true calm =
+      (quietly s now base (may ≡ base ∷ []) _ (noted_calm s now base (may ≡ base ∷ []) lasts view (notes.JobStarted job RACQ) calm), tt)
+  checks_good may base view job false calm = released_good may base view LOCF calm
 
-  renewed_good : (base : Record) (view : View) → IsCalm s base view → Good base (renew s view now)
-  renewed_good base view calm = (renewed_shows s now base lasts view calm, rules_speak.renewed s view now)
+  renewed_good : (may : List Record) (base : Record) (view : View) → IsCalm s base (may ≡ base ∷ []) view → Good may base (renew s view now)
+  renewed_good may base view calm = (renewed_shows s now base (may ≡ base ∷ []) lasts view calm, rules_speak.renewed s view now)
 
-  works_on_good : (base : Record) (view : View) (service : Service) → IsCalm s base view → Good base (works_on s view service now)
-  works_on_good base view CanRun calm =
-      on_cond (Good base) (is_promised_elsewhere view.promise s.me now)
+  works_on_good : (may : List Record) (base : Record) (view : View) (service : Service) → IsCalm s base (may ≡ base ∷ []) view → Good may base (works_on s view service now)
+  works_on_good may base view CanRun calm =
+      on_cond (Good may base) (is_promised_elsewhere view.promise s.me now)
       (telling (noted s view now notes.AskFailed) tells.AskFailed) (acquire s view view.reason now)
-      (calmly s now base _ (noted_calm s now base lasts view notes.AskFailed calm) refl tt (λ e. absurd e), tt)
-      (acquire_good base view view.reason calm)
-  works_on_good base view CannotRun calm = failed_good base view calm
+      (calmly s now base (may ≡ base ∷ []) _ (noted_calm s now base (may ≡ base ∷ []) lasts view notes.AskFailed calm) refl tt (λ e. absurd e), tt)
+      (acquire_good may base view view.reason calm)
+  works_on_good may base view CannotRun calm = failed_good may base view calm
 
-  leads_on_good : (base : Record) (view : View) (service : Service) → IsCalm s base view → Good base (leads_on s view service now)
-  leads_on_good base view service calm =
-      on_cond (Good base) (nat_le (own_end view) now) (telling (lost s view now) tells.Lost) (renews_or_releases s view service now)
-      (calmly s now base _ (lost_calm s now base lasts view calm) refl tt (λ e. absurd e), tt) (by_service service)
+  leads_on_good : (may : List Record) (base : Record) (view : View) (service : Service) → IsCalm s base (may ≡ base ∷ []) view → Good may base (leads_on s view service now)
+  leads_on_good may base view service calm =
+      on_cond (Good may base) (nat_le (own_end view) now) (telling (lost s view now) tells.Lost) (renews_or_releases s view service now)
+      (calmly s now base (may ≡ base ∷ []) _ (lost_calm s now base (may ≡ base ∷ []) lasts view calm) refl tt (λ e. absurd e), tt) (by_service service)
     where
-      by_service : (service : Service) → Good base (renews_or_releases s view service now)
-      by_service CanRun = renewed_good base view calm
-      by_service CannotRun = released_good base view LOCF calm
+      by_service : (service : Service) → Good may base (renews_or_releases s view service now)
+      by_service CanRun = renewed_good may base view calm
+      by_service CannotRun = released_good may base view LOCF calm
 
-  job_good : (base : Record) (view : View) (job : ℕ) (service : Service) → IsCalm s base view → Good base (job_over s view job service now)
-  job_good base view job service calm =
-      on_cond (Good base) (s.site && is_job view.job job) (goes_on s view service now) (quiet view)
-      (on_role (Good base) view.role (quiet view) (works_on s view service now) (quiet view)
-      (leads_on s (noted s view now notes.JobOver) service now) rest (works_on_good base view service calm) rest
-      (leads_on_good base (noted s view now notes.JobOver) service (noted_calm s now base lasts view notes.JobOver calm))) rest
+  job_good : (may : List Record) (base : Record) (view : View) (job : ℕ) (service : Service) → IsCalm s base (may ≡ base ∷ []) view → Good may base (job_over s view job service now)
+  job_good may base view job service calm =
+      on_cond (Good may base) (s.site && is_job view.job job) (goes_on s view service now) (quiet view)
+      (on_role (Good may base) view.role (quiet view) (works_on s view service now) (quiet view)
+      (leads_on s (noted s view now notes.JobOver) service now) rest (works_on_good may base view service calm) rest
+      (leads_on_good may base (noted s view now notes.JobOver) service (noted_calm s now base (may ≡ base ∷ []) lasts view notes.JobOver calm))) rest
     where
-      rest : Good base (quiet view)
-      rest = (quietly s now base view calm, tt)
+      rest : Good may base (quiet view)
+      rest = (quietly s now base (may ≡ base ∷ []) view calm, tt)
 
   -- ---- the handler
 
-  acquired : (may : List Record) (base : Record) (view : View) (job : Option ℕ) (reason : ℕ) → Has may base → IsCalm s base view
+  acquired : (may : List Record) (base : Record) (view : View) (job : Option ℕ) (reason : ℕ) → Has may base → IsCalm s base (may ≡ base ∷ []) view
       → Honest s now IsStep may (acquires (at view) job reason now)
-  acquired may base view None reason has calm = good_step may base view (acquire s view reason now) has (acquire_good base view reason calm)
+  acquired may base view None reason has calm = good_step may base view (acquire s view reason now) has (acquire_good may base view reason calm)
   acquired may base view (Some job) reason has calm = (
     λ some. absurd (omega (arith, some)),
-    λ ok. good_step may base view (works s view job reason now ok) has (works_good base view job reason ok calm),
+    λ ok. good_step may base view (works s view job reason now ok) has (works_good may base view job reason ok calm),
   )
 
-  renewed : (may : List Record) (base : Record) (view : View) (job : Option ℕ) → Has may base → IsCalm s base view
+  renewed : (may : List Record) (base : Record) (view : View) (job : Option ℕ) → Has may base → IsCalm s base (may ≡ base ∷ []) view
       → Honest s now IsStep may (renews_by (at view) job now)
-  renewed may base view None has calm = good_step may base view (renew s view now) has (renewed_good base view calm)
+  renewed may base view None has calm = good_step may base view (renew s view now) has (renewed_good may base view calm)
   renewed may base view (Some job) has calm = (
     λ some. (base, has, ap (λ (r : Record). lease_end r.lease / 1000) (sym calm.same)),
-    λ ok. good_step may base view (checks s view job now ok) has (checks_good base view job ok calm),
+    λ ok. good_step may base view (checks s view job now ok) has (checks_good may base view job ok calm),
   )
 
   -- ---- the deadline
 
-  taken_over : (may : List Record) (base : Record) (view : View) (given : Given) → given.now ≡ now → Has may base → IsCalm s base view
+  taken_over : (may : List Record) (base : Record) (view : View) (given : Given) → given.now ≡ now → Has may base → IsCalm s base (may ≡ base ∷ []) view
       → Honest s now IsStep may (take_over (at view) given)
   taken_over may base view given same has calm =
       subst (λ (n : ℕ). Honest s now IsStep may
       (if given.ready then acquires (at view) given.job TLST n else Ends (step (at view) (quiet (noted s view n notes.Unready))))) (sym same)
       (on_cond (Honest s now IsStep may) given.ready _ _ (acquired may base view given.job TLST has calm)
-      (good_step may base view _ has (quietly s now base _ (noted_calm s now base lasts view notes.Unready calm), tt)))
+      (good_step may base view _ has (quietly s now base (may ≡ base ∷ []) _ (noted_calm s now base (may ≡ base ∷ []) lasts view notes.Unready calm), tt)))
 
   -- what the rule of a deadline wants follows it
-  followed : (may : List Record) (base : Record) (view : View) (given : Given) → given.now ≡ now → Has may base → IsCalm s base view
+  followed : (may : List Record) (base : Record) (view : View) (given : Given) → given.now ≡ now → Has may base → IsCalm s base (may ≡ base ∷ []) view
       → (want : Want) → (due_now s view now).deed.want ≡ want
       → Honest s now IsStep may (follow (step (at view) (due_now s view now)) want given)
   followed may base view given same has calm want is = by_want want is
     where
-      shows : Shows s now base (due_now s view now)
-      shows = due_shows s now base lasts view calm
+      shows : Shows s now base (may ≡ base ∷ []) (due_now s view now)
+      shows = due_shows s now base (may ≡ base ∷ []) lasts view calm
 
-      rests : (due_now s view now).deed.keep ≡ None → IsCalm s base (due_now s view now).view
+      rests : (due_now s view now).deed.keep ≡ None → IsCalm s base (may ≡ base ∷ []) (due_now s view now).view
       rests none = record {
         own = shows.own;
         same = subst (λ (k : Option Record). Tracks base k (due_now s view now).view.kept) none shows.track;
         rests = subst (λ (k : Option Record). IsReady now (due_now s view now).view.kept k (due_now s view now).view.waiting) none shows.waits;
+        trusted = shows.trusted none;
       }
 
-      at_rest : (want : Want) → (due_now s view now).deed.want ≡ want → (want ≡ wants.Nothing → ⊥) → IsCalm s base (due_now s view now).view
+      at_rest : (want : Want) → (due_now s view now).deed.want ≡ want → (want ≡ wants.Nothing → ⊥) → IsCalm s base (may ≡ base ∷ []) (due_now s view now).view
       at_rest want e other =
           rests (⊎_elim (λ (n : (due_now s view now).deed.keep ≡ None). n)
           (λ (n : (due_now s view now).deed.want ≡ wants.Nothing). absurd (other (sym e ∙ n))) shows.wants)
@@ -465,34 +467,34 @@ module _ (s : Setup) (now : ℕ) (lasts : 0 < s.times.expire) where
       by_want wants.Acquire e =
           taken_over may base (due_now s view now).view given same has (at_rest wants.Acquire e (λ n. absurd (cc)))
 
-  role_come : (may : List Record) (base : Record) (view : View) (given : Given) → given.now ≡ now → Has may base → IsCalm s base view
+  role_come : (may : List Record) (base : Record) (view : View) (given : Given) → given.now ≡ now → Has may base → IsCalm s base (may ≡ base ∷ []) view
       → Honest s now IsStep may (role_due (at view) given)
   role_come may base view given same has calm =
       on_cond (Honest s now IsStep may) (is_working view.role) _ _
       (subst (λ (n : ℕ). IsStep may (step (at view) (telling (handler_failed s view n) tells.HandlerFailed))) (sym same)
-      (good_step may base view _ has (failed_good base view calm)))
+      (good_step may base view _ has (failed_good may base view calm)))
       (subst (λ (n : ℕ). Honest s now IsStep may (follow (step (at view) (due_now s view n)) (due_now s view n).deed.want given)) (sym same)
       (followed may base view given same has calm (due_now s view now).deed.want refl))
 
-  hello_borne : (base : Record) (view : View) → IsCalm s base view → AreBorne s.me (lease_end base.lease) now (hello s view now)
-  hello_borne base view calm =
-      on_cond (AreBorne s.me (lease_end base.lease) now) view.hello (asks_state s view now) words.Nothing (state_borne s now base view calm) tt
+  hello_borne : (may : List Record) (base : Record) (view : View) → IsCalm s base (may ≡ base ∷ []) view → AreBorne s.me (lease_end base.lease) now (hello s view now)
+  hello_borne may base view calm =
+      on_cond (AreBorne s.me (lease_end base.lease) now) view.hello (asks_state s view now) words.Nothing (state_borne s now base (may ≡ base ∷ []) view calm) tt
 
-  ticked : (may : List Record) (base : Record) (view : View) (given : Given) → given.now ≡ now → Has may base → IsCalm s base view
+  ticked : (may : List Record) (base : Record) (view : View) (given : Given) → given.now ≡ now → Has may base → IsCalm s base (may ≡ base ∷ []) view
       → Honest s now IsLast may (tick (at view) given)
   unfolding tick
   ticked may base view given same has calm =
       honest_then s now (Stays may) IsLast may (say s None (hello s view given.now)) _
       (subst (λ (n : ℕ). Honest s now (Stays may) may (say s None (hello s view n))) (sym same)
-      (said_true may base None (hello s view now) has (hello_borne base view calm) (rules_speak.greeted s view now)))
+      (said_true may base None (hello s view now) has (hello_borne may base view calm) (rules_speak.greeted s view now)))
       (λ later done stays.
       honest_then s now IsStep IsLast later (role_due (at (greeted view)) given) _
       (subst (λ (rs : List Record). Honest s now IsStep rs (role_due (at (greeted view)) given)) (sym stays)
-      (role_come may base (greeted view) given same has (in_parts s now base view calm (greeted view) refl refl refl)))
+      (role_come may base (greeted view) given same has (in_parts s now base (may ≡ base ∷ []) view calm (greeted view) refl refl refl refl)))
       (λ after begun is_step.
       subst (λ (n : ℕ). Honest s now IsLast after (carry_out None n begun)) (sym same) (carried after None begun is_step)))
 
-  comes_due : (may : List Record) (base : Record) (view : View) (waiters : List Waiter) (given : Given) → given.now ≡ now → Has may base → IsCalm s base view
+  comes_due : (may : List Record) (base : Record) (view : View) (waiters : List Waiter) (given : Given) → given.now ≡ now → Has may base → IsCalm s base (may ≡ base ∷ []) view
       → Honest s now IsLeft may (come_due (at view) waiters given)
   unfolding come_due
   comes_due may base view waiters given same has calm =
@@ -502,21 +504,21 @@ module _ (s : Setup) (now : ℕ) (lasts : 0 < s.times.expire) where
   -- ---- what is heard, and the end of a job
 
   hears : (may : List Record) (base : Record) (view : View) (waiters : List Waiter) (from : ℕ) (head : Head) (part : TicketPart)
-      → (head.from ≡ s.me → ⊥) → Has may base → IsCalm s base view → Honest s now IsLeft may (hear (at view) waiters from head part now)
+      → (head.from ≡ s.me → ⊥) → Has may base → IsCalm s base (may ≡ base ∷ []) view → Honest s now IsLeft may (hear (at view) waiters from head part now)
   unfolding hear hear_message
   hears may base view waiters from head part other has calm =
       honest_then s now IsLast IsLeft may (carry_out (Some from) now (step (at view) (heard s view from head part now head.cmd))) _
       (carried may (Some from) _
       (good_step may base view _ has
-      (heard_shows s now base view from head part head.cmd other calm, rules_speak.heard s view from head part now head.cmd)))
+      (heard_shows s now base (may ≡ base ∷ []) view from head part head.cmd other calm, rules_speak.heard s view from head part now head.cmd)))
       (λ later last done. told_left later last done waiters)
 
   ends_job : (may : List Record) (base : Record) (view : View) (waiters : List Waiter) (job : ℕ) (service : Service)
-      → Has may base → IsCalm s base view → Honest s now IsLeft may (end_job (at view) waiters job service now)
+      → Has may base → IsCalm s base (may ≡ base ∷ []) view → Honest s now IsLeft may (end_job (at view) waiters job service now)
   unfolding end_job hear_job
   ends_job may base view waiters job service has calm =
       honest_then s now IsLast IsLeft may (carry_out None now (step (at view) (job_over s view job service now))) _
-      (carried may None _ (good_step may base view _ has (job_good base view job service calm)))
+      (carried may None _ (good_step may base view _ has (job_good may base view job service calm)))
       (λ later last done. told_left later last done waiters)
 
   -- ---- a client's request
@@ -531,10 +533,10 @@ module _ (s : Setup) (now : ℕ) (lasts : 0 < s.times.expire) where
 
   -- a grant is refused as done only where this member holds the ticket
   refused_done : (view : View) (spare : ℕ) (ready : Bool) (options : ℕ) (result : ℕ) → refused_grant s view spare ready options now ≡ Some result
-      → result ≡ SUCCESS → now < own_end view
+      → result ≡ SUCCESS → (now < own_end view) × (view.sure ≡ true)
   refused_done view spare ready options result e is =
       on_cond Q (not s.site || not (options == 0 || wants_to_wait options)) _ _ (fails IARG (λ n. omega (arith, n)))
-      (on_test Q (is_holder s view now) _ _ (λ holds r h z. held holds)
+      (on_test Q (is_holder s view now) _ _ (λ holds r h z. (held holds, sure_done view.sure (some_same _ r h ∙ z)))
       (λ no.
       on_cond Q (is_shown_elsewhere view.shown s.me now) _ _ (fails OVER (λ n. omega (arith, n)))
       (on_cond Q (not (is_follower view.role) || is_promised_elsewhere view.promise s.me now) _ _ (fails BUSY (λ n. omega (arith, n)))
@@ -544,10 +546,19 @@ module _ (s : Setup) (now : ℕ) (lasts : 0 < s.times.expire) where
       result e is
     where
       Q : Option ℕ → Type 0
-      Q o = (r : ℕ) → o ≡ Some r → r ≡ SUCCESS → now < own_end view
+      Q o = (r : ℕ) → o ≡ Some r → r ≡ SUCCESS → (now < own_end view) × (view.sure ≡ true)
 
       fails : (code : ℕ) → code ≢ SUCCESS → Q (Some code)
       fails code never r h z = absurd (never (some_same code r h ∙ z))
+
+      sure_done : (sure : Bool) → holder_result sure spare options ≡ SUCCESS → sure ≡ true
+      sure_done true e = refl
+      sure_done false e = absurd (by_tests (commits options) (spare == 0) e)
+        where
+          by_tests : (a b : Bool) → (if a then (if b then BUSY else ASYN) else PEND) ≡ SUCCESS → ⊥
+          by_tests true true q = omega (arith, q)
+          by_tests true false q = omega (arith, q)
+          by_tests false b q = omega (arith, q)
 
       held : is_holder s view now ≡ true → now < own_end view
       held h = by_tests s.site (is_leader view.role) (nat_lt now (own_end view)) refl h
@@ -574,44 +585,46 @@ module _ (s : Setup) (now : ℕ) (lasts : 0 < s.times.expire) where
   grant_done options tells.Lost is = absurd (omega (arith, is))
 
   -- the request is answered with what is so already
-  refused_last : (may : List Record) (base : Record) (view : View) (result : ℕ) → Has may base → IsCalm s base view
+  refused_last : (may : List Record) (base : Record) (view : View) (result : ℕ) → Has may base → IsCalm s base (may ≡ base ∷ []) view
       → IsLast may (refuse (at view) result).last
   refused_last may base view result has calm = record {
     rest = record { same = refl; base = base; based = has; calm = calm };
     told = λ e. absurd e;
   }
 
-  acquires_for : (may : List Record) (base : Record) (view : View) (options : ℕ) (job : Option ℕ) → Has may base → IsCalm s base view
+  acquires_for : (may : List Record) (base : Record) (view : View) (options : ℕ) (job : Option ℕ) → Has may base → IsCalm s base (may ≡ base ∷ []) view
       → Honest s now (IsAnswered Grant) may (acquire_for (at view) options job now)
   unfolding acquire_for
   acquires_for may base view options job has calm =
       honest_then s now IsStep (IsAnswered Grant) may (acquires (at (noted s view now notes.Asked)) job ADMN now) _
-      (acquired may base (noted s view now notes.Asked) job ADMN has (noted_calm s now base lasts view notes.Asked calm))
+      (acquired may base (noted s view now notes.Asked) job ADMN has (noted_calm s now base (may ≡ base ∷ []) lasts view notes.Asked calm))
       (λ later begun is_step.
       honest_then s now IsLast (IsAnswered Grant) later (carry_out None now begun) _ (carried later None begun is_step)
       (λ after last done. (done, λ is. done.told (grant_done options last.deed.told is))))
 
   grants : (may : List Record) (base : Record) (view : View) (spare : ℕ) (given : Given) (options : ℕ) → given.now ≡ now
-      → Has may base → IsCalm s base view
+      → Has may base → IsCalm s base (may ≡ base ∷ []) view
       → (o : Option ℕ) → refused_grant s view spare given.ready options now ≡ o
       → Honest s now (IsAnswered Grant) may (grant (at view) options o given.job now)
   grants may base view spare given options same has calm (Some result) e = (
     refused_last may base view result has calm,
-    λ is. (base, has, subst (λ (r : Record). now < lease_end r.lease) calm.same (refused_done view spare given.ready options result e is)),
+    λ is.
+        let done = refused_done view spare given.ready options result e is in
+        (base, calm.trusted done.1, subst (λ (r : Record). now < lease_end r.lease) calm.same done.0),
   )
   grants may base view spare given options same has calm None e = acquires_for may base view options given.job has calm
 
-  revokes_it : (may : List Record) (base : Record) (view : View) → Has may base → IsCalm s base view
+  revokes_it : (may : List Record) (base : Record) (view : View) → Has may base → IsCalm s base (may ≡ base ∷ []) view
       → (o : Option ℕ) → Honest s now (IsAnswered Revoke) may (revoke (at view) o now)
   unfolding release_for
   revokes_it may base view has calm (Some result) = (refused_last may base view result has calm, tt)
   revokes_it may base view has calm None =
       honest_then s now IsLast (IsAnswered Revoke) may (carry_out None now (step (at view) (release s view ADMN now))) _
-      (carried may None _ (good_step may base view (release s view ADMN now) has (released_good base view ADMN calm)))
+      (carried may None _ (good_step may base view (release s view ADMN now) has (released_good may base view ADMN calm)))
       (λ later last done. (done, tt))
 
   does_for : (may : List Record) (base : Record) (view : View) (spare : ℕ) (given : Given) (options : ℕ) (wanted : Wish) → given.now ≡ now
-      → Has may base → IsCalm s base view → Honest s now (IsAnswered wanted) may (do_for (at view) spare given options wanted)
+      → Has may base → IsCalm s base (may ≡ base ∷ []) view → Honest s now (IsAnswered wanted) may (do_for (at view) spare given options wanted)
   does_for may base view spare given options Grant same has calm =
       subst (λ (n : ℕ). Honest s now (IsAnswered Grant) may (grant (at view) options (refused_grant s view spare given.ready options n) given.job n)) (sym same)
       (grants may base view spare given options same has calm (refused_grant s view spare given.ready options now) refl)
@@ -635,7 +648,7 @@ module _ (s : Setup) (now : ℕ) (lasts : 0 < s.times.expire) where
       other e = cc
 
   follows : (may : List Record) (base : Record) (view : View) (waiters : List Waiter) (spare : ℕ) (given : Given) (request : Request) (wanted : Wish)
-      → given.now ≡ now → Has may base → IsCalm s base view
+      → given.now ≡ now → Has may base → IsCalm s base (may ≡ base ∷ []) view
       → Honest s now IsLeft may (follow_request (at view) waiters spare given request wanted)
   unfolding follow_request
   follows may base view waiters spare given request wanted same has calm =

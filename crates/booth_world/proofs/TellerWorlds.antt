@@ -1,11 +1,15 @@
 -- In each world, what a member tells of itself as a ticket's holder is borne out by a record that it may have kept.
 use Rattle.std.proofs.Common.{◌≡◌, ◌≢◌, ◌⊎◌, ⊎_elim, inl, inr, ℕ, ◌<◌, ◌+◌, ◌-◌, ◌*◌, ◌/◌, ◌%◌, Bool, true, false, List, [], ◌∷◌, ◌++◌, length, refl, sym, ap, ◌∙◌, subst, arith, slice_get, if◌then◌else◌}
-use Rattle.std.specs.Prelude.{min, Option, Some, None, Ok, Result, IsSomeAnd, bytes_eq, is_ok}
+use Rattle.std.specs.Prelude.{min, Option, Some, None, Ok, Result, IsSomeAnd, bytes_eq, is_ok, position, unwrap_or}
+use Rattle.std.specs.Option.{option_map_or}
 use Rattle.booth_base.specs.Tree.{Deeds, Ends, Does}
 use Rattle.booth_base.specs.declared.address.Address.{Address}
 use Rattle.booth_base.specs.declared.address.MemberId.{MemberId}
 use Rattle.booth_base.specs.declared.address.Peer.{Peer}
 use Rattle.booth_chain.proofs.NodesLemmas.{same_or_not}
+use Rattle.booth_base.specs.declared.times.Times.{Times}
+use Rattle.booth_conf.specs.Lookups.{is_called}
+use Rattle.booth_conf.specs.Sound.{IsSound as IsSoundConfig}
 use Rattle.booth_conf.specs.declared.tickets.TicketConf.{TicketConf}
 use Rattle.booth_rec.specs.declared.record.Lease.{Lease}
 use Rattle.booth_rec.specs.declared.record.Record.{Record}
@@ -24,18 +28,19 @@ use Rattle.booth_wire.specs.Spelling.{Fits}
 use Rattle.booth_node.specs.declared.node_config.NodeConfig.{NodeConfig}
 use Rattle.booth_node.specs.State.{State}
 use Rattle.booth_node.specs.Held.{Moment, IsAutomatic, HoldsBy, Holds, may_at}
-use Rattle.booth_node.specs.Opening.{known_at_start, opened, opened_by, setup_of, start_reading}
+use Rattle.booth_node.specs.Opening.{known_at_start, opened, opened_by, own_place, rank_at, setup_of, start_reading}
 use Rattle.booth_node.specs.Reaction.{Ask, Send, Keep, Start, used}
-use Rattle.booth_node.specs.Records.{Has, TicketPlace, record_at, may_after, may_after_all, may_after_keep, with_next}
+use Rattle.booth_node.specs.Records.{Has, record_at, may_after, may_after_all, may_after_keep, may_after_start, with_next}
 use Rattle.booth_node.specs.Session.{MayMake, CutKeep, CutSend, CutStart, SessionEntry, Starts, Makes, IsCut, Stand, Down, Doing, Hearing, MayDo, AreSessions, after_call, after_entry, after_entries}
-use Rattle.booth_node.specs.World.{HasConfiguration, IsSend, WorldEntry, World, clock_at, id_at, members_of, entries_of, node_at, stand_after, ticket_at, IsWorld, begins_with}
-use Rattle.booth_world.specs.Tellers.{BearsOut, Claim, ClaimsLast, IsSentAt, HasNone, IsLive, IsNext, IsStart, JobTells, SendTells, StartTells, Tells, TellersAreApart, WhoTellsHasKept, WhoTellsHolds, address_at}
+use Rattle.booth_node.specs.World.{HasConfiguration, IsNodeOf, IsOneTicket, IsSend, StartsWithIt, WorldEntry, World, clock_at, id_at, members_of, entries_of, stand_after, IsWorld, begins_with}
+use Rattle.booth_world.specs.Cores.{opening_session}
+use Rattle.booth_world.specs.Tellers.{BearsOut, Claim, IsGranted, HasLeft, EndsIn, IsListed, ClaimsLast, GrantsAreKept, IsSentAt, HasNone, IsLive, IsNext, IsStart, JobTells, SendTells, StartTells, Tells, TellersAreApart, WhoTellsHasKept, WhoTellsHolds, address_at}
 use Rattle.booth_world.specs.Worlds.{ReleasedIn}
-use Rattle.booth_world.specs.Held.{AreApart}
+use Rattle.booth_world.specs.Held.{IsApartFrom}
 use Rattle.booth_ticket.specs.Ticket.{Known, Automatic, Manual}
 use Rattle.booth_world.specs.Kept.{IsOfKind, RestsInKind, StandsInKind}
-use Rattle.booth_world.proofs.Configured.{setting_of}
-use Rattle.booth_world.proofs.TellerClaims.{IsBacked, IsPlaced, IsTold, Teller}
+use Rattle.booth_world.proofs.Configured.{found_at, found_named, found_there, setup_sound}
+use Rattle.booth_world.proofs.TellerClaims.{IsBacked, IsKeptFor, IsOwn, IsPlaced, IsTold, Teller, any_kept}
 use Rattle.booth_world.proofs.TellerLists.{AreTheirs}
 use Rattle.booth_world.proofs.TellerMembers.{names_free, theirs_of}
 use Rattle.booth_world.proofs.TellerNodes.{KeepsHonest, turn_honest}
@@ -45,7 +50,7 @@ use Rattle.booth_world.proofs.WorldEntries.{started_at, started_is}
 use Rattle.booth_world.proofs.WorldHosts.{append_none, entries_join, entry_other, entry_own, may_join, sessions_at, stand_own}
 use Rattle.booth_world.proofs.WorldLaws.{worlds_are_apart, worlds_hold_one}
 use Rattle.booth_world.proofs.WorldRuns.{append_both}
-use Rattle.booth_world.proofs.WorldSteps.{Setting, other_bytes, same_bytes}
+use Rattle.booth_world.proofs.WorldSteps.{other_bytes, same_bytes, setup_by}
 use Rattle.booth_world.specs.Clusters.{cluster_of}
 
 same_message : (r : Result PlainMessage FrameFault) (a b : PlainMessage) → r ≡ Ok a → r ≡ Ok b → a ≡ b
@@ -53,23 +58,25 @@ same_message r a b e f = cc
 
 -- ---- where a member stands
 
-module _ (conf : TicketConf) (place : ℕ) (me : MemberId) (address : Address) (lasts : 0 < conf.times.expire) where
-  abbrev ticket : TicketPlace
-  ticket = ticket_at place conf
+module _ (conf : TicketConf) (me : MemberId) (address : Address) (lasts : 0 < conf.times.expire) where
+  -- where a node's configuration has the ticket
+  abbrev at_of : NodeConfig → Option ℕ
+  at_of node = position (is_called conf.name) node.config.tickets
 
   abbrev setup : NodeConfig → Setup
-  setup node = setup_of node place conf
+  setup node = setup_of node (unwrap_or (at_of node) 0) conf
 
   -- the node is this member's, with an address of its own
   record IsItsNode (node : NodeConfig) : Type 0 where
+    pub sound : IsSoundConfig node.config
     pub me_is : node.me ≡ me
     pub theirs : AreTheirs node.config node.me address
 
   -- all that a member that stands so is to tell of the ticket is borne out by the records that it may have kept then
   abbrev IsHonestAt : List Record → Stand → Type 0
   IsHonestAt may Down = Unit {0}
-  IsHonestAt may (Doing node deeds) = IsItsNode node × KeepsHonest (setup node) place lasts address node.ring may deeds
-  IsHonestAt may (Hearing node old answer bytes) = IsItsNode node × IsPlaced (setup node) place may old.tickets
+  IsHonestAt may (Doing node deeds) = IsItsNode node × KeepsHonest (setup node) (at_of node) lasts address node.ring may deeds
+  IsHonestAt may (Hearing node old answer bytes) = IsItsNode node × IsPlaced (setup node) (at_of node) may old.tickets
 
   keeps : (node : NodeConfig) (name : List ℕ) (tried : Record) (go : Bool → Deeds Ask State) (ticket_name : List ℕ) (rec : Record) (ok : Bool)
       (may : List Record) → IsHonestAt may (Doing node (Does (Keep name tried) go)) → ticket_name ≡ name → rec ≡ tried
@@ -77,22 +84,22 @@ module _ (conf : TicketConf) (place : ℕ) (me : MemberId) (address : Address) (
   keeps node name tried go ticket_name rec ok may h named same = (h.0, by_side h.1)
     where
       Goal : Bool → Type 0
-      Goal b = KeepsHonest (setup node) place lasts address node.ring (if b then may_after_keep ok rec may else may) (go ok)
+      Goal b = KeepsHonest (setup node) (at_of node) lasts address node.ring (if b then may_after_keep ok rec may else may) (go ok)
 
-      kept : (b : Bool) → KeepsHonest (setup node) place lasts address node.ring (tried ∷ []) (go true)
-          → KeepsHonest (setup node) place lasts address node.ring (tried ∷ may) (go false)
-          → KeepsHonest (setup node) place lasts address node.ring (may_after_keep b tried may) (go b)
+      kept : (b : Bool) → KeepsHonest (setup node) (at_of node) lasts address node.ring (tried ∷ []) (go true)
+          → KeepsHonest (setup node) (at_of node) lasts address node.ring (tried ∷ may) (go false)
+          → KeepsHonest (setup node) (at_of node) lasts address node.ring (may_after_keep b tried may) (go b)
       kept true p q = p
       kept false p q = q
 
-      by_side : KeepsHonest (setup node) place lasts address node.ring may (Does (Keep name tried) go) → Goal (bytes_eq ticket_name conf.name)
+      by_side : KeepsHonest (setup node) (at_of node) lasts address node.ring may (Does (Keep name tried) go) → Goal (bytes_eq ticket_name conf.name)
       by_side (inl x) = subst Goal (sym (other_bytes ticket_name conf.name (λ e. x.0 (sym named ∙ e)))) (x.1 ok)
       by_side (inr x) =
           subst Goal (sym (same_bytes ticket_name conf.name (named ∙ x.0)))
-          (subst (λ (r : Record). KeepsHonest (setup node) place lasts address node.ring (may_after_keep ok r may) (go ok)) (sym same) (kept ok x.1 x.2))
+          (subst (λ (r : Record). KeepsHonest (setup node) (at_of node) lasts address node.ring (may_after_keep ok r may) (go ok)) (sym same) (kept ok x.1 x.2))
 
   makes : (stand : Stand) (call : Entry) (may : List Record) → IsHonestAt may stand → MayMake stand call
-      → IsHonestAt (may_after ticket may (Makes call)) (after_call stand call)
+      → IsHonestAt (may_after conf.name may (Makes call)) (after_call stand call)
   makes Down call may h d = absurd d
   makes (Doing node (Ends old)) (calls.Next wait answer bytes) may h d = h
   makes (Doing node (Ends old)) call may h d = absurd d
@@ -104,17 +111,18 @@ module _ (conf : TicketConf) (place : ℕ) (me : MemberId) (address : Address) (
   makes (Doing node (Does (Start job) go)) (calls.Start number named handler local expires answer) may h d = (h.0, h.1.1 (is_ok answer))
   makes (Doing node (Does (Start job) go)) call may h d = absurd d
   makes (Hearing node old answer bytes) (calls.Now reading) may h d =
-      (h.0, turn_honest (setup node) place lasts address node (used old.last_reading reading) refl h.0.theirs old answer bytes may h.1)
+      (h.0, turn_honest (setup node) (at_of node) lasts address node (used old.last_reading reading) refl h.0.theirs old answer bytes may h.1)
   makes (Hearing node old answer bytes) call may h d = absurd d
 
-  -- what a start owes: the ticket stands in the state that it leaves
-  abbrev StartsSo : SessionEntry → Type 0
-  StartsSo (Starts node reading records) =
-      IsItsNode node × IsPlaced (setup node) place (record_at records place ∷ []) (opened node records reading).tickets
-  StartsSo what = Unit {0}
+  -- what a start owes: the ticket stands in the state that it leaves, with the records that may be kept then
+  abbrev StartsSo : List Record → SessionEntry → Type 0
+  StartsSo may (Starts node reading records) =
+      IsItsNode node
+      × IsPlaced (setup node) (at_of node) (may_after_start conf.name node.config.tickets records may) (opened node records reading).tickets
+  StartsSo may what = Unit {0}
 
-  one_entry : (stand : Stand) (what : SessionEntry) (may : List Record) → IsHonestAt may stand → MayDo stand what → StartsSo what
-      → IsHonestAt (may_after ticket may what) (after_entry stand what)
+  one_entry : (stand : Stand) (what : SessionEntry) (may : List Record) → IsHonestAt may stand → MayDo stand what → StartsSo may what
+      → IsHonestAt (may_after conf.name may what) (after_entry stand what)
   one_entry stand (Starts node reading records) may h d so = so
   one_entry stand (Makes call) may h d so = makes stand call may h d
   one_entry stand (IsCut call) may h d so = tt
@@ -178,63 +186,85 @@ module _ (conf : TicketConf) (place : ℕ) (me : MemberId) (address : Address) (
 
 -- ---- a world
 
-module _ (w : World) (is_world : IsWorld w) (place : ℕ) (ticket : TicketConf) (setting : Setting w place ticket) (m : ℕ) (below : m < members_of w) where
+module _ (w : World) (is_world : IsWorld w) (ticket : TicketConf) (one : IsOneTicket w ticket) (automatic : ticket.manual ≡ false) (m : ℕ)
+    (below : m < members_of w) where
   lasts : 0 < ticket.times.expire
-  lasts = let e = (setting.sound m below true).renewal in omega (arith, e)
-
-  abbrev own : TicketPlace
-  own = ticket_at place ticket
+  lasts = let e = (setup_sound w is_world.form ticket one m below (opening_session false)).renewal in omega (arith, e)
 
   abbrev may_of : List WorldEntry → List Record
-  may_of before = may_after_all own (begins_with w m place ∷ []) (entries_of m before)
+  may_of before = may_after_all ticket.name (begins_with w m ticket.name ∷ []) (entries_of m before)
 
   abbrev IsHonestAfter : List WorldEntry → Type 0
-  IsHonestAfter before = IsHonestAt ticket place (id_at w m) (address_at w m) lasts (may_of before) (stand_after m before)
+  IsHonestAfter before = IsHonestAt ticket (id_at w m) (address_at w m) lasts (may_of before) (stand_after m before)
 
-  opened_so : (second : Bool) (reading : ℕ) (records : List (Option Record)) → length records ≡ length w.config.tickets
-      → IsPlaced (setup_of (node_at w m second) place ticket) place (record_at records place ∷ [])
-      (opened (node_at w m second) records reading).tickets
-  opened_so second reading records all =
-      let now : ℕ = start_reading reading in
-      let rec : Record = record_at records place in
-      let s : Setup = setup_of (node_at w m second) place ticket in
-      record {
-        known = known_at_start ticket.manual s rec now;
-        own = started_at (node_at w m second) now 0 place w.config.tickets records ticket all setting.there
-            ∙ ap (λ (n : ℕ). Some (opened_by ticket (setup_of (node_at w m second) n ticket) rec now)) (omega arith);
-        honest = subst (λ (b : Bool). IsHonest s (rec ∷ []) (known_at_start b s rec now)) (sym setting.automatic)
-            (rec, inl refl, started_calm s rec now);
-        others = λ other t read ne named.
-            let q : (conf : TicketConf) × (slice_get w.config.tickets other ≡ Some conf) × (t.setup.ticket ≡ conf.name) =
-            started_is (node_at w m second) now 0 other w.config.tickets records t read in
-            setting.names other q.0 q.1 ne (sym q.2 ∙ named);
-        named = λ other t read.
-            let q : (conf : TicketConf) × (slice_get w.config.tickets other ≡ Some conf) × (t.setup.ticket ≡ conf.name) =
-            started_is (node_at w m second) now 0 other w.config.tickets records t read in
-            subst (λ (name : List ℕ). HasNone 10 name × HasNone 32 name) (sym q.2) (names_free w.config is_world.form.sound other q.0 q.1);
-      }
+  abbrev found : NodeConfig → Option ℕ
+  found node = at_of ticket (id_at w m) (address_at w m) lasts node
+
+  abbrev setup_now : NodeConfig → Setup
+  setup_now node = setup ticket (id_at w m) (address_at w m) lasts node
+
+  -- the setup of the ticket is by its name and its times alone
+  setup_same : (node : NodeConfig) (place : ℕ) (own : TicketConf) → own.name ≡ ticket.name → own.times ≡ ticket.times → found node ≡ Some place
+      → setup_of node place own ≡ setup_now node
+  setup_same node place own named timed at =
+      ap (λ (name : List ℕ). setup_by name own.times node.config.members node.me (own_place node) (rank_at node place) node.second) named
+      ∙ ap (λ (times : Times). setup_by ticket.name times node.config.members node.me (own_place node) (rank_at node place) node.second) timed
+      ∙ ap (λ (o : Option ℕ). setup_of node (unwrap_or o 0) ticket) (sym at)
+
+  opened_so : (node : NodeConfig) → IsNodeOf w m node → (reading : ℕ) (records : List (Option Record)) → length records ≡ length node.config.tickets
+      → StartsWithIt ticket (Starts node reading records) → (may : List Record)
+      → IsPlaced (setup_now node) (found node) (may_after_start ticket.name node.config.tickets records may) (opened node records reading).tickets
+  opened_so node is reading records all agree may = record {
+    own = λ place at.
+        let there = found_there node.config place ticket.name at in
+        let named : there.0.name ≡ ticket.name = found_named node.config place there.0 there.1 ticket.name at in
+        let agrees = agree place there.0 there.1 named in
+        let rec : Record = record_at records place in
+        record {
+          known = known_at_start there.0.manual (setup_now node) rec now;
+          own = started_at node now 0 place node.config.tickets records there.0 all there.1
+              ∙ ap (λ (n : ℕ). Some (opened_by there.0 (setup_of node n there.0) rec now)) (omega arith)
+              ∙ ap (λ (s : Setup). Some (opened_by there.0 s rec now)) (setup_same node place there.0 named agrees.1 at);
+          honest = subst (λ (rs : List Record). IsHonest (setup_now node) rs (known_at_start there.0.manual (setup_now node) rec now))
+              (sym (ap (λ (o : Option ℕ). option_map_or (λ (n : ℕ). record_at records n ∷ []) o may) at))
+              (subst (λ (b : Bool). IsHonest (setup_now node) (rec ∷ []) (known_at_start b (setup_now node) rec now))
+              (sym (agrees.0 ∙ automatic))
+              (rec, inl refl, started_calm (setup_now node) rec (rec ∷ [] ≡ rec ∷ []) refl now));
+        };
+    others = λ other t read ne named.
+        let q : (conf : TicketConf) × (slice_get node.config.tickets other ≡ Some conf) × (t.setup.ticket ≡ conf.name) =
+        started_is node now 0 other node.config.tickets records t read in
+        ne (found_at node.config is.sound other q.0 q.1 ticket.name (sym q.2 ∙ named));
+    named = λ other t read.
+        let q : (conf : TicketConf) × (slice_get node.config.tickets other ≡ Some conf) × (t.setup.ticket ≡ conf.name) =
+        started_is node now 0 other node.config.tickets records t read in
+        subst (λ (name : List ℕ). HasNone 10 name × HasNone 32 name) (sym q.2) (names_free node.config is.sound other q.0 q.1);
+    clear = (names_free one.config one.sound one.place ticket one.said).1;
+  }
+    where
+      now : ℕ
+      now = start_reading reading
 
   -- each node of a start is this member's
-  its_node : (node : NodeConfig) (second : Bool) → node ≡ node_at w m second → IsItsNode ticket place (id_at w m) (address_at w m) lasts node
-  its_node node second is = record {
-    me_is = ap (λ (n : NodeConfig). n.me) is;
-    theirs = subst (λ (n : NodeConfig). AreTheirs n.config n.me (address_at w m)) (sym is) (theirs_of w is_world.form.sound m below);
+  its_node : (node : NodeConfig) → IsNodeOf w m node → IsItsNode ticket (id_at w m) (address_at w m) lasts node
+  its_node node is = record {
+    sound = is.sound;
+    me_is = is.me;
+    theirs = subst (λ (id : MemberId). AreTheirs node.config id (address_at w m)) (sym is.me) (theirs_of w node.config is.sound is.members m below);
   }
 
   starts_so : (before after : List WorldEntry) (e : WorldEntry) → w.entries ≡ before ++ e ∷ after → e.member ≡ m
-      → MayDo (stand_after m before) e.what → StartsSo ticket place (id_at w m) (address_at w m) lasts e.what
-  starts_so before after e whole is may_do = by_what e.what (is_world.one_configuration before after e whole) may_do
+      → MayDo (stand_after m before) e.what → StartsSo ticket (id_at w m) (address_at w m) lasts (may_of before) e.what
+  starts_so before after e whole is may_do =
+      by_what e.what (is_world.same_members before after e whole) (one.same before after e whole) may_do
     where
-      by_what : (what : SessionEntry) → HasConfiguration w e what → MayDo (stand_after m before) what → StartsSo ticket place (id_at w m) (address_at w m) lasts what
-      by_what (Starts node reading records) config many =
-          let node_is : node ≡ node_at w m node.second = config ∙ ap (λ (n : ℕ). node_at w n node.second) is in
-          let all : length records ≡ length w.config.tickets = many ∙ ap (λ (n : NodeConfig). length n.config.tickets) node_is in (
-            its_node node node.second node_is,
-            subst (λ (n : NodeConfig). IsPlaced (setup_of n place ticket) place (record_at records place ∷ []) (opened n records reading).tickets)
-                (sym node_is) (opened_so node.second reading records all),
-          )
-      by_what (Makes call) config many = tt
-      by_what (IsCut call) config many = tt
+      by_what : (what : SessionEntry) → HasConfiguration w e what → StartsWithIt ticket what → MayDo (stand_after m before) what
+          → StartsSo ticket (id_at w m) (address_at w m) lasts (may_of before) what
+      by_what (Starts node reading records) config agree many =
+          let own : IsNodeOf w m node = subst (λ (n : ℕ). IsNodeOf w n node) is config in
+          (its_node node own, opened_so node own reading records many agree (may_of before))
+      by_what (Makes call) config agree many = tt
+      by_what (IsCut call) config agree many = tt
 
   may_do_at : (before after : List WorldEntry) (e : WorldEntry) → w.entries ≡ before ++ e ∷ after → e.member ≡ m
       → MayDo (stand_after m before) e.what
@@ -254,16 +284,16 @@ module _ (w : World) (is_world : IsWorld w) (place : ℕ) (ticket : TicketConf) 
           let same : entries_of m (before ++ e ∷ []) ≡ entries_of m before =
           entries_join m before (e ∷ []) ∙ ap (λ (xs : List SessionEntry). entries_of m before ++ xs) (entry_other m e [] ne)
           ∙ append_none (entries_of m before) in
-          subst (λ (xs : List SessionEntry). IsHonestAt ticket place (id_at w m) (address_at w m) lasts (may_after_all own (begins_with w m place ∷ []) xs) (after_entries Down xs)) (sym same) h
+          subst (λ (xs : List SessionEntry). IsHonestAt ticket (id_at w m) (address_at w m) lasts (may_after_all ticket.name (begins_with w m ticket.name ∷ []) xs) (after_entries Down xs)) (sym same) h
       by_member (inl is) =
           let all : entries_of m (before ++ e ∷ []) ≡ entries_of m before ++ e.what ∷ [] =
           entries_join m before (e ∷ []) ∙ ap (λ (xs : List SessionEntry). entries_of m before ++ xs) (entry_own m e [] is) in
           let may_do : MayDo (stand_after m before) e.what = may_do_at before after e whole is in
-          let r = one_entry ticket place (id_at w m) (address_at w m) lasts (stand_after m before) e.what (may_of before) h may_do (starts_so before after e whole is may_do) in
-          subst (λ (s : Stand). IsHonestAt ticket place (id_at w m) (address_at w m) lasts (may_of (before ++ e ∷ [])) s) (sym (stand_own m before e is))
-          (subst (λ (rs : List Record). IsHonestAt ticket place (id_at w m) (address_at w m) lasts rs (after_entry (stand_after m before) e.what))
-          (sym (ap (λ (xs : List SessionEntry). may_after_all own (begins_with w m place ∷ []) xs) all
-          ∙ may_join own (begins_with w m place ∷ []) (entries_of m before) (e.what ∷ []))) r)
+          let r = one_entry ticket (id_at w m) (address_at w m) lasts (stand_after m before) e.what (may_of before) h may_do (starts_so before after e whole is may_do) in
+          subst (λ (s : Stand). IsHonestAt ticket (id_at w m) (address_at w m) lasts (may_of (before ++ e ∷ [])) s) (sym (stand_own m before e is))
+          (subst (λ (rs : List Record). IsHonestAt ticket (id_at w m) (address_at w m) lasts rs (after_entry (stand_after m before) e.what))
+          (sym (ap (λ (xs : List SessionEntry). may_after_all ticket.name (begins_with w m ticket.name ∷ []) xs) all
+          ∙ may_join ticket.name (begins_with w m ticket.name ∷ []) (entries_of m before) (e.what ∷ []))) r)
 
   steps : (between before after : List WorldEntry) → w.entries ≡ before ++ (between ++ after) → IsHonestAfter before
       → IsHonestAfter (before ++ between)
@@ -274,7 +304,7 @@ module _ (w : World) (is_world : IsWorld w) (place : ℕ) (ticket : TicketConf) 
       (one_step before (between ++ after) e whole h))
 
   -- the records that may have been kept are still among them with that of the next entry
-  some_after : (k : Record) (may : List Record) (xs : List SessionEntry) → Has may k → Has (with_next own may xs) k
+  some_after : (k : Record) (may : List Record) (xs : List SessionEntry) → Has may k → Has (with_next ticket.name may xs) k
   some_after k may [] h = h
   some_after k may (Makes (calls.Keep name rec answer) ∷ xs) h = by_name (bytes_eq name ticket.name)
     where
@@ -288,11 +318,31 @@ module _ (w : World) (is_world : IsWorld w) (place : ℕ) (ticket : TicketConf) 
       by_name false = h
   some_after k may (x ∷ xs) h = h
 
+  -- a send keeps nothing
+  sends_only : (what : SessionEntry) (bytes : List ℕ) (may : List Record) (xs : List SessionEntry) → IsSend what bytes
+      → with_next ticket.name may (what ∷ xs) ≡ may
+  sends_only (Makes (calls.Send to sent answer)) bytes may xs is = refl
+  sends_only (IsCut (CutSend to sent)) bytes may xs is = refl
+  sends_only what bytes may xs is = absurd is
+
+  -- what is kept for a claim is so with the entry that tells it
+  still_kept : (moment : Moment w) (entry : WorldEntry) → IsNext moment entry → entry.member ≡ m → (claim : Claim)
+      → SendTells ticket.name (id_at w m) (address_at w m) entry.what claim ⊎ StartTells ticket.name entry.what claim
+      → (k : Record) → IsKeptFor (may_of moment.before) k claim → IsKeptFor (may_at w ticket m moment) k claim
+  still_kept moment entry next is (IsGranted head) (inl sends) k kept =
+      ap (λ (es : List WorldEntry). with_next ticket.name (may_of moment.before) (entries_of m es)) next.1
+      ∙ ap (λ (xs : List SessionEntry). with_next ticket.name (may_of moment.before) xs) (entry_own m entry next.0 is)
+      ∙ sends_only entry.what sends.0 (may_of moment.before) (entries_of m next.0) sends.2 ∙ kept
+  still_kept moment entry next is (IsGranted head) (inr starts) k kept = absurd starts.2
+  still_kept moment entry next is (HasLeft head seconds) tells k kept = some_after k (may_of moment.before) (entries_of m moment.after) kept
+  still_kept moment entry next is (EndsIn second) tells k kept = some_after k (may_of moment.before) (entries_of m moment.after) kept
+  still_kept moment entry next is (IsListed digits) tells k kept = some_after k (may_of moment.before) (entries_of m moment.after) kept
+
   pub tells_truly : (moment : Moment w) (entry : WorldEntry) → IsNext moment entry → entry.member ≡ m → (claim : Claim)
       → SendTells ticket.name (id_at w m) (address_at w m) entry.what claim ⊎ StartTells ticket.name entry.what claim
-      → IsBacked (may_at w place ticket m moment) claim
+      → IsBacked (may_at w ticket m moment) claim
   tells_truly moment entry next is claim tells =
-      (backed.0, some_after backed.0 (may_of moment.before) (entries_of m moment.after) backed.1, backed.2)
+      (backed.0, still_kept moment entry next is claim tells backed.0 backed.1, backed.2)
     where
       whole : w.entries ≡ moment.before ++ entry ∷ next.0
       whole = moment.whole ∙ ap (λ (es : List WorldEntry). moment.before ++ es) next.1
@@ -307,32 +357,34 @@ module _ (w : World) (is_world : IsWorld w) (place : ℕ) (ticket : TicketConf) 
       backed =
           ⊎_elim
           (λ (t : SendTells ticket.name (id_at w m) (address_at w m) entry.what claim).
-          send_backed ticket place (id_at w m) (address_at w m) lasts (stand_after m moment.before) entry.what (may_of moment.before) claim honest may_do t.0 t.1 t.2 t.3 t.4)
+          send_backed ticket (id_at w m) (address_at w m) lasts (stand_after m moment.before) entry.what (may_of moment.before) claim honest may_do t.0 t.1 t.2 t.3 t.4)
           (λ (t : StartTells ticket.name entry.what claim).
-          start_backed ticket place (id_at w m) (address_at w m) lasts (stand_after m moment.before) entry.what (may_of moment.before) claim honest may_do t.0 t.1 t.2)
+          start_backed ticket (id_at w m) (address_at w m) lasts (stand_after m moment.before) entry.what (may_of moment.before) claim honest may_do t.0 t.1 t.2)
           tells
 
   -- where it rests, it stands as an automatic ticket
-  pub stands_by_votes : (moment : Moment w) → RestsInKind place ticket (stand_after m moment.before)
+  pub stands_by_votes : (moment : Moment w) → RestsInKind ticket (stand_after m moment.before)
   stands_by_votes moment = by_stand (stand_after m moment.before) (steps moment.before [] moment.after moment.whole tt)
     where
       by_known : (s : Setup) (may : List Record) (known : Known) → IsHonest s may known → IsOfKind false known
       by_known s may (Automatic view) h = tt
       by_known s may (Manual known) h = absurd h
 
-      placed : (s : Setup) (may : List Record) (state : State) → IsPlaced s place may state.tickets → StandsInKind place ticket state
-      placed s may state at = (
-        record { setup = s; known = at.known },
-        at.own,
-        subst (λ (b : Bool). IsOfKind b at.known) (sym setting.automatic) (by_known s may at.known at.honest),
-      )
+      placed : (node : NodeConfig) (may : List Record) (state : State) → IsSoundConfig node.config
+          → IsPlaced (setup_now node) (found node) may state.tickets → StandsInKind ticket node state
+      placed node may state sound at = λ place own there named.
+          let here : IsOwn (setup_now node) (found node) place may state.tickets =
+          at.own place (found_at node.config sound place own there ticket.name named) in (
+            record { setup = setup_now node; known = here.known },
+            here.own,
+            subst (λ (b : Bool). IsOfKind b here.known) (sym automatic) (by_known (setup_now node) may here.known here.honest),
+          )
 
-      by_stand : (stand : Stand) → IsHonestAt ticket place (id_at w m) (address_at w m) lasts (may_of moment.before) stand
-          → RestsInKind place ticket stand
+      by_stand : (stand : Stand) → IsHonestAt ticket (id_at w m) (address_at w m) lasts (may_of moment.before) stand → RestsInKind ticket stand
       by_stand Down h = tt
-      by_stand (Doing node (Ends state)) h = placed (setup_of node place ticket) (may_of moment.before) state h.1
+      by_stand (Doing node (Ends state)) h = placed node (may_of moment.before) state h.0.sound h.1
       by_stand (Doing node (Does ask go)) h = tt
-      by_stand (Hearing node old answer bytes) h = placed (setup_of node place ticket) (may_of moment.before) old h.1
+      by_stand (Hearing node old answer bytes) h = placed node (may_of moment.before) old h.0.sound h.1
 
 -- ---- the laws
 
@@ -341,10 +393,21 @@ entry_below : (w : World) → IsWorld w → (moment : Moment w) (entry : WorldEn
 entry_below w is_world moment entry next =
     is_world.form.members moment.before next.0 entry (moment.whole ∙ ap (λ (es : List WorldEntry). moment.before ++ es) next.1)
 
-pub who_tells_has_kept : WhoTellsHasKept
-who_tells_has_kept w is_world place ticket automatic moment entry next claim tells =
-    tells_truly w is_world place ticket (setting_of w is_world.form.sound place ticket automatic.0 automatic.1) entry.member
+-- what a member tells is borne out by a record that is kept for it
+backed_at : (w : World) → IsWorld w → (ticket : TicketConf) → IsAutomatic w ticket → (moment : Moment w) (entry : WorldEntry) → IsNext moment entry
+    → (claim : Claim) → Tells w ticket entry claim → IsBacked (may_at w ticket entry.member moment) claim
+backed_at w is_world ticket automatic moment entry next claim tells =
+    tells_truly w is_world ticket automatic.0 automatic.1 entry.member
     (entry_below w is_world moment entry next) moment entry next refl claim tells
+
+pub who_tells_has_kept : WhoTellsHasKept
+who_tells_has_kept w is_world ticket automatic moment entry next claim tells =
+    let q = backed_at w is_world ticket automatic moment entry next claim tells in
+    (q.0, any_kept (may_at w ticket entry.member moment) q.0 claim q.1, q.2)
+
+pub grants_are_kept : GrantsAreKept
+grants_are_kept w is_world ticket automatic moment entry next head tells =
+    backed_at w is_world ticket automatic moment entry next (IsGranted head) tells
 
 -- a lease that bears a live claim out is in force
 in_force : (clock : ℕ) (claim : Claim) (k : Record) → ((until : ℕ) → BearsOut claim until → clock < until)
@@ -355,34 +418,36 @@ in_force clock claim k live some = by_lease k.lease some
     by_lease None h = absurd h
     by_lease (Some lease) h = live lease.until h
 
-held_by : (w : World) (is_world : IsWorld w) (place : ℕ) (ticket : TicketConf) (automatic : IsAutomatic w place ticket)
+held_by : (w : World) (is_world : IsWorld w) (ticket : TicketConf) (automatic : IsAutomatic w ticket)
     (moment : Moment w) (entry : WorldEntry) (next : IsNext moment entry) (claim : Claim) (tells : Tells w ticket entry claim)
     → IsLive w entry.member moment claim
-    → HoldsBy w place ticket entry.member moment (who_tells_has_kept w is_world place ticket automatic moment entry next claim tells).0
-held_by w is_world place ticket automatic moment entry next claim tells live =
-    let q = who_tells_has_kept w is_world place ticket automatic moment entry next claim tells in
+    → HoldsBy w ticket entry.member moment (who_tells_has_kept w is_world ticket automatic moment entry next claim tells).0
+held_by w is_world ticket automatic moment entry next claim tells live =
+    let q = who_tells_has_kept w is_world ticket automatic moment entry next claim tells in
     (entry_below w is_world moment entry next, q.1, in_force (clock_at w entry.member moment.time) claim q.0 live q.2)
 
 pub who_tells_holds : WhoTellsHolds
-who_tells_holds w is_world place ticket automatic moment entry next claim tells live =
-    let holds : Holds w place ticket entry.member moment = (
-      (who_tells_has_kept w is_world place ticket automatic moment entry next claim tells).0,
-      held_by w is_world place ticket automatic moment entry next claim tells live,
+who_tells_holds w is_world ticket automatic moment entry next claim tells live =
+    let holds : Holds w ticket entry.member moment = (
+      (who_tells_has_kept w is_world ticket automatic moment entry next claim tells).0,
+      held_by w is_world ticket automatic moment entry next claim tells live,
     ) in
-    (holds, λ other by_other. worlds_hold_one w is_world place ticket automatic moment entry.member other holds by_other)
+    (holds, λ other by_other. worlds_hold_one w is_world ticket automatic moment entry.member other holds by_other)
 
 pub tellers_are_apart : TellersAreApart
-tellers_are_apart w is_world place ticket automatic early late between later first second at_first at_second ne claim other tells tells_too live live_too =
-    let q = who_tells_has_kept w is_world place ticket automatic early first at_first claim tells in
-    let holds : HoldsBy w place ticket first.member early q.0 =
-    held_by w is_world place ticket automatic early first at_first claim tells live in
-    let holds_too : Holds w place ticket second.member late = (
-      (who_tells_has_kept w is_world place ticket automatic late second at_second other tells_too).0,
-      held_by w is_world place ticket automatic late second at_second other tells_too live_too,
+tellers_are_apart w is_world ticket automatic early late between later first second at_first at_second ne claim other tells tells_too live live_too =
+    let q = who_tells_has_kept w is_world ticket automatic early first at_first claim tells in
+    let holds : HoldsBy w ticket first.member early q.0 =
+    held_by w is_world ticket automatic early first at_first claim tells live in
+    let holds_too : Holds w ticket second.member late = (
+      (who_tells_has_kept w is_world ticket automatic late second at_second other tells_too).0,
+      held_by w is_world ticket automatic late second at_second other tells_too live_too,
     ) in
-    ⊎_elim (λ (apart : AreApart (cluster_of w place ticket) early.time late.time). inl apart)
+    ⊎_elim
+    (λ (apart : IsApartFrom (cluster_of w ticket) first.member q.0 early.time late.time).
+    inl (apart early.time (omega arith) later.not_before holds.2))
     (λ (given : ReleasedIn w ticket first.member q.0 early.before between). inr (q.0, q.2, given))
-    (worlds_are_apart w is_world place ticket automatic early late between later first.member second.member ne q.0 holds holds_too)
+    (worlds_are_apart w is_world ticket automatic early late between later first.member second.member ne q.0 holds holds_too)
 
 -- ---- when a claim is over
 

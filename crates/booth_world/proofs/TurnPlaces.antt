@@ -29,7 +29,7 @@ use Rattle.booth_world.specs.Facts.{Has, Release}
 use Rattle.booth_world.specs.States.{put, Cluster}
 use Rattle.booth_world.specs.Gives.{Given, may_after, may_answered}
 use Rattle.booth_world.specs.Rules.{MemberMessage, CoreCall, Asks, Hears, Greets, MeetsDeadline, MakesNote, RenewsLease, GivesBack, lease_call}
-use Rattle.booth_world.specs.Cores.{CoreEntry, CallsCore, HasAnswer, CorePlace, Cores, Cast, MayCallAlone, MayCallCore, MayEnter, said_more, has_given, call_given, after_call, answer_given, after_answer, entered, AreEntered, cores_after}
+use Rattle.booth_world.specs.Cores.{Session, CoreEntry, CallsCore, HasAnswer, CorePlace, Cores, Cast, MayCallAlone, MayCallCore, MayEnter, said_more, has_given, call_given, after_call, answer_given, after_answer, entered, AreEntered, cores_after}
 use Rattle.booth_world.specs.CoreLaws.{IsReleasing, IsReleaseAt, IsReleaseIn}
 use Rattle.booth_world.specs.HostLaws.{Revokes}
 use Rattle.booth_world.specs.Turns.{Keeps, Sends, AsksElse, TurnTree, sends, bits_set, says_of, keeps_of, says_last, deeds_of, call_tree, Plan, Rests, Calls, Waits, plan_tree, LeavesAlways, MayPlan}
@@ -84,8 +84,8 @@ said_still_said m (says.All head part) said l h = inr h
 said_still_said m (says.Unanswered head part members) said l h = inr h
 said_still_said m (says.Reply head part) said l h = inr h
 
-pub own_given : (cores : Cores) (m : ℕ) (second : Bool) (given : Given) → IsOwn m cores (has_given cores m second given)
-own_given cores m second given = record {
+pub own_given : (cores : Cores) (m : ℕ) (session : Session) (given : Given) → IsOwn m cores (has_given cores m session given)
+own_given cores m session given = record {
   others = λ k other. put_other cores.place m k _ other;
   said_on = λ l h. said_still_said m given.say cores.said l h;
   same_time = refl;
@@ -94,8 +94,8 @@ own_given cores m second given = record {
 abbrev pub IsUp : CorePlace → Type 0
 IsUp s = IsSomeAnd s.view (λ view. Unit {0})
 
-pub up_given : (cores : Cores) (m : ℕ) (second : Bool) (given : Given) → IsUp ((has_given cores m second given).place m)
-up_given cores m second given = subst (λ (s : CorePlace). IsUp s) (sym (put_same cores.place m _)) tt
+pub up_given : (cores : Cores) (m : ℕ) (session : Session) (given : Given) → IsUp ((has_given cores m session given).place m)
+up_given cores m session given = subst (λ (s : CorePlace). IsUp s) (sym (put_same cores.place m _)) tt
 
 -- all records that may be kept still may
 abbrev pub MayMore : List Record → List Record → Type 0
@@ -110,9 +110,9 @@ tried_in None may k e = absurd (none_is k e)
 tried_in (Some tried) may k e = inl (some_same tried k e)
 
 -- the member's core stands idle at this view, at this reading
-pub record IsIdle (s : Setup) (second : Bool) (now : ℕ) (view : View) (place : CorePlace) : Type 0 where
+pub record IsIdle (s : Setup) (session : Session) (now : ℕ) (view : View) (place : CorePlace) : Type 0 where
   pub shows : place.view ≡ Some view
-  pub in_version : place.second ≡ second
+  pub in_version : place.session ≡ session
   pub at_rest : view.waiting ≡ None
   pub at_reading : place.reading ≡ now
   pub view_facts : ViewFacts s view
@@ -178,16 +178,16 @@ IsToldAfter members place kept rest =
     → 1 < members → Revokes kept.term rest
 
 -- the member's setup is of its place, among all members
-abbrev pub IsSeatedAt : Cluster → Cast → ℕ → Bool → Type 0
-IsSeatedAt c cast m second = ((cast.setup m second).place ≡ m) × ((cast.setup m second).members ≡ c.members)
+abbrev pub IsSeatedAt : Cluster → Cast → ℕ → Session → Type 0
+IsSeatedAt c cast m session = ((cast.setup m session).place ≡ m) × ((cast.setup m session).members ≡ c.members)
 
-module _ (c : Cluster) (cast : Cast) (m now : ℕ) (second : Bool) where
+module _ (c : Cluster) (cast : Cast) (m now : ℕ) (session : Session) where
   -- entries of the core lead on to a cores of which this is true, with all records that may be kept
   pub record IsLed (cores : Cores) (entries : List CoreEntry) : Type 0 where
     pub own : IsOwn m cores (cores_after c cast cores entries)
     pub more : MayMore (cores.place m).may ((cores_after c cast cores entries).place m).may
     pub up_still : IsUp (cores.place m) → IsUp ((cores_after c cast cores entries).place m)
-    pub same_version : ((cores_after c cast cores entries).place m).second ≡ (cores.place m).second
+    pub same_version : ((cores_after c cast cores entries).place m).session ≡ (cores.place m).session
     pub unreleased : (z : Release) → IsReleaseIn c cast cores entries z → ⊥
     pub are_calls : AreCalls entries
 
@@ -200,7 +200,7 @@ module _ (c : Cluster) (cast : Cast) (m now : ℕ) (second : Bool) where
   -- for, and its answer is an entry; a message that comes next was said. All of this stays while
   -- others go on.
   abbrev pub At : List Record → TurnTree → Cores → Type 0
-  At base (Ends view) cores = IsIdle (cast.setup m second) second now view (cores.place m) × MayMore (cores.place m).may base
+  At base (Ends view) cores = IsIdle (cast.setup m session) session now view (cores.place m) × MayMore (cores.place m).may base
   At base (Does (Keeps kept) g) cores =
       (Has (cores.place m).may kept) × MayMore (cores.place m).may (kept ∷ base)
       × ((ok : Bool) (cores' : Cores) → IsLater m cores cores'
@@ -238,7 +238,7 @@ module _ (c : Cluster) (cast : Cast) (m now : ℕ) (second : Bool) where
     own = subst (λ (n : Cores). IsOwn m cores n) (sym joined) (own_more m cores _ _ x.own y.own);
     more = λ k h. subst (λ (n : Cores). Has (n.place m).may k) (sym joined) (y.more k (x.more k h));
     up_still = λ h. subst (λ (n : Cores). IsUp (n.place m)) (sym joined) (y.up_still (x.up_still h));
-    same_version = ap (λ (n : Cores). (n.place m).second) joined ∙ y.same_version ∙ x.same_version;
+    same_version = ap (λ (n : Cores). (n.place m).session) joined ∙ y.same_version ∙ x.same_version;
     unreleased = λ z h. ⊎_elim
         (λ (first : IsReleaseIn c cast cores a z). x.unreleased z first)
         (λ (second : IsReleaseIn c cast (cores_after c cast cores a) b z). y.unreleased z second)
@@ -249,7 +249,7 @@ module _ (c : Cluster) (cast : Cast) (m now : ℕ) (second : Bool) where
   -- while others go on
   pub at_later : (base : List Record) (t : TurnTree) (cores cores' : Cores) → IsLater m cores cores' → At base t cores → At base t cores'
   at_later base (Ends view) cores cores' later h = (
-    subst (λ (s : CorePlace). IsIdle (cast.setup m second) second now view s) (sym later.same) h.0,
+    subst (λ (s : CorePlace). IsIdle (cast.setup m session) session now view s) (sym later.same) h.0,
     subst (λ (s : CorePlace). MayMore s.may base) (sym later.same) h.1,
   )
   at_later base (Does (Keeps kept) g) cores cores' later h = (
@@ -293,7 +293,7 @@ module _ (c : Cluster) (cast : Cast) (m now : ℕ) (second : Bool) where
 
   -- a tree, and what follows its end, where this is so of what the tree leaves
   at_next : (P : View → Type 0) (base : List Record) (t : TurnTree) (f : View → TurnTree) (cores : Cores) → At base t cores → LeavesAlways P t
-      → ((base : List Record) (view : View) (cores' : Cores) → IsIdle (cast.setup m second) second now view (cores'.place m) → MayMore (cores'.place m).may base → P view → Soon (At base (f view)) cores')
+      → ((base : List Record) (view : View) (cores' : Cores) → IsIdle (cast.setup m session) session now view (cores'.place m) → MayMore (cores'.place m).may base → P view → Soon (At base (f view)) cores')
       → Soon (At base (t >>= f)) cores
   at_next P base (Ends view) f cores h so go = go base view cores h.0 h.1 so
   at_next P base (Does (Keeps kept) g) f cores h so go = (
@@ -352,28 +352,28 @@ module _ (c : Cluster) (cast : Cast) (m now : ℕ) (second : Bool) where
     ),
   )
 
-  says_at : (place : (cast.setup m second).place ≡ m) (base : List Record) (say : Say) (t : TurnTree) (cores : Cores) → IsSaidOf say cores.said → MayMore (cores.place m).may base → At base t cores
-      → At base (says_of (cast.setup m second) say t) cores
+  says_at : (place : (cast.setup m session).place ≡ m) (base : List Record) (say : Say) (t : TurnTree) (cores : Cores) → IsSaidOf say cores.said → MayMore (cores.place m).may base → At base t cores
+      → At base (says_of (cast.setup m session) say t) cores
   says_at place base says.Nothing t cores has more h = h
-  says_at place base (says.All head part) t cores has more h = sends_at base ((cast.setup m second).members - 1) _ t cores (subst (λ (p : ℕ). Has cores.said (record { sender = p; head = head; part = part })) (sym place) has) more h
-  says_at place base (says.Unanswered head part members) t cores has more h = sends_at base (bits_set (cast.setup m second).members members) _ t cores (subst (λ (p : ℕ). Has cores.said (record { sender = p; head = head; part = part })) (sym place) has) more h
+  says_at place base (says.All head part) t cores has more h = sends_at base ((cast.setup m session).members - 1) _ t cores (subst (λ (p : ℕ). Has cores.said (record { sender = p; head = head; part = part })) (sym place) has) more h
+  says_at place base (says.Unanswered head part members) t cores has more h = sends_at base (bits_set (cast.setup m session).members members) _ t cores (subst (λ (p : ℕ). Has cores.said (record { sender = p; head = head; part = part })) (sym place) has) more h
   says_at place base (says.Reply head part) t cores has more h = sends_at base 1 _ t cores (subst (λ (p : ℕ). Has cores.said (record { sender = p; head = head; part = part })) (sym place) has) more h
 
   -- the core has just given this outcome
   record IsGiven (base : List Record) (o : Outcome) (cores : Cores) : Type 0 where
     pub shows : (cores.place m).view ≡ Some o.view
-    pub in_version : (cores.place m).second ≡ second
+    pub in_version : (cores.place m).session ≡ session
     pub at_reading : (cores.place m).reading ≡ now
     pub said_it : IsSaidOf o.deed.say cores.said
-    pub leaves : Leaves (cast.setup m second) now o.view o.deed
+    pub leaves : Leaves (cast.setup m session) now o.view o.deed
     pub tried : (k : Record) → o.deed.keep ≡ Some k → Has (cores.place m).may k
     pub no_more : MayMore (cores.place m).may (may_after o.deed.keep base)
 
-  given_is : (base : List Record) (cores : Cores) (given : Given) (o : Outcome) → (cores.place m).reading ≡ now → (cores.place m).second ≡ second → given.view ≡ o.view → given.say ≡ o.deed.say
-      → Leaves (cast.setup m second) now o.view o.deed → ((k : Record) → o.deed.keep ≡ Some k → Has given.may k) → MayMore given.may (may_after o.deed.keep base) → IsGiven base o (has_given cores m (cores.place m).second given)
+  given_is : (base : List Record) (cores : Cores) (given : Given) (o : Outcome) → (cores.place m).reading ≡ now → (cores.place m).session ≡ session → given.view ≡ o.view → given.say ≡ o.deed.say
+      → Leaves (cast.setup m session) now o.view o.deed → ((k : Record) → o.deed.keep ≡ Some k → Has given.may k) → MayMore given.may (may_after o.deed.keep base) → IsGiven base o (has_given cores m (cores.place m).session given)
   given_is base cores given o reading version view say leaves tries only =
-      let one = put_same cores.place m (record (cores.place m) { view = Some given.view; second = (cores.place m).second; may = given.may }) in record {
-        in_version = ap (λ (s : CorePlace). s.second) one ∙ version;
+      let one = put_same cores.place m (record (cores.place m) { view = Some given.view; session = (cores.place m).session; may = given.may }) in record {
+        in_version = ap (λ (s : CorePlace). s.session) one ∙ version;
         shows = ap (λ (s : CorePlace). s.view) one ∙ ap (λ (v : View). let q : Option View = Some v in q) view;
         at_reading = ap (λ (s : CorePlace). s.reading) one ∙ reading;
         said_it = subst (λ (q : Say). IsSaidOf q (said_more m given.say cores.said)) say (said_now given.say cores.said);
@@ -386,7 +386,7 @@ module _ (c : Cluster) (cast : Cast) (m now : ℕ) (second : Bool) where
   keeps_none o waits = waits
 
   -- it says, and is idle
-  last_at : (place : (cast.setup m second).place ≡ m) (base : List Record) (o : Outcome) (cores : Cores) → IsGiven base o cores → o.deed.keep ≡ None → At base (says_last (cast.setup m second) o) cores
+  last_at : (place : (cast.setup m session).place ≡ m) (base : List Record) (o : Outcome) (cores : Cores) → IsGiven base o cores → o.deed.keep ≡ None → At base (says_last (cast.setup m session) o) cores
   last_at place base o cores g none =
       let only : MayMore (cores.place m).may base = subst (λ (k : Option Record). MayMore (cores.place m).may (may_after k base)) none g.no_more in
       says_at place base o.deed.say (Ends o.view) cores g.said_it only (
@@ -412,20 +412,20 @@ module _ (c : Cluster) (cast : Cast) (m now : ℕ) (second : Bool) where
 
   -- a keep's answer gives the next outcome
   keep_at : m < c.members → now < 2 ^ 62 → (o : Outcome) (cores : Cores) (kept : Record) (f : Outcome → TurnTree) (base : List Record) → IsGiven base o cores → o.deed.keep ≡ Some kept
-      → ((ok : Bool) (cores' : Cores) → IsGiven (may_left (Keeps kept) ok base) (finish (cast.setup m second) o.view now ok) cores'
-      → At (may_left (Keeps kept) ok base) (f (finish (cast.setup m second) o.view now ok)) cores')
+      → ((ok : Bool) (cores' : Cores) → IsGiven (may_left (Keeps kept) ok base) (finish (cast.setup m session) o.view now ok) cores'
+      → At (may_left (Keeps kept) ok base) (f (finish (cast.setup m session) o.view now ok)) cores')
       → ((waits : Waiting) → o.view.waiting ≡ Some waits → waits.tried ≡ kept → IsReleasing waits.rule
-      → 1 < c.members → Revokes kept.term (f (finish (cast.setup m second) o.view now true)))
-      → At base (keeps_of (cast.setup m second) now (Some kept) o f) cores
+      → 1 < c.members → Revokes kept.term (f (finish (cast.setup m session) o.view now true)))
+      → At base (keeps_of (cast.setup m session) now (Some kept) o f) cores
   keep_at below small o cores kept f base g is_kept go tells = (
     g.tried kept is_kept,
     subst (λ (k : Option Record). MayMore (cores.place m).may (may_after k base)) is_kept g.no_more,
     (λ ok on later.
         let shows : (on.place m).view ≡ Some o.view = ap (λ (s : CorePlace). s.view) later.same ∙ g.shows in
         let reading : (on.place m).reading ≡ now = ap (λ (s : CorePlace). s.reading) later.same ∙ g.at_reading in
-        let version : (on.place m).second ≡ second = ap (λ (s : CorePlace). s.second) later.same ∙ g.in_version in
+        let version : (on.place m).session ≡ session = ap (λ (s : CorePlace). s.session) later.same ∙ g.in_version in
         let waits = the_value _ o.view.waiting (subst (λ (k : Option Record). KeepWaits k o.view.waiting now) is_kept g.leaves.waits) in
-        let o' = finish (cast.setup m second) o.view now ok in (
+        let o' = finish (cast.setup m session) o.view now ok in (
           (
             below,
             subst (λ (v : Option View). IsSomeAnd v (λ view. IsSomeAnd view.waiting (λ waits. waits.tried ≡ kept))) (sym shows)
@@ -438,12 +438,12 @@ module _ (c : Cluster) (cast : Cast) (m now : ℕ) (second : Bool) where
             go ok (entered c cast on (HasAnswer m kept ok))
                 (subst (λ (v : Option View). IsGiven (may_left (Keeps kept) ok base) o' (after_answer cast on m ok v)) (sym shows)
                 (given_is (may_left (Keeps kept) ok base) on (answer_given cast on m ok o.view) o' reading version
-                (ap (λ (b : Bool). (finish (cast.setup m b) o.view (on.place m).reading ok).view) version ∙ ap (λ (r : ℕ). (finish (cast.setup m second) o.view r ok).view) reading)
-                (ap (λ (b : Bool). (finish (cast.setup m b) o.view (on.place m).reading ok).deed.say) version ∙ ap (λ (r : ℕ). (finish (cast.setup m second) o.view r ok).deed.say) reading)
-                (finish_good (cast.setup m second) o.view now ok small g.leaves.facts)
-                (λ k e. tried_in _ _ k (ap (λ (b : Bool). (finish (cast.setup m b) o.view (on.place m).reading ok).deed.keep) version ∙ ap (λ (r : ℕ). (finish (cast.setup m second) o.view r ok).deed.keep) reading ∙ e))
-                (subst (λ (b : Bool). MayMore (may_after (finish (cast.setup m b) o.view (on.place m).reading ok).deed.keep (may_answered o.view.waiting ok (on.place m).may)) (may_after o'.deed.keep (may_left (Keeps kept) ok base))) (sym version)
-                (subst (λ (r : ℕ). MayMore (may_after (finish (cast.setup m second) o.view r ok).deed.keep (may_answered o.view.waiting ok (on.place m).may)) (may_after o'.deed.keep (may_left (Keeps kept) ok base))) (sym reading)
+                (ap (λ (b : Session). (finish (cast.setup m b) o.view (on.place m).reading ok).view) version ∙ ap (λ (r : ℕ). (finish (cast.setup m session) o.view r ok).view) reading)
+                (ap (λ (b : Session). (finish (cast.setup m b) o.view (on.place m).reading ok).deed.say) version ∙ ap (λ (r : ℕ). (finish (cast.setup m session) o.view r ok).deed.say) reading)
+                (finish_good (cast.setup m session) o.view now ok small g.leaves.facts)
+                (λ k e. tried_in _ _ k (ap (λ (b : Session). (finish (cast.setup m b) o.view (on.place m).reading ok).deed.keep) version ∙ ap (λ (r : ℕ). (finish (cast.setup m session) o.view r ok).deed.keep) reading ∙ e))
+                (subst (λ (b : Session). MayMore (may_after (finish (cast.setup m b) o.view (on.place m).reading ok).deed.keep (may_answered o.view.waiting ok (on.place m).may)) (may_after o'.deed.keep (may_left (Keeps kept) ok base))) (sym version)
+                (subst (λ (r : ℕ). MayMore (may_after (finish (cast.setup m session) o.view r ok).deed.keep (may_answered o.view.waiting ok (on.place m).may)) (may_after o'.deed.keep (may_left (Keeps kept) ok base))) (sym reading)
                 (after_only o'.deed.keep _ _
                 (subst (λ (w : Option Waiting). MayMore (may_answered w ok (on.place m).may) (may_left (Keeps kept) ok base)) (sym waits.1)
                 (only_left base (on.place m).may kept waits.0 ok waits.2.0
@@ -458,63 +458,63 @@ module _ (c : Cluster) (cast : Cast) (m now : ℕ) (second : Bool) where
         tells waits waits_for (ap (λ (w : Waiting). w.tried) (some_same waits known.0 (sym waits_for ∙ known.1)) ∙ known.2.0) gives,
   )
 
-  deeds_at : m < c.members → now < 2 ^ 62 → IsSeatedAt c cast m second → (base : List Record) (o : Outcome) (cores : Cores) → IsGiven base o cores → At base (deeds_of (cast.setup m second) now o) cores
+  deeds_at : m < c.members → now < 2 ^ 62 → IsSeatedAt c cast m session → (base : List Record) (o : Outcome) (cores : Cores) → IsGiven base o cores → At base (deeds_of (cast.setup m session) now o) cores
   deeds_at below small place base o cores g = first o.deed.keep refl
     where
       again : (base : List Record) (q : Outcome) (cores : Cores) → IsGiven base q cores → IsGainAtMost q.view.waiting → (keep : Option Record) → q.deed.keep ≡ keep
-          → At base (keeps_of (cast.setup m second) now keep q (says_last (cast.setup m second))) cores
+          → At base (keeps_of (cast.setup m session) now keep q (says_last (cast.setup m session))) cores
       again base q cores g gain None e = last_at place.0 base q cores g e
       again base q cores g gain (Some kept) e =
-          keep_at below small q cores kept (says_last (cast.setup m second)) base g e
-          (λ ok on h. last_at place.0 _ _ on h (third_keeps_nothing (cast.setup m second) q.view now ok gain))
+          keep_at below small q cores kept (says_last (cast.setup m session)) base g e
+          (λ ok on h. last_at place.0 _ _ on h (third_keeps_nothing (cast.setup m session) q.view now ok gain))
           (λ waits is same gives others. absurd (subst (λ (r : Rule). IsReleasing r) (gain waits is) gives))
 
       first : (keep : Option Record) → o.deed.keep ≡ keep
-          → At base (keeps_of (cast.setup m second) now keep o (λ o. keeps_of (cast.setup m second) now o.deed.keep o (says_last (cast.setup m second)))) cores
-      first None e = subst (λ (k : Option Record). At base (keeps_of (cast.setup m second) now k o (says_last (cast.setup m second))) cores) (sym e) (last_at place.0 base o cores g e)
+          → At base (keeps_of (cast.setup m session) now keep o (λ o. keeps_of (cast.setup m session) now o.deed.keep o (says_last (cast.setup m session)))) cores
+      first None e = subst (λ (k : Option Record). At base (keeps_of (cast.setup m session) now k o (says_last (cast.setup m session))) cores) (sym e) (last_at place.0 base o cores g e)
       first (Some kept) e =
-          keep_at below small o cores kept (λ o. keeps_of (cast.setup m second) now o.deed.keep o (says_last (cast.setup m second))) base g e
-          (λ ok on h. again _ _ on h (second_gains (cast.setup m second) o.view now ok) _ refl)
+          keep_at below small o cores kept (λ o. keeps_of (cast.setup m session) now o.deed.keep o (says_last (cast.setup m session))) base g e
+          (λ ok on h. again _ _ on h (second_gains (cast.setup m session) o.view now ok) _ refl)
           (λ waits is same gives others.
-          revokes_after (cast.setup m second) o.view now waits kept.term is gives
-          (sym (tries_term (cast.setup m second) o.view waits.rule waits.tried (g.leaves.facts.tried waits is))
+          revokes_after (cast.setup m session) o.view now waits kept.term is gives
+          (sym (tries_term (cast.setup m session) o.view waits.rule waits.tried (g.leaves.facts.tried waits is))
           ∙ ap (λ (k : Record). k.term) same)
           (subst (λ (n : ℕ). 1 < n) (sym place.1) others))
 
   -- ---- a call's tree
 
   -- a call of an idle core is an entry, and then its tree follows
-  pub call_at : m < c.members → now < 2 ^ 62 → IsSeatedAt c cast m second → (base : List Record) (view : View) (call : CoreCall) (cores : Cores) → IsIdle (cast.setup m second) second now view (cores.place m)
-      → MayMore (cores.place m).may base → MayCallCore cast cores m view call → Leaves (cast.setup m second) now (lease_call (cast.setup m second) view now call).view (lease_call (cast.setup m second) view now call).deed
-      → Soon (At base (deeds_of (cast.setup m second) now (lease_call (cast.setup m second) view now call))) cores
+  pub call_at : m < c.members → now < 2 ^ 62 → IsSeatedAt c cast m session → (base : List Record) (view : View) (call : CoreCall) (cores : Cores) → IsIdle (cast.setup m session) session now view (cores.place m)
+      → MayMore (cores.place m).may base → MayCallCore cast cores m view call → Leaves (cast.setup m session) now (lease_call (cast.setup m session) view now call).view (lease_call (cast.setup m session) view now call).deed
+      → Soon (At base (deeds_of (cast.setup m session) now (lease_call (cast.setup m session) view now call))) cores
   call_at below small place base view call cores idle only may leaves = (
     CallsCore m call ∷ [],
     ((below, subst (λ (v : Option View). IsSomeAnd v (λ view. (view.waiting ≡ None) × MayCallCore cast cores m view call)) (sym idle.shows) (idle.at_rest, may)), tt),
     record {
-      own = subst (λ (v : Option View). IsOwn m cores (after_call cast cores m call v)) (sym idle.shows) (own_given cores m (cores.place m).second (call_given cast cores m call view));
+      own = subst (λ (v : Option View). IsOwn m cores (after_call cast cores m call v)) (sym idle.shows) (own_given cores m (cores.place m).session (call_given cast cores m call view));
       more = λ k h. subst (λ (v : Option View). Has ((after_call cast cores m call v).place m).may k) (sym idle.shows)
           (subst (λ (s : CorePlace). Has s.may k) (sym (put_same cores.place m _)) (more_after _ (cores.place m).may k h));
-      up_still = λ h. subst (λ (v : Option View). IsUp ((after_call cast cores m call v).place m)) (sym idle.shows) (up_given cores m (cores.place m).second (call_given cast cores m call view));
-      same_version = subst (λ (v : Option View). ((after_call cast cores m call v).place m).second ≡ (cores.place m).second) (sym idle.shows) (ap (λ (s : CorePlace). s.second) (put_same cores.place m _));
+      up_still = λ h. subst (λ (v : Option View). IsUp ((after_call cast cores m call v).place m)) (sym idle.shows) (up_given cores m (cores.place m).session (call_given cast cores m call view));
+      same_version = subst (λ (v : Option View). ((after_call cast cores m call v).place m).session ≡ (cores.place m).session) (sym idle.shows) (ap (λ (s : CorePlace). s.session) (put_same cores.place m _));
       unreleased = λ z h. ⊎_elim (λ (n : ⊥). n) (λ (n : ⊥). n) h;
       are_calls = tt;
     },
-    subst (λ (v : Option View). At base (deeds_of (cast.setup m second) now (lease_call (cast.setup m second) view now call)) (after_call cast cores m call v)) (sym idle.shows)
-        (deeds_at below small place base (lease_call (cast.setup m second) view now call) _
-        (given_is base cores (call_given cast cores m call view) (lease_call (cast.setup m second) view now call) idle.at_reading idle.in_version
-        (ap (λ (b : Bool). (lease_call (cast.setup m b) view (cores.place m).reading call).view) idle.in_version ∙ ap (λ (r : ℕ). (lease_call (cast.setup m second) view r call).view) idle.at_reading)
-        (ap (λ (b : Bool). (lease_call (cast.setup m b) view (cores.place m).reading call).deed.say) idle.in_version ∙ ap (λ (r : ℕ). (lease_call (cast.setup m second) view r call).deed.say) idle.at_reading)
+    subst (λ (v : Option View). At base (deeds_of (cast.setup m session) now (lease_call (cast.setup m session) view now call)) (after_call cast cores m call v)) (sym idle.shows)
+        (deeds_at below small place base (lease_call (cast.setup m session) view now call) _
+        (given_is base cores (call_given cast cores m call view) (lease_call (cast.setup m session) view now call) idle.at_reading idle.in_version
+        (ap (λ (b : Session). (lease_call (cast.setup m b) view (cores.place m).reading call).view) idle.in_version ∙ ap (λ (r : ℕ). (lease_call (cast.setup m session) view r call).view) idle.at_reading)
+        (ap (λ (b : Session). (lease_call (cast.setup m b) view (cores.place m).reading call).deed.say) idle.in_version ∙ ap (λ (r : ℕ). (lease_call (cast.setup m session) view r call).deed.say) idle.at_reading)
         leaves
-        (λ k e. tried_in _ _ k (ap (λ (b : Bool). (lease_call (cast.setup m b) view (cores.place m).reading call).deed.keep) idle.in_version ∙ ap (λ (r : ℕ). (lease_call (cast.setup m second) view r call).deed.keep) idle.at_reading ∙ e))
-        (subst (λ (b : Bool). MayMore (may_after (lease_call (cast.setup m b) view (cores.place m).reading call).deed.keep (cores.place m).may) (may_after (lease_call (cast.setup m second) view now call).deed.keep base)) (sym idle.in_version)
-        (subst (λ (r : ℕ). MayMore (may_after (lease_call (cast.setup m second) view r call).deed.keep (cores.place m).may) (may_after (lease_call (cast.setup m second) view now call).deed.keep base)) (sym idle.at_reading)
-        (after_only (lease_call (cast.setup m second) view now call).deed.keep (cores.place m).may base only))))),
+        (λ k e. tried_in _ _ k (ap (λ (b : Session). (lease_call (cast.setup m b) view (cores.place m).reading call).deed.keep) idle.in_version ∙ ap (λ (r : ℕ). (lease_call (cast.setup m session) view r call).deed.keep) idle.at_reading ∙ e))
+        (subst (λ (b : Session). MayMore (may_after (lease_call (cast.setup m b) view (cores.place m).reading call).deed.keep (cores.place m).may) (may_after (lease_call (cast.setup m session) view now call).deed.keep base)) (sym idle.in_version)
+        (subst (λ (r : ℕ). MayMore (may_after (lease_call (cast.setup m session) view r call).deed.keep (cores.place m).may) (may_after (lease_call (cast.setup m session) view now call).deed.keep base)) (sym idle.at_reading)
+        (after_only (lease_call (cast.setup m session) view now call).deed.keep (cores.place m).may base only))))),
   )
 
   -- ---- a plan's tree
 
   -- a note waits for nothing
-  note_waits_not : (view : View) (note : Note) → view.waiting ≡ None → (noted (cast.setup m second) view now note).waiting ≡ None
+  note_waits_not : (view : View) (note : Note) → view.waiting ≡ None → (noted (cast.setup m session) view now note).waiting ≡ None
   note_waits_not view notes.Asked none = none
   note_waits_not view (notes.JobStarted job reason) none = on_cond (λ (v : View). v.waiting ≡ None) (is_leader view.role) _ _ none none
   note_waits_not view notes.JobOver none = none
@@ -522,36 +522,36 @@ module _ (c : Cluster) (cast : Cast) (m now : ℕ) (second : Bool) where
   note_waits_not view notes.HandlerFailed none = none
   note_waits_not view notes.Unready none = none
 
-  call_leaves : now < 2 ^ 62 → (view : View) (call : CoreCall) → view.waiting ≡ None → ViewFacts (cast.setup m second) view → MayCallAlone (cast.setup m second) view call
-      → Leaves (cast.setup m second) now (lease_call (cast.setup m second) view now call).view (lease_call (cast.setup m second) view now call).deed
-  call_leaves small view (Asks reason) none facts may = ask_good (cast.setup m second) view reason now
+  call_leaves : now < 2 ^ 62 → (view : View) (call : CoreCall) → view.waiting ≡ None → ViewFacts (cast.setup m session) view → MayCallAlone (cast.setup m session) view call
+      → Leaves (cast.setup m session) now (lease_call (cast.setup m session) view now call).view (lease_call (cast.setup m session) view now call).deed
+  call_leaves small view (Asks reason) none facts may = ask_good (cast.setup m session) view reason now
   call_leaves small view (Hears message) none facts may = absurd may
-  call_leaves small view Greets none facts may = record { facts = greeted_facts (cast.setup m second) view facts; waits = none }
-  call_leaves small view MeetsDeadline none facts may = due_now_good (cast.setup m second) view now none facts
+  call_leaves small view Greets none facts may = record { facts = greeted_facts (cast.setup m session) view facts; waits = none }
+  call_leaves small view MeetsDeadline none facts may = due_now_good (cast.setup m session) view now none facts
   call_leaves small view (MakesNote note) none facts may =
-      record { facts = noted_facts (cast.setup m second) view now note none may facts; waits = note_waits_not view note none }
-  call_leaves small view RenewsLease none facts may = renew_good (cast.setup m second) view now small none facts
-  call_leaves small view (GivesBack reason) none facts may = release_good (cast.setup m second) view reason now facts.round_fits
+      record { facts = noted_facts (cast.setup m session) view now note none may facts; waits = note_waits_not view note none }
+  call_leaves small view RenewsLease none facts may = renew_good (cast.setup m session) view now small none facts
+  call_leaves small view (GivesBack reason) none facts may = release_good (cast.setup m session) view reason now facts.round_fits
 
-  may_alone : (cores : Cores) (view : View) (call : CoreCall) → (cores.place m).second ≡ second → MayCallAlone (cast.setup m second) view call → MayCallCore cast cores m view call
-  may_alone cores view (Asks reason) version may = subst (λ (b : Bool). MayCallAlone (cast.setup m b) view (Asks reason)) (sym version) may
+  may_alone : (cores : Cores) (view : View) (call : CoreCall) → (cores.place m).session ≡ session → MayCallAlone (cast.setup m session) view call → MayCallCore cast cores m view call
+  may_alone cores view (Asks reason) version may = subst (λ (b : Session). MayCallAlone (cast.setup m b) view (Asks reason)) (sym version) may
   may_alone cores view (Hears message) version may = absurd may
   may_alone cores view Greets version may = may
   may_alone cores view MeetsDeadline version may = may
   may_alone cores view (MakesNote note) version may = may
   may_alone cores view RenewsLease version may = may
-  may_alone cores view (GivesBack reason) version may = subst (λ (b : Bool). MayCallAlone (cast.setup m b) view (GivesBack reason)) (sym version) may
+  may_alone cores view (GivesBack reason) version may = subst (λ (b : Session). MayCallAlone (cast.setup m b) view (GivesBack reason)) (sym version) may
 
   -- a plan of an idle core is entries, by its calls
-  pub plan_at : m < c.members → now < 2 ^ 62 → IsSeatedAt c cast m second → (plan : Plan) (base : List Record) (view : View) (cores : Cores)
-      → IsIdle (cast.setup m second) second now view (cores.place m) → MayMore (cores.place m).may base → MayPlan (cast.setup m second) now view plan
-      → Soon (At base (plan_tree (cast.setup m second) now view plan)) cores
+  pub plan_at : m < c.members → now < 2 ^ 62 → IsSeatedAt c cast m session → (plan : Plan) (base : List Record) (view : View) (cores : Cores)
+      → IsIdle (cast.setup m session) session now view (cores.place m) → MayMore (cores.place m).may base → MayPlan (cast.setup m session) now view plan
+      → Soon (At base (plan_tree (cast.setup m session) now view plan)) cores
   plan_at below small place Rests base view cores idle only may = ([], tt, led_none cores, (idle, only))
   plan_at below small place (Calls call go) base view cores idle only may =
-      soon_on (At base (call_tree (cast.setup m second) now view call))
-      (At base (call_tree (cast.setup m second) now view call >>= (λ left. plan_tree (cast.setup m second) now left (go left)))) cores
+      soon_on (At base (call_tree (cast.setup m session) now view call))
+      (At base (call_tree (cast.setup m session) now view call >>= (λ left. plan_tree (cast.setup m session) now left (go left)))) cores
       (call_at below small place base view call cores idle only (may_alone cores view call idle.in_version may.0) (call_leaves small view call idle.at_rest idle.view_facts may.0))
-      (λ on h. at_next (λ left. MayPlan (cast.setup m second) now left (go left)) base (call_tree (cast.setup m second) now view call) (λ left. plan_tree (cast.setup m second) now left (go left)) on h may.1
+      (λ on h. at_next (λ left. MayPlan (cast.setup m session) now left (go left)) base (call_tree (cast.setup m session) now view call) (λ left. plan_tree (cast.setup m session) now left (go left)) on h may.1
       (λ base left on idle only may. plan_at below small place (go left) base left on idle only may))
   plan_at below small place (Waits go) base view cores idle only may = (
     [],
@@ -561,20 +561,20 @@ module _ (c : Cluster) (cast : Cast) (m now : ℕ) (second : Bool) where
       only,
       λ ok on later.
           plan_at below small place (go ok) base view on
-          (subst (λ (s : CorePlace). IsIdle (cast.setup m second) second now view s) (sym later.same) idle)
+          (subst (λ (s : CorePlace). IsIdle (cast.setup m session) session now view s) (sym later.same) idle)
           (subst (λ (s : CorePlace). MayMore s.may base) (sym later.same) only) (may ok),
     ),
   )
 
   -- and after a message that is heard
-  pub heard_at : m < c.members → now < 2 ^ 62 → IsSeatedAt c cast m second → (message : MemberMessage) (plan : View → Plan) (base : List Record) (view : View) (cores : Cores)
-      → IsIdle (cast.setup m second) second now view (cores.place m) → MayMore (cores.place m).may base → MayCallCore cast cores m view (Hears message)
-      → LeavesAlways (λ left. MayPlan (cast.setup m second) now left (plan left)) (call_tree (cast.setup m second) now view (Hears message))
-      → Soon (At base (call_tree (cast.setup m second) now view (Hears message) >>= (λ left. plan_tree (cast.setup m second) now left (plan left)))) cores
+  pub heard_at : m < c.members → now < 2 ^ 62 → IsSeatedAt c cast m session → (message : MemberMessage) (plan : View → Plan) (base : List Record) (view : View) (cores : Cores)
+      → IsIdle (cast.setup m session) session now view (cores.place m) → MayMore (cores.place m).may base → MayCallCore cast cores m view (Hears message)
+      → LeavesAlways (λ left. MayPlan (cast.setup m session) now left (plan left)) (call_tree (cast.setup m session) now view (Hears message))
+      → Soon (At base (call_tree (cast.setup m session) now view (Hears message) >>= (λ left. plan_tree (cast.setup m session) now left (plan left)))) cores
   heard_at below small place message plan base view cores idle only heard may =
-      soon_on (At base (call_tree (cast.setup m second) now view (Hears message)))
-      (At base (call_tree (cast.setup m second) now view (Hears message) >>= (λ left. plan_tree (cast.setup m second) now left (plan left)))) cores
+      soon_on (At base (call_tree (cast.setup m session) now view (Hears message)))
+      (At base (call_tree (cast.setup m session) now view (Hears message) >>= (λ left. plan_tree (cast.setup m session) now left (plan left)))) cores
       (call_at below small place base view (Hears message) cores idle only heard
-      (hear_good (cast.setup m second) view message.sender message.head message.part now message.head.cmd idle.at_rest idle.view_facts))
-      (λ on h. at_next (λ left. MayPlan (cast.setup m second) now left (plan left)) base (call_tree (cast.setup m second) now view (Hears message)) (λ left. plan_tree (cast.setup m second) now left (plan left)) on h may
+      (hear_good (cast.setup m session) view message.sender message.head message.part now message.head.cmd idle.at_rest idle.view_facts))
+      (λ on h. at_next (λ left. MayPlan (cast.setup m session) now left (plan left)) base (call_tree (cast.setup m session) now view (Hears message)) (λ left. plan_tree (cast.setup m session) now left (plan left)) on h may
       (λ base left on idle only may. plan_at below small place (plan left) base left on idle only may))

@@ -8,13 +8,13 @@ use Rattle.booth_ticket.specs.Saying.{say_each, say_to}
 use Rattle.booth_ticket.specs.Requests.{acquire_for, follow_request, release_for, reply}
 use Rattle.booth_ticket.specs.Automatic.{come_due, hear, hear_message, tick}
 use Rattle.booth_node.specs.Session.{AreSessions, Down}
-use Rattle.booth_node.specs.World.{HasForm, entries_of}
+use Rattle.booth_node.specs.World.{HasForm, entries_of, IsOneTicket}
 use Rattle.booth_node.specs.Held.{Moment}
-use Rattle.booth_world.specs.Premises.{Premise, OneConfiguration, TrueClocks, RecordsReturn, VersionsRise, MembersSpeak, OneDaemon, Meets, IsWorldBut, TwoHold, NothingHeld}
+use Rattle.booth_world.specs.Premises.{Premise, SameMembers, TrueClocks, RecordsReturn, VersionsRise, MembersSpeak, OneDaemon, Meets, IsWorldBut, TwoHold, NothingHeld}
 use Rattle.booth_world.specs.WorldExamples.{two_sites, web, lease, grant_it}
 use Rattle.booth_world.specs.PremiseExamples.{with_two_configurations}
 use Rattle.booth_world.proofs.AlongWorlds.{◌&◌, at_each, versions_first, reads_true, only_web, from_client, is_read_below}
-use Rattle.booth_world.proofs.WorldParts.{two_sound, has_form, exact_clocks}
+use Rattle.booth_world.proofs.WorldParts.{two_sound, has_form, exact_clocks, web_one}
 use Rattle.booth_world.proofs.Beginnings.{none_holds}
 
 first_session : AreSessions Down (entries_of 0 with_two_configurations.entries)
@@ -75,9 +75,9 @@ messages =
     & tt
     & tt)
 
-meets : (premise : Premise) → premise ≢ OneConfiguration → Meets with_two_configurations premise
+meets : (premise : Premise) → premise ≢ SameMembers → Meets with_two_configurations premise
 meets NothingHeld other = none_holds with_two_configurations (λ m place. refl)
-meets OneConfiguration other = absurd (other refl)
+meets SameMembers other = absurd (other refl)
 meets TrueClocks other =
     exact_clocks two_sites _ (sym (reads_true 60000 0 (omega arith))
     & sym (reads_true 60000 0 (omega arith))
@@ -108,7 +108,7 @@ meets OneDaemon other = one_daemon
 
 form : HasForm with_two_configurations
 form =
-    has_form with_two_configurations two_sound ((omega arith, omega arith, omega arith)
+    has_form with_two_configurations two_sound refl ((omega arith, omega arith, omega arith)
     & (omega arith, omega arith, omega arith)
     & (omega arith, omega arith, omega arith)
     & (omega arith, omega arith, omega arith)
@@ -120,7 +120,7 @@ form =
     & (omega arith, omega arith, omega arith)
     & tt)
 
-pub other_premises : IsWorldBut OneConfiguration with_two_configurations
+pub other_premises : IsWorldBut SameMembers with_two_configurations
 other_premises = (form, meets)
 
 abbrev last : Moment with_two_configurations
@@ -134,11 +134,25 @@ last = record {
   within = omega arith;
 }
 
+-- each start has the ticket as it is
+one_web : IsOneTicket with_two_configurations web
+one_web =
+    web_one with_two_configurations two_sites two_sound (refl
+    & refl
+    & tt
+    & tt
+    & tt
+    & tt
+    & tt
+    & tt
+    & tt
+    & tt
+    & tt)
+
 pub two_hold : TwoHold with_two_configurations
 two_hold = record {
-  place = 0;
   ticket = web;
-  automatic = (refl, refl);
+  automatic = (one_web, refl);
   moment = last;
   first = 0;
   second = 1;

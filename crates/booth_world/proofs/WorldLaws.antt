@@ -1,31 +1,30 @@
 -- The laws of worlds, for each ticket of their configuration.
 use Rattle.booth_world.specs.Worlds.{WorldsHoldOne, WorldsAreApart, WorldTermsNeverFall, LaterHoldersHaveLaterTerms}
 use Rattle.std.proofs.Common.{◌≡◌, ◌≤◌, Bool, true, false, refl}
-use Rattle.booth_world.proofs.Configured.{names_apart, setting_of}
+use Rattle.booth_world.proofs.Configured.{setting_of}
 use Rattle.booth_world.proofs.ManualTerms.{manual_terms_hold}
 use Rattle.booth_world.proofs.WorldRuns.{one_holds, are_apart, terms_hold, terms_rise}
 
 pub worlds_hold_one : WorldsHoldOne
-worlds_hold_one w is_world place ticket automatic moment s t by_s by_t =
-    one_holds w is_world place ticket (setting_of w is_world.form.sound place ticket automatic.0 automatic.1) moment s t by_s by_t
+worlds_hold_one w is_world ticket automatic moment s t by_s by_t =
+    one_holds w is_world ticket (setting_of w is_world.form ticket automatic.0 automatic.1) moment s t by_s by_t
 
 pub worlds_are_apart : WorldsAreApart
-worlds_are_apart w is_world place ticket automatic early late between later s t ne kept by_s by_t =
-    are_apart w is_world place ticket (setting_of w is_world.form.sound place ticket automatic.0 automatic.1) early late between later s t ne kept by_s by_t
+worlds_are_apart w is_world ticket automatic early late between later s t ne kept by_s by_t =
+    are_apart w is_world ticket (setting_of w is_world.form ticket automatic.0 automatic.1) early late between later s t ne kept by_s by_t
 
 pub later_holders : LaterHoldersHaveLaterTerms
-later_holders w is_world all place ticket automatic early late between later s t ne kept other first second is_first is_second by_s by_t =
-    terms_rise w is_world place ticket (setting_of w is_world.form.sound place ticket automatic.0 automatic.1) all early late between later s t ne
+later_holders w is_world all ticket automatic early late between later s t ne kept other first second is_first is_second by_s by_t =
+    terms_rise w is_world ticket (setting_of w is_world.form ticket automatic.0 automatic.1) all early late between later s t ne
     kept other first second is_first is_second by_s by_t
 
 pub world_terms : WorldTermsNeverFall
-world_terms w is_world place ticket there early late between later s term below least kept h =
+world_terms w is_world ticket there early late between later s term below least kept h =
     by_kind ticket.manual refl
   where
     by_kind : (manual : Bool) → ticket.manual ≡ manual → term ≤ kept.term
     by_kind false automatic =
-        terms_hold w is_world place ticket (setting_of w is_world.form.sound place ticket there automatic) early late between later s term below least
+        terms_hold w is_world ticket (setting_of w is_world.form ticket there automatic) early late between later s term below least
         kept h
     by_kind true by_hand =
-        manual_terms_hold w is_world place ticket s below there by_hand
-        (λ other t at ne. names_apart w.config is_world.form.sound place other ticket t there at ne) early late between later term least kept h
+        manual_terms_hold w is_world ticket there by_hand s below early late between later term least kept h

@@ -1,10 +1,12 @@
 -- What the small worlds have in common: their form, their clocks, and their messages.
-use Rattle.std.proofs.Common.{◌≡◌, ℕ, ◌<◌, ◌≤◌, List, [], refl, arith}
-use Rattle.std.specs.Prelude.{◌^◌}
+use Rattle.std.proofs.Common.{◌≡◌, ℕ, ◌<◌, ◌≤◌, List, [], ◌∷◌, refl, arith, subst, slice_get}
+use Rattle.std.specs.Prelude.{◌^◌, Some}
 use Rattle.std.proofs.lemmas.List.FromFn.{length-range_with_len}
 use Rattle.booth_base.specs.Crc.{crc32, add, divisor_from, left_over, bits, number, message, dividend}
 use Rattle.booth_base.specs.declared.address.MemberId.{MemberId}
+use Rattle.booth_conf.specs.Config.{ConfigSays}
 use Rattle.booth_conf.specs.declared.members.Member.{Member}
+use Rattle.booth_conf.specs.declared.tickets.TicketConf.{TicketConf}
 use Rattle.booth_conf.specs.Sound.{IsSound}
 use Rattle.booth_base.specs.declared.address.TheConstants.{NO_ONE}
 use Rattle.booth_wire.specs.declared.codes.reasons.TheConstants.{ADMN}
@@ -14,9 +16,10 @@ use Rattle.booth_wire.specs.declared.command.Cmd.{Cmd}
 use Rattle.booth_wire.specs.declared.command.Kind.TheVariants as kinds
 use Rattle.booth_wire.specs.Command.{kind_of}
 use Rattle.booth_wire.specs.Spelling.{Fits}
-use Rattle.booth_node.specs.World.{WorldEntry, World, HasForm, HasTrueClocks, ReadsClock, members_of, last_time}
-use Rattle.booth_world.specs.WorldExamples.{config_with, world_with, alone, two_sites, three_members, says, asks_votes, votes, is_open, tells_lease, asks_state}
-use Rattle.booth_world.proofs.AlongWorlds.{Along, at_each, true_clock}
+use Rattle.booth_node.specs.Session.{SessionEntry, Starts, Makes, IsCut}
+use Rattle.booth_node.specs.World.{WorldEntry, World, HasForm, HasTrueClocks, IsOneTicket, ReadsClock, StartsWithIt, members_of, last_time}
+use Rattle.booth_world.specs.WorldExamples.{config_with, world_with, web, alone, two_sites, three_members, says, asks_votes, votes, is_open, tells_lease, asks_state}
+use Rattle.booth_world.proofs.AlongWorlds.{Along, at_each, only_web, true_clock}
 
 -- ---- configurations
 
@@ -26,6 +29,7 @@ one_sound = record {
   port = refl;
   authfile = refl;
   skew = refl;
+  authfile_old = refl;
   extras = refl;
   new_extras = refl;
   members = refl;
@@ -43,6 +47,7 @@ two_sound = record {
   port = refl;
   authfile = refl;
   skew = refl;
+  authfile_old = refl;
   extras = refl;
   new_extras = refl;
   members = refl;
@@ -60,6 +65,7 @@ three_sound = record {
   port = refl;
   authfile = refl;
   skew = refl;
+  authfile_old = refl;
   extras = refl;
   new_extras = refl;
   members = refl;
@@ -77,13 +83,38 @@ three_sound = record {
 abbrev pub FitsIn : World → List WorldEntry → WorldEntry → Type 0
 FitsIn w before entry = (entry.member < members_of w) × (last_time 0 before ≤ entry.time) × (entry.time < w.span)
 
-pub has_form : (w : World) → IsSound w.config → Along (FitsIn w) [] w.entries → HasForm w
-has_form w sound fits = record {
-  sound = sound;
+pub has_form : (w : World) {config : ConfigSays} → IsSound config → config.members ≡ w.members
+    → Along (FitsIn w) [] w.entries → HasForm w
+has_form w {config} sound members fits = record {
+  said = (config, sound, members);
   members = λ before after entry e. (at_each w (FitsIn w) fits before after entry e).0;
   in_order = λ before after entry e. (at_each w (FitsIn w) fits before after entry e).1;
   within = λ before after entry e. (at_each w (FitsIn w) fits before after entry e).2;
 }
+
+-- ---- the ticket
+
+-- a start has the one ticket of the examples, and no other
+abbrev pub HasWeb : SessionEntry → Type 0
+HasWeb (Starts node reading records) = node.config.tickets ≡ web ∷ []
+HasWeb what = Unit {0}
+
+pub web_one : (w : World) (members : List Member) → IsSound (config_with members) → Along (λ before entry. HasWeb entry.what) [] w.entries
+    → IsOneTicket w web
+web_one w members sound webs = record {
+  config = config_with members;
+  sound = sound;
+  place = 0;
+  said = refl;
+  same = λ before after entry e. by_what entry.what (at_each w (λ earlier x. HasWeb x.what) webs before after entry e);
+}
+  where
+    by_what : (what : SessionEntry) → HasWeb what → StartsWithIt web what
+    by_what (Starts node reading records) same = λ place own at.
+        only_web (λ (n : ℕ) (t : TicketConf). t.name ≡ web.name → (t.manual ≡ web.manual) × (t.times ≡ web.times)) (λ named. (refl, refl))
+        place own (subst (λ (ts : List TicketConf). slice_get ts place ≡ Some own) same at)
+    by_what (Makes call) same = tt
+    by_what (IsCut call) same = tt
 
 -- ---- clocks
 

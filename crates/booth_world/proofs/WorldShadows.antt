@@ -1,9 +1,13 @@
 -- The shadow of a world: its entries as those of the hosts of a ticket, those as entries of the cores,
 -- and those as steps.
 use Rattle.std.proofs.Common.{◌≡◌, ◌⊎◌, inl, inr, ⊎_elim, ℕ, ◌<◌, Bool, List, [], refl, sym, ap, ◌∙◌, subst}
-use Rattle.std.specs.Prelude.{Option, Some, None, slice_get}
+use Rattle.std.specs.Prelude.{◌≢◌, Option, Some, None, slice_get, position}
 use Rattle.booth_base.specs.Tree.{Ends, Does}
 use Rattle.booth_base.specs.declared.address.MemberId.{MemberId}
+use Rattle.booth_chain.proofs.NodesLemmas.{same_or_not}
+use Rattle.booth_conf.specs.Config.{ConfigSays}
+use Rattle.booth_conf.specs.Lookups.{is_called}
+use Rattle.booth_conf.specs.Sound.{IsSound as IsSoundConfig}
 use Rattle.booth_conf.specs.declared.tickets.TicketConf.{TicketConf}
 use Rattle.booth_rec.specs.declared.record.Record.{Record}
 use Rattle.booth_wire.specs.declared.command.Cmd.{Cmd}
@@ -16,6 +20,9 @@ use Rattle.booth_raft.specs.declared.view.View.{View}
 use Rattle.booth_ticket.specs.Ticket.{Automatic}
 use Rattle.booth_node.specs.Held.{Moment, may_at}
 use Rattle.booth_node.specs.Records.{Has as Holds}
+use Rattle.booth_wire.specs.declared.message.Setup.{Setup}
+use Rattle.booth_node.specs.declared.node_config.NodeConfig.{NodeConfig}
+use Rattle.booth_node.specs.Opening.{setup_of}
 use Rattle.booth_node.specs.Session.{Stand, Down, Doing, Hearing}
 use Rattle.booth_node.specs.State.{State}
 use Rattle.booth_node.specs.World.{WorldEntry, World, members_of, id_at, entries_of, clock_at, stand_after, IsWorld}
@@ -23,20 +30,21 @@ use Rattle.booth_world.specs.Facts.{Has, Release, Facts}
 use Rattle.booth_world.specs.Messages.{IsFact}
 use Rattle.booth_world.specs.States.{WorldState}
 use Rattle.booth_world.specs.Steps.{world_of}
-use Rattle.booth_world.specs.Cores.{Cores, opening_cores, cores_after}
+use Rattle.booth_world.specs.Cores.{Session, Cores, opening_cores, cores_after}
 use Rattle.booth_world.specs.Turns.{Keeps, TurnTree}
 use Rattle.booth_world.specs.Hosts.{Hosts, opening_hosts, pending}
-use Rattle.booth_world.specs.Shadows.{IsComing, RestsIn, TakesReading, IsReadIn, IsSentIn, is_second_at, records_of, Knows, WorldsHaveShadows}
+use Rattle.booth_world.specs.Shadows.{IsComing, LastStand, RestsIn, TakesReading, IsReadIn, IsSentIn, last_after_all, records_of, Knows, WorldsHaveShadows}
 use Rattle.booth_world.proofs.CoreSteps.{CoresHold, opens}
 use Rattle.booth_world.proofs.CoreReads.{opening_read, all_read, ReadsIn}
 use Rattle.booth_world.proofs.CoreRuns.{runs_of, held, all_released}
 use Rattle.booth_world.proofs.HostSteps.{HostsHold, follow_all, opens_hosts, host_held}
-use Rattle.booth_world.proofs.WorldSteps.{Reads, Setting, cluster, setup_at, cast, StandsAt}
+use Rattle.booth_world.proofs.WorldSteps.{Reads, Setting, Seats, same_bytes, cluster, setup_at, cast}
 use Rattle.booth_world.proofs.NodeTurns.{IsPlacedAt}
-use Rattle.booth_world.proofs.Configured.{setting_of}
+use Rattle.booth_world.proofs.Configured.{names_apart, no_position, setting_of}
+use Rattle.booth_world.proofs.Lists.{some_same}
 use Rattle.booth_world.proofs.WorldEntries.{has_clocks}
-use Rattle.booth_world.proofs.WorldHosts.{has_here, after_hosts, may_of, Shadows}
-use Rattle.booth_world.proofs.WorldRuns.{some_one, IsLeftIn, reached, is_cast, covers, holds_so, holds_back, still_next}
+use Rattle.booth_world.proofs.WorldHosts.{has_here, no_stand, after_hosts, may_of, IsAt, Shadows}
+use Rattle.booth_world.proofs.WorldRuns.{some_one, IsLeftIn, reached, begins_free, is_cast, covers, holds_so, holds_back, still_next}
 
 -- a stamp changes nothing of what a message says
 same_fact : (id_of : ℕ → MemberId) (f : Facts) (m : ℕ) (auth : Bool) (time : ℕ) (head : Head) (part : TicketPart) (cmd : Cmd)
@@ -48,21 +56,30 @@ same_fact id_of f m auth time head part cmds.Ack fact = fact
 same_fact id_of f m auth time head part cmds.Revk fact = fact
 same_fact id_of f m auth time head part cmd fact = fact
 
-module _ (w : World) (is_world : IsWorld w) (place : ℕ) (ticket : TicketConf) (setting : Setting w place ticket) (moment : Moment w) (hosts : Hosts)
-    (shadow : Shadows w is_world place ticket setting moment.before hosts) where
+-- a sound configuration has a name at one place
+one_place : (config : ConfigSays) → IsSoundConfig config → (i j : ℕ) (a b : TicketConf) → slice_get config.tickets i ≡ Some a
+    → slice_get config.tickets j ≡ Some b → a.name ≡ b.name → i ≡ j
+one_place config sound i j a b is js same = by_place (same_or_not i j)
+  where
+    by_place : (i ≡ j) ⊎ (i ≢ j) → i ≡ j
+    by_place (inl e) = e
+    by_place (inr ne) = absurd (names_apart config sound i j a b is js (λ e. ne (sym e)) (sym same))
+
+module _ (w : World) (is_world : IsWorld w) (ticket : TicketConf) (setting : Setting w ticket) (moment : Moment w) (hosts : Hosts)
+    (shadow : Shadows w is_world ticket setting moment.before hosts) where
   -- what may be kept at a member's host may be kept by the entries, or comes next
   no_more_at : (m : ℕ) → m < members_of w → (k : Record) → Has (pending (hosts.place m).tree (hosts.place m).may) k
-      → Holds (may_at w place ticket m moment) k ⊎ IsComing ticket.name (entries_of m moment.before) k
+      → Holds (may_at w ticket m moment) k ⊎ IsComing ticket.name (entries_of m moment.before) k
   no_more_at m below k h = by_tree (hosts.place m).tree refl h
     where
-      of_may : Has (hosts.place m).may k → Holds (may_at w place ticket m moment) k
+      of_may : Has (hosts.place m).may k → Holds (may_at w ticket m moment) k
       of_may g =
-          still_next w is_world place ticket setting (may_of w is_world place ticket setting m moment.before) (entries_of m moment.after) k
-          (holds_back w is_world place ticket setting (may_of w is_world place ticket setting m moment.before) k
+          still_next w is_world ticket setting (may_of w is_world ticket setting m moment.before) (entries_of m moment.after) k
+          (holds_back w is_world ticket setting (may_of w is_world ticket setting m moment.before) k
           (subst (λ (rs : List Record). Has rs k) (shadow.each m below).same_may g))
 
       by_tree : (o : Option TurnTree) → (hosts.place m).tree ≡ o → Has (pending o (hosts.place m).may) k
-          → Holds (may_at w place ticket m moment) k ⊎ IsComing ticket.name (entries_of m moment.before) k
+          → Holds (may_at w ticket m moment) k ⊎ IsComing ticket.name (entries_of m moment.before) k
       by_tree None is g = inl (of_may g)
       by_tree (Some (Ends view)) is g = inl (of_may g)
       by_tree (Some (Does (Keeps kept) go)) is (inl e) =
@@ -72,45 +89,75 @@ module _ (w : World) (is_world : IsWorld w) (place : ℕ) (ticket : TicketConf) 
 
   -- where a node rests its host is at its end, and there the core's view is that of the steps' member
   knows_at : (cores : Cores) (state : WorldState)
-      → HostsHold (cluster w place ticket setting) (cast w place ticket setting) hosts cores
-      → CoresHold (cluster w place ticket setting) (cast w place ticket setting) cores state
-      → (m : ℕ) → m < members_of w → (second : Bool) → (hosts.place m).second ≡ second → (stand : Stand)
-      → StandsAt w place ticket setting m second stand (hosts.place m) hosts.sent
-      → (resting : State) → RestsIn stand resting → Knows w place ticket m resting state
-  knows_at cores state hold core_hold m below second same_second = by_stand
+      → HostsHold (cluster w ticket setting) (cast w ticket setting) hosts cores
+      → CoresHold (cluster w ticket setting) (cast w ticket setting) cores state
+      → (m : ℕ) → m < members_of w → (node : NodeConfig) (resting : State) → RestsIn (stand_after m moment.before) node resting
+      → (place : ℕ) (own : TicketConf) → slice_get node.config.tickets place ≡ Some own → own.name ≡ ticket.name
+      → Knows w ticket m node place own resting state
+  knows_at cores state hold core_hold m below node resting rests place own there named =
+      by_stand (stand_after m moment.before) (shadow.each m below).at rests
     where
-      -- the steps' member is in the host's version
-      version : (state.member m).second ≡ second
-      version = (core_hold.each m below).same_second ∙ (hold.each m below).in_version ∙ same_second
+      session : Session
+      session = (hosts.place m).session
 
-      by_view : (view : View) (resting : State) → (hosts.place m).tree ≡ Some (Ends view)
-          → IsPlacedAt (setup_at w place ticket setting m second) place view resting.tickets → resting.last_reading ≡ (hosts.place m).reading
-          → Knows w place ticket m resting state
-      by_view view resting is at reading =
+      last : LastStand
+      last = last_after_all ticket.name no_stand (entries_of m moment.before)
+
+      -- the steps' member is in the host's version
+      version : (state.member m).second ≡ session.second
+      version = (core_hold.each m below).same_second ∙ ap (λ (s : Session). s.second) (hold.each m below).in_version
+
+      by_view : (n : NodeConfig) (left : State) → slice_get n.config.tickets place ≡ Some own → (seats : Seats w ticket setting m session n)
+          → (view : View) → (hosts.place m).tree ≡ Some (Ends view)
+          → IsPlacedAt (setup_at w ticket setting m session) seats.place view left.tickets → left.last_reading ≡ (hosts.place m).reading
+          → Knows w ticket m n place own left state
+      by_view n left at_place seats view is at reading =
           let idle = ((hold.each m below).stands_at (Ends view) is).0 in
+          let one : seats.place ≡ place =
+          one_place n.config seats.own.sound seats.place place seats.conf own seats.there at_place (seats.named ∙ sym named) in
+          let same : seats.conf ≡ own =
+          some_same seats.conf own (sym seats.there ∙ ap (λ (k : ℕ). slice_get n.config.tickets k) one ∙ at_place) in
+          let here : setup_of n place own ≡ setup_at w ticket setting m session =
+          ap (λ (k : ℕ). setup_of n k own) (sym one) ∙ ap (λ (t : TicketConf). setup_of n seats.place t) (sym same) ∙ seats.same in
           record {
             view = view;
-            known = subst (λ (b : Bool). slice_get resting.tickets place ≡ Some (record { setup = setup_at w place ticket setting m b; known = Automatic view }))
-                (sym version) at.own;
+            known = subst (λ (s : Setup). slice_get left.tickets place ≡ Some (record { setup = s; known = Automatic view })) (sym here)
+                (subst (λ (k : ℕ). slice_get left.tickets k ≡ Some (record { setup = setup_at w ticket setting m session; known = Automatic view }))
+                one at.own);
+            version = ap (λ (s : Setup). s.second) here ∙ sym version;
             none_waits = idle.at_rest;
             reading = reading ∙ sym idle.at_reading ∙ sym (core_hold.each m below).same_reading;
             agrees = (core_hold.each m below).agrees view idle.shows;
           }
 
-      by_stand : (stand : Stand) → StandsAt w place ticket setting m second stand (hosts.place m) hosts.sent
-          → (resting : State) → RestsIn stand resting → Knows w place ticket m resting state
-      by_stand (Doing node (Ends here)) x resting rests =
-          subst (λ (s : State). Knows w place ticket m s state) rests
-          (by_view x.5.view here (x.3 ∙ ap (λ (t : TurnTree). Some t) x.5.ended) x.5.at x.5.moment_is)
-      by_stand (Doing node (Does ask go)) x resting rests = absurd rests
-      by_stand (Hearing node old answer bytes) x resting rests =
-          subst (λ (s : State). Knows w place ticket m s state) rests (by_view x.1 old x.2 x.3 x.4)
-      by_stand Down x resting rests = absurd rests
+      moved : (n : NodeConfig) (left : State) → (n ≡ node) × (left ≡ resting)
+          → (slice_get n.config.tickets place ≡ Some own → Knows w ticket m n place own left state) → Knows w ticket m node place own resting state
+      moved n left same k =
+          subst (λ (s : State). Knows w ticket m node place own s state) same.1
+          (subst (λ (c : NodeConfig). Knows w ticket m c place own left state) same.0
+          (k (subst (λ (c : NodeConfig). slice_get c.config.tickets place ≡ Some own) (sym same.0) there)))
+
+      -- a session without the ticket has no such place
+      no_place : (n : NodeConfig) → slice_get n.config.tickets place ≡ Some own → position (is_called ticket.name) n.config.tickets ≡ None → ⊥
+      no_place n at_place none =
+          no_position (is_called ticket.name) n.config.tickets place own none at_place (same_bytes ticket.name own.name (sym named))
+
+      by_stand : (stand : Stand) → IsAt w is_world ticket setting m stand last (hosts.place m) hosts.sent
+          → RestsIn stand node resting → Knows w ticket m node place own resting state
+      by_stand (Doing n (Ends left)) (inl x) r =
+          moved n left r (λ at_place. by_view n left at_place x.0.0 x.0.5.view
+          (x.0.3 ∙ ap (λ (t : TurnTree). Some t) x.0.5.ended) x.0.5.at x.0.5.moment_is)
+      by_stand (Doing n (Ends left)) (inr x) r = moved n left r (λ at_place. absurd (no_place n at_place x.0.2))
+      by_stand (Doing n (Does ask go)) x r = absurd r
+      by_stand (Hearing n old answer bytes) (inl x) r =
+          moved n old r (λ at_place. by_view n old at_place x.0.0 x.0.1 x.0.2 x.0.3 x.0.4)
+      by_stand (Hearing n old answer bytes) (inr x) r = moved n old r (λ at_place. absurd (no_place n at_place x.0.2))
+      by_stand Down x r = absurd r
 
   -- a message that was sent says a fact, where the steps' world has what the hosts have sent
   said_at : (cores : Cores) (state : WorldState)
-      → HostsHold (cluster w place ticket setting) (cast w place ticket setting) hosts cores
-      → CoresHold (cluster w place ticket setting) (cast w place ticket setting) cores state
+      → HostsHold (cluster w ticket setting) (cast w ticket setting) hosts cores
+      → CoresHold (cluster w ticket setting) (cast w ticket setting) cores state
       → (m : ℕ) (message : PlainMessage) (part : TicketPart) → IsSentIn ticket.name moment.before m message part
       → IsFact (id_at w) state.facts m message.head part message.head.cmd
   said_at cores state hold core_hold m message part is =
@@ -121,10 +168,10 @@ module _ (w : World) (is_world : IsWorld w) (place : ℕ) (ticket : TicketConf) 
       (same_fact (id_at w) state.facts is.entry.member q.1 q.2 q.0 part q.0.cmd fact.1))
 
 -- a reading of the hosts is one of these entries
-read_in : (w : World) (is_world : IsWorld w) (place : ℕ) (ticket : TicketConf) (setting : Setting w place ticket) (before : List WorldEntry)
-    (m reading time k t : ℕ) → m ≡ k → time ≡ t → reading ≡ clock_at w k t → IsLeftIn w is_world place ticket setting [] before (Reads k t)
+read_in : (w : World) (is_world : IsWorld w) (ticket : TicketConf) (setting : Setting w ticket) (before : List WorldEntry)
+    (m reading time k t : ℕ) → m ≡ k → time ≡ t → reading ≡ clock_at w k t → IsLeftIn w is_world ticket setting [] before (Reads k t)
     → IsReadIn before m reading time
-read_in w is_world place ticket setting before m reading time k t same_m same_t is at =
+read_in w is_world ticket setting before m reading time k t same_m same_t is at =
     let left = some_one [] before _ (λ entry. (k ≡ entry.member) × (t ≡ entry.time) × TakesReading entry.what (clock_at w entry.member entry.time))
     (λ earlier entry read. read) at in record {
       entry = left.0;
@@ -136,14 +183,14 @@ read_in w is_world place ticket setting before m reading time k t same_m same_t 
     }
 
 pub worlds_have_shadows : WorldsHaveShadows
-worlds_have_shadows w is_world place ticket automatic moment =
-    let setting = setting_of w is_world.form.sound place ticket automatic.0 automatic.1 in
-    let c = cluster w place ticket setting in
-    let k = cast w place ticket setting in
-    let r = reached w is_world place ticket setting moment in
-    let hosts = after_hosts w is_world place ticket setting (opening_hosts c k) r.entries in
-    let clocks = has_clocks w is_world.true_clocks place ticket setting (λ m. is_world.nothing_held m place ticket setting.there setting.automatic) in
-    let seated = is_cast w is_world place ticket setting in
+worlds_have_shadows w is_world ticket automatic moment =
+    let setting = setting_of w is_world.form ticket automatic.0 automatic.1 in
+    let c = cluster w ticket setting in
+    let k = cast w ticket setting in
+    let r = reached w is_world ticket setting moment in
+    let hosts = after_hosts w is_world ticket setting (opening_hosts c k) r.entries in
+    let clocks = has_clocks w is_world.true_clocks ticket setting (begins_free w is_world ticket setting) in
+    let seated = is_cast w is_world ticket setting in
     let f = follow_all c k clocks seated (opening_hosts c k) (opening_cores c k) r.entries (opens_hosts c k clocks seated) r.hosted_all in
     let cores = cores_after c k (opening_cores c k) f.0 in
     let runs = runs_of c k f.0 [] (record { clocks = clocks; is_cast = seated; enters_early = f.1; enters_late = tt }) in
@@ -153,19 +200,19 @@ worlds_have_shadows w is_world place ticket automatic moment =
       run = runs.run_first;
       now = runs.early_holds.same_now ∙ f.2.same_now ∙ r.now_is;
       versions = λ m below.
-          (runs.early_holds.each m below).same_second ∙ (f.2.each m below).in_version ∙ (r.shadow.each m below).same_second;
+          (runs.early_holds.each m below).same_second ∙ ap (λ (s : Session). s.second) (f.2.each m below).in_version ∙ (r.shadow.each m below).version;
       records = λ m below kept h.
-          holds_back w is_world place ticket setting (records_of w (world_of c runs.first) m) kept
+          holds_back w is_world ticket setting (records_of w (world_of c runs.first) m) kept
           (subst (λ (rs : List Record). Has rs kept) (sym (runs.early_holds.each m below).same_may)
-          ((f.2.each m below).more kept (covers w is_world place ticket setting moment m below hosts r.shadow kept h)));
+          ((f.2.each m below).more kept (covers w is_world ticket setting moment m below hosts r.shadow kept h)));
       no_more = λ m below kept h.
-          no_more_at w is_world place ticket setting moment hosts r.shadow m below kept
+          no_more_at w is_world ticket setting moment hosts r.shadow m below kept
           ((f.2.each m below).only kept
           (subst (λ (rs : List Record). Has rs kept) (runs.early_holds.each m below).same_may
           (has_here (records_of w (world_of c runs.first) m) kept h)));
-      knows = λ m below resting rests.
-          knows_at w is_world place ticket setting moment hosts r.shadow cores (world_of c runs.first) f.2 runs.early_holds m below
-          (is_second_at w m moment.before) (r.shadow.each m below).same_second (stand_after m moment.before) (r.shadow.each m below).stands resting rests;
+      knows = λ m below node resting rests place own there named.
+          knows_at w is_world ticket setting moment hosts r.shadow cores (world_of c runs.first) f.2 runs.early_holds m below node resting rests place own
+          there named;
       releases = λ release h.
           ⊎_elim (λ (none : ⊥). absurd none) (λ in_entries. r.released release (f.3 release in_entries))
           (all_released c k clocks seated (opening_cores c k) f.0 [] release tt (opens c k clocks seated) f.1
@@ -173,15 +220,15 @@ worlds_have_shadows w is_world place ticket automatic moment =
       rounds = λ round h.
           let q = runs.early_holds.marked.rounds round h in
           let by = are.marks q.0 q.1 in
-          read_in w is_world place ticket setting moment.before round.site round.opened round.at q.0.member q.0.at q.2.0 q.2.2 (q.2.1 ∙ by.1)
+          read_in w is_world ticket setting moment.before round.site round.opened round.at q.0.member q.0.at q.2.0 q.2.2 (q.2.1 ∙ by.1)
           (r.read q.0.member q.0.at by.0);
       answers = λ answer h.
           let q = runs.early_holds.marked.answers answer h in
           let by = are.marks q.0 q.1 in
-          read_in w is_world place ticket setting moment.before answer.member answer.reading answer.at q.0.member q.0.at q.2.0 q.2.2 (q.2.1 ∙ by.1)
+          read_in w is_world ticket setting moment.before answer.member answer.reading answer.at q.0.member q.0.at q.2.0 q.2.2 (q.2.1 ∙ by.1)
           (r.read q.0.member q.0.at by.0);
-      said = said_at w is_world place ticket setting moment hosts r.shadow cores (world_of c runs.first) f.2 runs.early_holds;
+      said = said_at w is_world ticket setting moment hosts r.shadow cores (world_of c runs.first) f.2 runs.early_holds;
       held = λ m h.
           held c k cores (world_of c runs.first) m runs.early_holds
-          (h.0, host_held c k hosts cores m h.0 f.2 (holds_so w is_world place ticket setting moment m hosts r.now_is r.shadow h.0 h.1));
+          (h.0, host_held c k hosts cores m h.0 f.2 (holds_so w is_world ticket setting moment m hosts r.now_is r.shadow h.0 h.1));
     }

@@ -1,24 +1,27 @@
 -- One entry of a world, as entries of the hosts of one ticket.
-use Rattle.std.proofs.Common.{◌≡◌, ◌≢◌, ◌⊎◌, inl, inr, ⊎_elim, ℕ, ◌^◌, ◌<◌, ◌≤◌, Bool, true, false, List, [], ◌∷◌, refl, sym, ap, ◌∙◌, subst, arith}
-use Rattle.std.specs.Prelude.{Option, Some, None, slice_get, position, bytes_eq, IsSomeAnd}
+use Rattle.std.proofs.Common.{◌≡◌, ◌≢◌, ◌⊎◌, inl, inr, ⊎_elim, ℕ, ◌^◌, ◌<◌, ◌≤◌, Bool, true, false, List, [], ◌∷◌, length, refl, sym, ap, ◌∙◌, subst, arith}
+use Rattle.std.specs.Prelude.{Option, Some, None, slice_get, position, unwrap_or, bytes_eq, IsSomeAnd}
 use Rattle.booth_base.specs.Tree.{Deeds, Ends, Does}
+use Rattle.booth_base.specs.declared.address.MemberId.{MemberId}
+use Rattle.booth_base.specs.declared.times.Times.{Times}
 use Rattle.booth_conf.specs.Config.{has_id}
+use Rattle.booth_conf.specs.declared.members.Member.{Member}
 use Rattle.booth_conf.specs.declared.tickets.TicketConf.{TicketConf}
 use Rattle.booth_rec.specs.declared.record.Record.{Record}
 use Rattle.booth_wire.specs.declared.message.Setup.{Setup}
 use Rattle.booth_raft.specs.declared.view.View.{View}
 use Rattle.booth_raft.specs.Sound.{IsSound}
 use Rattle.booth_node.specs.declared.node_config.NodeConfig.{NodeConfig}
-use Rattle.booth_node.specs.Opening.{setup_of}
+use Rattle.booth_node.specs.Opening.{is_site_at, own_place, setup_of}
 use Rattle.booth_node.specs.Reaction.{Ask, Send, Keep, Start}
-use Rattle.booth_node.specs.Records.{TicketPlace, may_after_keep}
+use Rattle.booth_node.specs.Records.{may_after_keep}
 use Rattle.booth_node.specs.Session.{SessionEntry, Starts, Stand, Down, Doing, Hearing}
 use Rattle.booth_node.specs.State.{State}
-use Rattle.booth_node.specs.World.{World, members_of, id_at, node_at, clock_at, ticket_at}
+use Rattle.booth_node.specs.World.{World, AtEach, members_of, id_at, clock_at, IsNodeOf, StartsWithIt}
 use Rattle.booth_world.specs.Facts.{Release}
 use Rattle.booth_world.specs.States.{put, Cluster, reads}
 use Rattle.booth_world.specs.Rules.{MemberMessage}
-use Rattle.booth_world.specs.Cores.{Cast}
+use Rattle.booth_world.specs.Cores.{Session, Cast}
 use Rattle.booth_world.specs.Turns.{Keeps, Sends, AsksElse, TurnTree}
 use Rattle.booth_world.specs.Hosts.{HostEntry, DoesAsk, HostPlace, Hosts, MayHost, IsNextAsk, went_on, may_left, hosted, AreHosted, hosts_after}
 use Rattle.booth_world.specs.HostLaws.{IsHostReleaseAt, IsHostReleaseIn}
@@ -55,17 +58,31 @@ IsTrace w name m now after what (Begins second) = StartsIt what second
 
 -- ---- the ticket in its configuration
 
--- What a sound configuration gives: the ticket stands at its place, each member's id is its own, no other ticket has the
--- name, and each member's setup, in a session of either version, is one that the rules take. Numbers of jobs are below
--- `most`.
-pub record Setting (w : World) (place : ℕ) (ticket : TicketConf) : Type 0 where
+-- the setup of a ticket, by its name and times, the members, a member's id, place and rank, and its version
+abbrev pub setup_by : List ℕ → Times → List Member → MemberId → ℕ → ℕ → Bool → Setup
+setup_by name times members me own rank second = record {
+  ticket = name;
+  me = me;
+  place = own;
+  members = length members;
+  site = is_site_at members own;
+  rank = rank;
+  times = times;
+  second = second;
+}
+
+abbrev pub setup_for : World → TicketConf → ℕ → Session → Setup
+setup_for w ticket m session = setup_by ticket.name ticket.times w.members (id_at w m) m session.rank session.second
+
+-- What sound configurations give: each member's id is its own, the starts agree on the ticket, which is granted by
+-- votes, and each member's setup, in any session, is one that the rules take. Numbers of jobs are below `most`.
+pub record Setting (w : World) (ticket : TicketConf) : Type 0 where
   pub most : ℕ
   pub enough : 2 ^ 64 ≤ most
-  pub there : slice_get w.config.tickets place ≡ Some ticket
   pub automatic : ticket.manual ≡ false
-  pub ids : (m : ℕ) → m < members_of w → position (has_id (id_at w m)) w.config.members ≡ Some m
-  pub names : (other : ℕ) (t : TicketConf) → slice_get w.config.tickets other ≡ Some t → other ≢ place → t.name ≢ ticket.name
-  pub sound : (m : ℕ) → m < members_of w → (second : Bool) → IsSound (setup_of (node_at w m second) place ticket)
+  pub ids : (m : ℕ) → m < members_of w → position (has_id (id_at w m)) w.members ≡ Some m
+  pub same : AtEach w (λ before entry. StartsWithIt ticket entry.what)
+  pub sound : (m : ℕ) → m < members_of w → (session : Session) → IsSound (setup_for w ticket m session)
 
 pub same_bytes : (a b : List ℕ) → a ≡ b → bytes_eq a b ≡ true
 same_bytes a b e = (bytes_eq-Decides a b).1 e
@@ -80,96 +97,106 @@ other_bytes a b ne = by_test (bytes_eq a b) refl
     by_test true is = absurd (ne (equal_bytes a b is))
     by_test false is = is
 
-module _ (w : World) (place : ℕ) (ticket : TicketConf) (setting : Setting w place ticket) where
+module _ (w : World) (ticket : TicketConf) (setting : Setting w ticket) where
   abbrev pub cluster : Cluster
-  cluster = cluster_of w place ticket
+  cluster = cluster_of w ticket
 
-  abbrev pub setup_at : ℕ → Bool → Setup
-  setup_at m second = setup_of (node_at w m second) place ticket
+  abbrev pub setup_at : ℕ → Session → Setup
+  setup_at m session = setup_for w ticket m session
 
   abbrev pub cast : Cast
   cast = record { id_of = id_at w; setup = setup_at }
 
-  abbrev pub own_ticket : TicketPlace
-  own_ticket = ticket_at place ticket
+  -- the node is this member's, in this session, and has the ticket at a place
+  pub record Seats (m : ℕ) (session : Session) (node : NodeConfig) : Type 0 where
+    pub own : IsNodeOf w m node
+    pub place : ℕ
+    pub conf : TicketConf
+    pub there : slice_get node.config.tickets place ≡ Some conf
+    pub named : conf.name ≡ ticket.name
+    pub same : setup_of node place conf ≡ setup_at m session
 
-  pub own_place_is : (m : ℕ) (second : Bool) → m < members_of w → (setup_at m second).place ≡ m
-  own_place_is m second below = rw (setting.ids m below) refl
+  pub all_of : (m : ℕ) (session : Session) (node : NodeConfig) → Seats m session node → (setup_at m session).members ≡ length node.config.members
+  all_of m session node seats = sym (ap (λ (members : List Member). length members) seats.own.members)
 
-  pub own_below : (m : ℕ) (second : Bool) → m < members_of w → (setup_at m second).place < (setup_at m second).members
-  own_below m second below = subst (λ (n : ℕ). n < members_of w) (sym (own_place_is m second below)) below
+  pub own_place_of : (m : ℕ) (node : NodeConfig) → m < members_of w → IsNodeOf w m node → own_place node ≡ m
+  own_place_of m node below is =
+      ap (λ (o : Option ℕ). unwrap_or o 0)
+      (ap (λ (id : MemberId). position (has_id id) node.config.members) is.me
+      ∙ ap (λ (members : List Member). position (has_id (id_at w m)) members) is.members ∙ setting.ids m below)
 
   -- ---- where a member of the world and its host stand
 
-  abbrev pub Doings : ℕ → Bool → ℕ → List MemberMessage → Deeds Ask State → TurnTree → Type 0
-  Doings m second moment known deeds tree = Over (setup_at m second) place (node_at w m second) moment refl known deeds tree
+  abbrev pub Doings : (m : ℕ) (session : Session) (node : NodeConfig) → Seats m session node → ℕ → List MemberMessage → Deeds Ask State → TurnTree → Type 0
+  Doings m session node seats moment known deeds tree =
+      Over (setup_at m session) seats.place node moment (all_of m session node seats) known deeds tree
 
-  -- In a session of this version the host is at the next keep or start of this ticket, or at the end of its turn; what
+  -- In this session the host is at the next keep or start of this ticket, or at the end of its turn; what
   -- comes before that is said already.
-  abbrev pub StandsAt : ℕ → Bool → Stand → HostPlace → List MemberMessage → Type 0
-  StandsAt m second Down p sent = Unit {0}
-  StandsAt m second (Doing node deeds) p sent =
-      (node ≡ node_at w m second) × (tree : TurnTree) × (known : List MemberMessage) × (p.tree ≡ Some (skip tree))
-      × SentMore (sent_by tree known) sent × Doings m second p.reading known deeds tree
-  StandsAt m second (Hearing node old answer bytes) p sent =
-      (node ≡ node_at w m second) × (view : View) × (p.tree ≡ Some (Ends view)) × IsPlacedAt (setup_at m second) place view old.tickets
+  abbrev pub StandsAt : ℕ → Session → Stand → HostPlace → List MemberMessage → Type 0
+  StandsAt m session Down p sent = Unit {0}
+  StandsAt m session (Doing node deeds) p sent =
+      (seats : Seats m session node) × (tree : TurnTree) × (known : List MemberMessage) × (p.tree ≡ Some (skip tree))
+      × SentMore (sent_by tree known) sent × Doings m session node seats p.reading known deeds tree
+  StandsAt m session (Hearing node old answer bytes) p sent =
+      (seats : Seats m session node) × (view : View) × (p.tree ≡ Some (Ends view)) × IsPlacedAt (setup_at m session) seats.place view old.tickets
       × (old.last_reading ≡ p.reading) × IsFew old.common
 
-  pub record Shows (m : ℕ) (second : Bool) (stand : Stand) (may : List Record) (now : ℕ) (p : HostPlace) (sent : List MemberMessage) : Type 0 where
-    pub same_second : p.second ≡ second
+  pub record Shows (m : ℕ) (session : Session) (stand : Stand) (may : List Record) (now : ℕ) (p : HostPlace) (sent : List MemberMessage) : Type 0 where
+    pub same_session : p.session ≡ session
     pub same_may : p.may ≡ may
     pub time : ℕ
     pub past : time ≤ now
     pub read : p.reading ≡ reads cluster m time
-    pub stands : StandsAt m second stand p sent
+    pub stands : StandsAt m session stand p sent
 
-  stands_more : (m : ℕ) (second : Bool) (stand : Stand) (p : HostPlace) (sent sent' : List MemberMessage) → SentMore sent sent'
-      → StandsAt m second stand p sent → StandsAt m second stand p sent'
-  stands_more m second Down p sent sent' more x = tt
-  stands_more m second (Doing node deeds) p sent sent' more x = (x.0, x.1, x.2, x.3, (λ l h. more l (x.4 l h)), x.5)
-  stands_more m second (Hearing node old answer bytes) p sent sent' more x = x
+  pub stands_more : (m : ℕ) (session : Session) (stand : Stand) (p : HostPlace) (sent sent' : List MemberMessage) → SentMore sent sent'
+      → StandsAt m session stand p sent → StandsAt m session stand p sent'
+  stands_more m session Down p sent sent' more x = tt
+  stands_more m session (Doing node deeds) p sent sent' more x = (x.0, x.1, x.2, x.3, (λ l h. more l (x.4 l h)), x.5)
+  stands_more m session (Hearing node old answer bytes) p sent sent' more x = x
 
-  pub shows_more : (m : ℕ) (second : Bool) (stand : Stand) (may : List Record) (now now' : ℕ) (p : HostPlace) (sent sent' : List MemberMessage)
-      → now ≤ now' → SentMore sent sent' → Shows m second stand may now p sent → Shows m second stand may now' p sent'
-  shows_more m second stand may now now' p sent sent' later more x = record {
-    same_second = x.same_second;
+  pub shows_more : (m : ℕ) (session : Session) (stand : Stand) (may : List Record) (now now' : ℕ) (p : HostPlace) (sent sent' : List MemberMessage)
+      → now ≤ now' → SentMore sent sent' → Shows m session stand may now p sent → Shows m session stand may now' p sent'
+  shows_more m session stand may now now' p sent sent' later more x = record {
+    same_session = x.same_session;
     same_may = x.same_may;
     time = x.time;
     past = let old = x.past in omega (arith, old, later);
     read = x.read;
-    stands = stands_more m second stand p sent sent' more x.stands;
+    stands = stands_more m session stand p sent sent' more x.stands;
   }
 
   -- the host's next keep is that of the node's deeds
-  keeps_next : (m : ℕ) (second : Bool) (moment : ℕ) (deeds : Deeds Ask State) (tree : TurnTree) (sent : List MemberMessage) (kept : Record) (go : Bool → TurnTree)
-      → Doings m second moment sent deeds tree → skip tree ≡ Does (Keeps kept) go → KeepsNext ticket.name deeds kept
-  keeps_next m second moment (Ends state) tree sent kept go over is = absurd (no_end over.view kept go (sym over.ended ∙ is))
+  keeps_next : (m : ℕ) (session : Session) (node : NodeConfig) (own : Seats m session node) (moment : ℕ) (deeds : Deeds Ask State) (tree : TurnTree) (sent : List MemberMessage) (kept : Record) (go : Bool → TurnTree)
+      → Doings m session node own moment sent deeds tree → skip tree ≡ Does (Keeps kept) go → KeepsNext ticket.name deeds kept
+  keeps_next m session node its moment (Ends state) tree sent kept go over is = absurd (no_end over.view kept go (sym over.ended ∙ is))
     where
       no_end : (view : View) (kept : Record) (go : Bool → TurnTree) → Ends view ≡ Does (Keeps kept) go → ⊥
       no_end view kept go e = cc
-  keeps_next m second moment (Does (Send peer message) more) tree sent kept go over is =
-      (true, keeps_next m second moment (more true) tree sent kept go (over.1 true) is)
-  keeps_next m second moment (Does (Keep name tried) more) tree sent kept go (inl other) is =
-      inr (other.0, true, keeps_next m second moment (more true) tree sent kept go (other.1 true) is)
-  keeps_next m second moment (Does (Keep name tried) more) tree sent kept go (inr own) is =
+  keeps_next m session node its moment (Does (Send peer message) more) tree sent kept go over is =
+      (true, keeps_next m session node its moment (more true) tree sent kept go (over.1 true) is)
+  keeps_next m session node its moment (Does (Keep name tried) more) tree sent kept go (inl other) is =
+      inr (other.0, true, keeps_next m session node its moment (more true) tree sent kept go (other.1 true) is)
+  keeps_next m session node its moment (Does (Keep name tried) more) tree sent kept go (inr own) is =
       inl (own.0, same_keep tried kept own.1 go (sym own.2 ∙ is))
     where
       same_keep : (a b : Record) (f g : Bool → TurnTree) → Does (Keeps a) f ≡ Does (Keeps b) g → a ≡ b
       same_keep a b f g e = cc
-  keeps_next m second moment (Does (Start job) more) tree sent kept go (inl other) is =
-      (true, keeps_next m second moment (more true) tree sent kept go (other true) is)
-  keeps_next m second moment (Does (Start job) more) tree sent kept go (inr own) is = absurd (no_ask kept go own.0 (sym is ∙ own.1))
+  keeps_next m session node its moment (Does (Start job) more) tree sent kept go (inl other) is =
+      (true, keeps_next m session node its moment (more true) tree sent kept go (other true) is)
+  keeps_next m session node its moment (Does (Start job) more) tree sent kept go (inr own) is = absurd (no_ask kept go own.0 (sym is ∙ own.1))
     where
       no_ask : (kept : Record) (go rest : Bool → TurnTree) → Does (Keeps kept) go ≡ Does AsksElse rest → ⊥
       no_ask kept go rest e = cc
 
-  pub next_at : (m : ℕ) (second : Bool) (stand : Stand) (p : HostPlace) (sent : List MemberMessage) (kept : Record) (go : Bool → TurnTree)
-      → StandsAt m second stand p sent → p.tree ≡ Some (Does (Keeps kept) go) → IsNextAt ticket.name stand kept ⊎ (stand ≡ Down)
-  next_at m second Down p sent kept go x is = inr refl
-  next_at m second (Doing node deeds) p sent kept go x is =
-      inl (keeps_next m second p.reading deeds x.1 x.2 kept go x.5
+  pub next_at : (m : ℕ) (session : Session) (stand : Stand) (p : HostPlace) (sent : List MemberMessage) (kept : Record) (go : Bool → TurnTree)
+      → StandsAt m session stand p sent → p.tree ≡ Some (Does (Keeps kept) go) → IsNextAt ticket.name stand kept ⊎ (stand ≡ Down)
+  next_at m session Down p sent kept go x is = inr refl
+  next_at m session (Doing node deeds) p sent kept go x is =
+      inl (keeps_next m session node x.0 p.reading deeds x.1 x.2 kept go x.5
       (some_same (skip x.1) (Does (Keeps kept) go) (sym x.3 ∙ is)))
-  next_at m second (Hearing node old answer bytes) p sent kept go x is = absurd (no_end x.1 kept go (sym x.2 ∙ is))
+  next_at m session (Hearing node old answer bytes) p sent kept go x is = absurd (no_end x.1 kept go (sym x.2 ∙ is))
     where
       no_end : (view : View) (kept : Record) (go : Bool → TurnTree) → Some (Ends view) ≡ Some (Does (Keeps kept) go) → ⊥
       no_end view kept go e = cc
@@ -187,20 +214,20 @@ module _ (w : World) (place : ℕ) (ticket : TicketConf) (setting : Setting w pl
   at_same (Hearing node old answer bytes) p = tt
 
   -- entries of this member's host, at one true time, after which it stands so, in a session of this version
-  pub record Steps (hosts : Hosts) (m : ℕ) (second : Bool) (stand : Stand) (may : List Record) (R : Trace → Type 0) : Type 0 where
+  pub record Steps (hosts : Hosts) (m : ℕ) (session : Session) (stand : Stand) (may : List Record) (R : Trace → Type 0) : Type 0 where
     pub entries : List HostEntry
     pub hosted_all : AreHosted cluster cast hosts entries
     pub own : IsOf cluster cast m hosts (hosts_after cluster cast hosts entries)
-    pub here : Shows m second stand may hosts.now ((hosts_after cluster cast hosts entries).place m) (hosts_after cluster cast hosts entries).sent
+    pub here : Shows m session stand may hosts.now ((hosts_after cluster cast hosts entries).place m) (hosts_after cluster cast hosts entries).sent
     pub at_cut : AtCut stand (hosts.place m) ((hosts_after cluster cast hosts entries).place m)
     pub released : (z : Release) → IsHostReleaseIn cluster cast hosts entries z → R (Frees z)
     pub read : (k time : ℕ) → ReadsIn entries k time → R (Reads k time)
     pub started : (version : Bool) → StartsIn entries version → R (Begins version)
 
   -- nothing happens at the host
-  pub rests_so : (hosts : Hosts) (m : ℕ) (second : Bool) (stand : Stand) (may : List Record) (R : Trace → Type 0)
-      → Shows m second stand may hosts.now (hosts.place m) hosts.sent → Steps hosts m second stand may R
-  rests_so hosts m second stand may R x = record {
+  pub rests_so : (hosts : Hosts) (m : ℕ) (session : Session) (stand : Stand) (may : List Record) (R : Trace → Type 0)
+      → Shows m session stand may hosts.now (hosts.place m) hosts.sent → Steps hosts m session stand may R
+  rests_so hosts m session stand may R x = record {
     entries = [];
     hosted_all = tt;
     own = of_none cluster cast m hosts;
@@ -213,16 +240,16 @@ module _ (w : World) (place : ℕ) (ticket : TicketConf) (setting : Setting w pl
 
   module _ (m : ℕ) (below : m < members_of w) where
     -- one entry at the host, and then what is said
-    pub then_says : (hosts : Hosts) (entry : HostEntry) (second : Bool) (stand : Stand) (may : List Record) (R : Trace → Type 0) (tree : TurnTree)
+    pub then_says : (hosts : Hosts) (entry : HostEntry) (session : Session) (stand : Stand) (may : List Record) (R : Trace → Type 0) (tree : TurnTree)
         → MayHost cluster cast hosts entry → IsOf cluster cast m hosts (hosted cluster cast hosts entry)
         → ((hosted cluster cast hosts entry).place m).tree ≡ Some tree
         → ((p : HostPlace) → p.tree ≡ Some (skip tree) → p.reading ≡ ((hosted cluster cast hosts entry).place m).reading
-        → p.may ≡ ((hosted cluster cast hosts entry).place m).may → p.second ≡ ((hosted cluster cast hosts entry).place m).second
-        → Shows m second stand may hosts.now p (sent_by tree (hosted cluster cast hosts entry).sent))
+        → p.may ≡ ((hosted cluster cast hosts entry).place m).may → p.session ≡ ((hosted cluster cast hosts entry).place m).session
+        → Shows m session stand may hosts.now p (sent_by tree (hosted cluster cast hosts entry).sent))
         → ((z : Release) → IsHostReleaseAt cluster hosts entry z → R (Frees z)) → ((k time : ℕ) → ReadsAt entry k time → R (Reads k time))
         → ((version : Bool) → StartsAt entry version → R (Begins version)) → ((p : HostPlace) → AtCut stand (hosts.place m) p)
-        → Steps hosts m second stand may R
-    then_says hosts entry second stand may R tree may_do own is shows rel reading starting cut =
+        → Steps hosts m session stand may R
+    then_says hosts entry session stand may R tree may_do own is shows rel reading starting cut =
         let after : Hosts = hosted cluster cast hosts entry in
         let said : AreSaid cluster cast m below after tree = all_said cluster cast m below after tree is in
         let last : Hosts = hosts_after cluster cast after (says cluster cast m below tree) in
@@ -230,8 +257,8 @@ module _ (w : World) (place : ℕ) (ticket : TicketConf) (setting : Setting w pl
           entries = entry ∷ says cluster cast m below tree;
           hosted_all = (may_do, said.hosted_all);
           own = of_both cluster cast m hosts after last own said.own;
-          here = subst (λ (sent : List MemberMessage). Shows m second stand may hosts.now (last.place m) sent) (sym said.all_sent)
-              (shows (last.place m) said.tree_now said.same_reading said.same_may said.same_second);
+          here = subst (λ (sent : List MemberMessage). Shows m session stand may hosts.now (last.place m) sent) (sym said.all_sent)
+              (shows (last.place m) said.tree_now said.same_reading said.same_may said.same_session);
           at_cut = cut (last.place m);
           released = λ z r. ⊎_elim (λ (x : IsHostReleaseAt cluster hosts entry z). rel z x)
               (λ (x : IsHostReleaseIn cluster cast after (says cluster cast m below tree) z). absurd (said.unreleased z x)) r;
@@ -246,34 +273,34 @@ module _ (w : World) (place : ℕ) (ticket : TicketConf) (setting : Setting w pl
     moved_one hosts p sent more = record { same_now = refl; others = λ k ne. put_other hosts.place m k p ne; still_sent = more }
 
     -- a keep of this ticket is answered
-    pub keeps_own : (hosts : Hosts) (second : Bool) (node : NodeConfig) (before stand : Stand) (may : List Record) (R : Trace → Type 0) (tried : Record) (ok : Bool)
+    pub keeps_own : (hosts : Hosts) (session : Session) (node : NodeConfig) (before stand : Stand) (may : List Record) (R : Trace → Type 0) (tried : Record) (ok : Bool)
         (go : Bool → Deeds Ask State) (tree : TurnTree) (known : List MemberMessage) (rest : Bool → TurnTree)
-        → node ≡ node_at w m second → stand ≡ Doing node (go ok)
-        → Shows m second before may hosts.now (hosts.place m) hosts.sent
+        → (own : Seats m session node) → stand ≡ Doing node (go ok)
+        → Shows m session before may hosts.now (hosts.place m) hosts.sent
         → (hosts.place m).tree ≡ Some (skip tree) → SentMore (sent_by tree known) hosts.sent
         → skip tree ≡ Does (Keeps tried) rest
-        → Doings m second (hosts.place m).reading (sent_by tree known) (go ok) (rest ok)
+        → Doings m session node own (hosts.place m).reading (sent_by tree known) (go ok) (rest ok)
         → ((z : Release) → IsHostReleaseAt cluster hosts (DoesAsk m (Keeps tried) ok) z → R (Frees z))
-        → Steps hosts m second stand (may_after_keep ok tried may) R
-    keeps_own hosts second node before stand may R tried ok go tree known rest node_is stand_is x there more next_keep on rel =
+        → Steps hosts m session stand (may_after_keep ok tried may) R
+    keeps_own hosts session node before stand may R tried ok go tree known rest its stand_is x there more next_keep on rel =
         let at_keep : (hosts.place m).tree ≡ Some (Does (Keeps tried) rest) = there ∙ ap (λ (t : TurnTree). Some t) next_keep in
-        then_says hosts (DoesAsk m (Keeps tried) ok) second stand (may_after_keep ok tried may) R (rest ok)
+        then_says hosts (DoesAsk m (Keeps tried) ok) session stand (may_after_keep ok tried may) R (rest ok)
         (below, subst (λ (o : Option TurnTree). IsSomeAnd o (IsNextAsk (Keeps tried))) (sym at_keep) refl)
         (moved_one hosts _ hosts.sent (λ l h. h))
         (ap (λ (p : HostPlace). p.tree) (put_same hosts.place m _) ∙ ap (λ (o : Option TurnTree). went_on ok o) at_keep)
-        (λ p tree_is reading_is may_is second_is. record {
-          same_second = second_is ∙ ap (λ (q : HostPlace). q.second) (put_same hosts.place m _) ∙ x.same_second;
+        (λ p tree_is reading_is may_is session_is. record {
+          same_session = session_is ∙ ap (λ (q : HostPlace). q.session) (put_same hosts.place m _) ∙ x.same_session;
           same_may = may_is ∙ ap (λ (q : HostPlace). q.may) (put_same hosts.place m _) ∙ left_may ok;
           time = x.time;
           past = x.past;
           read = reading_is ∙ ap (λ (q : HostPlace). q.reading) (put_same hosts.place m _) ∙ x.read;
-          stands = subst (λ (d : Stand). StandsAt m second d p (sent_by (rest ok) hosts.sent)) (sym stand_is) (
-            node_is,
+          stands = subst (λ (d : Stand). StandsAt m session d p (sent_by (rest ok) hosts.sent)) (sym stand_is) (
+            its,
             rest ok,
             sent_by tree known,
             tree_is,
             sent_more (rest ok) (sent_by tree known) hosts.sent more,
-            subst (λ (r : ℕ). Doings m second r (sent_by tree known) (go ok) (rest ok))
+            subst (λ (r : ℕ). Doings m session node its r (sent_by tree known) (go ok) (rest ok))
                 (sym (reading_is ∙ ap (λ (q : HostPlace). q.reading) (put_same hosts.place m _))) on,
           );
         })
@@ -289,51 +316,51 @@ module _ (w : World) (place : ℕ) (ticket : TicketConf) (setting : Setting w pl
     abbrev asked_hosts : Bool → Hosts → Hosts
     asked_hosts ok hosts = hosted cluster cast hosts (DoesAsk m AsksElse ok)
 
-    abbrev ShowsAt : Hosts → Bool → Stand → List Record → TurnTree → Type 0
-    ShowsAt hosts second stand may tree =
+    abbrev ShowsAt : Hosts → Session → Stand → List Record → TurnTree → Type 0
+    ShowsAt hosts session stand may tree =
         (p : HostPlace) → p.tree ≡ Some (skip tree) → p.reading ≡ (hosts.place m).reading → p.may ≡ (hosts.place m).may
-        → p.second ≡ (hosts.place m).second
-        → Shows m second stand may hosts.now p (sent_by tree hosts.sent)
+        → p.session ≡ (hosts.place m).session
+        → Shows m session stand may hosts.now p (sent_by tree hosts.sent)
 
     asked_tree : (ok : Bool) (hosts : Hosts) (go : Bool → TurnTree) (tree : TurnTree) → (hosts.place m).tree ≡ Some (Does AsksElse go) → go ok ≡ tree
         → ((asked_hosts ok hosts).place m).tree ≡ Some tree
     asked_tree ok hosts go tree there is =
         ap (λ (p : HostPlace). p.tree) (put_same hosts.place m _) ∙ ap (λ (o : Option TurnTree). went_on ok o) there ∙ ap (λ (t : TurnTree). Some t) is
 
-    asked_shows : (ok : Bool) (hosts : Hosts) (second : Bool) (stand : Stand) (may : List Record) (tree : TurnTree) → ShowsAt hosts second stand may tree
-        → ShowsAt (asked_hosts ok hosts) second stand may tree
-    asked_shows ok hosts second stand may tree shows =
-        λ p tree_is reading_is may_is second_is. shows p tree_is (reading_is ∙ ap (λ (q : HostPlace). q.reading) (put_same hosts.place m _))
+    asked_shows : (ok : Bool) (hosts : Hosts) (session : Session) (stand : Stand) (may : List Record) (tree : TurnTree) → ShowsAt hosts session stand may tree
+        → ShowsAt (asked_hosts ok hosts) session stand may tree
+    asked_shows ok hosts session stand may tree shows =
+        λ p tree_is reading_is may_is session_is. shows p tree_is (reading_is ∙ ap (λ (q : HostPlace). q.reading) (put_same hosts.place m _))
         (may_is ∙ ap (λ (q : HostPlace). q.may) (put_same hosts.place m _))
-        (second_is ∙ ap (λ (q : HostPlace). q.second) (put_same hosts.place m _))
+        (session_is ∙ ap (λ (q : HostPlace). q.session) (put_same hosts.place m _))
 
     -- it is answered, and then what follows is said
-    asked_once : (ok : Bool) (hosts : Hosts) (go : Bool → TurnTree) (second : Bool) (stand : Stand) (may : List Record) (R : Trace → Type 0) (tree : TurnTree)
-        → (hosts.place m).tree ≡ Some (Does AsksElse go) → go ok ≡ tree → ShowsAt hosts second stand may tree
-        → ((old new : HostPlace) → AtCut stand old new) → Steps hosts m second stand may R
-    asked_once ok hosts go second stand may R tree there is shows cut =
-        then_says hosts (DoesAsk m AsksElse ok) second stand may R tree (at_ask cluster cast m below hosts AsksElse ok go there)
-        (moved_one hosts _ hosts.sent (λ l h. h)) (asked_tree ok hosts go tree there is) (asked_shows ok hosts second stand may tree shows)
+    asked_once : (ok : Bool) (hosts : Hosts) (go : Bool → TurnTree) (session : Session) (stand : Stand) (may : List Record) (R : Trace → Type 0) (tree : TurnTree)
+        → (hosts.place m).tree ≡ Some (Does AsksElse go) → go ok ≡ tree → ShowsAt hosts session stand may tree
+        → ((old new : HostPlace) → AtCut stand old new) → Steps hosts m session stand may R
+    asked_once ok hosts go session stand may R tree there is shows cut =
+        then_says hosts (DoesAsk m AsksElse ok) session stand may R tree (at_ask cluster cast m below hosts AsksElse ok go there)
+        (moved_one hosts _ hosts.sent (λ l h. h)) (asked_tree ok hosts go tree there is) (asked_shows ok hosts session stand may tree shows)
         (λ z r. absurd r) (λ k t r. absurd r) (λ b r. absurd r) (λ p. cut (hosts.place m) p)
 
     -- it is answered, and then what else is asked for so, and then what follows is said
-    asked : (ok : Bool) (answers : List Bool) (hosts : Hosts) (go : Bool → TurnTree) (second : Bool) (stand : Stand) (may : List Record) (R : Trace → Type 0)
-        → (hosts.place m).tree ≡ Some (Does AsksElse go) → ShowsAt hosts second stand may (later answers (go ok))
-        → ((old new : HostPlace) → AtCut stand old new) → Steps hosts m second stand may R
-    asked ok [] hosts go second stand may R there shows cut = asked_once ok hosts go second stand may R (go ok) there refl shows cut
-    asked ok (b ∷ more) hosts go second stand may R there shows cut =
-        by_tree (go ok) refl shows (λ on is shows_then. asked b more (asked_hosts ok hosts) on second stand may R is shows_then cut)
+    asked : (ok : Bool) (answers : List Bool) (hosts : Hosts) (go : Bool → TurnTree) (session : Session) (stand : Stand) (may : List Record) (R : Trace → Type 0)
+        → (hosts.place m).tree ≡ Some (Does AsksElse go) → ShowsAt hosts session stand may (later answers (go ok))
+        → ((old new : HostPlace) → AtCut stand old new) → Steps hosts m session stand may R
+    asked ok [] hosts go session stand may R there shows cut = asked_once ok hosts go session stand may R (go ok) there refl shows cut
+    asked ok (b ∷ more) hosts go session stand may R there shows cut =
+        by_tree (go ok) refl shows (λ on is shows_then. asked b more (asked_hosts ok hosts) on session stand may R is shows_then cut)
       where
-        by_tree : (tree : TurnTree) → go ok ≡ tree → ShowsAt hosts second stand may (later (b ∷ more) tree)
+        by_tree : (tree : TurnTree) → go ok ≡ tree → ShowsAt hosts session stand may (later (b ∷ more) tree)
             → ((on : Bool → TurnTree) → ((asked_hosts ok hosts).place m).tree ≡ Some (Does AsksElse on)
-            → ShowsAt (asked_hosts ok hosts) second stand may (later more (on b)) → Steps (asked_hosts ok hosts) m second stand may R)
-            → Steps hosts m second stand may R
-        by_tree (Ends view) is shows_then on_more = asked_once ok hosts go second stand may R (Ends view) there is shows_then cut
-        by_tree (Does (Keeps kept) on) is shows_then on_more = asked_once ok hosts go second stand may R (Does (Keeps kept) on) there is shows_then cut
-        by_tree (Does (Sends message) on) is shows_then on_more = asked_once ok hosts go second stand may R (Does (Sends message) on) there is shows_then cut
+            → ShowsAt (asked_hosts ok hosts) session stand may (later more (on b)) → Steps (asked_hosts ok hosts) m session stand may R)
+            → Steps hosts m session stand may R
+        by_tree (Ends view) is shows_then on_more = asked_once ok hosts go session stand may R (Ends view) there is shows_then cut
+        by_tree (Does (Keeps kept) on) is shows_then on_more = asked_once ok hosts go session stand may R (Does (Keeps kept) on) there is shows_then cut
+        by_tree (Does (Sends message) on) is shows_then on_more = asked_once ok hosts go session stand may R (Does (Sends message) on) there is shows_then cut
         by_tree (Does AsksElse on) is shows_then on_more =
-            let rest : Steps (asked_hosts ok hosts) m second stand may R =
-            on_more on (asked_tree ok hosts go (Does AsksElse on) there is) (asked_shows ok hosts second stand may (later more (on b)) shows_then) in
+            let rest : Steps (asked_hosts ok hosts) m session stand may R =
+            on_more on (asked_tree ok hosts go (Does AsksElse on) there is) (asked_shows ok hosts session stand may (later more (on b)) shows_then) in
             record {
               entries = DoesAsk m AsksElse ok ∷ rest.entries;
               hosted_all = (at_ask cluster cast m below hosts AsksElse ok go there, rest.hosted_all);
@@ -347,29 +374,29 @@ module _ (w : World) (place : ℕ) (ticket : TicketConf) (setting : Setting w pl
             }
 
     -- a start of this ticket's handler is answered
-    pub starts_own : (hosts : Hosts) (second : Bool) (node : NodeConfig) (before stand : Stand) (may : List Record) (R : Trace → Type 0) (ok : Bool)
+    pub starts_own : (hosts : Hosts) (session : Session) (node : NodeConfig) (before stand : Stand) (may : List Record) (R : Trace → Type 0) (ok : Bool)
         (answers : List Bool) (go : Bool → Deeds Ask State) (tree : TurnTree) (known : List MemberMessage) (rest : Bool → TurnTree)
-        → node ≡ node_at w m second → stand ≡ Doing node (go ok)
-        → Shows m second before may hosts.now (hosts.place m) hosts.sent
+        → (own : Seats m session node) → stand ≡ Doing node (go ok)
+        → Shows m session before may hosts.now (hosts.place m) hosts.sent
         → (hosts.place m).tree ≡ Some (skip tree) → SentMore (sent_by tree known) hosts.sent
         → skip tree ≡ Does AsksElse rest
-        → Doings m second (hosts.place m).reading (sent_by tree known) (go ok) (later answers (rest ok))
-        → Steps hosts m second stand may R
-    starts_own hosts second node before stand may R ok answers go tree known rest node_is stand_is x there more next_start on =
-        asked ok answers hosts rest second stand may R (there ∙ ap (λ (t : TurnTree). Some t) next_start)
-        (λ p tree_is reading_is may_is second_is. record {
-          same_second = second_is ∙ x.same_second;
+        → Doings m session node own (hosts.place m).reading (sent_by tree known) (go ok) (later answers (rest ok))
+        → Steps hosts m session stand may R
+    starts_own hosts session node before stand may R ok answers go tree known rest its stand_is x there more next_start on =
+        asked ok answers hosts rest session stand may R (there ∙ ap (λ (t : TurnTree). Some t) next_start)
+        (λ p tree_is reading_is may_is session_is. record {
+          same_session = session_is ∙ x.same_session;
           same_may = may_is ∙ x.same_may;
           time = x.time;
           past = x.past;
           read = reading_is ∙ x.read;
-          stands = subst (λ (d : Stand). StandsAt m second d p (sent_by (later answers (rest ok)) hosts.sent)) (sym stand_is) (
-            node_is,
+          stands = subst (λ (d : Stand). StandsAt m session d p (sent_by (later answers (rest ok)) hosts.sent)) (sym stand_is) (
+            its,
             later answers (rest ok),
             sent_by tree known,
             tree_is,
             sent_more (later answers (rest ok)) (sent_by tree known) hosts.sent more,
-            subst (λ (r : ℕ). Doings m second r (sent_by tree known) (go ok) (later answers (rest ok))) (sym reading_is) on,
+            subst (λ (r : ℕ). Doings m session node its r (sent_by tree known) (go ok) (later answers (rest ok))) (sym reading_is) on,
           );
         })
         (λ old new. subst (λ (d : Stand). AtCut d old new) (sym stand_is) tt)

@@ -12,7 +12,7 @@ use Rattle.booth_world.specs.States.{Promise, KeptRecord, Cluster}
 
 -- the place of the member with an id
 abbrev pub place_of : World → MemberId → ℕ
-place_of w id = unwrap_or (position (has_id id) w.config.members) 0
+place_of w id = unwrap_or (position (has_id id) w.members) 0
 
 abbrev pub bound_at : World → Option MemberId → Option ℕ
 bound_at w None = None
@@ -33,14 +33,14 @@ kept_at w kept = record {
       else None;
 }
 
--- the cluster of the ticket at a place
-abbrev pub cluster_of : World → ℕ → TicketConf → Cluster
-cluster_of w place ticket = record {
+-- the cluster of a ticket
+abbrev pub cluster_of : World → TicketConf → Cluster
+cluster_of w ticket = record {
   members = members_of w;
-  is_site = is_site_at w.config.members;
+  is_site = is_site_at w.members;
   times = ticket.times;
   ticks = w.ticks;
   span = w.span;
   clock = w.clock;
-  begins = λ m. record { second = (w.begins m).second; kept = kept_at w (begins_with w m place) };
+  begins = λ m. record { second = (w.begins m).second; kept = kept_at w (begins_with w m ticket.name) };
 }

@@ -7,7 +7,7 @@ use Rattle.booth_raft.specs.declared.view.Rule.{Rule}
 use Rattle.booth_raft.specs.declared.view.Rule.TheVariants as rules
 use Rattle.booth_world.specs.States.{Cluster, HasClocks, reads}
 use Rattle.booth_world.specs.Facts.{Has, Release}
-use Rattle.booth_world.specs.Held.{AreApart, GivesBackLease}
+use Rattle.booth_world.specs.Held.{IsApartFrom, GivesBackLease}
 use Rattle.booth_world.specs.Cores.{CoreEntry, HasAnswer, StartsWith, Cores, opening_cores, Cast, IsCast, entered, AreEntered, cores_after}
 
 -- ---- releases, by the entries
@@ -64,14 +64,14 @@ CoresHoldOne =
     → (s t : ℕ) → CoreHolds c (early_cores c cast entries) s
     → CoreHolds c (early_cores c cast entries) t → s ≡ t
 
--- where one holds by a record and another holds later, acquire-after lies between, or an entry
--- between the two gave the record's lease back
+-- Where one holds by a record and another holds later, acquire-after lies between each time at which that record was
+-- in force and the later one, or an entry between the two gave the record's lease back.
 abbrev pub CoresAreApart : Type 0
 CoresAreApart =
     (c : Cluster) (cast : Cast) (early late : List CoreEntry) → CoreCourse c cast early late
     → (s t : ℕ) → s ≢ t → (k : Record)
     → CoreHoldsBy c (early_cores c cast early) s k → CoreHolds c (late_cores c cast early late) t
-    → AreApart c (early_cores c cast early).now (late_cores c cast early late).now
+    → IsApartFrom c s k (early_cores c cast early).now (late_cores c cast early late).now
     ⊎ ((release : Release) × IsReleaseIn c cast (early_cores c cast early) late release
     × GivesBackLease s k.lease release)
 
@@ -87,7 +87,7 @@ CoreTermsNeverFall =
 
 -- a start is of version 2
 abbrev pub IsSecondStart : CoreEntry → Type 0
-IsSecondStart (StartsWith m second kept) = second ≡ true
+IsSecondStart (StartsWith m session kept) = session.second ≡ true
 IsSecondStart entry = Unit {0}
 
 abbrev pub AreSecondStarts : List CoreEntry → Type 0

@@ -1,8 +1,9 @@
 -- Entries of the lease cores of one ticket, at all members, and where they leave each: the records
 -- that may be kept, what was said and what was released are counted from the entries alone.
-use Rattle.std.specs.Prelude.{◌≡◌, ℕ, ◌<◌, ◌≤◌, List, [], ◌∷◌, Bool, true, Option, Some, None, IsTrue, IsSomeAnd}
+use Rattle.std.specs.Prelude.{◌≡◌, refl, ℕ, ◌<◌, ◌≤◌, nat_lt, List, [], ◌∷◌, Bool, true, Option, Some, None, IsTrue, IsSomeAnd}
 use Rattle.std.specs.Option.{ForSome}
 use Rattle.booth_base.specs.declared.address.MemberId.{MemberId}
+use Rattle.booth_base.specs.declared.limits.TheConstants.{MEMBERS}
 use Rattle.booth_rec.specs.declared.record.Record.{Record}
 use Rattle.booth_wire.specs.declared.message.Say.{Say}
 use Rattle.booth_wire.specs.declared.message.Say.TheVariants as says
@@ -19,23 +20,34 @@ use Rattle.booth_world.specs.Gives.{Mark, Given, given_by, may_answered, release
 
 -- ---- entries
 
+-- What a session has of its own: whether it is of version 2, and how many sites come before its member, by the weights
+-- that its configuration gives the ticket.
+pub record Session : Type 0 where
+  pub second : Bool
+  pub rank : ℕ
+  pub few : nat_lt rank MEMBERS ≡ true
+
+-- before a member has started
+abbrev pub opening_session : Bool → Session
+opening_session second = record { second = second; rank = 0; few = refl }
+
 -- What happens: true time passes; or, at one member, it reads its clock, calls its core, or has the answer of a
--- keep; it stops, or starts with a record, in a session of version 2 (`second`) or of version 1.
+-- keep; it stops, or starts with a record, in a session of its own.
 pub data CoreEntry : Type 0 where
   TimePasses : (time : ℕ) → CoreEntry
   ReadsTime : (m time : ℕ) → CoreEntry
   CallsCore : (m : ℕ) (call : CoreCall) → CoreEntry
   HasAnswer : (m : ℕ) (kept : Record) (ok : Bool) → CoreEntry
   Stops : (m : ℕ) → CoreEntry
-  StartsWith : (m : ℕ) (second : Bool) (kept : Record) → CoreEntry
+  StartsWith : (m : ℕ) (session : Session) (kept : Record) → CoreEntry
 
 -- ---- where entries leave the members
 
--- A member: its view while it is up; whether its last session is of version 2; its last reading and the true time
+-- A member: its view while it is up; its session, or its last one while it is down; its last reading and the true time
 -- of it; and the records that may be kept.
 pub record CorePlace : Type 0 where
   pub view : Option View
-  pub second : Bool
+  pub session : Session
   pub reading : ℕ
   pub at : ℕ
   pub may : List Record
@@ -48,15 +60,16 @@ pub record Cores : Type 0 where
   pub releases : List Release
   pub marks : List Mark
 
--- Who stands at the places: their ids, and their setups, each for a session of version 2 and for one of version 1.
+-- Who stands at the places: their ids, and their setups, each for any session.
 pub record Cast : Type 0 where
   pub id_of : ℕ → MemberId
-  pub setup : ℕ → Bool → Setup
+  pub setup : ℕ → Session → Setup
 
 pub record IsCast (c : Cluster) (cast : Cast) : Type 0 where
   pub ids : AreIds c.members cast.id_of
-  pub seated : (m : ℕ) → m < c.members → (second : Bool) → IsSeated c cast.id_of m second (cast.setup m second)
-  pub sound : (m : ℕ) → m < c.members → (second : Bool) → IsSound (cast.setup m second)
+  pub seated : (m : ℕ) → m < c.members → (session : Session)
+      → IsSeated c cast.id_of m session.second (cast.setup m session)
+  pub sound : (m : ℕ) → m < c.members → (session : Session) → IsSound (cast.setup m session)
 
 -- Nobody has started: each has what it begins with.
 abbrev pub opening_cores : Cluster → Cast → Cores
@@ -64,7 +77,7 @@ opening_cores c cast = record {
   now = 0;
   place = λ m. record {
     view = None;
-    second = (c.begins m).second;
+    session = opening_session (c.begins m).second;
     reading = reads c m 0;
     at = 0;
     may = record_in cast.id_of (c.begins m).kept ∷ [];
@@ -87,7 +100,7 @@ MayCallAlone setup view call = Unit {0}
 
 -- the setup of the member's session
 abbrev pub setup_in : Cast → Cores → ℕ → Setup
-setup_in cast cores m = cast.setup m (cores.place m).second
+setup_in cast cores m = cast.setup m (cores.place m).session
 
 -- a message is heard that was said, with its sender's id, at the true time of the reading
 abbrev pub MayCallCore : Cast → Cores → ℕ → View → CoreCall → Type 0
@@ -102,7 +115,7 @@ abbrev pub MayEnter : Cluster → Cast → Cores → CoreEntry → Type 0
 MayEnter c cast cores (TimePasses time) = (cores.now ≤ time) × (time < c.span)
 MayEnter c cast cores (ReadsTime m time) =
     (m < c.members) × (cores.now ≤ time) × (time < c.span)
-    × ((cores.place m).second ≡ true → ForSome (cores.place m).view (λ view. view.waiting ≡ None))
+    × ((cores.place m).session.second ≡ true → ForSome (cores.place m).view (λ view. view.waiting ≡ None))
 MayEnter c cast cores (CallsCore m call) =
     (m < c.members)
     × IsSomeAnd (cores.place m).view
@@ -113,9 +126,9 @@ MayEnter c cast cores (HasAnswer m kept ok) =
     (λ view. IsSomeAnd view.waiting (λ waits. waits.tried ≡ kept))
 MayEnter c cast cores (Stops m) =
     (m < c.members) × IsSomeAnd (cores.place m).view (λ view. Unit {0})
-MayEnter c cast cores (StartsWith m second kept) =
+MayEnter c cast cores (StartsWith m session kept) =
     (m < c.members) × ((cores.place m).view ≡ None) × Has (cores.place m).may kept
-    × ((cores.place m).second ≡ true → second ≡ true)
+    × ((cores.place m).session.second ≡ true → session.second ≡ true)
 
 -- ---- what it changes
 
@@ -130,20 +143,20 @@ said_more m (says.Reply head part) said = record { sender = m; head = head; part
 abbrev pub mark_in : Cores → ℕ → Mark
 mark_in cores m = record {
   member = m;
-  second = (cores.place m).second;
+  second = (cores.place m).session.second;
   reading = (cores.place m).reading;
   at = (cores.place m).at;
   now = cores.now;
 }
 
--- a member's core has given this, in a session of this version
-abbrev pub has_given : Cores → ℕ → Bool → Given → Cores
-has_given cores m second given = record {
+-- a member's core has given this, in this session
+abbrev pub has_given : Cores → ℕ → Session → Given → Cores
+has_given cores m session given = record {
   now = cores.now;
-  place = put cores.place m (record (cores.place m) { view = Some given.view; second = second; may = given.may });
+  place = put cores.place m (record (cores.place m) { view = Some given.view; session = session; may = given.may });
   said = said_more m given.say cores.said;
   releases = given.releases;
-  marks = record (mark_in cores m) { second = second } ∷ cores.marks;
+  marks = record (mark_in cores m) { second = session.second } ∷ cores.marks;
 }
 
 -- what a call gives, and the answer of the keep that waits
@@ -165,12 +178,12 @@ answer_given cast cores m ok view =
 abbrev pub after_call : Cast → Cores → ℕ → CoreCall → Option View → Cores
 after_call cast cores m call None = cores
 after_call cast cores m call (Some view) =
-    has_given cores m (cores.place m).second (call_given cast cores m call view)
+    has_given cores m (cores.place m).session (call_given cast cores m call view)
 
 abbrev pub after_answer : Cast → Cores → ℕ → Bool → Option View → Cores
 after_answer cast cores m ok None = cores
 after_answer cast cores m ok (Some view) =
-    has_given cores m (cores.place m).second (answer_given cast cores m ok view)
+    has_given cores m (cores.place m).session (answer_given cast cores m ok view)
 
 abbrev pub entered : Cluster → Cast → Cores → CoreEntry → Cores
 entered c cast cores (TimePasses time) = record cores { now = time }
@@ -183,8 +196,8 @@ entered c cast cores (HasAnswer m kept ok) = after_answer cast cores m ok (cores
 entered c cast cores (Stops m) = record cores {
   place = put cores.place m (record (cores.place m) { view = None });
 }
-entered c cast cores (StartsWith m second kept) = has_given cores m second (record {
-  view = lease_rules.start (cast.setup m second) kept (cores.place m).reading;
+entered c cast cores (StartsWith m session kept) = has_given cores m session (record {
+  view = lease_rules.start (cast.setup m session) kept (cores.place m).reading;
   say = says.Nothing;
   may = kept ∷ [];
   releases = cores.releases;

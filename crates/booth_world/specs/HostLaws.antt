@@ -7,7 +7,7 @@ use Rattle.booth_rec.specs.Record.{IsInForce}
 use Rattle.booth_wire.specs.declared.command.Cmd.TheVariants.{Revk}
 use Rattle.booth_world.specs.States.{Cluster, HasClocks, reads}
 use Rattle.booth_world.specs.Facts.{Has, Release}
-use Rattle.booth_world.specs.Held.{AreApart, GivesBackLease}
+use Rattle.booth_world.specs.Held.{IsApartFrom, GivesBackLease}
 use Rattle.booth_world.specs.Cores.{Cast, IsCast}
 use Rattle.booth_world.specs.Rules.{MemberMessage}
 use Rattle.booth_world.specs.Turns.{Keeps, Sends, TurnTree}
@@ -77,14 +77,14 @@ HostsHoldOne =
     → (s t : ℕ) → HostHolds c (early_hosts c cast entries) s
     → HostHolds c (early_hosts c cast entries) t → s ≡ t
 
--- where one holds by a record and another holds later, acquire-after lies between, or a keep
--- between the two gave the record's lease back
+-- Where one holds by a record and another holds later, acquire-after lies between each time at which that record was
+-- in force and the later one, or a keep between the two gave the record's lease back.
 abbrev pub HostsAreApart : Type 0
 HostsAreApart =
     (c : Cluster) (cast : Cast) (early late : List HostEntry) → HostCourse c cast early late
     → (s t : ℕ) → s ≢ t → (k : Record)
     → HostHoldsBy c (early_hosts c cast early) s k → HostHolds c (late_hosts c cast early late) t
-    → AreApart c (early_hosts c cast early).now (late_hosts c cast early late).now
+    → IsApartFrom c s k (early_hosts c cast early).now (late_hosts c cast early late).now
     ⊎ ((release : Release) × IsHostReleaseIn c cast (early_hosts c cast early) late release
     × GivesBackLease s k.lease release)
 
@@ -100,7 +100,7 @@ HostTermsNeverFall =
 
 -- a start is of version 2
 abbrev pub IsSecondBoot : HostEntry → Type 0
-IsSecondBoot (Boots m time second kept) = second ≡ true
+IsSecondBoot (Boots m time session kept) = session.second ≡ true
 IsSecondBoot entry = Unit {0}
 
 abbrev pub AreSecondBoots : List HostEntry → Type 0

@@ -10,28 +10,28 @@ use Rattle.booth_world.specs.Facts.{Has}
 use Rattle.booth_world.specs.States.{put, Cluster, reads}
 use Rattle.booth_world.specs.Agreement.{record_in}
 use Rattle.booth_world.specs.Rules.{MemberMessage, lease_rules}
-use Rattle.booth_world.specs.Cores.{Cast}
+use Rattle.booth_world.specs.Cores.{Session, opening_session, Cast}
 use Rattle.booth_world.specs.Turns.{TicketAsk, Keeps, Sends, TurnTree, Plan, turn_tree, MayTurn}
 
 -- ---- entries
 
 -- What happens: true time passes; or, at one member, a turn begins at a reading, at whose head a message may have come;
 -- the next ask of its turn is answered; it stops, wherever it is; or it starts, at a reading, with a record, in a
--- session of version 2 (`second`) or of version 1.
+-- session of its own.
 pub data HostEntry : Type 0 where
   LetsPass : (time : ℕ) → HostEntry
   BeginsTurn : (m time : ℕ) (came : Option MemberMessage) (plan : View → Plan) → HostEntry
   DoesAsk : (m : ℕ) (ask : TicketAsk) (ok : Bool) → HostEntry
   Halts : (m : ℕ) → HostEntry
-  Boots : (m time : ℕ) (second : Bool) (kept : Record) → HostEntry
+  Boots : (m time : ℕ) (session : Session) (kept : Record) → HostEntry
 
 -- ---- where entries leave the members
 
--- A member: what is still to be done while it is up; whether its last session is of version 2; its last reading;
--- and the records that its keeps may have left.
+-- A member: what is still to be done while it is up; its last session; its last reading; and the records that its keeps
+-- may have left.
 pub record HostPlace : Type 0 where
   pub tree : Option TurnTree
-  pub second : Bool
+  pub session : Session
   pub reading : ℕ
   pub may : List Record
 
@@ -46,7 +46,7 @@ opening_hosts c cast = record {
   now = 0;
   place = λ m. record {
     tree = None;
-    second = (c.begins m).second;
+    session = opening_session (c.begins m).second;
     reading = reads c m 0;
     may = record_in cast.id_of (c.begins m).kept ∷ [];
   };
@@ -84,16 +84,16 @@ abbrev pub MayHost : Cluster → Cast → Hosts → HostEntry → Type 0
 MayHost c cast hosts (LetsPass time) = (hosts.now ≤ time) × (time < c.span)
 MayHost c cast hosts (BeginsTurn m time came plan) =
     (m < c.members) × (hosts.now ≤ time) × (time < c.span)
-    × IsSomeAnd (hosts.place m).tree (MayBegin (cast.setup m (hosts.place m).second) (reads c m time) came plan)
+    × IsSomeAnd (hosts.place m).tree (MayBegin (cast.setup m (hosts.place m).session) (reads c m time) came plan)
     × ForSome came (MayCome cast hosts)
 MayHost c cast hosts (DoesAsk m ask ok) =
     (m < c.members) × IsSomeAnd (hosts.place m).tree (IsNextAsk ask)
 MayHost c cast hosts (Halts m) =
     (m < c.members) × IsSomeAnd (hosts.place m).tree (λ tree. Unit {0})
-MayHost c cast hosts (Boots m time second kept) =
+MayHost c cast hosts (Boots m time session kept) =
     (m < c.members) × (hosts.now ≤ time) × (time < c.span)
     × ((hosts.place m).tree ≡ None) × Has (hosts.place m).may kept
-    × ((hosts.place m).second ≡ true → second ≡ true)
+    × ((hosts.place m).session.second ≡ true → session.second ≡ true)
 
 -- ---- what it changes
 
@@ -120,7 +120,7 @@ hosted c cast hosts (LetsPass time) = record hosts { now = time }
 hosted c cast hosts (BeginsTurn m time came plan) = record hosts {
   now = time;
   place = put hosts.place m (record (hosts.place m) {
-    tree = begun (cast.setup m (hosts.place m).second) (reads c m time) came plan (hosts.place m).tree;
+    tree = begun (cast.setup m (hosts.place m).session) (reads c m time) came plan (hosts.place m).tree;
     reading = reads c m time;
   });
 }
@@ -137,11 +137,11 @@ hosted c cast hosts (Halts m) = record hosts {
     may = pending (hosts.place m).tree (hosts.place m).may;
   });
 }
-hosted c cast hosts (Boots m time second kept) = record hosts {
+hosted c cast hosts (Boots m time session kept) = record hosts {
   now = time;
   place = put hosts.place m (record {
-    tree = Some (Ends (lease_rules.start (cast.setup m second) kept (reads c m time)));
-    second = second;
+    tree = Some (Ends (lease_rules.start (cast.setup m session) kept (reads c m time)));
+    session = session;
     reading = reads c m time;
     may = kept ∷ [];
   });

@@ -1,15 +1,30 @@
--- Laws that clients rely on: of keeps that failed, and of tickets' kinds.
-use Rattle.std.specs.Prelude.{◌≡◌, ℕ, ◌<◌, Bool, true, false, Option, Some, slice_get}
-use Rattle.booth_base.specs.Tree.{Deeds, Ends, Does}
+-- Laws that clients rely on: of keeps that failed, of tickets' kinds, and of who waits.
+use Rattle.std.specs.Prelude.{◌≡◌, ◌⊎◌, ℕ, ◌<◌, Bool, true, false, List, [], Option, Some, None, is_some, slice_get}
+use Rattle.booth_base.specs.Tree.{Deeds, Ends, Does, Always}
 use Rattle.booth_conf.specs.declared.tickets.TicketConf.{TicketConf}
+use Rattle.booth_rec.specs.declared.record.Record.{Record}
+use Rattle.booth_wire.specs.declared.message.Head.{Head}
+use Rattle.booth_wire.specs.declared.message.Setup.{Setup}
+use Rattle.booth_wire.specs.declared.message.TicketPart.{TicketPart}
+use Rattle.booth_raft.specs.declared.deed.Told.{Told}
 use Rattle.booth_raft.specs.State.{Step}
+use Rattle.booth_ticket.specs.declared.handling.Service.{Service}
+use Rattle.booth_ticket.specs.declared.request.Given.{Given}
+use Rattle.booth_ticket.specs.declared.request.Request.{Request}
+use Rattle.booth_ticket.specs.declared.waiters.Waiter.{Waiter}
 use Rattle.booth_ticket.specs.Acts.{Ask, Keep, Say, Start}
 use Rattle.booth_ticket.specs.Keeping.{carry_out}
+use Rattle.booth_ticket.specs.Manual.{ManualKnown, ManualLeft, ManualState, manual_heard, manual_started}
+use Rattle.booth_ticket.specs.ManualHandling.{manual_deadline, manual_due, manual_over}
+use Rattle.booth_ticket.specs.ManualRequests.{manual_asked}
 use Rattle.booth_ticket.specs.Ticket.{TicketState, Known, Automatic, Manual}
+use Rattle.booth_ticket.specs.Waiting.{result_for, tell_each}
+use Rattle.booth_node.specs.Records.{Has}
 use Rattle.booth_node.specs.State.{State}
 use Rattle.booth_node.specs.Session.{Stand, Doing, Hearing}
-use Rattle.booth_node.specs.World.{World, IsWorld, members_of, stand_after}
-use Rattle.booth_node.specs.Held.{Moment, IsTicket}
+use Rattle.booth_node.specs.declared.node_config.NodeConfig.{NodeConfig}
+use Rattle.booth_node.specs.World.{World, IsOneTicket, IsWorld, members_of, stand_after}
+use Rattle.booth_node.specs.Held.{Moment}
 
 -- ---- keeps that failed
 
@@ -36,19 +51,57 @@ IsOfKind true (Manual known) = Unit {0}
 IsOfKind false (Automatic view) = Unit {0}
 IsOfKind manual known = ⊥
 
--- the ticket stands at its place, and is of its kind
-abbrev pub StandsInKind : ℕ → TicketConf → State → Type 0
-StandsInKind place ticket state =
-    (t : TicketState) × (slice_get state.tickets place ≡ Some t) × IsOfKind ticket.manual t.known
+-- where the node's configuration has the ticket, it stands at its place, and is of its kind
+abbrev pub StandsInKind : TicketConf → NodeConfig → State → Type 0
+StandsInKind ticket node state =
+    (place : ℕ) (own : TicketConf) → slice_get node.config.tickets place ≡ Some own → own.name ≡ ticket.name
+    → (t : TicketState) × (slice_get state.tickets place ≡ Some t) × IsOfKind ticket.manual t.known
 
 -- between two turns, and where a turn begins
-abbrev pub RestsInKind : ℕ → TicketConf → Stand → Type 0
-RestsInKind place ticket (Doing node (Ends state)) = StandsInKind place ticket state
-RestsInKind place ticket (Hearing node old answer bytes) = StandsInKind place ticket old
-RestsInKind place ticket stand = Unit {0}
+abbrev pub RestsInKind : TicketConf → Stand → Type 0
+RestsInKind ticket (Doing node (Ends state)) = StandsInKind ticket node state
+RestsInKind ticket (Hearing node old answer bytes) = StandsInKind ticket node old
+RestsInKind ticket stand = Unit {0}
 
 -- the tickets of a node keep the kinds that the configuration gives them
 abbrev pub TicketsKeepTheirKinds : Type 0
 TicketsKeepTheirKinds =
-    (w : World) → IsWorld w → (place : ℕ) (ticket : TicketConf) → IsTicket w place ticket
-    → (m : ℕ) → m < members_of w → (moment : Moment w) → RestsInKind place ticket (stand_after m moment.before)
+    (w : World) → IsWorld w → (ticket : TicketConf) → IsOneTicket w ticket
+    → (m : ℕ) → m < members_of w → (moment : Moment w) → RestsInKind ticket (stand_after m moment.before)
+
+-- ---- those that wait
+
+-- whatever is asked
+abbrev pub AnyAsk : Ask → Type 0
+AnyAsk ask = Unit {0}
+
+-- Whoever is told of an outcome waits no more: who waits on was told nothing.
+abbrev pub ToldStopWaiting : Type 0
+ToldStopWaiting =
+    (setup : Setup) (part : TicketPart) (told : Told) (waiters : List Waiter)
+    → Always AnyAsk (λ left. (waiter : Waiter) → Has left waiter → result_for told waiter ≡ None)
+    (tell_each setup part told waiters)
+
+-- None of the clients that wait for a manual ticket waits for a record alone, and none waits while no handler runs.
+pub record WaitForJob (known : ManualKnown) (waiters : List Waiter) : Type 0 where
+  pub uncommitted : (waiter : Waiter) → Has waiters waiter → waiter.commit ≡ false
+  pub idle : known.job ≡ None → waiters ≡ []
+
+abbrev pub LeavesJobs : Deeds Ask ManualLeft → Type 0
+LeavesJobs deeds = Always AnyAsk (λ left. WaitForJob left.ticket.known left.waiters) deeds
+
+-- So it is when a manual ticket starts, and whatever befalls it leaves it so. And where somebody waits, a deadline of the
+-- ticket is to come.
+pub record ManualWaitersHaveJobs : Type 0 where
+  pub starts : (rec : Record) (now : ℕ) → WaitForJob (manual_started rec now) []
+  pub heard : (ticket : ManualState) (from : ℕ) (head : Head) (part : TicketPart) (waiters : List Waiter)
+      → WaitForJob ticket.known waiters
+      → Always AnyAsk (λ left. WaitForJob left.known waiters) (manual_heard ticket from head part)
+  pub due : (ticket : ManualState) (waiters : List Waiter) (now : ℕ) → WaitForJob ticket.known waiters
+      → LeavesJobs (manual_due ticket waiters now)
+  pub over : (ticket : ManualState) (waiters : List Waiter) (job : ℕ) (service : Service)
+      → WaitForJob ticket.known waiters → LeavesJobs (manual_over ticket waiters job service)
+  pub asked : (ticket : ManualState) (waiters : List Waiter) (spare : ℕ) (given : Given) (request : Request)
+      → WaitForJob ticket.known waiters → LeavesJobs (manual_asked ticket waiters spare given request)
+  pub coming : (known : ManualKnown) (waiters : List Waiter) → WaitForJob known waiters
+      → (waiters ≡ []) ⊎ (is_some (manual_deadline known) ≡ true)

@@ -11,15 +11,15 @@ HasOneHolder =
     (c : Cluster) → HasClocks c → (steps : List WorldStep) → IsRun c (opening c) steps
     → (s t : ℕ) → Held c (world_of c steps) s → Held c (world_of c steps) t → s ≡ t
 
--- where a member holds early by a record and another holds late, acquire-after lies between, or the
--- first gave the record's lease back between the two
+-- Where a member holds early by a record and another holds late, acquire-after lies between each time at which that
+-- record was in force and the late one, or the first gave the record's lease back between the two.
 abbrev pub HoldersAreApart : Type 0
 HoldersAreApart =
     (c : Cluster) → HasClocks c
     → (early late : List WorldStep) → IsRun c (opening c) (early ++ late)
     → (s t : ℕ) → s ≢ t → (k : KeptRecord)
     → IsHeldBy c (world_of c early) s k → Held c (world_of c (early ++ late)) t
-    → IsApart c (world_of c early) (world_of c (early ++ late))
+    → IsApart c s k (world_of c early) (world_of c (early ++ late))
     ⊎ ReleasedBetween (world_of c early) (world_of c (early ++ late)) s k
 
 -- where each record that a member may have kept has at least a term, so has each one later

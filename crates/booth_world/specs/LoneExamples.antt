@@ -7,7 +7,7 @@ use Rattle.booth_rec.specs.Record.{first_plain, no_record}
 use Rattle.booth_raft.specs.declared.view.View.{View}
 use Rattle.booth_world.specs.States.{Cluster, begins_bare}
 use Rattle.booth_world.specs.Rules.{Asks, Greets, GivesBack}
-use Rattle.booth_world.specs.Cores.{CoreEntry, ReadsTime, CallsCore, HasAnswer, Stops, StartsWith, Cast}
+use Rattle.booth_world.specs.Cores.{CoreEntry, ReadsTime, CallsCore, HasAnswer, Stops, StartsWith, Cast, opening_session}
 use Rattle.booth_world.specs.Turns.{Keeps, Plan, Rests, Calls, Waits}
 use Rattle.booth_world.specs.Hosts.{HostEntry, BeginsTurn, DoesAsk, Halts, Boots}
 use Rattle.booth_world.specs.Examples.{exact, three, id_of_place}
@@ -26,7 +26,7 @@ lone = record {
 abbrev pub lone_cast : Name → Cast
 lone_cast ticket = record {
   id_of = id_of_place;
-  setup = λ m second. record {
+  setup = λ m session. record {
     ticket = ticket;
     me = id_of_place m;
     place = m;
@@ -34,7 +34,7 @@ lone_cast ticket = record {
     site = true;
     rank = 0;
     times = three.times;
-    second = second;
+    second = session.second;
   };
 }
 
@@ -49,7 +49,7 @@ lone_lease = first_plain 1 (Some (record { term = 1; until = 8 }))
 -- it asks for a term and is granted its lease, and both keeps are done
 abbrev pub lone_grant : List CoreEntry
 lone_grant =
-    StartsWith 0 false no_record ∷ ReadsTime 0 6 ∷ CallsCore 0 (Asks 0)
+    StartsWith 0 (opening_session false) no_record ∷ ReadsTime 0 6 ∷ CallsCore 0 (Asks 0)
     ∷ HasAnswer 0 lone_term true ∷ HasAnswer 0 lone_lease true ∷ []
 
 -- then a keep fails that would give the lease back, a second one is cut, and it starts from its
@@ -57,7 +57,7 @@ lone_grant =
 abbrev pub lone_restart : List CoreEntry
 lone_restart =
     CallsCore 0 (GivesBack 0) ∷ HasAnswer 0 lone_term false ∷ CallsCore 0 (GivesBack 0) ∷ Stops 0
-    ∷ StartsWith 0 false lone_term ∷ []
+    ∷ StartsWith 0 (opening_session false) lone_term ∷ []
 
 -- ---- at its host
 
@@ -68,5 +68,5 @@ lone_plan view = Calls Greets (λ greeted. Calls (Asks 0) (λ asked. Waits (λ o
 -- it begins the turn and keeps twice; before the client is told it stops, and starts with its lease
 abbrev pub lone_turn : List HostEntry
 lone_turn =
-    Boots 0 0 false no_record ∷ BeginsTurn 0 6 None lone_plan ∷ DoesAsk 0 (Keeps lone_term) true
-    ∷ DoesAsk 0 (Keeps lone_lease) true ∷ Halts 0 ∷ Boots 0 7 false lone_lease ∷ []
+    Boots 0 0 (opening_session false) no_record ∷ BeginsTurn 0 6 None lone_plan ∷ DoesAsk 0 (Keeps lone_term) true
+    ∷ DoesAsk 0 (Keeps lone_lease) true ∷ Halts 0 ∷ Boots 0 7 (opening_session false) lone_lease ∷ []

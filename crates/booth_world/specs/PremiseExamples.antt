@@ -64,7 +64,7 @@ with_a_lost_record = world_with three_members (
 -- each of two sites begins with a record of a lease that is in force, and starts from it
 abbrev pub with_leases_at_first : World
 with_leases_at_first =
-    record with_foreign_records { begins = λ m. record { second = false; records = λ place. lease 1 6000 } }
+    record with_foreign_records { begins = λ m. record { second = false; records = λ name. lease 1 6000 } }
 
 -- ---- without 'members speak'
 

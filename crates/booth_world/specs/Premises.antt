@@ -7,7 +7,7 @@ use Rattle.booth_node.specs.Held.{Moment, IsAutomatic, Holds}
 
 pub data Premise : Type 0 where
   NothingHeld : Premise
-  OneConfiguration : Premise
+  SameMembers : Premise
   TrueClocks : Premise
   RecordsReturn : Premise
   VersionsRise : Premise
@@ -17,7 +17,7 @@ pub data Premise : Type 0 where
 -- the world meets the premise
 abbrev pub Meets : World → Premise → Type 0
 Meets w NothingHeld = BeginsFree w
-Meets w OneConfiguration = AtEach w (λ before entry. HasConfiguration w entry entry.what)
+Meets w SameMembers = AtEach w (λ before entry. HasConfiguration w entry entry.what)
 Meets w TrueClocks = HasTrueClocks w
 Meets w RecordsReturn = AtEach w (λ before entry. ReadsKept w before entry entry.what)
 Meets w VersionsRise = AtEach w (λ before entry. StaysSecond w before entry entry.what)
@@ -30,22 +30,21 @@ IsWorldBut broken w = HasForm w × ((premise : Premise) → premise ≢ broken �
 
 -- at one moment an automatic ticket is held at two members
 pub record TwoHold (w : World) : Type 0 where
-  pub place : ℕ
   pub ticket : TicketConf
-  pub automatic : IsAutomatic w place ticket
+  pub automatic : IsAutomatic w ticket
   pub moment : Moment w
   pub first : ℕ
   pub second : ℕ
   pub two : first ≢ second
-  pub first_holds : Holds w place ticket first moment
-  pub second_holds : Holds w place ticket second moment
+  pub first_holds : Holds w ticket first moment
+  pub second_holds : Holds w ticket second moment
 
 -- at a moment of this true time a member holds an automatic ticket
-pub record HoldsAt (w : World) (place : ℕ) (ticket : TicketConf) (member time : ℕ) : Type 0 where
-  pub automatic : IsAutomatic w place ticket
+pub record HoldsAt (w : World) (ticket : TicketConf) (member time : ℕ) : Type 0 where
+  pub automatic : IsAutomatic w ticket
   pub moment : Moment w
   pub at : moment.time ≡ time
-  pub holds : Holds w place ticket member moment
+  pub holds : Holds w ticket member moment
 
 -- where two hold, the premise that is left out is not met
 abbrev pub PremisesAreNeeded : Type 0

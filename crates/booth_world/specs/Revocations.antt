@@ -33,7 +33,7 @@ SendsEach config (place ∷ places) P deeds = ⊥
 -- a member that stands so goes on to tell each other one that the term was given back
 abbrev pub GoesOnToRevoke : World → List ℕ → ℕ → ℕ → Stand → Type 0
 GoesOnToRevoke w name term m (Doing node deeds) =
-    SendsEach w.config (others_of w m) (IsRevocation name term) deeds
+    SendsEach node.config (others_of w m) (IsRevocation name term) deeds
 GoesOnToRevoke w name term m stand = ⊥
 
 -- of one of these entries, which follow on others, this is so, by all that are before it

@@ -1,6 +1,7 @@
 -- Every world has a shadow: at each moment, for each automatic ticket, a list of the world's steps.
-use Rattle.std.specs.Prelude.{◌≡◌, ◌≢◌, ◌⊎◌, ◌++◌, ℕ, ◌<◌, Bool, List, [], ◌∷◌, slice_get, Ok, Some, None}
+use Rattle.std.specs.Prelude.{◌≡◌, ◌≢◌, ◌⊎◌, ◌++◌, ℕ, ◌<◌, Bool, true, false, if◌then◌else◌, List, [], ◌∷◌, slice_get, position, is_some, Ok, Some, None}
 use Rattle.booth_base.specs.Tree.{Deeds, Ends, Does}
+use Rattle.booth_conf.specs.Lookups.{is_called}
 use Rattle.booth_conf.specs.declared.tickets.TicketConf.{TicketConf}
 use Rattle.booth_rec.specs.declared.record.Record.{Record}
 use Rattle.booth_wire.specs.declared.command.Direction.TheVariants.{BetweenMembers}
@@ -11,12 +12,13 @@ use Rattle.booth_wire.specs.Reading.{decoded}
 use Rattle.booth_raft.specs.declared.view.View.{View}
 use Rattle.booth_host.specs.declared.entry.Entry.TheVariants as calls
 use Rattle.booth_ticket.specs.Ticket.{Automatic}
+use Rattle.booth_node.specs.declared.node_config.NodeConfig.{NodeConfig}
 use Rattle.booth_node.specs.Opening.{setup_of}
 use Rattle.booth_node.specs.Reaction.{Ask, Send, Keep, Start}
 use Rattle.booth_node.specs.Records.{Has}
-use Rattle.booth_node.specs.Session.{SessionEntry, Starts, Makes, IsCut, Stand, Down, Doing, Hearing, after_entry}
+use Rattle.booth_node.specs.Session.{SessionEntry, Starts, Makes, IsCut, Stand, Down, Doing, Hearing, after_call, after_entry}
 use Rattle.booth_node.specs.State.{State}
-use Rattle.booth_node.specs.World.{WorldEntry, World, members_of, id_at, node_at, entries_of, IsSend, stand_after, IsWorld}
+use Rattle.booth_node.specs.World.{WorldEntry, World, members_of, id_at, entries_of, IsSend, stand_after, IsWorld}
 use Rattle.booth_node.specs.Held.{Moment, IsAutomatic, may_at, Holds}
 use Rattle.booth_world.specs.Clusters.{cluster_of}
 use Rattle.booth_world.specs.Agreement.{records_in, Agrees}
@@ -37,19 +39,37 @@ KeepsNext name (Does (Keep ticket tried) go) kept =
     ((ticket ≡ name) × (tried ≡ kept)) ⊎ ((ticket ≢ name) × (ok : Bool) × KeepsNext name (go ok) kept)
 KeepsNext name (Does (Start job) go) kept = (ok : Bool) × KeepsNext name (go ok) kept
 
--- where these entries leave a member that a cut call leaves where it stands
-abbrev pub stands_last : Stand → List SessionEntry → Stand
-stands_last stand [] = stand
-stands_last stand (IsCut call ∷ entries) = stands_last stand entries
-stands_last stand (entry ∷ entries) = stands_last (after_entry stand entry) entries
+-- the node's configuration has the ticket of this name
+abbrev pub has_ticket : List ℕ → NodeConfig → Bool
+has_ticket name node = is_some (position (is_called name) node.config.tickets)
+
+-- Where a member stands in its last session that has the ticket, and whether that is its session now. A cut call leaves
+-- it where it stands.
+pub record LastStand : Type 0 where
+  pub now : Bool
+  pub stand : Stand
+
+abbrev pub last_after : List ℕ → LastStand → SessionEntry → LastStand
+last_after name last (Starts node reading records) =
+    if has_ticket name node then record { now = true; stand = after_entry last.stand (Starts node reading records) }
+    else record { now = false; stand = last.stand }
+last_after name last (Makes call) =
+    if last.now then record { now = true; stand = after_call last.stand call } else last
+last_after name last (IsCut call) = last
+
+abbrev pub last_after_all : List ℕ → LastStand → List SessionEntry → LastStand
+last_after_all name last [] = last
+last_after_all name last (entry ∷ entries) = last_after_all name (last_after name last entry) entries
 
 abbrev pub IsNextAt : List ℕ → Stand → Record → Type 0
 IsNextAt name (Doing node deeds) kept = KeepsNext name deeds kept
 IsNextAt name stand kept = ⊥
 
--- the member is in a turn, or was cut in one, and this is the record of the ticket that the turn keeps next
+-- the member is in a turn of its last session that has the ticket, or was cut in one, and this is the record of the
+-- ticket that the turn keeps next
 abbrev pub IsComing : List ℕ → List SessionEntry → Record → Type 0
-IsComing name entries kept = IsNextAt name (stands_last Down entries) kept
+IsComing name entries kept =
+    IsNextAt name (last_after_all name (record { now = false; stand = Down }) entries).stand kept
 
 -- a keep of the ticket by this member at this time that was done, and left it so, of a record without a lease, gave its
 -- term back: the member goes on to tell each other one
@@ -59,12 +79,12 @@ GivesTermBack w name m time after (Makes (calls.Keep ticket rec (Ok done))) rele
     × GoesOnToRevoke w name rec.term m after
 GivesTermBack w name m time after what release = ⊥
 
--- the node has this state, and no deed of a turn is left: it stands between two turns, or has the answer of a next and
+-- this node has this state, and no deed of a turn is left: it stands between two turns, or has the answer of a next and
 -- is to read its clock
-abbrev pub RestsIn : Stand → State → Type 0
-RestsIn (Doing node (Ends state)) resting = state ≡ resting
-RestsIn (Hearing node old answer bytes) resting = old ≡ resting
-RestsIn stand resting = ⊥
+abbrev pub RestsIn : Stand → NodeConfig → State → Type 0
+RestsIn (Doing node (Ends state)) own resting = (node ≡ own) × (state ≡ resting)
+RestsIn (Hearing node old answer bytes) own resting = (node ≡ own) × (old ≡ resting)
+RestsIn stand own resting = ⊥
 
 -- the clock was read so, in a turn or at a start
 abbrev pub TakesReading : SessionEntry → ℕ → Type 0
@@ -95,18 +115,19 @@ pub record IsSentIn (name : List ℕ) (before : List WorldEntry) (m : ℕ) (mess
 
 -- ---- versions
 
--- whether a member's session is of version 2 after this entry: a start is in the version of its node
-abbrev pub second_after : Bool → SessionEntry → Bool
-second_after second (Starts node reading records) = node.second
-second_after second entry = second
+-- whether a member's last session that has the ticket is of version 2 after this entry: a start is in the version of its
+-- node
+abbrev pub second_after : List ℕ → Bool → SessionEntry → Bool
+second_after name second (Starts node reading records) = if has_ticket name node then node.second else second
+second_after name second entry = second
 
-abbrev pub second_after_all : Bool → List SessionEntry → Bool
-second_after_all second [] = second
-second_after_all second (entry ∷ entries) = second_after_all (second_after second entry) entries
+abbrev pub second_after_all : List ℕ → Bool → List SessionEntry → Bool
+second_after_all name second [] = second
+second_after_all name second (entry ∷ entries) = second_after_all name (second_after name second entry) entries
 
--- whether the member's last session is of version 2; at first it is as it was before
-abbrev pub is_second_at : World → ℕ → List WorldEntry → Bool
-is_second_at w m before = second_after_all (w.begins m).second (entries_of m before)
+-- whether the member's last session that has the ticket is of version 2; at first it is as it was before
+abbrev pub is_second_at : World → List ℕ → ℕ → List WorldEntry → Bool
+is_second_at w name m before = second_after_all name (w.begins m).second (entries_of m before)
 
 -- ---- the shadow
 
@@ -114,51 +135,55 @@ is_second_at w m before = second_after_all (w.begins m).second (entries_of m bef
 abbrev pub records_of : World → WorldState → ℕ → List Record
 records_of w state m = records_in (id_at w) (state.member m).may
 
--- What a node in this state knows of the ticket is what the steps' member is: its rules are of the member's version,
--- its view agrees with the member, no keep waits for its answer, and the last reading is the member's.
-pub record Knows (w : World) (place : ℕ) (ticket : TicketConf) (m : ℕ) (resting : State) (state : WorldState)
-    : Type 0 where
+-- What a node in this state knows of the ticket, which stands at a place of its configuration, is what the steps'
+-- member is: its rules are of the member's version, its view agrees with the member, no keep waits for its answer, and
+-- the last reading is the member's.
+pub record Knows (w : World) (ticket : TicketConf) (m : ℕ) (node : NodeConfig) (place : ℕ) (own : TicketConf)
+    (resting : State) (state : WorldState) : Type 0 where
   pub view : View
   pub known : slice_get resting.tickets place
-      ≡ Some (record { setup = setup_of (node_at w m (state.member m).second) place ticket; known = Automatic view })
+      ≡ Some (record { setup = setup_of node place own; known = Automatic view })
+  pub version : node.second ≡ (state.member m).second
   pub none_waits : view.waiting ≡ None
   pub reading : resting.last_reading ≡ (state.member m).reading
-  pub agrees : Agrees (cluster_of w place ticket) (id_at w) state.facts m view (state.member m)
+  pub agrees : Agrees (cluster_of w ticket) (id_at w) state.facts m view (state.member m)
 
 -- Steps from the opening state up to this moment. After them each member's last session is of the version of its last
--- start; the records that a member may have kept are the entries', and that which the member's turn is to keep next;
+-- start that has the ticket; the records that a member may have kept are the entries', and that which the member's turn is to keep next;
 -- where a node rests between its turns, what it knows of the ticket is what its member is; each release is an entry's,
 -- after which the member's turn goes on to tell the others; each round was opened, and each answer given, at a reading
 -- that is an entry's, by the member that took it; each message that an entry sent says a fact: that a round was opened,
 -- or answered, or a term released; and the ticket is held at each member that holds it.
-pub record HasShadow (w : World) (place : ℕ) (ticket : TicketConf) (moment : Moment w) : Type 0 where
+pub record HasShadow (w : World) (ticket : TicketConf) (moment : Moment w) : Type 0 where
   pub steps : List WorldStep
-  pub run : IsRun (cluster_of w place ticket) (opening (cluster_of w place ticket)) steps
-  pub now : (world_of (cluster_of w place ticket) steps).now ≡ moment.time
+  pub run : IsRun (cluster_of w ticket) (opening (cluster_of w ticket)) steps
+  pub now : (world_of (cluster_of w ticket) steps).now ≡ moment.time
   pub versions : (m : ℕ) → m < members_of w
-      → ((world_of (cluster_of w place ticket) steps).member m).second ≡ is_second_at w m moment.before
-  pub records : (m : ℕ) → m < members_of w → (kept : Record) → Has (may_at w place ticket m moment) kept
-      → Has (records_of w (world_of (cluster_of w place ticket) steps) m) kept
+      → ((world_of (cluster_of w ticket) steps).member m).second ≡ is_second_at w ticket.name m moment.before
+  pub records : (m : ℕ) → m < members_of w → (kept : Record) → Has (may_at w ticket m moment) kept
+      → Has (records_of w (world_of (cluster_of w ticket) steps) m) kept
   pub no_more : (m : ℕ) → m < members_of w → (kept : Record)
-      → Has (records_of w (world_of (cluster_of w place ticket) steps) m) kept
-      → Has (may_at w place ticket m moment) kept ⊎ IsComing ticket.name (entries_of m moment.before) kept
-  pub knows : (m : ℕ) → m < members_of w → (resting : State) → RestsIn (stand_after m moment.before) resting
-      → Knows w place ticket m resting (world_of (cluster_of w place ticket) steps)
-  pub releases : (release : Release) → HasFact (world_of (cluster_of w place ticket) steps).facts.releases release
+      → Has (records_of w (world_of (cluster_of w ticket) steps) m) kept
+      → Has (may_at w ticket m moment) kept ⊎ IsComing ticket.name (entries_of m moment.before) kept
+  pub knows : (m : ℕ) → m < members_of w → (node : NodeConfig) (resting : State)
+      → RestsIn (stand_after m moment.before) node resting
+      → (place : ℕ) (own : TicketConf) → slice_get node.config.tickets place ≡ Some own → own.name ≡ ticket.name
+      → Knows w ticket m node place own resting (world_of (cluster_of w ticket) steps)
+  pub releases : (release : Release) → HasFact (world_of (cluster_of w ticket) steps).facts.releases release
       → AtSome [] moment.before
       (λ before entry.
       GivesTermBack w ticket.name entry.member entry.time (stand_after entry.member (before ++ entry ∷ [])) entry.what
       release)
-  pub rounds : (round : Round) → HasFact (world_of (cluster_of w place ticket) steps).facts.rounds round
+  pub rounds : (round : Round) → HasFact (world_of (cluster_of w ticket) steps).facts.rounds round
       → IsReadIn moment.before round.site round.opened round.at
-  pub answers : (answer : Answer) → HasFact (world_of (cluster_of w place ticket) steps).facts.answers answer
+  pub answers : (answer : Answer) → HasFact (world_of (cluster_of w ticket) steps).facts.answers answer
       → IsReadIn moment.before answer.member answer.reading answer.at
   pub said : (m : ℕ) (message : PlainMessage) (part : TicketPart) → IsSentIn ticket.name moment.before m message part
-      → IsFact (id_at w) (world_of (cluster_of w place ticket) steps).facts m message.head part message.head.cmd
-  pub held : (m : ℕ) → Holds w place ticket m moment
-      → Held (cluster_of w place ticket) (world_of (cluster_of w place ticket) steps) m
+      → IsFact (id_at w) (world_of (cluster_of w ticket) steps).facts m message.head part message.head.cmd
+  pub held : (m : ℕ) → Holds w ticket m moment
+      → Held (cluster_of w ticket) (world_of (cluster_of w ticket) steps) m
 
 abbrev pub WorldsHaveShadows : Type 0
 WorldsHaveShadows =
-    (w : World) → IsWorld w → (place : ℕ) (ticket : TicketConf) → IsAutomatic w place ticket
-    → (moment : Moment w) → HasShadow w place ticket moment
+    (w : World) → IsWorld w → (ticket : TicketConf) → IsAutomatic w ticket
+    → (moment : Moment w) → HasShadow w ticket moment

@@ -78,12 +78,17 @@ HasNone b (x ∷ xs) = (x ≢ b) × HasNone b xs
 abbrev pub EndsLine : List ℕ → Type 0
 EndsLine before = (before ≡ []) ⊎ ((earlier : List ℕ) × (before ≡ earlier ++ 10 ∷ []))
 
+-- nothing stands behind a line, or a line end
+abbrev pub BeginsLine : List ℕ → Type 0
+BeginsLine after = (after ≡ []) ⊎ ((later : List ℕ) × (after ≡ 10 ∷ later))
+
 -- This is a line of the text, without its line end.
 pub record HasLine (text line : List ℕ) : Type 0 where
   pub before : List ℕ
   pub after : List ℕ
-  pub whole : text ≡ before ++ (line ++ 10 ∷ after)
+  pub whole : text ≡ before ++ (line ++ after)
   pub begins : EndsLine before
+  pub ends : BeginsLine after
   pub single : HasNone 10 line
 
 -- A list, or a part of one, has a line of the ticket with this address as its owner's.
@@ -112,7 +117,7 @@ StartTells name what claim = (job : Job) × IsStart what job × JobTells name jo
 
 -- the address of the member at a place
 abbrev pub address_at : World → ℕ → Address
-address_at w m = address_in (slice_get w.config.members m)
+address_at w m = address_in (slice_get w.members m)
 
 -- by this entry its member tells of itself as the ticket's holder
 abbrev pub Tells : World → TicketConf → WorldEntry → Claim → Type 0
@@ -144,22 +149,31 @@ pub record ClaimsLast : Type 0 where
 -- just before a member tells of itself as the holder, it may have kept a record whose lease bears that out
 abbrev pub TellersHaveKeptIn : World → Type 0
 TellersHaveKeptIn w =
-    (place : ℕ) (ticket : TicketConf) → IsAutomatic w place ticket
+    (ticket : TicketConf) → IsAutomatic w ticket
     → (moment : Moment w) (entry : WorldEntry) → IsNext moment entry → (claim : Claim) → Tells w ticket entry claim
-    → (kept : Record) × Has (may_at w place ticket entry.member moment) kept
+    → (kept : Record) × Has (may_at w ticket entry.member moment) kept
     × IsSomeAnd kept.lease (λ lease. BearsOut claim lease.until)
 
 abbrev pub WhoTellsHasKept : Type 0
 WhoTellsHasKept = (w : World) → IsWorld w → TellersHaveKeptIn w
 
+-- A client is told that its grant was done where a record with such a lease is kept: no other may be.
+abbrev pub GrantsAreKept : Type 0
+GrantsAreKept =
+    (w : World) → IsWorld w → (ticket : TicketConf) → IsAutomatic w ticket
+    → (moment : Moment w) (entry : WorldEntry) → IsNext moment entry → (head : Head)
+    → Tells w ticket entry (IsGranted head)
+    → (kept : Record) × (may_at w ticket entry.member moment ≡ kept ∷ [])
+    × IsSomeAnd kept.lease (λ lease. BearsOut (IsGranted head) lease.until)
+
 -- so it holds the ticket there, while the claim is not over, and no other does
 abbrev pub TellersHoldIn : World → Type 0
 TellersHoldIn w =
-    (place : ℕ) (ticket : TicketConf) → IsAutomatic w place ticket
+    (ticket : TicketConf) → IsAutomatic w ticket
     → (moment : Moment w) (entry : WorldEntry) → IsNext moment entry → (claim : Claim) → Tells w ticket entry claim
     → IsLive w entry.member moment claim
-    → Holds w place ticket entry.member moment
-    × ((other : ℕ) → Holds w place ticket other moment → entry.member ≡ other)
+    → Holds w ticket entry.member moment
+    × ((other : ℕ) → Holds w ticket other moment → entry.member ≡ other)
 
 abbrev pub WhoTellsHolds : Type 0
 WhoTellsHolds = (w : World) → IsWorld w → TellersHoldIn w
@@ -168,12 +182,12 @@ WhoTellsHolds = (w : World) → IsWorld w → TellersHoldIn w
 -- acquire-after lies between, or the first gave its lease back in between. So they never tell it at one moment.
 abbrev pub TellersAreApartIn : World → Type 0
 TellersAreApartIn w =
-    (place : ℕ) (ticket : TicketConf) → IsAutomatic w place ticket
+    (ticket : TicketConf) → IsAutomatic w ticket
     → (early late : Moment w) (between : List WorldEntry) → IsLater w early late between
     → (first second : WorldEntry) → IsNext early first → IsNext late second → first.member ≢ second.member
     → (claim other : Claim) → Tells w ticket first claim → Tells w ticket second other
     → IsLive w first.member early claim → IsLive w second.member late other
-    → AreApart (cluster_of w place ticket) early.time late.time
+    → AreApart (cluster_of w ticket) early.time late.time
     ⊎ ((kept : Record) × IsSomeAnd kept.lease (λ lease. BearsOut claim lease.until)
     × ReleasedIn w ticket first.member kept early.before between)
 

@@ -6,6 +6,7 @@ use Rattle.booth_base.specs.declared.address.MemberId.{MemberId}
 use Rattle.booth_base.specs.declared.address.Peer.{Peer}
 use Rattle.booth_base.specs.declared.address.TheConstants.{NO_ONE}
 use Rattle.booth_conf.specs.Config.{ConfigSays}
+use Rattle.booth_keys.specs.declared.ring.Hash.TheVariants.{Sha1}
 use Rattle.booth_conf.specs.declared.members.Member.{Member}
 use Rattle.booth_conf.specs.declared.tickets.TicketConf.{TicketConf}
 use Rattle.booth_rec.specs.declared.record.Record.{Record}
@@ -55,6 +56,8 @@ config_with members = record {
   port = 9929;
   authfile = None;
   skew = 600;
+  authfile_old = None;
+  auth_hash = Sha1;
   extras = [];
   members = members;
   tickets = web ∷ [];
@@ -69,8 +72,7 @@ exact_clock = range_with_len 0 60000
 -- these members, without keys, and clocks of a minute
 abbrev pub world_by : (ℕ → List ℕ) → List Member → List WorldEntry → World
 world_by clock members entries = record {
-  config = config_with members;
-  ring = None;
+  members = members;
   ticks = 1;
   span = 60000;
   clock = clock;
@@ -189,7 +191,7 @@ one_goes_on = record (world_with alone (
     ∷ at 7000 0 (reads 7000)
     ∷ at 7001 0 (keeps (record (lease 7 0) { term = 8 }))
     ∷ at 7002 0 (keeps (lease 8 13000))
-    ∷ [])) { begins = λ m. record { second = false; records = λ place. lease 7 0 } }
+    ∷ [])) { begins = λ m. record { second = false; records = λ name. lease 7 0 } }
 
 -- it starts without a record; when it may answer itself, a client asks, and it keeps a term, and then a lease
 abbrev pub one_holds : World

@@ -12,10 +12,10 @@ use Rattle.booth_node.specs.Log.{IsNodeLog, IsStoppedLog}
 use Rattle.booth_node.specs.State.{State}
 use Rattle.booth_node.specs.Session.{SessionEntry, Makes, Stand, Doing, AreSessions, after_entries}
 use Rattle.booth_node.specs.Records.{Has}
-use Rattle.booth_node.specs.World.{WorldEntry, World, members_of, stand_after, IsWorld, IsSecondWorld}
-use Rattle.booth_node.specs.Held.{Moment, IsTicket, IsAutomatic, may_at, HoldsBy, Holds}
+use Rattle.booth_node.specs.World.{WorldEntry, World, members_of, stand_after, IsOneTicket, IsWorld, IsSecondWorld}
+use Rattle.booth_node.specs.Held.{Moment, IsAutomatic, may_at, HoldsBy, Holds}
 use Rattle.booth_world.specs.Clusters.{cluster_of}
-use Rattle.booth_world.specs.Held.{AreApart}
+use Rattle.booth_world.specs.Held.{IsApartFrom}
 use Rattle.booth_world.specs.Revocations.{GoesOnToRevoke, AtSome}
 
 -- ---- two moments
@@ -46,30 +46,30 @@ ReleasedIn w ticket s kept before between =
 -- at no moment of the world is an automatic ticket held at two members
 abbrev pub HoldsOneIn : World → Type 0
 HoldsOneIn w =
-    (place : ℕ) (ticket : TicketConf) → IsAutomatic w place ticket
-    → (moment : Moment w) (s t : ℕ) → Holds w place ticket s moment → Holds w place ticket t moment → s ≡ t
+    (ticket : TicketConf) → IsAutomatic w ticket
+    → (moment : Moment w) (s t : ℕ) → Holds w ticket s moment → Holds w ticket t moment → s ≡ t
 
 abbrev pub WorldsHoldOne : Type 0
 WorldsHoldOne = (w : World) → IsWorld w → HoldsOneIn w
 
--- where one holds it by a record, and another later, acquire-after lies between, or a keep between the two gave the
--- record's lease back
+-- Where one holds it by a record, and another later, acquire-after lies between each time at which that record was in
+-- force and the later one, or a keep between the two gave the record's lease back.
 abbrev pub WorldsAreApart : Type 0
 WorldsAreApart =
-    (w : World) → IsWorld w → (place : ℕ) (ticket : TicketConf) → IsAutomatic w place ticket
+    (w : World) → IsWorld w → (ticket : TicketConf) → IsAutomatic w ticket
     → (early late : Moment w) (between : List WorldEntry) → IsLater w early late between
     → (s t : ℕ) → s ≢ t → (kept : Record)
-    → HoldsBy w place ticket s early kept → Holds w place ticket t late
-    → AreApart (cluster_of w place ticket) early.time late.time ⊎ ReleasedIn w ticket s kept early.before between
+    → HoldsBy w ticket s early kept → Holds w ticket t late
+    → IsApartFrom (cluster_of w ticket) s kept early.time late.time ⊎ ReleasedIn w ticket s kept early.before between
 
 -- where each record that a member may have kept of a ticket has at least a term, so has each one later
 abbrev pub TermsNeverFallIn : World → Type 0
 TermsNeverFallIn w =
-    (place : ℕ) (ticket : TicketConf) → IsTicket w place ticket
+    (ticket : TicketConf) → IsOneTicket w ticket
     → (early late : Moment w) (between : List WorldEntry) → IsLater w early late between
     → (s term : ℕ) → s < members_of w
-    → ((kept : Record) → Has (may_at w place ticket s early) kept → term ≤ kept.term)
-    → (kept : Record) → Has (may_at w place ticket s late) kept → term ≤ kept.term
+    → ((kept : Record) → Has (may_at w ticket s early) kept → term ≤ kept.term)
+    → (kept : Record) → Has (may_at w ticket s late) kept → term ≤ kept.term
 
 abbrev pub WorldTermsNeverFall : Type 0
 WorldTermsNeverFall = (w : World) → IsWorld w → TermsNeverFallIn w
@@ -77,11 +77,11 @@ WorldTermsNeverFall = (w : World) → IsWorld w → TermsNeverFallIn w
 -- Where one member holds it by a lease, and another holds it later by a lease, the later lease has the later term.
 abbrev pub LaterTermsIn : World → Type 0
 LaterTermsIn w =
-    (place : ℕ) (ticket : TicketConf) → IsAutomatic w place ticket
+    (ticket : TicketConf) → IsAutomatic w ticket
     → (early late : Moment w) (between : List WorldEntry) → IsLater w early late between
     → (s t : ℕ) → s ≢ t → (kept other : Record) (first second : Lease)
     → kept.lease ≡ Some first → other.lease ≡ Some second
-    → HoldsBy w place ticket s early kept → HoldsBy w place ticket t late other → first.term < second.term
+    → HoldsBy w ticket s early kept → HoldsBy w ticket t late other → first.term < second.term
 
 -- So it is in each world all of whose sessions are of version 2.
 abbrev pub LaterHoldersHaveLaterTerms : Type 0

@@ -11,7 +11,7 @@ ghost use Rattle.booth_node.specs.Held.{Moment};
 ghost use Rattle.booth_world.specs.Shadows.{HasShadow};
 ghost use Rattle.booth_node.specs.World.{IsWorld, entries_of};
 ghost use Rattle.booth_node.specs.Session.{AreSessions, Down};
-ghost use Rattle.booth_world.specs.Premises.{NothingHeld, OneConfiguration, TrueClocks, RecordsReturn, VersionsRise, MembersSpeak, OneDaemon, IsWorldBut, TwoHold, HoldsAt, PremisesAreNeeded};
+ghost use Rattle.booth_world.specs.Premises.{NothingHeld, SameMembers, TrueClocks, RecordsReturn, VersionsRise, MembersSpeak, OneDaemon, IsWorldBut, TwoHold, HoldsAt, PremisesAreNeeded};
 ghost use Rattle.booth_world.specs.TakeOverExample.{taken_over};
 ghost use Rattle.booth_world.specs.PremiseExamples.{with_foreign_records, with_leases_at_first, with_a_lost_record, with_forged_votes, with_two_configurations, with_a_fast_clock, with_two_daemons, AreTrueBut, HasTwoDaemons, daemon_starts, votes_for_one, votes_for_two};
 ghost use Rattle.booth_world.specs.VersionExamples.{promises_kept, with_a_falling_version};
@@ -69,13 +69,13 @@ pub fn leases_at_first_are_held()
 /// A member that is alone begins with the record of a lease that is over, and holds its ticket by the next term.
 pub fn one_member_goes_on()
     ensures world { IsWorld one_goes_on }
-    ensures holds { HoldsAt one_goes_on 0 web 0 12999 }
+    ensures holds { HoldsAt one_goes_on web 0 12999 }
 {}
 
 /// A member that is alone starts, is asked by a client for its ticket, and holds it.
 pub fn one_member_holds()
     ensures world { IsWorld one_holds }
-    ensures holds { HoldsAt one_holds 0 web 0 12999 }
+    ensures holds { HoldsAt one_holds web 0 12999 }
 {}
 
 /// Without the premise that members speak for themselves: to each of two sites comes a forged
@@ -89,14 +89,14 @@ pub fn forged_votes_give_leases()
 /// lease is over another takes the ticket over.
 pub fn ticket_is_taken_over()
     ensures world { IsWorld taken_over }
-    ensures first { HoldsAt taken_over 0 web 0 12999 }
-    ensures second { HoldsAt taken_over 0 web 1 25999 }
-    ensures shadows { (moment : Moment taken_over) → HasShadow taken_over 0 web moment }
+    ensures first { HoldsAt taken_over web 0 12999 }
+    ensures second { HoldsAt taken_over web 1 25999 }
+    ensures shadows { (moment : Moment taken_over) → HasShadow taken_over web moment }
 {}
 
 /// Without the premise that all have one configuration: by its own each of two sites is alone.
 pub fn two_configurations_give_leases()
-    ensures others { IsWorldBut OneConfiguration with_two_configurations }
+    ensures others { IsWorldBut SameMembers with_two_configurations }
     ensures two_hold { TwoHold with_two_configurations }
 {}
 
@@ -122,8 +122,8 @@ pub fn two_daemons_vote_twice()
 /// is held there.
 pub fn promises_are_kept()
     ensures world { IsWorld promises_kept }
-    ensures first { HoldsAt promises_kept 0 web 0 12999 }
-    ensures second { HoldsAt promises_kept 0 web 1 25999 }
+    ensures first { HoldsAt promises_kept web 0 12999 }
+    ensures second { HoldsAt promises_kept web 1 25999 }
 {}
 
 /// Without the premise that versions rise: an arbitrator goes back from version 2 to version 1, and

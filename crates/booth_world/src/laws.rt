@@ -1,13 +1,14 @@
 //! The laws of a ticket's world, each the contract of a function that does nothing.
+ghost use Rattle.booth_node.specs.World.{OneConfigurationIsEnough};
 ghost use Rattle.booth_world.specs.Calls.{CallsAreSteps, PromisesWhereItMayAnswer, StepsOfOneAreSteps};
 ghost use Rattle.booth_world.specs.CoreLaws.{CoreTermsNeverFall, CoresAreApart, CoresHoldOne, LaterCoreHasLaterTerm};
 ghost use Rattle.booth_world.specs.HostLaws.{HostTermsNeverFall, HostsAreApart, HostsHoldOne, LaterHostHasLaterTerm};
-ghost use Rattle.booth_world.specs.Kept.{FailedKeepsSayNothing, TicketsKeepTheirKinds};
+ghost use Rattle.booth_world.specs.Kept.{FailedKeepsSayNothing, ManualWaitersHaveJobs, TicketsKeepTheirKinds, ToldStopWaiting};
 ghost use Rattle.booth_world.specs.Laws.{HasOneHolder, HoldersAreApart, KeptTermsNeverFall, LaterHolderHasLaterTerm};
 ghost use Rattle.booth_world.specs.Rules.{lease_rules};
 ghost use Rattle.booth_world.specs.Stability.{AgreementStays, CallsLeadOn, MembersStay, RunsAppend};
 ghost use Rattle.booth_world.specs.Shadows.{WorldsHaveShadows};
-ghost use Rattle.booth_world.specs.Tellers.{ClaimsLast, TellersAreApart, WhoTellsHasKept, WhoTellsHolds};
+ghost use Rattle.booth_world.specs.Tellers.{ClaimsLast, GrantsAreKept, TellersAreApart, WhoTellsHasKept, WhoTellsHolds};
 ghost use Rattle.booth_world.specs.Worlds.{CutSessionsAreSessions, LogsAreSessions, StoppedLogsAreSessions};
 ghost use Rattle.booth_world.specs.Worlds.{LaterHoldersHaveLaterTerms, WorldTermsNeverFall, WorldsAreApart, WorldsHoldOne};
 
@@ -17,8 +18,8 @@ pub fn one_holder()
     ensures worlds { WorldsHoldOne }
 {}
 
-/// Two sites that hold, the one after the other, have acquire-after between them, or the first gave
-/// the lease that it held by back between the two.
+/// Between the lease by which one site holds and another site that holds later lies acquire-after, or the first gave
+/// that lease back between the two.
 pub fn apart()
     ensures steps { HoldersAreApart }
     ensures worlds { WorldsAreApart }
@@ -38,11 +39,12 @@ pub fn later_terms()
 {}
 
 /// What a member tells of itself as the holder of an automatic ticket is so: just before, it may have
-/// kept a record whose lease bears it out. So while that is not over, it holds the ticket, and no
-/// other member does. And where two members tell it, the one after the other, acquire-after lies
+/// kept a record whose lease bears it out; and where it is a grant's success, that record is kept, and
+/// no other may be. So while that is not over, it holds the ticket, and no other member does. And where two members tell it, the one after the other, acquire-after lies
 /// between, or the first gave its lease back in between.
 pub fn tellers()
     ensures kept { WhoTellsHasKept }
+    ensures granted { GrantsAreKept }
     ensures holds { WhoTellsHolds }
     ensures apart { TellersAreApart }
     ensures last { ClaimsLast }
@@ -57,6 +59,21 @@ pub fn failed_keeps_say_nothing()
 /// gives it.
 pub fn tickets_keep_their_kinds()
     ensures { TicketsKeepTheirKinds }
+{}
+
+/// Whoever is told of an outcome waits no more.
+pub fn told_stop_waiting()
+    ensures { ToldStopWaiting }
+{}
+
+/// Clients wait for a manual ticket only while its handler runs, and then a deadline is to come.
+pub fn manual_waiters_have_jobs()
+    ensures { ManualWaitersHaveJobs }
+{}
+
+/// Where all starts of a world have one configuration, the laws speak of each of its tickets.
+pub fn one_configuration()
+    ensures { OneConfigurationIsEnough }
 {}
 
 /// A log of a node's turns is part of a session of a world.
@@ -132,8 +149,8 @@ pub fn cores_hold_one()
     ensures { CoresHoldOne }
 {}
 
-/// Where one site holds after some entries of the cores and another later, acquire-after lies
-/// between, or an entry between gave the lease back.
+/// Where one site holds after some entries of the cores and another later, acquire-after lies between that lease and
+/// the other, or an entry between gave the lease back.
 pub fn cores_are_apart()
     ensures { CoresAreApart }
 {}
@@ -154,8 +171,8 @@ pub fn hosts_hold_one()
     ensures { HostsHoldOne }
 {}
 
-/// Where one site holds after some entries of the hosts and another later, acquire-after lies
-/// between, or a keep between the two gave the lease back.
+/// Where one site holds after some entries of the hosts and another later, acquire-after lies between that lease and
+/// the other, or a keep between the two gave the lease back.
 pub fn hosts_are_apart()
     ensures { HostsAreApart }
 {}

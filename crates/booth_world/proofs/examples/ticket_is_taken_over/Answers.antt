@@ -1,4 +1,4 @@
-use Rattle.booth_world.proofs.TakeOverRuns.{taken_over_is_world, first_holds, second_holds}
+use Rattle.booth_world.proofs.TakeOverRuns.{taken_over_is_world, one_web, first_holds, second_holds}
 use Rattle.booth_world.proofs.WorldShadows.{worlds_have_shadows}
 use Rattle.booth_world.specs.WorldExamples.{web}
 use Rattle.booth_world.specs.TakeOverExample.{taken_over}
@@ -15,4 +15,4 @@ pub returns-clause-second : goal.returns-clause-second
 returns-clause-second c = second_holds
 
 pub returns-clause-shadows : goal.returns-clause-shadows
-returns-clause-shadows c = worlds_have_shadows taken_over taken_over_is_world 0 web (refl, refl)
+returns-clause-shadows c = worlds_have_shadows taken_over taken_over_is_world web (one_web, refl)
