@@ -1,5 +1,5 @@
 -- The runs are the rule's, and the lists authentic.
-use Rattle.std.proofs.Common.{◌≡◌, ◌==◌, ◌||◌, ℕ, Bool, true, false, List, [], ◌∷◌, map, Option, Some, None, Result, Ok, Err, cond, refl, ap, ◌*◌, ◌/◌, decimal, arith, sym, subst, ◌∙◌, ◌⊎◌, inl, inr}
+use Rattle.std.proofs.Common.{◌≡◌, ◌==◌, ◌||◌, ◌++◌, ℕ, Bool, true, false, List, [], ◌∷◌, map, Option, Some, None, Result, Ok, Err, cond, refl, ap, ◌*◌, ◌/◌, decimal, arith, sym, subst, ◌∙◌, ◌⊎◌, inl, inr}
 use Rattle.std.proofs.lemmas.Bool.{eqb-true, eq-eqb}
 use Rattle.std.proofs.lemmas.Fmt.{decimal_injective}
 use Rattle.std.proofs.lemmas.List.{append_cancel_left}
@@ -25,7 +25,7 @@ use Rattle.booth_following.specs.Asking.{number_of}
 use Rattle.booth_following.specs.Hearing.{IsTold, is_answer, is_of_list, is_whole, part_in, part_of, part_read}
 use Rattle.booth_following.specs.Laws.{EndsAreNoLater, IsAuthentic, ListsAreAuthentic, TurnsFollowTheRule}
 use Rattle.booth_following.specs.Lists.{IsShownIn, Part, TellsOf}
-use Rattle.booth_following.specs.Turns.{Turn, deed_of, deeds_of, first_seat, moment_of, seat_after}
+use Rattle.booth_following.specs.Turns.{AreTurns, IsToldIn, Turn, deed_of, deeds_of, first_seat, moment_of, seat_after, seat_from}
 
 -- ---- the rule's runs
 
@@ -42,6 +42,13 @@ follow_rule = record {
   allowed = λ f turns. deeds_let.rows f.margins (map (λ (t : Turn). moment_of t) turns);
   in_time = λ f turns gap quick quicker short prompt. in_time f.margins (map (λ (t : Turn). moment_of t) turns) gap quick quicker short prompt;
 }
+
+-- what a turn tells, behind others
+pub told_at : (f : Following) (seat : Seat) (before : List Turn) (t : Turn) (after : List Turn) → AreTurns f seat (before ++ t ∷ after) →
+    IsToldIn f (seat_from seat before) t
+unfolding AreTurns seat_from
+told_at f seat [] t after told = told.0
+told_at f seat (b ∷ before) t after told = told_at f (seat_after seat b) before t after told.1
 
 -- ---- lists
 

@@ -1,0 +1,226 @@
+-- What a follower whose service may run has heard.
+use Rattle.std.proofs.Common.{◌≡◌, ℕ, ◌<◌, ◌≤◌, List, [], ◌∷◌, ◌++◌, length, get_or, map, refl, sym, ap, ◌∙◌, subst, inl, inr, arith}
+use Rattle.std.specs.Prelude.{Option, Some, None, Result, Ok, Err}
+use Rattle.booth_wire.specs.declared.command.Cmd.{Cmd}
+use Rattle.booth_wire.specs.declared.command.Cmd.TheVariants.{CLst, Peer, CGnt, CRvk, ASet, AGet, ADel, ALst, RLst, RPer, RALs, RGnt, RRvk, RAtr, Stat, MIdx, RVot, VtFr, HrtB, Ack, UpdE, Revk, Rjc}
+use Rattle.booth_wire.specs.Command.{code_of}
+use Rattle.booth_wire.specs.PlainMessage.{PlainMessage, Text}
+use Rattle.booth_host.specs.declared.host.Arrival.{Arrival}
+use Rattle.booth_host.specs.declared.host.Arrival.TheVariants as arrivals
+use Rattle.booth_host.specs.declared.host.Failed.{Failed}
+use Rattle.booth_node.specs.World.{World}
+use Rattle.booth_follow_rule.specs.declared.margins.Margins.{Margins}
+use Rattle.booth_follow_rule.specs.declared.news.News.{News}
+use Rattle.booth_follow_rule.specs.declared.news.News.TheVariants as news
+use Rattle.booth_follow_rule.specs.declared.news.Shown.{Shown}
+use Rattle.booth_follow_rule.specs.declared.news.Shown.TheVariants.{Here}
+use Rattle.booth_follow_rule.specs.declared.state.State.{State}
+use Rattle.booth_follow_rule.specs.Known.{Row, rows_from}
+use Rattle.booth_follow_rule.specs.Laws.{HasTold}
+use Rattle.booth_follow_rule.specs.Rule.{Moment, follow_step, state_after}
+use Rattle.booth_following.specs.declared.following.Following.{Following}
+use Rattle.booth_following.specs.Hearing.{IsHeard, IsNews}
+use Rattle.booth_following.specs.Lists.{IsLine, Part, lines_of}
+use Rattle.booth_following.specs.Turns.{AreTurns, IsToldIn, Turn, first_seat, moment_of, seat_from}
+use Rattle.booth_following.proofs.LawLemmas.{lists, told_at}
+use Rattle.booth_services.specs.Services.{HearsItsSite, IsTurnAt, TimedTurn, WasSentBy, asked_after, time_after, turns_of}
+use Rattle.booth_services.proofs.ListLemmas.{joins}
+
+-- ---- rows
+
+abbrev pub moments_of : List TimedTurn → List Moment
+moments_of turns = map (λ (t : Turn). moment_of t) (turns_of turns)
+
+-- the rows of turns, cut behind one
+pub record RowsCut (m : Margins) (s : State) (before : List TimedTurn) (last : TimedTurn) (after : List TimedTurn) : Type 0 where
+  pub first : List Row
+  pub row : Row
+  pub rest : List Row
+  pub whole : rows_from m s (moments_of (before ++ last ∷ after)) ≡ first ++ row ∷ rest
+  pub up_to : rows_from m s (moments_of (before ++ last ∷ [])) ≡ first ++ row ∷ []
+  pub reading : row.at.reading ≡ last.turn.reading
+
+pub cut_rows : (m : Margins) (s : State) (before : List TimedTurn) (last : TimedTurn) (after : List TimedTurn) → RowsCut m s before last after
+unfolding rows_from
+cut_rows m s [] last after = record {
+  first = [];
+  row = record { at = moment_of last.turn; deed = (follow_step m s (moment_of last.turn)).deed };
+  rest = rows_from m (state_after m s (moment_of last.turn)) (moments_of after);
+  whole = refl;
+  up_to = refl;
+  reading = refl;
+}
+cut_rows m s (t ∷ before) last after =
+    let here : Row = record { at = moment_of t.turn; deed = (follow_step m s (moment_of t.turn)).deed } in
+    let q = cut_rows m (state_after m s (moment_of t.turn)) before last after in record {
+      first = here ∷ q.first;
+      row = q.row;
+      rest = q.rest;
+      whole = ap (λ (rows : List Row). here ∷ rows) q.whole;
+      up_to = ap (λ (rows : List Row). here ∷ rows) q.up_to;
+      reading = q.reading;
+    }
+
+-- ---- the turn that heard of an end
+
+-- a turn among these that heard of this end
+record HeardIn (turns : List TimedTurn) (until : ℕ) : Type 0 where
+  pub before : List TimedTurn
+  pub t : TimedTurn
+  pub after : List TimedTurn
+  pub whole : turns ≡ before ++ t ∷ after
+  pub shown : t.turn.heard ≡ news.List (Here until)
+
+heard_in : (m : Margins) (s : State) (turns : List TimedTurn) (until : ℕ) → HasTold until (rows_from m s (moments_of turns)) → HeardIn turns until
+unfolding rows_from
+heard_in m s [] until told = absurd told
+heard_in m s (t ∷ turns) until (inl is) = record { before = []; t = t; after = turns; whole = refl; shown = is }
+heard_in m s (t ∷ turns) until (inr told) =
+    let q = heard_in m (state_after m s (moment_of t.turn)) turns until told in
+    record { before = t ∷ q.before; t = q.t; after = q.after; whole = ap (λ (rest : List TimedTurn). t ∷ rest) q.whole; shown = q.shown }
+
+turns_append : (xs ys : List TimedTurn) → turns_of (xs ++ ys) ≡ turns_of xs ++ turns_of ys
+turns_append [] ys = refl
+turns_append (x ∷ xs) ys = ap (λ (rest : List Turn). x.turn ∷ rest) (turns_append xs ys)
+
+time_push : (time : ℕ) (before : List TimedTurn) (t : TimedTurn) → time_after time (before ++ t ∷ []) ≡ t.time
+time_push time [] t = refl
+time_push time (b ∷ before) t = time_push b.time before t
+
+-- A turn that heard of an end, no later than at this time.
+pub record Heard (w : World) (m : ℕ) (f : Following) (until time : ℕ) : Type 0 where
+  pub before : List TimedTurn
+  pub t : TimedTurn
+  pub told : IsToldIn f (seat_from (first_seat f) (turns_of before)) t.turn
+  pub at : IsTurnAt w m f before t
+  pub shown : t.turn.heard ≡ news.List (Here until)
+  pub no_later : t.time ≤ time
+
+-- each turn of a follower is one at its member
+abbrev pub AreAt : World → ℕ → Following → List TimedTurn → Type 0
+AreAt w m f turns = (before after : List TimedTurn) (t : TimedTurn) → turns ≡ before ++ t ∷ after → IsTurnAt w m f before t
+
+-- the times of turns rise
+in_order : (w : World) (m : ℕ) (f : Following) (turns before : List TimedTurn) (t : TimedTurn) (more after : List TimedTurn) → AreAt w m f turns
+    → turns ≡ before ++ t ∷ (more ++ after) → t.time ≤ time_after t.time more
+in_order w m f turns before t [] after at whole = omega arith
+in_order w m f turns before t (u ∷ more) after at whole =
+    let all : turns ≡ (before ++ t ∷ []) ++ u ∷ (more ++ after) = whole ∙ sym (joins before (t ∷ []) (u ∷ (more ++ after))) in
+    let next = (at (before ++ t ∷ []) (more ++ after) u all).in_order in
+    let here = time_push 0 before t in
+    let rest = in_order w m f turns (before ++ t ∷ []) u more after at all in
+    omega (arith, next, here, rest)
+
+last_of : (time : ℕ) (xs : List TimedTurn) (y : TimedTurn) (ys : List TimedTurn) → time_after time (xs ++ y ∷ ys) ≡ time_after y.time ys
+last_of time [] y ys = refl
+last_of time (x ∷ xs) y ys = last_of x.time xs y ys
+
+pub heard_of : (w : World) (m : ℕ) (f : Following) (turns before : List TimedTurn) (last : TimedTurn) (after : List TimedTurn) (until : ℕ)
+    → turns ≡ before ++ last ∷ after → AreTurns f (first_seat f) (turns_of turns) → AreAt w m f turns
+    → (s : State) (margins : Margins) → HasTold until (rows_from margins s (moments_of (before ++ last ∷ []))) → Heard w m f until last.time
+heard_of w m f turns before last after until whole told at s margins has = record {
+  before = q.before;
+  t = q.t;
+  told = told_at f (first_seat f) (turns_of q.before) q.t.turn (turns_of (q.after ++ after))
+      (subst (λ (ts : List Turn). AreTurns f (first_seat f) ts)
+      (ap (λ (ts : List TimedTurn). turns_of ts) split ∙ turns_append q.before (q.t ∷ (q.after ++ after))) told);
+  at = at q.before (q.after ++ after) q.t split;
+  shown = q.shown;
+  no_later =
+      let rest = in_order w m f turns q.before q.t q.after after at split in
+      let ends : last.time ≡ time_after q.t.time q.after =
+      sym (time_push 0 before last) ∙ ap (λ (ts : List TimedTurn). time_after 0 ts) q.whole ∙ last_of 0 q.before q.t q.after in
+      omega (arith, rest, ends);
+}
+  where
+    q : HeardIn (before ++ last ∷ []) until
+    q = heard_in margins s (before ++ last ∷ []) until has
+
+    split : turns ≡ q.before ++ q.t ∷ (q.after ++ after)
+    split =
+        whole ∙ sym (joins before (last ∷ []) after) ∙ ap (λ (ts : List TimedTurn). ts ++ after) q.whole
+        ∙ joins q.before (q.t ∷ q.after) after
+
+-- ---- what it heard
+
+-- what shows something is a datagram
+is_heard : (f : Following) (asked failed : Option ℕ) (answer : Result Arrival Failed) (bytes : List ℕ) (heard : News) (shown : Shown)
+    → IsNews f asked failed answer bytes heard → heard ≡ news.List shown → IsHeard f asked bytes (news.List shown)
+is_heard f asked None (Ok arrivals.Stop) bytes heard shown h is = let e : news.Stop ≡ news.List shown = sym h ∙ is in absurd cc
+is_heard f asked (Some run) (Ok arrivals.Stop) bytes heard shown h is = let e : news.Stop ≡ news.List shown = sym h ∙ is in absurd cc
+is_heard f asked None (Ok (arrivals.Datagram peer)) bytes heard shown h is = subst (λ (n : News). IsHeard f asked bytes n) is h
+is_heard f asked (Some run) (Ok (arrivals.Datagram peer)) bytes heard shown h is = absurd (let e = sym h ∙ is in cc)
+is_heard f asked None (Ok (arrivals.Handler job status)) bytes heard shown h is = absurd (let e = sym h ∙ is in cc)
+is_heard f asked (Some run) (Ok (arrivals.Handler job status)) bytes heard shown h is = absurd (let e = sym h ∙ is in cc)
+is_heard f asked None (Ok arrivals.Quiet) bytes heard shown h is = let e : news.Nothing ≡ news.List shown = sym h ∙ is in absurd cc
+is_heard f asked (Some run) (Ok arrivals.Quiet) bytes heard shown h is = absurd (let e = sym h ∙ is in cc)
+is_heard f asked None (Err failed) bytes heard shown h is = let e : news.Nothing ≡ news.List shown = sym h ∙ is in absurd cc
+is_heard f asked (Some run) (Err failed) bytes heard shown h is = absurd (let e = sym h ∙ is in cc)
+
+is_list_command : (cmd : Cmd) → code_of cmd ≡ code_of RLst → cmd ≡ RLst
+is_list_command CLst e = absurd (omega (arith, e))
+is_list_command Peer e = absurd (omega (arith, e))
+is_list_command CGnt e = absurd (omega (arith, e))
+is_list_command CRvk e = absurd (omega (arith, e))
+is_list_command ASet e = absurd (omega (arith, e))
+is_list_command AGet e = absurd (omega (arith, e))
+is_list_command ADel e = absurd (omega (arith, e))
+is_list_command ALst e = absurd (omega (arith, e))
+is_list_command RLst e = refl
+is_list_command RPer e = absurd (omega (arith, e))
+is_list_command RALs e = absurd (omega (arith, e))
+is_list_command RGnt e = absurd (omega (arith, e))
+is_list_command RRvk e = absurd (omega (arith, e))
+is_list_command RAtr e = absurd (omega (arith, e))
+is_list_command Stat e = absurd (omega (arith, e))
+is_list_command MIdx e = absurd (omega (arith, e))
+is_list_command RVot e = absurd (omega (arith, e))
+is_list_command VtFr e = absurd (omega (arith, e))
+is_list_command HrtB e = absurd (omega (arith, e))
+is_list_command Ack e = absurd (omega (arith, e))
+is_list_command UpdE e = absurd (omega (arith, e))
+is_list_command Revk e = absurd (omega (arith, e))
+is_list_command Rjc e = absurd (omega (arith, e))
+
+-- A line of a list of its site, which that site sent.
+pub record ToldLine (w : World) (m : ℕ) (f : Following) (until time : ℕ) : Type 0 where
+  pub message : PlainMessage
+  pub text : List ℕ
+  pub place : ℕ
+  pub sent : WasSentBy w m time message
+  pub command : message.head.cmd ≡ RLst
+  pub content : message.content ≡ Text text
+  pub there : place < length (lines_of text)
+  pub line : IsLine f.line (get_or (lines_of text) place []) until
+
+later_sent : (w : World) (m early late : ℕ) (message : PlainMessage) → early ≤ late → WasSentBy w m early message → WasSentBy w m late message
+later_sent w m early late message on s = record {
+  entry = s.entry;
+  one = s.one;
+  own = s.own;
+  no_later = let n = s.no_later in omega (arith, n, on);
+  bytes = s.bytes;
+  sent = s.sent;
+  same = s.same;
+}
+
+pub told_line : (w : World) (m : ℕ) (f : Following) (until time : ℕ) → Heard w m f until time → ToldLine w m f until time
+told_line w m f until time h =
+    by_asked (asked_after f h.before) h.at.hears (is_heard f (asked_after f h.before) (seat_from (first_seat f) (turns_of h.before)).failed h.t.turn.answer h.t.turn.bytes h.t.turn.heard (Here until) h.told h.shown)
+  where
+    by_asked : (asked : Option ℕ) → HearsItsSite w m f asked h.t → IsHeard f asked h.t.turn.bytes (news.List (Here until))
+        → ToldLine w m f until time
+    by_asked None hears is = let e : news.List (Here until) ≡ news.Nothing = is in absurd cc
+    by_asked (Some asked) hears is =
+        let shows = lists.shows f asked h.t.turn.bytes (Here until) is in
+        let part : Part = shows.0 in
+        let found = lists.only f asked h.t.turn.bytes part shows.1 in record {
+          message = found.0;
+          text = part.text;
+          place = shows.3.0;
+          sent = later_sent w m h.t.time time found.0 h.no_later (hears found.0 part found.1);
+          command = is_list_command found.0.head.cmd found.1.answer;
+          content = found.1.tells;
+          there = shows.3.1;
+          line = shows.3.2;
+        }

@@ -1,0 +1,4 @@
+pub mod ListLemmas
+pub mod LineLemmas
+pub mod FollowerLemmas
+pub mod ServiceLemmas

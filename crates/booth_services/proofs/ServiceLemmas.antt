@@ -1,0 +1,247 @@
+-- While a service may run its site holds by a lease that no other site has waited out.
+use Rattle.std.proofs.Common.{◌≡◌, ◌≢◌, ⊎_elim, ℕ, ◌<◌, ◌≤◌, ◌+◌, ◌-◌, ◌*◌, List, [], ◌∷◌, ◌++◌, decimal, refl, sym, ap, ◌∙◌, subst, inl, inr, arith, get_or}
+use Rattle.std.specs.Prelude.{Option, Some, None, IsSomeAnd}
+use Rattle.booth_conf.specs.declared.tickets.TicketConf.{TicketConf}
+use Rattle.booth_rec.specs.declared.record.Lease.{Lease}
+use Rattle.booth_rec.specs.declared.record.Record.{Record}
+use Rattle.booth_rec.specs.Record.{IsInForce}
+use Rattle.booth_base.specs.Address.{printed}
+use Rattle.booth_node.specs.Records.{Has}
+use Rattle.booth_node.specs.World.{WorldEntry, World, members_of, clock_at, last_time, IsWorld}
+use Rattle.booth_node.specs.Held.{Moment, IsAutomatic, HoldsBy, may_at}
+use Rattle.booth_world.specs.Clusters.{cluster_of}
+use Rattle.booth_world.specs.Held.{AreApart, IsApartFrom}
+use Rattle.booth_world.specs.Tellers.{BearsOut, HasLine, IsListed, Tells, address_at}
+use Rattle.booth_world.specs.Worlds.{IsLater, ReleasedIn}
+use Rattle.booth_world.proofs.TellerWorlds.{who_tells_has_kept}
+use Rattle.booth_world.proofs.WorldLaws.{worlds_are_apart}
+use Rattle.booth_follow_rule.specs.Known.{Row, Started, nothing_known, rows_of}
+use Rattle.booth_follow_rule.specs.Laws.{HasTold, known_from}
+use Rattle.booth_follow_rule.proofs.PlainLemmas.{serves}
+use Rattle.booth_following.specs.declared.following.Following.{Following}
+use Rattle.booth_following.specs.Lists.{lines_of}
+use Rattle.booth_following.specs.Turns.{first_seat}
+use Rattle.booth_services.specs.Services.{Follower, GaveBack, IsFollowerAt, MayServe, ServesUnderALease, ServicesAreApart, TimedTurn}
+use Rattle.booth_services.proofs.ListLemmas.{IsBehind, Place, last_join, place_of, rises, two_places}
+use Rattle.booth_services.proofs.LineLemmas.{line_at, no_earlier, ticket_line}
+use Rattle.booth_services.proofs.FollowerLemmas.{Heard, RowsCut, ToldLine, cut_rows, heard_of, moments_of, told_line}
+
+some_more : (o : Option Lease) (P Q : Lease → Type 0) → ((l : Lease) → P l → Q l) → IsSomeAnd o P → IsSomeAnd o Q
+some_more None P Q gives h = absurd h
+some_more (Some l) P Q gives h = gives l h
+
+-- The end that was told last covers the time at which a service may run.
+record Covered (w : World) (m : ℕ) (f : Following) (time : ℕ) : Type 0 where
+  pub until : ℕ
+  pub line : ToldLine w m f until time
+  pub below : clock_at w m time < until
+
+covered : (w : World) (ticket : TicketConf) (m : ℕ) (x : Follower) → IsFollowerAt w ticket m x → (time : ℕ) → MayServe w m x time
+    → Covered w m x.following time
+covered w ticket m x is time serving = record {
+  until = told.0;
+  line = told_line w m x.following told.0 time (record {
+    before = found.before;
+    t = found.t;
+    told = found.told;
+    at = found.at;
+    shown = found.shown;
+    no_later = let n = found.no_later in let l = serving.since in omega (arith, n, l);
+  });
+  below = let soon = serving.soon in let above = told.2 in let same = cut.reading in omega (arith, soon, above, same);
+}
+  where
+    cut : RowsCut x.following.margins (first_seat x.following).follower.state serving.before serving.last serving.after
+    cut = cut_rows x.following.margins (first_seat x.following).follower.state serving.before serving.last serving.after
+
+    up_to : List TimedTurn
+    up_to = serving.before ++ serving.last ∷ []
+
+    told : (until : ℕ) × HasTold until (cut.first ++ cut.row ∷ []) × (cut.row.at.reading + x.gap < until)
+    told =
+        serves x.following.margins (moments_of x.turns) x.gap x.quick is.room is.margin is.prompt cut.first cut.rest cut.row
+        (ap (λ (turns : List TimedTurn). rows_of x.following.margins (moments_of turns)) serving.whole ∙ cut.whole)
+        (subst (λ (rows : List Row). (known_from nothing_known rows).service ≡ Started) cut.up_to serving.started)
+
+    found : Heard w m x.following told.0 serving.last.time
+    found =
+        heard_of w m x.following x.turns serving.before serving.last serving.after told.0 serving.whole is.told is.at
+        (first_seat x.following).follower.state x.following.margins
+        (subst (λ (rows : List Row). HasTold told.0 rows) (sym cut.up_to) told.1)
+
+module _ (w : World) (is_world : IsWorld w) (ticket : TicketConf) (automatic : IsAutomatic w ticket) where
+  abbrev moment_at : (before : List WorldEntry) (entry : WorldEntry) (after : List WorldEntry) → w.entries ≡ before ++ entry ∷ after → Moment w
+  moment_at before entry after whole = record {
+    before = before;
+    after = entry ∷ after;
+    time = entry.time;
+    whole = whole;
+    since = is_world.form.in_order before after entry whole;
+    until = omega arith;
+    within = is_world.form.within before after entry whole;
+  }
+
+  -- The entry at which a site told of its lease, with the record that bears it out.
+  record Held (m time : ℕ) : Type 0 where
+    pub before : List WorldEntry
+    pub entry : WorldEntry
+    pub after : List WorldEntry
+    pub whole : w.entries ≡ before ++ entry ∷ after
+    pub own : entry.member ≡ m
+    pub no_later : entry.time ≤ time
+    pub within : time < w.span
+    pub below : m < members_of w
+    pub kept : Record
+    pub held : HoldsBy w ticket m (moment_at before entry after whole) kept
+    pub in_force : IsInForce kept (clock_at w m time)
+
+  -- a clock does not fall
+  rises_to : (m early late : ℕ) → m < members_of w → early ≤ late → late < w.span → clock_at w m early ≤ clock_at w m late
+  rises_to m early late below on within =
+      (is_world.true_clocks.clocks m below).rises early late on
+      (let long = is_world.true_clocks.long m below in omega (arith, long, within))
+
+  -- a record is in force at a time where it is so later
+  in_force_before : (m early late : ℕ) (kept : Record) → m < members_of w → early ≤ late → late < w.span
+      → IsInForce kept (clock_at w m late) → IsInForce kept (clock_at w m early)
+  in_force_before m early late kept below on within =
+      some_more kept.lease (λ l. clock_at w m late < l.until) (λ l. clock_at w m early < l.until)
+      (λ l later. let n = rises_to m early late below on within in omega (arith, later, n))
+
+  held_by : (m : ℕ) (x : Follower) → IsFollowerAt w ticket m x → (time : ℕ) → MayServe w m x time → Held m time
+  held_by m x is time serving = record {
+    before = at.before;
+    entry = entry;
+    after = at.after;
+    whole = at.whole;
+    own = line.sent.own;
+    no_later = line.sent.no_later;
+    within = serving.within;
+    below = is.below;
+    kept = kept.0;
+    held = (
+      is.below,
+      subst (λ (n : ℕ). Has (may_at w ticket n moment) kept.0) line.sent.own kept.1,
+      in_force_before m entry.time time kept.0 is.below line.sent.no_later serving.within in_force,
+    );
+    in_force = in_force;
+  }
+    where
+      c : Covered w m x.following time
+      c = covered w ticket m x is time serving
+
+      line : ToldLine w m x.following c.until time
+      line = c.line
+
+      entry : WorldEntry
+      entry = line.sent.entry
+
+      at : Place w.entries entry
+      at = place_of w.entries entry line.sent.one
+
+      moment : Moment w
+      moment = moment_at at.before entry at.after at.whole
+
+      digits : List ℕ
+      digits = decimal line.line.seconds
+
+      spelled : get_or (lines_of line.text) line.place [] ≡ ticket.name ++ 32 ∷ (printed (address_at w entry.member) ++ 32 ∷ digits)
+      spelled =
+          line.line.spelled ∙ ap (λ (start : List ℕ). start ++ digits) is.line ∙ ticket_line ticket.name (address_at w m) digits
+          ∙ ap (λ (n : ℕ). ticket.name ++ 32 ∷ (printed (address_at w n) ++ 32 ∷ digits)) (sym line.sent.own)
+
+      tells : Tells w ticket entry (IsListed digits)
+      tells = inl (
+        line.sent.bytes,
+        line.message,
+        line.sent.sent,
+        line.sent.same,
+        inr (line.text, line.command, line.content, subst (λ (l : List ℕ). HasLine line.text l) spelled (line_at line.text line.place line.there)),
+      )
+
+      kept : (kept : Record) × Has (may_at w ticket entry.member moment) kept × IsSomeAnd kept.lease (λ lease. BearsOut (IsListed digits) lease.until)
+      kept = who_tells_has_kept w is_world ticket automatic moment entry (at.after, refl) (IsListed digits) tells
+
+      in_force : IsInForce kept.0 (clock_at w m time)
+      in_force =
+          some_more (kept.0).lease (λ l. BearsOut (IsListed digits) l.until) (λ l. clock_at w m time < l.until)
+          (λ l bears.
+          let millis = line.line.millis in
+          let small = line.line.small in
+          let below = c.below in
+          let no_less = no_earlier line.line.seconds l.until (omega (arith, millis, small)) bears in
+          omega (arith, millis, below, no_less))
+          kept.2
+
+  -- where one told of its lease behind the other, that one gave its lease back in between
+  first_gave_back : (s t time : ℕ) → s ≢ t → (x : Held s time) (y : Held t time)
+      → IsBehind x.before x.entry x.after y.before y.entry y.after → GaveBack w ticket s time
+  first_gave_back s t time ne x y behind =
+      ⊎_elim
+      (λ (apart : IsApartFrom (cluster_of w ticket) s x.kept early.time late.time).
+      absurd (
+      let a : AreApart (cluster_of w ticket) late.time late.time =
+      apart late.time later.not_before (omega arith)
+      (in_force_before s late.time time x.kept x.below y.no_later y.within x.in_force) in
+      let n : w.ticks * (1000000 * ticket.times.after) < 1001000 * (late.time - late.time) = a in omega (arith, n)))
+      (λ (given : ReleasedIn w ticket s x.kept early.before (x.entry ∷ behind.more)). record {
+        moment = early;
+        between = x.entry ∷ behind.more;
+        after = y.entry ∷ y.after;
+        whole = ap (λ (rest : List WorldEntry). x.entry ∷ rest) behind.rest_is;
+        no_later = let l = y.no_later in omega (arith, in_order, l);
+        kept = x.kept;
+        held = x.held;
+        given_back = given;
+      })
+      (worlds_are_apart w is_world ticket automatic early late (x.entry ∷ behind.more) later s t ne x.kept x.held (y.kept, y.held))
+    where
+      early : Moment w
+      early = moment_at x.before x.entry x.after x.whole
+
+      late : Moment w
+      late = moment_at y.before y.entry y.after y.whole
+
+      in_order : last_time x.entry.time behind.more ≤ y.entry.time
+      in_order =
+          subst (λ (n : ℕ). n ≤ y.entry.time)
+          (ap (λ (entries : List WorldEntry). last_time 0 entries) behind.late_is ∙ last_join 0 x.before behind.more x.entry)
+          (is_world.form.in_order y.before y.after y.entry y.whole)
+
+      later : IsLater w early late (x.entry ∷ behind.more)
+      later = record {
+        entries = behind.late_is;
+        not_before =
+            let up = rises w is_world.form x.before x.entry behind.more (y.entry ∷ y.after)
+            (x.whole ∙ ap (λ (rest : List WorldEntry). x.before ++ x.entry ∷ rest) behind.rest_is) in
+            omega (arith, up, in_order);
+      }
+
+pub serves_under_a_lease : ServesUnderALease
+serves_under_a_lease w is_world ticket automatic m x is time serving =
+    let h = held_by w is_world ticket automatic m x is time serving in record {
+      moment = moment_at w is_world ticket automatic h.before h.entry h.after h.whole;
+      no_later = h.no_later;
+      kept = h.kept;
+      held = h.held;
+      in_force = h.in_force;
+    }
+
+pub services_are_apart : ServicesAreApart
+services_are_apart w is_world ticket automatic s t ne x y is_x is_y time serving_x serving_y =
+    ⊎_elim
+    (λ (same : h.entry ≡ k.entry). absurd (ne (sym h.own ∙ ap (λ (e : WorldEntry). e.member) same ∙ k.own)))
+    (λ q.
+    ⊎_elim
+    (λ (behind : IsBehind h.before h.entry h.after k.before k.entry k.after).
+    inl (first_gave_back w is_world ticket automatic s t time ne h k behind))
+    (λ (behind : IsBehind k.before k.entry k.after h.before h.entry h.after).
+    inr (first_gave_back w is_world ticket automatic t s time (λ e. ne (sym e)) k h behind))
+    q)
+    (two_places h.before k.before h.entry k.entry h.after k.after (sym h.whole ∙ k.whole))
+  where
+    h : Held w is_world ticket automatic s time
+    h = held_by w is_world ticket automatic s x is_x time serving_x
+
+    k : Held w is_world ticket automatic t time
+    k = held_by w is_world ticket automatic t y is_y time serving_y

@@ -1,0 +1,130 @@
+-- Services that follow a ticket at the sites of a world.
+use Rattle.std.specs.Prelude.{◌≡◌, ◌≢◌, ◌⊎◌, ◌++◌, ℕ, ◌+◌, ◌*◌, ◌<◌, ◌≤◌, List, [], ◌∷◌, map, Option, Some, None, Ok}
+use Rattle.booth_conf.specs.declared.tickets.TicketConf.{TicketConf}
+use Rattle.booth_rec.specs.declared.record.Record.{Record}
+use Rattle.booth_rec.specs.Record.{IsInForce}
+use Rattle.booth_wire.specs.PlainMessage.{PlainMessage}
+use Rattle.booth_wire.specs.Reading.{decoded}
+use Rattle.booth_node.specs.Records.{Has}
+use Rattle.booth_node.specs.World.{WorldEntry, World, members_of, clock_at, last_time, IsSend, IsWorld}
+use Rattle.booth_node.specs.Held.{Moment, IsAutomatic, HoldsBy}
+use Rattle.booth_world.specs.Tellers.{address_at}
+use Rattle.booth_world.specs.Worlds.{ReleasedIn}
+use Rattle.booth_follow_rule.specs.Known.{AllRows, Started, nothing_known}
+use Rattle.booth_follow_rule.specs.Laws.{IsPrompt, known_from}
+use Rattle.booth_following.specs.declared.following.Following.{Following}
+use Rattle.booth_following.specs.Laws.{IsAuthentic, rows_in}
+use Rattle.booth_following.specs.Lists.{Part, line_start}
+use Rattle.booth_following.specs.Turns.{AreTurns, Turn, first_seat, seat_from}
+
+-- ---- followers
+
+-- a turn of a follower, and the true time of its reading
+pub record TimedTurn : Type 0 where
+  pub time : ℕ
+  pub turn : Turn
+
+abbrev pub turns_of : List TimedTurn → List Turn
+turns_of turns = map (λ t. t.turn) turns
+
+-- A follower, its turns, and what the outside takes at most: while its service runs, between two readings; and for a
+-- kill. In ms.
+pub record Follower : Type 0 where
+  pub following : Following
+  pub turns : List TimedTurn
+  pub gap : ℕ
+  pub quick : ℕ
+
+-- The member sent this message, no later than at this time.
+pub record WasSentBy (w : World) (m time : ℕ) (message : PlainMessage) : Type 0 where
+  pub entry : WorldEntry
+  pub one : Has w.entries entry
+  pub own : entry.member ≡ m
+  pub no_later : entry.time ≤ time
+  pub bytes : List ℕ
+  pub sent : IsSend entry.what bytes
+  pub same : decoded bytes ≡ Ok message
+
+-- the answer that a turn takes for its site's, to the request that was sent at this reading, that site has sent
+abbrev pub HearsItsSite : World → ℕ → Following → Option ℕ → TimedTurn → Type 0
+HearsItsSite w m f None t = Unit {0}
+HearsItsSite w m f (Some asked) t =
+    (message : PlainMessage) (part : Part) → IsAuthentic f asked t.turn.bytes message part
+    → WasSentBy w m t.time message
+
+abbrev pub time_after : ℕ → List TimedTurn → ℕ
+time_after time [] = time
+time_after time (t ∷ turns) = time_after t.time turns
+
+-- when the list was asked for last, after these turns
+abbrev pub asked_after : Following → List TimedTurn → Option ℕ
+asked_after f before = (seat_from (first_seat f) (turns_of before)).asked
+
+-- A turn of a follower at a member, behind others: its clock is that member's, and it hears that member.
+pub record IsTurnAt (w : World) (m : ℕ) (f : Following) (before : List TimedTurn) (t : TimedTurn) : Type 0 where
+  pub in_order : time_after 0 before ≤ t.time
+  pub within : t.time < w.span
+  pub reads : t.turn.reading ≡ clock_at w m t.time
+  pub hears : HearsItsSite w m f (asked_after f before) t
+
+-- A follower of the ticket at a member of the world, whose turns are those of a following. The outside is prompt, and
+-- the margins have room for that.
+pub record IsFollowerAt (w : World) (ticket : TicketConf) (m : ℕ) (x : Follower) : Type 0 where
+  pub below : m < members_of w
+  pub line : x.following.line ≡ line_start ticket.name (address_at w m)
+  pub told : AreTurns x.following (first_seat x.following) (turns_of x.turns)
+  pub at : (before after : List TimedTurn) (t : TimedTurn) → x.turns ≡ before ++ t ∷ after
+      → IsTurnAt w m x.following before t
+  pub room : 2 * x.gap + x.quick ≤ x.following.margins.kill
+  pub margin : x.following.margins.kill ≤ x.following.margins.margin
+  pub prompt : AllRows (IsPrompt x.gap x.quick) nothing_known (rows_in x.following (turns_of x.turns))
+
+-- ---- their services
+
+-- The service may run at a true time. After some turn it was started, and no stop or kill is known to be done; and no
+-- more than the gap is over since that turn's reading.
+pub record MayServe (w : World) (m : ℕ) (x : Follower) (time : ℕ) : Type 0 where
+  pub before : List TimedTurn
+  pub last : TimedTurn
+  pub after : List TimedTurn
+  pub whole : x.turns ≡ before ++ last ∷ after
+  pub started :
+      (known_from nothing_known (rows_in x.following (turns_of (before ++ last ∷ [])))).service ≡ Started
+  pub since : last.time ≤ time
+  pub within : time < w.span
+  pub soon : clock_at w m time ≤ last.turn.reading + x.gap
+
+-- ---- the laws
+
+-- Before this time the member held the ticket by a record that it may have kept, which is in force at that time.
+pub record HeldUntil (w : World) (ticket : TicketConf) (m time : ℕ) : Type 0 where
+  pub moment : Moment w
+  pub no_later : moment.time ≤ time
+  pub kept : Record
+  pub held : HoldsBy w ticket m moment kept
+  pub in_force : IsInForce kept (clock_at w m time)
+
+abbrev pub ServesUnderALease : Type 0
+ServesUnderALease =
+    (w : World) → IsWorld w → (ticket : TicketConf) → IsAutomatic w ticket
+    → (m : ℕ) (x : Follower) → IsFollowerAt w ticket m x
+    → (time : ℕ) → MayServe w m x time → HeldUntil w ticket m time
+
+-- The member held the ticket by a record, and gave its lease back after that, no later than at this time.
+pub record GaveBack (w : World) (ticket : TicketConf) (m time : ℕ) : Type 0 where
+  pub moment : Moment w
+  pub between : List WorldEntry
+  pub after : List WorldEntry
+  pub whole : moment.after ≡ between ++ after
+  pub no_later : last_time moment.time between ≤ time
+  pub kept : Record
+  pub held : HoldsBy w ticket m moment kept
+  pub given_back : ReleasedIn w ticket m kept moment.before between
+
+-- Where services at two sites may run at one time, one of the sites gave its lease back before.
+abbrev pub ServicesAreApart : Type 0
+ServicesAreApart =
+    (w : World) → IsWorld w → (ticket : TicketConf) → IsAutomatic w ticket
+    → (s t : ℕ) → s ≢ t → (x y : Follower) → IsFollowerAt w ticket s x → IsFollowerAt w ticket t y
+    → (time : ℕ) → MayServe w s x time → MayServe w t y time
+    → GaveBack w ticket s time ⊎ GaveBack w ticket t time

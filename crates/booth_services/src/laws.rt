@@ -1,0 +1,13 @@
+//! The laws of services in worlds, each the contract of a function that does nothing.
+ghost use Rattle.booth_services.specs.Services.{ServesUnderALease, ServicesAreApart};
+
+/// While a service may run, a lease is in force that its site kept when it told the list of it.
+pub fn serves_under_a_lease()
+    ensures { ServesUnderALease }
+{}
+
+/// The services of a ticket at two sites do not run at one moment, unless one of the sites gave its lease back after it
+/// told the list of it.
+pub fn services_are_apart()
+    ensures { ServicesAreApart }
+{}
