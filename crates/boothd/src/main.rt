@@ -1,15 +1,21 @@
-//! The program `boothd`: its words over the real host and the real links, whose calls a log tells on standard error.
+//! The program `boothd`: its words over the real host and the real links, whose calls a log tells on standard error,
+//! and a journal says where the environment names one.
 #![tactic(auto)]
 
 mod error_lines;
+mod journal_path;
 
 use booth_daemon::{Outcome, boothd};
+use booth_host::Host;
+use booth_journal::JournalHost;
+use booth_journal_file::JournalFile;
 use booth_links::RealLinks;
 use booth_log::LogHost;
 use booth_real::RealHost;
 use booth_stream::StreamHost;
 use booth_words::{Asked, Program, ask};
 use error_lines::ErrorLines;
+use journal_path::journal_path;
 use std::alloc::{AllocError, Global};
 use std::env;
 use std::io::{ErrorKind, Write};
@@ -31,6 +37,17 @@ fn await_clock(alloc: Global, words: &[String], host: &mut RealHost) {
     }
 }
 
+// Runs the words over a host, whose calls the log tells.
+fn serve<H: Host + Drop>(
+    rt: HostRuntime,
+    alloc: Global,
+    words: &[String],
+    host: H,
+) -> Result<Outcome, AllocError> {
+    let mut host = LogHost::new(alloc, host, ErrorLines::new(rt))?;
+    Ok(boothd(alloc, words, &mut host))
+}
+
 fn run(rt: HostRuntime, alloc: Global) -> Result<Outcome, AllocError> {
     let words = words(&rt, alloc)?;
     // (the host comes first: it fills the places of standard streams that were closed, so that no file of the links
@@ -41,8 +58,13 @@ fn run(rt: HostRuntime, alloc: Global) -> Result<Outcome, AllocError> {
     let mark = links.ready_mark(alloc)?;
     host.wake_on(links.ready_file(), mark);
     let host = StreamHost::new(alloc, host, links, 0)?;
-    let mut host = LogHost::new(alloc, host, ErrorLines::new(rt))?;
-    Ok(boothd(alloc, &words, &mut host))
+    match journal_path(&rt)? {
+        Some(path) => {
+            let host = JournalHost::new(alloc, host, JournalFile::new(rt, path))?;
+            serve(rt, alloc, &words, host)
+        }
+        None => serve(rt, alloc, &words, host),
+    }
 }
 
 fn main(rt: HostRuntime) -> ExitCode {

@@ -1,0 +1,4 @@
+pub mod HexLemmas
+pub mod JournalLemmas
+pub mod PieceLemmas
+pub mod RecordLemmas

@@ -1,0 +1,274 @@
+//! A host over any host that writes down each call and its answer.
+ghost use Rattle.std.specs.Prelude.{◌≡◌, ◌≤◌, ◌++◌, [], ◌∷◌, IfOk, false, length, List};
+ghost use Rattle.booth_host.specs.Past.{GrewBy};
+ghost use Rattle.booth_host.specs.Causes.{HasCause, HasReadCause};
+ghost use Rattle.booth_host.specs.declared.entry.Entry.{Entry};
+ghost use Rattle.hex.specs.Hex.{encode_lower};
+ghost use Rattle.booth_journal.specs.Journal.{Wrote};
+ghost use Rattle.booth_journal.specs.Lines.{answer_text, arrival_answer, call_text, done_answer, hex_text, kept_answer, line, lines_of};
+ghost use Rattle.booth_journal.specs.declared.said.Call.{Call};
+
+use crate::Sink;
+use crate::draft::Draft;
+use crate::journal::Journal;
+use crate::spelling::{
+    data_head, done_line, ended_line, found_line, job_line, keep_line, kept_line, open_line,
+    put_bytes, reading_line, send_head,
+};
+use booth_base::{Address, ByteText, Name, Peer};
+use booth_host::{Arrival, DATAGRAM_BYTES, Datagram, Failed, Host, Job, Place, ReadFault};
+use booth_rec::Record;
+use std::alloc::{AllocError, Global};
+
+/// A host over a host: each call is the inner one's, and is answered as that one answers. A call that a journal says is
+/// written into the sink before it is made, and its answer behind it, until an append fails.
+#[derive(Drop)]
+pub struct JournalHost<H, S> {
+    host: H,
+    journal: Journal<S>,
+    // the line that is written, whose bytes mean nothing between two lines
+    draft: Draft,
+}
+
+impl<H: Host, S: Sink> JournalHost<H, S> {
+    /// A host over this host, whose journal goes into this sink. It takes here all memory that it will take.
+    pub fn new(alloc: Global, host: H, sink: S) -> Result<JournalHost<H, S>, AllocError>
+    where
+        H: Drop,
+        S: Drop,
+        ensures made { IfOk result (λ made. (made.host ≡ host) × (made.journal.sink ≡ sink)) }
+        ensures works { IfOk result (λ made. made.journal.failed ≡ false) }
+    {
+        let draft = Draft::new(alloc)?;
+        Ok(JournalHost {
+            host,
+            journal: Journal::new(sink),
+            draft,
+        })
+    }
+
+    /// What holds the journal.
+    pub fn sink(&self) -> &S
+        ensures { result.now ≡ self.now.journal.sink }
+    {
+        &self.journal.sink
+    }
+
+    /// Whether an append has failed: nothing is written any more.
+    pub fn has_failed(&self) -> bool
+        ensures { result ≡ self.now.journal.failed }
+    {
+        self.journal.failed
+    }
+
+    // Writes the line of the draft.
+    fn write_draft(&mut self)
+        ensures wrote { Wrote S.held S.faults self.old.journal self.new.journal self.old.draft }
+        ensures host { self.new.host ≡ self.old.host }
+    {
+        self.journal.write(self.draft.bytes());
+    }
+
+    // Writes bytes in hexadecimal digits, in pieces that have room in the draft.
+    fn write_pieces(&mut self, bytes: &[u8])
+        ensures wrote { Wrote S.held S.faults self.old.journal self.new.journal (encode_lower bytes.now) }
+        ensures host { self.new.host ≡ self.old.host }
+    {
+        let mut rest = bytes;
+        'pieces: while !rest.is_empty() {
+            let (piece, left) = rest.split_at(rest.len().min(DATAGRAM_BYTES));
+            self.draft.begin(b"");
+            self.draft.put_hex(piece);
+            self.write_draft();
+            rest = left;
+        }
+    }
+
+    // Writes the line that the draft begins and these bytes end.
+    fn write_with(&mut self, bytes: &[u8])
+        requires { length self.old.draft ≤ 96 }
+        ensures wrote { Wrote S.held S.faults self.old.journal self.new.journal
+            (line (self.old.draft ++ hex_text bytes.now)) }
+        ensures host { self.new.host ≡ self.old.host }
+    {
+        if bytes.len() <= DATAGRAM_BYTES {
+            put_bytes(bytes, &mut self.draft);
+            self.draft.put(b"\n");
+            self.write_draft();
+        } else {
+            self.write_draft();
+            self.write_pieces(bytes);
+            self.journal.write(b"\n");
+        }
+    }
+
+    // Writes whether a call was done.
+    fn write_done(&mut self, answer: &Result<(), Failed>)
+        ensures wrote { Wrote S.held S.faults self.old.journal self.new.journal
+            (line (answer_text (done_answer answer.now))) }
+        ensures host { self.new.host ≡ self.old.host }
+    {
+        self.journal.write(done_line(answer));
+    }
+
+    // Writes what a wait brought.
+    fn write_arrival(&mut self, answer: &Result<Arrival, Failed>, bytes: &[u8])
+        ensures wrote { Wrote S.held S.faults self.old.journal self.new.journal
+            (line (answer_text (arrival_answer answer.now bytes.now))) }
+        ensures host { self.new.host ≡ self.old.host }
+    {
+        match answer {
+            Ok(Arrival::Datagram(from)) => {
+                data_head(from, &mut self.draft);
+                self.write_with(bytes);
+            }
+            Ok(Arrival::Handler { job, status }) => {
+                ended_line(*job, *status, &mut self.draft);
+                self.write_draft();
+            }
+            Ok(Arrival::Quiet) => self.journal.write(b"quiet\n"),
+            Ok(Arrival::Stop) => self.journal.write(b"stop\n"),
+            Err(Failed) => self.journal.write(b"fail\n"),
+        }
+    }
+}
+
+impl<H: Host, S: Sink> Host for JournalHost<H, S> {
+    ghost past = { λ h. H.past h.host };
+
+    ghost faults = { λ h. H.faults h.host };
+
+    fn open(&mut self, place: &Place) -> Result<(), Failed>
+        ensures past { GrewBy (H.past self.old.host) (H.past self.new.host)
+            (Entry.Open place.now.local place.now.port place.now.records place.now.conf_path result ∷ []) }
+        ensures cause { HasCause (H.faults self.old.host) (H.faults self.new.host) result }
+        ensures wrote { Wrote S.held S.faults self.old.journal self.new.journal
+            (lines_of (Entry.Open place.now.local place.now.port place.now.records place.now.conf_path result)) }
+    {
+        open_line(&place.local, &mut self.draft);
+        self.write_draft();
+        let answer = self.host.open(place);
+        self.write_done(&answer);
+        answer
+    }
+
+    fn next(&mut self, wait_ms: u64, into: &mut Datagram) -> Result<Arrival, Failed>
+        ensures past { GrewBy (H.past self.old.host) (H.past self.new.host)
+            (Entry.Next wait_ms result into.new ∷ []) }
+        ensures cause { HasCause (H.faults self.old.host) (H.faults self.new.host) result }
+        ensures wrote { Wrote S.held S.faults self.old.journal self.new.journal
+            (lines_of (Entry.Next wait_ms result into.new)) }
+    {
+        self.journal.write(b"next\n");
+        let answer = self.host.next(wait_ms, into);
+        self.write_arrival(&answer, into.bytes());
+        answer
+    }
+
+    fn now(&mut self) -> u64
+        ensures past { GrewBy (H.past self.old.host) (H.past self.new.host)
+            (Entry.Now result ∷ []) }
+        ensures later { H.faults self.old.host ≤ H.faults self.new.host }
+        ensures wrote { Wrote S.held S.faults self.old.journal self.new.journal
+            (lines_of (Entry.Now result)) }
+    {
+        self.journal.write(b"now\n");
+        let reading = self.host.now();
+        reading_line(reading, &mut self.draft);
+        self.write_draft();
+        reading
+    }
+
+    fn send(&mut self, to: &Peer, bytes: &[u8]) -> Result<(), Failed>
+        ensures past { GrewBy (H.past self.old.host) (H.past self.new.host)
+            (Entry.Send to.now bytes.now result ∷ []) }
+        ensures cause { HasCause (H.faults self.old.host) (H.faults self.new.host) result }
+        ensures wrote { Wrote S.held S.faults self.old.journal self.new.journal
+            (lines_of (Entry.Send to.now bytes.now result)) }
+    {
+        send_head(to, &mut self.draft);
+        self.write_with(bytes);
+        let answer = self.host.send(to, bytes);
+        self.write_done(&answer);
+        answer
+    }
+
+    fn kept(&mut self, ticket: &Name) -> Result<Option<Record>, Failed>
+        ensures past { GrewBy (H.past self.old.host) (H.past self.new.host)
+            (Entry.Kept ticket.now result ∷ []) }
+        ensures cause { HasCause (H.faults self.old.host) (H.faults self.new.host) result }
+        ensures wrote { Wrote S.held S.faults self.old.journal self.new.journal
+            (lines_of (Entry.Kept ticket.now result)) }
+    {
+        kept_line(ticket, &mut self.draft);
+        self.write_draft();
+        let answer = self.host.kept(ticket);
+        found_line(&answer, &mut self.draft);
+        self.write_draft();
+        answer
+    }
+
+    fn keep(&mut self, ticket: &Name, rec: &Record) -> Result<(), Failed>
+        ensures past { GrewBy (H.past self.old.host) (H.past self.new.host)
+            (Entry.Keep ticket.now rec.now result ∷ []) }
+        ensures cause { HasCause (H.faults self.old.host) (H.faults self.new.host) result }
+        ensures wrote { Wrote S.held S.faults self.old.journal self.new.journal
+            (lines_of (Entry.Keep ticket.now rec.now result)) }
+    {
+        keep_line(ticket, rec, &mut self.draft);
+        self.write_draft();
+        let answer = self.host.keep(ticket, rec);
+        self.write_done(&answer);
+        answer
+    }
+
+    fn start(&mut self, job: &Job) -> Result<(), Failed>
+        ensures past { GrewBy (H.past self.old.host) (H.past self.new.host)
+            (Entry.Start job.now.number job.now.ticket job.now.handler job.now.local job.now.expires result ∷ []) }
+        ensures cause { HasCause (H.faults self.old.host) (H.faults self.new.host) result }
+        ensures wrote { Wrote S.held S.faults self.old.journal self.new.journal
+            (lines_of (Entry.Start job.now.number job.now.ticket job.now.handler job.now.local job.now.expires result)) }
+    {
+        job_line(job, &mut self.draft);
+        self.write_draft();
+        let answer = self.host.start(job);
+        self.write_done(&answer);
+        answer
+    }
+
+    fn read_file(&mut self, alloc: Global, path: &str) -> Result<ByteText, ReadFault>
+        ensures past { GrewBy (H.past self.old.host) (H.past self.new.host)
+            (Entry.ReadFile path.now result ∷ []) }
+        ensures cause { HasReadCause (H.faults self.old.host) (H.faults self.new.host) result }
+        ensures journal { self.new.journal ≡ self.old.journal }
+    {
+        self.host.read_file(alloc, path)
+    }
+
+    fn lock(&mut self, path: &str) -> Result<bool, Failed>
+        ensures past { GrewBy (H.past self.old.host) (H.past self.new.host)
+            (Entry.Lock path.now result ∷ []) }
+        ensures cause { HasCause (H.faults self.old.host) (H.faults self.new.host) result }
+        ensures journal { self.new.journal ≡ self.old.journal }
+    {
+        self.host.lock(path)
+    }
+
+    fn out(&mut self, bytes: &[u8]) -> Result<(), Failed>
+        ensures past { GrewBy (H.past self.old.host) (H.past self.new.host)
+            (Entry.Out bytes.now result ∷ []) }
+        ensures cause { HasCause (H.faults self.old.host) (H.faults self.new.host) result }
+        ensures journal { self.new.journal ≡ self.old.journal }
+    {
+        self.host.out(bytes)
+    }
+
+    fn err(&mut self, bytes: &[u8]) -> Result<(), Failed>
+        ensures past { GrewBy (H.past self.old.host) (H.past self.new.host)
+            (Entry.Err bytes.now result ∷ []) }
+        ensures cause { HasCause (H.faults self.old.host) (H.faults self.new.host) result }
+        ensures journal { self.new.journal ≡ self.old.journal }
+    {
+        self.host.err(bytes)
+    }
+}

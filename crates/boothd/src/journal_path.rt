@@ -1,0 +1,19 @@
+//! Where the journal goes.
+
+use std::alloc::AllocError;
+use std::env;
+use std::env::VarError;
+
+/// The variable of the environment that names the journal's file.
+const JOURNAL: &str = "BOOTH_JOURNAL";
+
+/// The path of the journal, or none where the environment names no file. A name that is no UTF-8 is none that opens.
+pub(crate) fn journal_path(rt: &HostRuntime) -> Result<Option<String>, AllocError> {
+    match env::var(rt, JOURNAL) {
+        Ok(path) if path.is_empty() => Ok(None),
+        Ok(path) => Ok(Some(path)),
+        Err(VarError::NotPresent) => Ok(None),
+        Err(VarError::NotUnicode) => Ok(Some(String::new(rt.alloc()))),
+        Err(VarError::OutOfMemory) => Err(AllocError),
+    }
+}
