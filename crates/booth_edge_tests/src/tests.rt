@@ -3,6 +3,7 @@ mod auth;
 mod carried;
 mod client;
 mod conf;
+mod journal;
 mod log;
 mod memory;
 mod moves;

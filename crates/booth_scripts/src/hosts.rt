@@ -1,9 +1,10 @@
 //! A host in memory from a text, with a line for each thing that it is made of.
 //!
 //! `first` and a number is what the clock reads before the first step; `file` and a text is the configuration at
-//! /etc/booth.conf, and `more` what stands behind that or the good one; `key` and a text is the file /k; `record` and a
-//! ticket stand before a record. `fails` names what fails before the first step, or `taken` for a lock that another
-//! holds, and `room` how many calls are told. Any other line is a step. In texts `$` ends a line.
+//! /etc/booth.conf, and `more` what stands behind that or the good one; `key` and a text is the file /k, `old` and a
+//! text the file /old; `record` and a ticket stand before a record. `fails` names what fails before the first step, or
+//! `taken` for a lock that another holds, and `room` how many calls are told. Any other line is a step. In texts `$`
+//! ends a line.
 use crate::records::record_of;
 use crate::steps::step_of;
 use crate::words::{bytes_of, moment_of, number_of};
@@ -25,6 +26,7 @@ struct Given {
     script: Script,
     conf: Vec<u8>,
     key: Vec<u8>,
+    old: Vec<u8>,
     records: Records,
     room: u32,
 }
@@ -46,6 +48,7 @@ impl Given {
             },
             conf: bytes_of(alloc, GOOD)?,
             key: Vec::new(alloc),
+            old: Vec::new(alloc),
             records: Vec::new(alloc),
             room: ROOM,
         })
@@ -59,6 +62,7 @@ impl Given {
             "file" => self.conf = bytes_of(alloc, rest)?,
             "more" => self.conf.extend_from_slice(&bytes_of(alloc, rest)?).ok()?,
             "key" => self.key = bytes_of(alloc, rest)?,
+            "old" => self.old = bytes_of(alloc, rest)?,
             "record" => self.records.push(kept_of(rest)?).ok()?,
             "fails" => set_fails(&mut self.script, rest)?,
             "room" => self.room = number_of(rest)?,
@@ -106,6 +110,7 @@ pub fn host_of(alloc: Global, lines: &str) -> Option<MemoryHost> {
     let mut files = Vec::new(alloc);
     add(&mut files, "/etc/booth.conf", given.conf)?;
     add(&mut files, "/k", given.key)?;
+    add(&mut files, "/old", given.old)?;
     MemoryHost::new(alloc, given.script, files, given.records, given.room).ok()
 }
 

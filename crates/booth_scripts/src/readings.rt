@@ -115,16 +115,21 @@ fn put_attribute(alloc: Global, line: &mut String, body: &[u8]) -> Option<()> {
     (value.len() == 128).then_some(())
 }
 
-// The authentication part: hash id 2, the MAC, and four zeros.
-fn put_auth(alloc: Global, line: &mut String, auth: &[u8]) -> Option<()> {
-    if number_at(auth, 0)? != 2 || number_at(auth, 24)? != 0 {
-        return None;
-    }
-    put(line, " mac ")?;
-    for byte in auth.get(4..24)? {
+fn put_mac(alloc: Global, line: &mut String, name: &str, mac: &[u8]) -> Option<()> {
+    put(line, name)?;
+    for byte in mac {
         put(line, format!(in alloc; "{byte:02x}").ok()?.as_str())?;
     }
     Some(())
+}
+
+// The authentication part: hash id 2, a MAC and four zeros, or hash id 3 and the 24 bytes of a long one.
+fn put_auth(alloc: Global, line: &mut String, auth: &[u8]) -> Option<()> {
+    match number_at(auth, 0)? {
+        2 if number_at(auth, 24)? == 0 => put_mac(alloc, line, " mac ", auth.get(4..24)?),
+        3 => put_mac(alloc, line, " long mac ", auth.get(4..28)?),
+        _ => None,
+    }
 }
 
 // The magic number, the version, and the frame's length.

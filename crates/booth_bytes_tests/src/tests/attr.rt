@@ -39,9 +39,8 @@ fn fill(rt: &impl Abort, attrs: &mut Attrs, ticket: u32)
 {
     for number in 0..64 {
         let name = numbered(rt, number);
-        assert_eq!(rt;
-            set(rt, attrs, ticket, &name, b"v"),
-            SetAnswer::Done,
+        assert!(rt;
+            set(rt, attrs, ticket, &name, b"v") == SetAnswer::Done,
             "{number}"
         );
     }
@@ -53,7 +52,7 @@ fn lists(rt: &impl Abort, alloc: Global, attrs: &Attrs, ticket: u32, lines: &[u8
 {
     let mut text = TextBuf::new(alloc).expect(rt, "memory");
     attrs.list(ticket, &mut text);
-    assert_eq!(rt; text.bytes(), lines);
+    assert!(rt; text.bytes() == lines);
 }
 
 #[test]
@@ -66,8 +65,8 @@ fn a_new_name_goes_last_and_one_that_is_there_keeps_its_place(rt: HostRuntime) {
     set(&rt, &mut attrs, 1, &b, b"other");
     set(&rt, &mut attrs, 0, &a, b"");
     lists(&rt, rt.alloc(), &attrs, 0, b"a \nb two words\n");
-    assert_eq!(rt; attrs.delete(0, &a), DelAnswer::Done);
-    assert_eq!(rt; attrs.delete(0, &a), DelAnswer::NoSuch);
+    assert!(rt; attrs.delete(0, &a) == DelAnswer::Done);
+    assert!(rt; attrs.delete(0, &a) == DelAnswer::NoSuch);
     set(&rt, &mut attrs, 0, &a, b"3");
     lists(&rt, rt.alloc(), &attrs, 0, b"b two words\na 3\n");
     lists(&rt, rt.alloc(), &attrs, 1, b"b other\n");
@@ -78,15 +77,12 @@ fn a_ticket_has_at_most_64_names(rt: HostRuntime) {
     let mut attrs = attributes(&rt, rt.alloc(), 2);
     fill(&rt, &mut attrs, 0);
     let more = numbered(&rt, 64);
-    assert_eq!(rt; set(&rt, &mut attrs, 0, &more, b"v"), SetAnswer::Full);
+    assert!(rt; set(&rt, &mut attrs, 0, &more, b"v") == SetAnswer::Full);
     assert!(rt; attrs.get(0, &more).is_none());
-    assert_eq!(rt;
-        set(&rt, &mut attrs, 0, &numbered(&rt, 7), b"w"),
-        SetAnswer::Done
-    );
-    assert_eq!(rt; set(&rt, &mut attrs, 1, &more, b"v"), SetAnswer::Done);
-    assert_eq!(rt; attrs.delete(0, &numbered(&rt, 63)), DelAnswer::Done);
-    assert_eq!(rt; set(&rt, &mut attrs, 0, &more, b"v"), SetAnswer::Done);
+    assert!(rt; set(&rt, &mut attrs, 0, &numbered(&rt, 7), b"w") == SetAnswer::Done);
+    assert!(rt; set(&rt, &mut attrs, 1, &more, b"v") == SetAnswer::Done);
+    assert!(rt; attrs.delete(0, &numbered(&rt, 63)) == DelAnswer::Done);
+    assert!(rt; set(&rt, &mut attrs, 0, &more, b"v") == SetAnswer::Done);
 }
 
 /// Sets 64 names of each of the first 8 tickets.
@@ -104,10 +100,10 @@ fn all_tickets_have_at_most_512_attributes(rt: HostRuntime) {
     let mut attrs = attributes(&rt, rt.alloc(), 9);
     fill_eight(&rt, &mut attrs);
     let one = numbered(&rt, 0);
-    assert_eq!(rt; set(&rt, &mut attrs, 8, &one, b"v"), SetAnswer::Full);
-    assert_eq!(rt; set(&rt, &mut attrs, 7, &one, b"w"), SetAnswer::Done);
-    assert_eq!(rt; attrs.delete(3, &one), DelAnswer::Done);
-    assert_eq!(rt; set(&rt, &mut attrs, 8, &one, b"v"), SetAnswer::Done);
+    assert!(rt; set(&rt, &mut attrs, 8, &one, b"v") == SetAnswer::Full);
+    assert!(rt; set(&rt, &mut attrs, 7, &one, b"w") == SetAnswer::Done);
+    assert!(rt; attrs.delete(3, &one) == DelAnswer::Done);
+    assert!(rt; set(&rt, &mut attrs, 8, &one, b"v") == SetAnswer::Done);
 }
 
 /// The value that was set is read back.
@@ -116,9 +112,9 @@ fn keeps(rt: &impl Abort, attrs: &mut Attrs, value: &[u8])
     ensures { length attrs.new.lists ≡ length attrs.old.lists }
 {
     let name = name(rt, b"n");
-    assert_eq!(rt; set(rt, attrs, 0, &name, value), SetAnswer::Done);
+    assert!(rt; set(rt, attrs, 0, &name, value) == SetAnswer::Done);
     match attrs.get(0, &name) {
-        Some(found) => assert_eq!(rt; found.bytes(), value),
+        Some(found) => assert!(rt; found.bytes() == value),
         None => assert!(rt; false),
     }
 }
@@ -150,8 +146,8 @@ fn checks(rt: &impl Abort, attrs: &Attrs, equal: bool)
     requires { 0 < length attrs.now.lists }
 {
     let (auto, manual) = (GrantKind::Auto, GrantKind::Manual);
-    assert_eq!(rt; holds(rt, attrs, manual, true, manual), equal, "eq");
-    assert_eq!(rt; holds(rt, attrs, manual, false, manual), !equal, "ne");
+    assert!(rt; holds(rt, attrs, manual, true, manual) == equal, "eq");
+    assert!(rt; holds(rt, attrs, manual, false, manual) == !equal, "ne");
     assert!(rt; holds(rt, attrs, manual, equal, auto), "the other kind");
     assert!(rt; holds(rt, attrs, auto, !equal, manual), "the other kind");
 }

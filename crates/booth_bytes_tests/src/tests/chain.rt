@@ -20,18 +20,17 @@ fn an_item_leaves_the_middle(rt: HostRuntime) {
     };
     assert!(rt; chains.push_back(1, 40).is_err(), "no room for 40");
     assert!(rt; chains.holds(two));
-    assert_eq!(rt; chains.remove(two), 20);
+    assert!(rt; chains.remove(two) == 20);
     assert!(rt; !chains.holds(two));
     assert!(rt; chains.holds(one));
-    assert_eq!(rt; chains.after(one), Some(three));
-    assert_eq!(rt; chains.replace(one, 11), 10);
-    assert_eq!(rt;
-        (chains.count(0), chains.count(1), chains.spare()),
-        (0, 2, 1)
-    );
-    assert_eq!(rt; chains.pop_front(1), Some(11));
-    assert_eq!(rt; chains.pop_front(1), Some(30));
-    assert_eq!(rt; chains.pop_front(1), None);
+    assert!(rt; chains.after(one) == Some(three));
+    assert!(rt; chains.replace(one, 11) == 10);
+    assert!(rt; chains.count(0) == 0);
+    assert!(rt; chains.count(1) == 2);
+    assert!(rt; chains.spare() == 1);
+    assert!(rt; chains.pop_front(1) == Some(11));
+    assert!(rt; chains.pop_front(1) == Some(30));
+    assert!(rt; chains.pop_front(1).is_none());
 }
 
 /// The next slot that is due, by a count of its own.
@@ -64,13 +63,13 @@ fn slots_come_by_deadline_and_then_by_number(rt: HostRuntime) {
     wheel.set(2, 40);
     wheel.set(4, 45);
     wheel.clear(4);
-    assert_eq!(rt; due_now(&mut wheel, 39), None);
-    assert_eq!(rt; due_now(&mut wheel, 40), Some(2));
-    assert_eq!(rt; due_now(&mut wheel, 49), None);
-    assert_eq!(rt; due_now(&mut wheel, 50), Some(1));
-    assert_eq!(rt; due_now(&mut wheel, 50), Some(3));
-    assert_eq!(rt; due_now(&mut wheel, 69), None);
-    assert_eq!(rt; due_now(&mut wheel, 70), Some(0));
+    assert!(rt; due_now(&mut wheel, 39).is_none());
+    assert!(rt; due_now(&mut wheel, 40) == Some(2));
+    assert!(rt; due_now(&mut wheel, 49).is_none());
+    assert!(rt; due_now(&mut wheel, 50) == Some(1));
+    assert!(rt; due_now(&mut wheel, 50) == Some(3));
+    assert!(rt; due_now(&mut wheel, 69).is_none());
+    assert!(rt; due_now(&mut wheel, 70) == Some(0));
 }
 
 #[test]

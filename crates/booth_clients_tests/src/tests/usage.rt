@@ -19,6 +19,7 @@ fn a_client_without_its_file_or_key_asks_nobody(rt: HostRuntime) {
     let table = "\
 more authfile = /missing => rre 1 KeyUnread booth: cannot read /missing$
 more authfile = /k => rre 1 KeyBad(TooShort) booth: key too short$
+more authfile = /k$authfile-old = /missing => rre 1 KeyBad(TooShort) booth: key too short$
 more port = \"1 => re 1 ConfBad(Syntax { line: 5 }) booth: /etc/booth.conf: line 5: syntax$";
     for line in table.split("\n") {
         check_hindered(&rt, rt.alloc(), LIST, line);

@@ -27,7 +27,8 @@ more site=\"255.255.255.255\" => IdClash { first: 3, second: 3 } => member ids c
 more timeout = 28 => RetryTime { ticket: 0 } => ticket ticket-db8: timeout and retries do not fit renewal-freq
 more renewal-freq = 600 => Renewal { ticket: 0 } => ticket ticket-db8: renewal-freq is not below expire
 more ticket = B # second$renewal-freq = 600 => Renewal { ticket: 1 } => ticket B: renewal-freq is not below expire
-more #$$mode\t= x => BadValue { line: 7, key: KeyNo(21) } => line 7: bad value for mode";
+more #$$mode\t= x => BadValue { line: 7, key: KeyNo(21) } => line 7: bad value for mode
+more authhash = md5 => BadValue { line: 5, key: KeyNo(23) } => line 5: bad value for authhash";
     for line in table.split("\n") {
         check_fault(&rt, rt.alloc(), line);
     }
@@ -41,6 +42,27 @@ file  => re 1 ConfBad(NoSite) boothd: /etc/booth.conf: no site$
 file ticket = T$retries = 3$expire => re 1 ConfBad(Syntax { line: 3 }) boothd: /etc/booth.conf: line 3: syntax$
 file site = 192.168.201.100 => re 1 ConfBad(NoTicket) boothd: /etc/booth.conf: no ticket$";
     check_daemons(&rt, rt.alloc(), table);
+}
+
+// Without the first key's file neither is read, and nothing is read behind a file that has no key.
+#[test]
+fn the_old_keys_file_is_read_behind_a_first_key(rt: HostRuntime) {
+    let line =
+        "more authfile = /k$authfile-old = /old\nkey secret-key\nold another-key => rrrlnokxnssxn 0 Done -";
+    check_end(&rt, rt.alloc(), WORDS, line);
+    let line = "more authfile-old = /missing$authhash = sha256 => rlnokxnsssxn 0 Done -";
+    check_end(&rt, rt.alloc(), WORDS, line);
+    let line =
+        "more authfile = /k$authfile-old = /n\nkey secret-key => rrre 1 KeyUnread boothd: cannot read /n$";
+    check_end(&rt, rt.alloc(), WORDS, line);
+    let line = "more authfile = /k$authfile-old = /old\nkey secret-key\nold 1234567 => \
+rrre 1 KeyBad(TooShort) boothd: key too short$";
+    check_end(&rt, rt.alloc(), WORDS, line);
+    let line = "more authfile = /n$authfile-old = /old => rre 1 KeyUnread boothd: cannot read /n$";
+    check_end(&rt, rt.alloc(), WORDS, line);
+    let line =
+        "more authfile = /k$authfile-old = /n\nkey 1234567 => rre 1 KeyBad(TooShort) boothd: key too short$";
+    check_end(&rt, rt.alloc(), WORDS, line);
 }
 
 // The long key has 65 times the letter k.

@@ -171,6 +171,6 @@ fn each_call_is_told_as_the_rows_say(rt: HostRuntime) {
         assert!(&rt; line.bytes() == told.as_bytes(), "{row}");
     }
     let rows = STORY.lines().filter(|row| row.starts_with("boothd: "));
-    assert_eq!(&rt; said.len(), rows.count());
+    assert!(&rt; said.len() == rows.count());
     mem::forget(host);
 }

@@ -1,9 +1,10 @@
 //! Hosts in memory that run a script.
 use super::path;
-use booth_base::{Address, ByteText, Peer};
+use booth_base::{Address, ByteText, Name, Peer};
 use booth_host::{
     Arrival, Datagram, Entry, Failed, Files, Host, MemoryHost, QuietHost, ReadFault, Script, Step,
 };
+use booth_rec::Record;
 use std::alloc::Global;
 use std::mem;
 use std::process::Abort;
@@ -86,10 +87,10 @@ fn failures<H: Host>(rt: &impl Abort, alloc: Global, host: &mut H) -> usize {
 fn a_quiet_host_never_fails(rt: HostRuntime) {
     let alloc = rt.alloc();
     let mut quiet = quiet_host(&rt, alloc);
-    assert_eq!(rt; failures(&rt, alloc, &mut quiet), 0);
+    assert!(rt; failures(&rt, alloc, &mut quiet) == 0);
     mem::forget(quiet);
     let mut host = memory_host(&rt, alloc, 100);
-    assert_eq!(rt; failures(&rt, alloc, &mut host), 6);
+    assert!(rt; failures(&rt, alloc, &mut host) == 6);
     mem::forget(host);
 }
 
@@ -126,13 +127,30 @@ fn a_long_send_is_told(rt: HostRuntime) {
     mem::forget(host);
 }
 
+// Without room for a call the first one ends what is told.
+#[test]
+fn records_are_kept_where_nothing_is_told(rt: HostRuntime) {
+    let alloc = rt.alloc();
+    let mut script = failing(&rt, alloc);
+    script.fail_kept = false;
+    let none = Vec::new(alloc);
+    let mut host = MemoryHost::new(alloc, script, none, Vec::new(alloc), 0).expect(&rt, "memory");
+    let ticket = Name::read(b"ticket-db8").expect(&rt, "a name");
+    for term in 3..5 {
+        assert!(rt; host.keep(&ticket, &Record::plain(term, None)).is_ok());
+        assert!(rt; host.past().is_none());
+        assert!(rt; host.kept(&ticket) == Ok(Some(Record::plain(term, None))));
+    }
+    mem::forget(host);
+}
+
 #[test]
 fn what_has_run_is_forgotten(rt: HostRuntime) {
     let alloc = rt.alloc();
     let mut host = memory_host(&rt, alloc, 100);
     let mut datagram = Datagram::new(alloc).expect(&rt, "memory");
     for byte in 0..3u8 {
-        assert_eq!(rt; host.now(), if byte == 0 { 5 } else { 7 });
+        assert!(rt; host.now() == if byte == 0 { 5 } else { 7 });
         let _ = host.next(1, &mut datagram);
         let added = host.add(step(&rt, alloc, Ok(Arrival::Quiet), &[byte]));
         added.expect(&rt, "memory");
@@ -140,7 +158,7 @@ fn what_has_run_is_forgotten(rt: HostRuntime) {
         assert!(rt; host.past().is_some_and(|past| past.is_empty()));
     }
     let _ = host.next(1, &mut datagram);
-    assert_eq!(rt; datagram.bytes(), [2].as_slice());
+    assert!(rt; datagram.bytes() == [2].as_slice());
     mem::forget(host);
 }
 
@@ -149,8 +167,8 @@ fn faults_are_told_in_plain_words(rt: HostRuntime) {
     let (failed, unread, memory) = (Failed, ReadFault::Failed, ReadFault::NoMemory);
     let shown = format!(in rt.alloc(); "{failed}; {unread}; {memory}");
     let shown = shown.expect(&rt, "memory");
-    assert_eq!(rt;
-        shown.as_str(),
-        "a device failed; the file could not be read; there is no memory for the file"
+    assert!(rt;
+        shown.as_str()
+            == "a device failed; the file could not be read; there is no memory for the file"
     );
 }

@@ -51,7 +51,7 @@ fn a_clock_goes_on_in_its_boot_and_begins_anew_in_another(rt: HostRuntime) {
     let reading = first.now();
     drop(first);
     let clock = kept_in(&rt, FILE);
-    assert_eq!(rt; number_at(&clock, 0), 1);
+    assert!(rt; number_at(&clock, 0) == 1);
     // (an hour ahead of the wall clock)
     let mut ahead = clock;
     put_number(&mut ahead, 8, number_at(&clock, 8).saturating_add(HOUR));

@@ -84,6 +84,12 @@ fn check_read(rt: &impl Abort, alloc: Global, row: &str) {
     }
 }
 
+fn check_each_read(rt: &impl Abort, alloc: Global, rows: &str) {
+    for row in rows.lines() {
+        check_read(rt, alloc, row);
+    }
+}
+
 #[test]
 fn a_file_stands_for_its_open_slot_with_the_greater_number(rt: HostRuntime) {
     let rows = "\
@@ -96,9 +102,7 @@ fn a_file_stands_for_its_open_slot_with_the_greater_number(rt: HostRuntime) {
 / 2 3 5, 255 2 6 => none
 / 1 1 5 noted, 1 2 6 noted => 6
 / 1 1 5 => 5";
-    for row in rows.lines() {
-        check_read(&rt, rt.alloc(), row);
-    }
+    check_each_read(&rt, rt.alloc(), rows);
 }
 
 // A file of one slot is what was written before there were two.
@@ -115,9 +119,7 @@ fn a_file_of_version_1_is_read_as_such(rt: HostRuntime) {
 1 1 5 noted, 1 2 6 noted => 6 first
 1 1 5 => 5 first
 1 1 5 cut => 5 first";
-    for row in rows.lines() {
-        check_read(&rt, rt.alloc(), row);
-    }
+    check_each_read(&rt, rt.alloc(), rows);
 }
 
 // The order of the four is that of their places.
@@ -132,9 +134,7 @@ fn of_four_slots_the_greatest_number_counts(rt: HostRuntime) {
 1 2 5, 1 3 6 / 1 3 7, 1 3 8 => 6 first
 1 2 5, 1 2 6 / 1 3 7, 1 3 8 => 7
 1 2 5, 1 3 6 / 1 2 7, 1 3 8 => 6 first";
-    for row in rows.lines() {
-        check_read(&rt, rt.alloc(), row);
-    }
+    check_each_read(&rt, rt.alloc(), rows);
 }
 
 // A file, and the one that is left of it where 8 is put.
@@ -146,6 +146,12 @@ fn check_left(rt: &impl Abort, alloc: Global, row: &str) {
     assert!(rt; slots.disk().bytes() == after.as_slice(), "{row}");
 }
 
+fn check_each_left(rt: &impl Abort, alloc: Global, rows: &str) {
+    for row in rows.lines() {
+        check_left(rt, alloc, row);
+    }
+}
+
 // What a put writes is as it stands, and the bytes that nothing is written to stay.
 #[test]
 fn a_put_takes_the_other_slot(rt: HostRuntime) {
@@ -155,9 +161,7 @@ fn a_put_takes_the_other_slot(rt: HostRuntime) {
 / 7 3 5, 9 2 6 => / 1 1 8, 9 2 6
 / 1 9 5 noted, 1 9 6 => / 1 9 5 noted, 1 10 8
 / 1 9 6, 1 9 5 noted => / 1 9 6, 1 10 8 noted";
-    for row in rows.lines() {
-        check_left(&rt, rt.alloc(), row);
-    }
+    check_each_left(&rt, rt.alloc(), rows);
 }
 
 // Slots of version 1 stay: the next number goes into the first slot of version 2, which is closed first where it is
@@ -170,9 +174,7 @@ fn a_put_over_version_1_takes_a_slot_of_version_2(rt: HostRuntime) {
 0 0 0, 1 9 4 / 1 2 5, 1 3 6 => 0 0 0, 1 9 4 / 1 10 8, 1 3 6
 1 3 4, 0 0 0 / 1 4 5, 0 0 0 => 1 3 4, 0 0 0 / 1 4 5, 1 5 8
 7 3 4, 9 2 6 => 7 3 4, 9 2 6 / 1 1 8";
-    for row in rows.lines() {
-        check_left(&rt, rt.alloc(), row);
-    }
+    check_each_left(&rt, rt.alloc(), rows);
 }
 
 // A file of version 1 whose first slot is open, with number 3 and a record of term 4.

@@ -113,16 +113,19 @@ fn check_row(rt: &impl Abort, alloc: Global, row: &str, want: [Told; 4]) {
     assert!(rt; told == want, "{row}");
 }
 
+fn check_rows(rt: &impl Abort, alloc: Global, rows: &str, want: [Told; 4]) {
+    for row in rows.lines() {
+        check_row(rt, alloc, row, want);
+    }
+}
+
 #[test]
 fn each_command_with_and_without_a_mac(rt: HostRuntime) {
     use DropFault::{NoMac, Stranger};
-    for row in TAKEN.lines() {
-        check_row(&rt, rt.alloc(), row, [None, None, Some(NoMac), None]);
-    }
+    let taken = [None, None, Some(NoMac), None];
+    check_rows(&rt, rt.alloc(), TAKEN, taken);
     let refused = [Some(Stranger), Some(Stranger), Some(NoMac), Some(Stranger)];
-    for row in REFUSED.lines() {
-        check_row(&rt, rt.alloc(), row, refused);
-    }
+    check_rows(&rt, rt.alloc(), REFUSED, refused);
 }
 
 fn fault_of(rt: &impl Abort, word: &str) -> Option<DropFault> {
@@ -148,6 +151,12 @@ fn check_said(rt: &impl Abort, alloc: Global, len: u8, row: &str) {
     put_id(rt, &mut bytes, 112, id_of(rt, leader));
     let told = told(rt, alloc, None, begin(&bytes, usize::from(len)));
     assert!(rt; told == fault_of(rt, fault), "{row}");
+}
+
+fn check_each_said(rt: &impl Abort, alloc: Global, len: u8, rows: &str) {
+    for row in rows.lines() {
+        check_said(rt, alloc, len, row);
+    }
 }
 
 #[test]
@@ -186,10 +195,6 @@ VtFr from arbitrator leader me: taken
 Ack. from arbitrator leader me: taken
 RJC! from arbitrator leader none: taken
 Revk from sender leader none: taken";
-    for row in short.lines() {
-        check_said(&rt, rt.alloc(), 48, row);
-    }
-    for row in long.lines() {
-        check_said(&rt, rt.alloc(), 124, row);
-    }
+    check_each_said(&rt, rt.alloc(), 48, short);
+    check_each_said(&rt, rt.alloc(), 124, long);
 }

@@ -68,6 +68,7 @@ fn both_keys_of_a_ring_let_in(rt: HostRuntime) {
             let by_old = format!(in alloc; "{old} {hash}").expect(&rt, "memory");
             check(&rt, alloc, &both, id, &by_first, true);
             check(&rt, alloc, &both, id, &by_old, true);
+            check(&rt, alloc, &both.copy(), id, &by_old, true);
             check(&rt, alloc, &alone, id, &by_first, true);
             check(&rt, alloc, &alone, id, &by_old, false);
         }

@@ -38,6 +38,13 @@ weights = 1,,2 => bad 5 18
 transport = SCTP => bad 5 2
 mode = Manual => bad 5 21
 authfile = \"\" => bad 5 3
+authfile-old = \"\" => bad 5 22
+authfile-old = /a / authfile-old = /a => repeated 6
+authhash = md5 => bad 5 23
+authhash = SHA1 => bad 5 23
+authhash = sha512 => bad 5 23
+authhash = sha1 / authhash = sha256 => repeated 6
+authhash = sha256 / authfile-old = /a => none
 port = 0 => bad 5 1
 port = 9#9 => bad 5 1
 port = 99 #9 => none

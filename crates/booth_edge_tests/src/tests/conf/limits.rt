@@ -75,6 +75,8 @@ fn values_may_be_so_long(rt: HostRuntime) {
 256 times debug = $ => bad 3 5
 254 times authfile = /$ => none
 255 times authfile = /$ => bad 3 3
+254 times authfile-old = /$ => none
+255 times authfile-old = /$ => bad 3 22
 254 times before-acquire-handler = '/$' => none
 255 times before-acquire-handler = '/$' => bad 3 19
 127 times attr-prereq = auto a eq $ => none
@@ -177,13 +179,13 @@ fn full(rt: &impl Abort, alloc: Global) -> Config {
 }
 
 // A ticket's lines have 2,412 bytes: 75 for its name, 20, 27, 18, 16 and 25 for its times, 188 for weights, 283 for the
-// handler, 8 times 218 for prerequisites and 16 for the mode. The lines before the tickets have 70.
+// handler, 8 times 218 for prerequisites and 16 for the mode. The lines before the tickets have 88.
 #[test]
 fn the_longest_configuration_is_printed_and_read_again(rt: HostRuntime) {
     let alloc = rt.alloc();
     let config = full(&rt, alloc);
     let printed = config.print(alloc).expect(&rt, "memory");
-    assert!(&rt; printed.bytes().len() == 9_879_622);
+    assert!(&rt; printed.bytes().len() == 9_879_640);
     let again = read(alloc, printed.bytes()).expect(&rt, "a configuration");
     assert!(&rt; again.tickets().len() == 4_096);
     let printed_again = again.print(alloc).expect(&rt, "memory");

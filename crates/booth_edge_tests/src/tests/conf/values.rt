@@ -2,6 +2,7 @@
 use super::parsed;
 use booth_base::{Address, Name, Times, promise_ms};
 use booth_conf::{Config, KeyNo};
+use booth_keys::Hash;
 use std::alloc::Global;
 use std::mem;
 use std::process::Abort;
@@ -31,6 +32,7 @@ port = \"9929\"
 transport = \"UDP\"
 authfile = \"/etc/booth/authkey\"
 maxtimeskew = \"600\"
+authhash = \"sha1\"
 arbitrator = \"147.2.207.14\"
 site = \"147.4.215.19\"
 site = \"147.18.2.1\"
@@ -73,6 +75,8 @@ retries=3\t
 acquire-after=0
 mode=auto
 authfile='  '
+authhash=sha256
+authfile-old = /etc/booth/old key # of last year
 debug = ''
 site-user=hacluster
 site-group = a#b #
@@ -86,6 +90,8 @@ port = \"1\"
 transport = \"UDP\"
 authfile = \"  \"
 maxtimeskew = \"10000000\"
+authfile-old = \"/etc/booth/old key\"
+authhash = \"sha256\"
 debug = \"\"
 site-user = \"hacluster\"
 site-group = \"a#b\"
@@ -200,6 +206,11 @@ fn check_every_key(rt: &impl Abort, config: &Config) {
         Some(path) => assert!(rt; path.as_str() == "  "),
         None => panic!(rt; "no authfile"),
     }
+    match config.authfile_old() {
+        Some(path) => assert!(rt; path.as_str() == "/etc/booth/old key"),
+        None => panic!(rt; "no authfile-old"),
+    }
+    assert!(rt; config.auth_hash() == Hash::Sha256);
     check_extras(rt, config);
     check_tickets(rt, config);
 }
@@ -213,6 +224,7 @@ fn values_are_those_of_the_text(rt: HostRuntime) {
 
 fn check_defaults(rt: &impl Abort, config: &Config) {
     assert!(rt; config.port() == 9929);
+    assert!(rt; config.authfile_old().is_none() && config.auth_hash() == Hash::Sha1);
     assert!(rt; config.skew() == 600);
     for ticket in config.tickets() {
         assert!(rt; promise_ms(&ticket.times) == 661_203);
