@@ -27,6 +27,7 @@ from serving import end_by_signals
 BENCHES = {
     "run": "one daemon",
     "turn": "one turn",
+    "seals": "sealed frames",
     "links": "links",
     "records": "keeps",
     "backlog": "the backlog",

@@ -1,4 +1,4 @@
-/* The flood of bench/run.py, which builds and runs it: many datagrams that have no answer.
+/* The flood of bench/run.py and bench/seals.py, which build and run it: many datagrams that have no answer.
  *
  *   cc -O2 -o flood bench/flood.c
  *   ./flood members ADDRESS FILE COUNT        sends the frames in FILE in turns, COUNT in all

@@ -3,12 +3,11 @@
 
 Run it as `python3 bench/run.py [--quick] [PROGRAM]`, PROGRAM being what `make build` leaves where
 it is left out. It prints one table, and has the status 1 where a mark is missed by more than a
-tenth. It builds its four programs in C with cc, needs Linux's /proc, and takes half a minute;
+tenth. It builds four programs in C with cc, needs Linux's /proc, and takes half a minute;
 --quick takes some seconds. A speed is that of the best of many short rounds, since other work on
 the machine spoils some of them; for the same reason the lowest start may tell more than the median.
 """
 
-import hmac
 import itertools
 import os
 import socket
@@ -46,14 +45,13 @@ class Effort(NamedTuple):
     rounds: int
     lists_a_round: int
     starts: int
-    members_a_round: int
     hostile: int
     parses: int
     idle_seconds: int
 
 
-WHOLE = Effort(60, 5_000, 40, 10_000, 1_000_000, 20, 10)
-QUICK = Effort(5, 5_000, 5, 10_000, 50_000, 5, 1)
+WHOLE = Effort(60, 5_000, 40, 1_000_000, 20, 10)
+QUICK = Effort(5, 5_000, 5, 50_000, 5, 1)
 
 
 class Bench:
@@ -230,44 +228,6 @@ def said(letters, sender, key, ticket=b"ticket-db8", leader=NO_ONE, **fields):
     return request_now(letters, 0, body, key, sender=member_id(sender), **fields)
 
 
-def python_macs(frame, count):
-    """The seconds that Python's hmac takes for this frame's MAC so often, over OpenSSL, and those
-    of the processor in them."""
-    before = frame[: -frames.AUTH_BYTES]
-    started, cpu = time.perf_counter(), time.process_time()
-    for _ in range(count):
-        hmac.digest(KEY, before, "sha1")
-    return time.perf_counter() - started, time.process_time() - cpu
-
-
-def member_rows(bench):
-    """Sealed frames of members, which the daemon counts and does not answer, and Python's MACs of
-    such frames in turns."""
-    rounds, each = bench.effort.rounds, bench.effort.members_a_round
-    sent = [said(letters, SITE, KEY) for letters in MEMBERS_SAY]
-    question = request_now("Peer", NO_ONE, key=KEY)
-    path = bench.file("frames", question + b"".join(sent))
-    took, beside, beside_cpu = [], [], 0
-    with bench.daemon(one_ticket(), KEY) as daemon:
-        before = cpu_seconds(daemon.process)
-        for _ in range(rounds):
-            took.append(bench.said(bench.flood, "members", bench.address, path, str(each))[0])
-            seconds, cpu = python_macs(sent[0], each)
-            beside.append(seconds)
-            beside_cpu += cpu
-        cpu = cpu_seconds(daemon.process) - before
-        drops, accepted = bench.peers(KEY)
-    count = rounds * each
-    if (sum(drops), accepted) != (0, count):
-        raise NotServing(f"of {count} sealed frames {accepted} were counted, and dropped {drops}")
-    speed, beside = (each / min(seconds) for seconds in (took, beside))
-    shown = f"{speed:,.0f} (Python's hmac: {beside:,.0f} of their MACs alone)"
-    yield Row("sealed member frames a second, counted", shown)
-    micros, beside = (seconds / count * 1e6 for seconds in (cpu, beside_cpu))
-    shown = f"{micros:.1f} µs (Python's hmac: {beside:.1f} µs)"
-    yield Row("daemon CPU a sealed member frame", shown)
-
-
 def seeds_of_hostility():
     """Frames of the kinds that the gate tells apart. The rest is made of them in bench/flood.c."""
     for letters in MEMBERS_SAY:
@@ -366,7 +326,7 @@ def main(words):
     program = words[0] if words else built_program()
     if program is None:
         sys.exit("run.py: boothd is not built: run make build")
-    parts = (speed_rows, full_rows, start_rows, client_rows, idle_rows, member_rows, hostile_rows, parse_rows)
+    parts = (speed_rows, full_rows, start_rows, client_rows, idle_rows, hostile_rows, parse_rows)
     with tempfile.TemporaryDirectory(prefix="booth-bench-") as folder:
         load = os.getloadavg()[0]
         try:

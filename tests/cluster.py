@@ -8,7 +8,7 @@ where a check failed. Where a program is not built it checks nothing, with statu
 What an operator does is done by booth and geostore, at each member: their status and each text that they print or
 say are held to what they have to be. The stories of handlers and of tickets that are granted by hand stand in
 handler_stories.py, those of members that are killed and started anew in promise_stories.py, that of the log in
-log_stories.py, and those of moves in move_stories.py.
+log_stories.py, that of a file that changes in change_stories.py, and those of moves in move_stories.py.
 
 Who holds a ticket is judged from the record files and this machine's clock, hundred times a second over
 the whole run, and never from what a daemon says of itself.
@@ -28,6 +28,8 @@ import time
 HERE = os.path.dirname(os.path.abspath(__file__))
 sys.path[:0] = [HERE, f"{HERE}/../tools"]
 
+import change_stories  # (its story comes into the list)
+import key_stories  # (its stories are taken into the list)
 import log_stories  # (its story comes into the list)
 import move_stories  # (its stories are taken into the list)
 from handler_stories import handler_in

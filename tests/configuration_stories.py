@@ -6,12 +6,14 @@ It is imported by tests/status.py, and not run by itself.
 import os
 
 import configuration
+import frames
 import refusals
 from status_runs import require, require_same, story
 
 MEMBERS = "site = 192.0.2.10\narbitrator = 192.0.2.11\n"
 # of a ticket without keys: expire, acquire-after, timeout, retries, renewal-freq, no handler
 TABLE = (600, 0, 5, 10, 300, None)
+FIRST, OLD = b"the-first-key", b"the-key-before"
 
 
 def read(folder, text):
@@ -61,7 +63,30 @@ def defaults_are_inherited(folder):
 
 
 # which keys' values are looked at here: the others boothd alone judges
-JUDGED = [b"port", b"maxtimeskew", b"site", b"arbitrator", b"mode"]
+@story
+def keys_are_a_ring(folder):
+    """the keys of a configuration are those of its files, with its hash, and without the first file there is none"""
+    paths = [os.path.join(folder, name) for name in ("first.key", "old.key")]
+    for path, key in zip(paths, (FIRST, OLD)):
+        with open(path, "wb") as file:
+            file.write(key)
+    first, old = f"authfile = {paths[0]}\n", f"authfile-old = {paths[1]}\n"
+    for lines, ring in (
+        (first, frames.Ring(FIRST)),
+        (first + old, frames.Ring(FIRST, OLD)),
+        (old + first + "authhash = sha256\n", frames.Ring(FIRST, OLD, "sha256")),
+        (old + "authhash = sha256\n", None),
+        ("", None),
+    ):
+        require_same(read(folder, f"{MEMBERS}ticket = a\n{lines}").key(), ring, f"{lines!r}: ")
+    ring = frames.Ring(FIRST, OLD)
+    for key, is_taken in ((FIRST, True), (OLD, True), (b"of-another-cluster", False)):
+        for by in ("sha1", "sha256"):
+            request = frames.request_now("CLst", 1, key=frames.Ring(key, hash=by))
+            require_same(frames.is_sealed(ring, request), is_taken, f"{key} and {by}: ")
+
+
+JUDGED = [b"port", b"maxtimeskew", b"authhash", b"site", b"arbitrator", b"mode"]
 JUDGED += [b"expire", b"acquire-after", b"timeout", b"retries", b"renewal-freq"]
 
 

@@ -24,10 +24,15 @@ def lease(verb, record):
     return f"boothd: ticket {NAME}: {verb} the lease of term {record.term} until {date(int(record.until))} UTC"
 
 
+def told_by(member, count):
+    """The lines that the member has told, once there are so many."""
+    wait_for(lambda: member.printed().count(b"\n") >= count, PATIENCE)
+    return member.printed().decode().splitlines()
+
+
 def tells(member, lines):
     """The member's whole log is these lines."""
-    wait_for(lambda: len(member.printed().splitlines()) >= len(lines), PATIENCE)
-    told = member.printed().decode().splitlines()
+    told = told_by(member, len(lines))
     require(told == lines, f"{member.address} told {told}, and not {lines}")
 
 
@@ -79,7 +84,7 @@ def a_log_with_a_handler(cluster):
     os.remove(path)
     os.rename(aside, path)
     failed = f"boothd: cannot keep the record of ticket {NAME}: it is no regular file"
-    found = one.printed().decode().splitlines()[4:6]
+    found = told_by(one, 6)[4:]
     require(found == [failed, lease("fails to give back", one.record())], f"{one.address} told {found}")
     passed("and where the record could not be kept, that the lease may not be given back")
     # (what runs at the end of a story is to have said nothing)

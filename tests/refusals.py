@@ -49,6 +49,8 @@ BAD = {
     b"port": [b"0", b"65536", b"00000000001", b"+1", b"-1", b"1.0", b"0x1", b"1 2", b"1#", b'""'],
     b"transport": [b"TCP", b"Udp", b"sctp", b'""'],
     b"authfile": [b'""', b"/" * 256],
+    b"authfile-old": [b'""', b"/" * 256],
+    b"authhash": [b"md5", b"SHA1", b"Sha256", b"sha512", b'""'],
     b"maxtimeskew": [b"0", b"10000001", b"600s"],
     b"debug": [b"x" * 256],
     b"site-user": [b"x" * 256],
@@ -70,6 +72,7 @@ BAD = {
 REPEATED = [
     *(b"site = 192.168.202.100", b"site = 192.168.203.100", b"arbitrator = '192.168.202.100'"),
     *(b"ticket = ticket-db8", b"port = 1\nport = 1", b"debug = 1\ndebug = 2"),
+    *(b"authhash = sha1\nauthhash = sha1", b"authfile-old = /a\nauthfile-old = /b"),
     *(b"expire = 9\nexpire = 9", b"mode = auto\nmode = auto", b"weights = 1\nweights = 1"),
     b"site = ::1\nsite = 0:0:0:0:0:0:0:1",
 ]

@@ -37,8 +37,9 @@ NUMBERS = {
     "retries": (3, 100, 10),
     "renewal-freq": (1, SECONDS, None),
 }
+HASHES = ["sha1", "sha256"]
 MODES = {"auto": False, "AUTO": False, "manual": True, "MANUAL": True}
-OF_FILE = {"port", "maxtimeskew", "authfile", "transport", "debug"}
+OF_FILE = {"port", "maxtimeskew", "authfile", "authfile-old", "authhash", "transport", "debug"}
 OF_FILE |= {f"{who}-{what}" for who in ("site", "arbitrator") for what in ("user", "group")}
 OF_TICKET = {"expire", "acquire-after", "timeout", "retries", "renewal-freq"}
 OF_TICKET |= {"weights", "mode", "attr-prereq", "before-acquire-handler"}
@@ -78,10 +79,18 @@ class Configuration(NamedTuple):
     port: int
     skew: int
     authfile: Optional[str]
+    authfile_old: Optional[str] = None
+    authhash: str = HASHES[0]
+
+    def key_files(self):
+        """The files of the keys. Without the first one the other is without effect."""
+        paths = [] if self.authfile is None else [self.authfile, self.authfile_old]
+        return [path for path in paths if path is not None]
 
     def key(self):
-        """The key, or None where the file names none."""
-        return None if self.authfile is None else key_of(self.authfile)
+        """The keys as a ring, or None where the file names none."""
+        keys = [key_of(path) for path in self.key_files()]
+        return frames.Ring(*keys, hash=self.authhash) if keys else None
 
 
 def path_of(word):
@@ -158,11 +167,13 @@ class Reading:
     def value(self, number, key, value):
         if key == "mode" and value in MODES:
             return MODES[value]
+        if key == "authhash" and value in HASHES:
+            return value
         if key in NUMBERS and NUMBER.fullmatch(value):
             least, most, _ = NUMBERS[key]
             if least <= int(value) <= most:
                 return int(value)
-        if key == "mode" or key in NUMBERS:
+        if key in ("mode", "authhash") or key in NUMBERS:
             raise self.fault(number, f"bad value for {key}")
         return value
 
@@ -193,4 +204,5 @@ def read(path):
         raise Unreadable(f"{path}: no ticket")
     top = reading.top
     port, skew = top.get("port", frames.PORT), top.get("maxtimeskew", NUMBERS["maxtimeskew"][2])
-    return Configuration(path, reading.members, tickets, port, skew, top.get("authfile"))
+    keys = top.get("authfile"), top.get("authfile-old"), top.get("authhash", HASHES[0])
+    return Configuration(path, reading.members, tickets, port, skew, *keys)

@@ -9,7 +9,7 @@ import ipaddress
 import struct
 import time
 import zlib
-from typing import NamedTuple
+from typing import NamedTuple, Optional
 
 PORT = 9929
 NO_ONE = 0xFFFFFFFF
@@ -126,18 +126,45 @@ def key_in(text):
     return text
 
 
+# the number of each hash in an authentication part
+HASH_IDS = {"sha1": 2, "sha256": 3}
+
+
+class Ring(NamedTuple):
+    """The keys of a member: it seals by the first with this hash, and takes what either has sealed."""
+
+    first: bytes
+    old: Optional[bytes] = None
+    hash: str = "sha1"
+
+    def keys(self):
+        return [self.first] if self.old is None else [self.first, self.old]
+
+
+def ring_of(key):
+    """The ring of a key, which seals with SHA-1, or the ring that is given."""
+    return key if key is None or isinstance(key, Ring) else Ring(key)
+
+
 def auth_part(key, before, hash_id=2):
     """The authentication part after these bytes: the hash id, and the MAC by SHA-1 with zeros, or the first of SHA-256."""
     code = hmac.digest(key, before, "sha256" if hash_id == 3 else "sha1")
     return numbers(hash_id) + code[:24].ljust(24, b"\0")
 
 
+def is_sealed(key, signed):
+    """Whether one of the ring's keys has sealed this frame, with either hash."""
+    before, auth = signed[:-AUTH_BYTES], signed[-AUTH_BYTES:]
+    return any(auth == auth_part(one, before, hash_id) for one in ring_of(key).keys() for hash_id in HASH_IDS.values())
+
+
 def sealed(key, letters, body=b"", **fields):
     """The frame of this command, with its MAC where there is a key."""
-    if key is None:
+    ring = ring_of(key)
+    if ring is None:
         return frame(letters, body, **fields)
     before = frame(letters, body, bytes(AUTH_BYTES), **fields)[:-AUTH_BYTES]
-    return before + auth_part(key, before)
+    return before + auth_part(ring.first, before, HASH_IDS[ring.hash])
 
 
 def clock_fields(millis=None):

@@ -1,4 +1,4 @@
-"""Whether the file of a cluster's key is there, is a key, and is for its owner alone.
+"""Whether each file of a cluster's key is there, is a key, and is for its owner alone.
 
 It is imported by booth-status, and not run by itself.
 """
@@ -19,11 +19,15 @@ READ, WRITE = 4, 2
 
 
 def problems(conf):
-    """What is wrong with the key of this configuration."""
-    path = conf.authfile
-    if path is None:
+    """What is wrong with the keys of this configuration."""
+    if not conf.key_files():
         yield Problem(WARNING, "no-key", "there is no authfile: whoever reaches the port can speak as a member")
-        return
+    for path in conf.key_files():
+        yield from of_file(path)
+
+
+def of_file(path):
+    """What is wrong with one of them."""
     try:
         about = os.stat(path)
     except (OSError, ValueError) as why:

@@ -93,7 +93,11 @@ def read_reply(reply, letters, request, address, key, *, result=0):
         if found != right:
             name = "from" if name == "sender" else name
             raise BadReply(f"its field {name} is {found:#010x}, and not {right:#010x}")
-    if reply != due:
+    if key and reply[: -frames.AUTH_BYTES] == due[: -frames.AUTH_BYTES]:
+        is_right = frames.is_sealed(key, reply)
+    else:
+        is_right = reply == due
+    if not is_right:
         raise BadReply("it has not the MAC of this key")
     if head.usecs % 1000 or head.usecs >= 1_000_000:
         raise BadReply(f"its field usecs is {head.usecs}, no whole milliseconds of a second")

@@ -104,9 +104,13 @@ def remember(directory, tickets):
 
 
 class Member:
-    """One daemon of the cluster, running or not. It prints its log where `logs` is set before it starts."""
+    """One daemon of the cluster, running or not. It prints its log where `logs` is set before it starts, and writes a
+    journal where `journals` is.
+    """
 
     logs = False
+    journals = False
+    prepare = None
 
     def __init__(self, role, address, folder, key=None, client=None, geostore=None):
         self.role = role
@@ -118,6 +122,7 @@ class Member:
         self.conf = None
         self.server = None
         self.records = os.path.join(folder, "records")
+        self.journal = os.path.join(folder, "journal")
         os.makedirs(folder)
 
     def start(self, program, conf):
@@ -125,6 +130,8 @@ class Member:
         places = ("-l", os.path.join(self.folder, "lock"), "-d", self.records)
         server = boothd(program, conf, self.address, key=self.key, options=places)
         server.logs = self.logs
+        server.journal = self.journal if self.journals else None
+        server.prepare = self.prepare
         server.__enter__()
         self.server = server
         self.conf = conf
@@ -292,19 +299,26 @@ class Cluster:
         self.conf = self.file("booth.conf", key)
 
     def file(self, name, key):
-        """Writes a configuration of this cluster with this key, and returns its path."""
+        """Writes a configuration of this cluster with this key or ring, and returns its path."""
         text = "".join(f'{member.role} = "{member.address}"\n' for member in self.members)
         if key is not None:
-            path = os.path.join(self.folder, name + ".key")
-            with open(path, "wb") as file:
-                file.write(key)
-            text += f'authfile = "{path}"\n'
+            text += self.key_lines(name, frames.ring_of(key))
         text += "".join(f'ticket = "{name.decode()}"\n{self.times.text()}{self.settings}' for name in self.tickets)
         text += "".join(f'ticket = "{name.decode()}"\nmode = manual\n{self.by_hand}' for name in self.manual)
         path = os.path.join(self.folder, name)
         with open(path, "w", encoding="ascii") as file:
             file.write(text)
         return path
+
+    def key_lines(self, name, ring):
+        """Writes the key files of a ring, and returns the lines that name them."""
+        lines = "" if ring.hash == "sha1" else f"authhash = {ring.hash}\n"
+        for word, key in zip(("authfile", "authfile-old"), ring.keys()):
+            path = os.path.join(self.folder, f"{name}.{word}")
+            with open(path, "wb") as file:
+                file.write(key)
+            lines += f'{word} = "{path}"\n'
+        return lines
 
     def start(self, *places):
         for place in places or range(len(self.members)):

@@ -90,10 +90,13 @@ class NotServing(Exception):
 class Server:
     """A program that answers at this address and port, in a `with` block, from its first answer on.
 
-    `key` is what its requests are sealed with. It prints its log only where `logs` is set before it is entered.
+    `key` is what its requests are sealed with. It prints its log only where `logs` is set before it is entered, and
+    writes the journal of that path where `journal` is. `prepare` is called in the new process.
     """
 
     logs = False
+    journal = None
+    prepare = None
 
     def __init__(self, words, address, port=frames.PORT, key=None):
         self.words = words
@@ -104,7 +107,10 @@ class Server:
     def __enter__(self):
         self.printed = tempfile.TemporaryFile()
         streams = {"stdin": subprocess.DEVNULL, "stdout": self.printed, "stderr": self.printed}
-        self.process = subprocess.Popen(self.words, env={**os.environ, "BOOTH_LOG": "on" if self.logs else "off"}, **streams)
+        switches = {"BOOTH_LOG": "on" if self.logs else "off", "BOOTH_JOURNAL": self.journal or ""}
+        self.process = subprocess.Popen(
+            self.words, env={**os.environ, **switches}, preexec_fn=self.prepare, **streams
+        )
         try:
             self.await_answer()
         except BaseException:

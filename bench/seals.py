@@ -1,0 +1,146 @@
+#!/usr/bin/env python3
+"""Measures sealed frames of members, by either hash, beside OpenSSL's HMAC of the same bytes.
+
+Run it as `python3 bench/seals.py [--quick] [PROGRAM]`, PROGRAM being what `make build` leaves where it is left out. It
+prints one table, and has the status 1 where a mark is missed by more than a tenth. It builds two programs in C with cc,
+one of them over OpenSSL's headers and libcrypto. The daemon gets the frames over loopback, counts each and answers
+none; OpenSSL makes their MACs alone, without a socket. A speed is that of the best of many short rounds, which take
+turns.
+"""
+
+import os
+import subprocess
+import sys
+import tempfile
+
+HERE = os.path.dirname(os.path.abspath(__file__))
+sys.path[:0] = [HERE, f"{HERE}/../tools"]
+
+from frames import HASH_IDS, MEMBERS_SAY, NO_ONE, Ring, request_now
+from rows import Row, at_least, print_table
+from run import KEY, QUICK, SITE, WHOLE, Bench, cpu_seconds, said
+from serving import NotServing, built_program, end_by_signals
+from texts import one_ticket
+
+OLD, ANOTHER = b"o" * 32, b"a" * 32
+# the place of BadMac among the counters
+BADMAC = 2
+# how many frames a round has
+EACH = 10_000
+NAMES = {"sha1": "SHA-1", "sha256": "SHA-256"}
+# how near to OpenSSL a daemon is to come by each hash
+MARKS = {"sha1": 0.8, "sha256": 0.5}
+
+
+class Pace:
+    """The rounds of one kind of frames."""
+
+    def __init__(self):
+        self.seconds, self.cpu = [], 0
+
+    def add(self, seconds, cpu):
+        self.seconds.append(seconds)
+        self.cpu += cpu
+
+    def a_second(self):
+        return EACH / min(self.seconds)
+
+    def micros(self):
+        return self.cpu / len(self.seconds) / EACH * 1e6
+
+
+def daemon_with(bench, ring):
+    """A daemon that has this ring, or no key."""
+    text = one_ticket()
+    if ring is None:
+        return bench.daemon(text)
+    text += b"authhash = %s\n" % ring.hash.encode()
+    if ring.old is not None:
+        text += b"authfile-old = %s\n" % bench.file("old", ring.old).encode()
+    return bench.daemon(text, ring)
+
+
+def flooded(bench, ring, frames, pace):
+    """One round of the frames at a daemon that has this ring. What it counted of them."""
+    path = bench.file("flood.frames", request_now("Peer", NO_ONE, key=ring) + b"".join(frames))
+    with daemon_with(bench, ring) as daemon:
+        # (so that it has seen each kind before it is measured)
+        bench.said(bench.flood, "members", bench.address, path, str(len(frames)))
+        before = cpu_seconds(daemon.process)
+        seconds, _ = bench.said(bench.flood, "members", bench.address, path, str(EACH))
+        pace.add(seconds, cpu_seconds(daemon.process) - before)
+        drops, accepted = bench.peers(ring)
+    due = EACH + len(frames)
+    if sum(drops) + accepted != due:
+        raise NotServing(f"of {due} frames {accepted} were let in, and dropped {drops}")
+    return drops, accepted
+
+
+def let_in(bench, ring, frames, pace):
+    drops, accepted = flooded(bench, ring, frames, pace)
+    if sum(drops):
+        raise NotServing(f"{accepted} frames were let in, and dropped {drops}")
+
+
+def refused(bench, ring, frames, pace):
+    drops, accepted = flooded(bench, ring, frames, pace)
+    if accepted or sum(drops) != drops[BADMAC]:
+        raise NotServing(f"{accepted} frames were let in, and dropped {drops}")
+
+
+def macs(bench, program, name, frames, pace):
+    """One round of OpenSSL's MACs of the frames."""
+    path = bench.file("macs.frames", b"".join(frames))
+    seconds, cpu = bench.said(program, name, bench.key_file, path, str(EACH))
+    pace.add(seconds, cpu / 1e9)
+
+
+def paces(bench, program):
+    """The paces of frames without a key; and by each hash of sealed ones, of OpenSSL, and of refused ones."""
+    plain, by_hash = Pace(), {name: (Pace(), Pace(), Pace()) for name in HASH_IDS}
+    for _ in range(bench.effort.rounds):
+        let_in(bench, None, [said(letters, SITE, None) for letters in MEMBERS_SAY], plain)
+        for name, (sealed, beside, wrong) in by_hash.items():
+            ring = Ring(KEY, hash=name)
+            frames = [said(letters, SITE, ring) for letters in MEMBERS_SAY]
+            let_in(bench, ring, frames, sealed)
+            macs(bench, program, name, frames, beside)
+            strange = [said(letters, SITE, Ring(ANOTHER, hash=name)) for letters in MEMBERS_SAY]
+            refused(bench, Ring(KEY, OLD, name), strange, wrong)
+    return plain, by_hash
+
+
+def rows(bench, program):
+    plain, by_hash = paces(bench, program)
+    yield Row("frames of members a second, without a key", f"{plain.a_second():,.0f}")
+    yield Row("daemon CPU a frame, without a key", f"{plain.micros():.2f} µs")
+    for name, (sealed, beside, wrong) in by_hash.items():
+        speed, most = sealed.a_second(), beside.a_second()
+        shown = f"{speed:,.0f} (OpenSSL's HMAC alone: {most:,.0f})"
+        yield Row(f"sealed frames of members a second, {NAMES[name]}", shown)
+        yield at_least("the same as a ratio to OpenSSL", speed / most, f"{speed / most:.2f}", MARKS[name])
+        micros, least = sealed.micros(), beside.micros()
+        shown = f"{micros:.2f} µs (OpenSSL's HMAC alone: {least:.2f} µs)"
+        yield Row(f"daemon CPU a sealed frame, {NAMES[name]}", shown)
+        shown = f"{wrong.a_second():,.0f} (CPU: {wrong.micros():.2f} µs)"
+        yield Row(f"frames refused a second, two wrong keys tried, {NAMES[name]}", shown)
+
+
+def main(words):
+    end_by_signals()
+    effort = QUICK if "--quick" in words else WHOLE
+    words = [word for word in words if word != "--quick"]
+    program = words[0] if words else built_program()
+    if program is None:
+        sys.exit("seals.py: boothd is not built: run make build")
+    with tempfile.TemporaryDirectory(prefix="booth-bench-") as folder:
+        peer = f"{folder}/macs"
+        try:
+            subprocess.run(["cc", "-O2", "-o", peer, f"{HERE}/macs.c", "-lcrypto"], check=True)
+            return print_table(rows(Bench(os.path.abspath(program), folder, effort), peer))
+        except (NotServing, OSError, subprocess.CalledProcessError) as why:
+            sys.exit(f"seals.py: {why}")
+
+
+if __name__ == "__main__":
+    sys.exit(main(sys.argv[1:]))
