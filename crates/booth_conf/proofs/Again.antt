@@ -149,11 +149,11 @@ mode_printed false = refl
 
 keys_printed : (t : TicketConf) → TicketFacts t → list_all is_ticket_entry (key_entries t) ≡ true
 keys_printed t f =
-    let qs = both_true _ (list_all is_prereq t.prereqs.items) f.prereqs in
+    let qs = both_true _ (list_all is_prereq t.prereqs) f.prereqs in
     all_both is_ticket_entry (times_entries t.times) _ (times_printed t.times (times_facts t.times f.times))
     (all_both is_ticket_entry (weights_entries t.weights.items) _ (optional_printed is_ticket_entry keys.Weights (weights_said t.weights.items) (weights_printed t.weights.items f.weights))
     (all_both is_ticket_entry (handler_entries t.handler) _ (optional_printed is_ticket_entry keys.BeforeAcquireHandler (option_map Text t.handler) (handler_printed t.handler f.handler))
-    (all_both is_ticket_entry (map prereq_entry t.prereqs.items) _ (prereqs_printed t.prereqs.items qs.1) (mode_printed t.manual))))
+    (all_both is_ticket_entry (map prereq_entry t.prereqs) _ (prereqs_printed t.prereqs qs.1) (mode_printed t.manual))))
 
 ticket_printed : (t : TicketConf) → is_ticket t ≡ true →
     list_all is_printed (ticket_settings t) ≡ true

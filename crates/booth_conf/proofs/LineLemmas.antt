@@ -61,12 +61,12 @@ tickets_more xs i x lt is =
 pub ticket_pushed : (t u v w x y z : List ℕ) (ticket : TicketConf) →
     u ≡ t ++ line_text (row_of keys.Ticket).name ticket.name → v ≡ u ++ entries_text (times_entries ticket.times)
     → w ≡ v ++ entries_text (weights_entries ticket.weights.items) → x ≡ w ++ entries_text (handler_entries ticket.handler)
-    → y ≡ x ++ entries_text (map prereq_entry ticket.prereqs.items)
+    → y ≡ x ++ entries_text (map prereq_entry ticket.prereqs)
     → z ≡ y ++ line_text (row_of keys.Mode).name (word_at Mode (word_of ticket.manual))
     → z ≡ t ++ lines_text (ticket_settings ticket)
 ticket_pushed t u v w x y z ticket a b c d e f =
     let mode : List Entry = set keys.Mode (Word (word_of ticket.manual)) ∷ [] in
-    let prereqs : List Entry = map prereq_entry ticket.prereqs.items in
+    let prereqs : List Entry = map prereq_entry ticket.prereqs in
     let handler : List Entry = handler_entries ticket.handler in
     let weights : List Entry = weights_entries ticket.weights.items in
     let times : List Entry = times_entries ticket.times in

@@ -191,11 +191,11 @@ sum_times times =
 abbrev ticket_most : ℕ
 ticket_most = 626 + 11 * MEMBERS + 229 * PREREQS
 
-total_ticket : (t : TicketConf) → length t.prereqs.items ≤ PREREQS →
+total_ticket : (t : TicketConf) → length t.prereqs ≤ PREREQS →
     total (ticket_settings t) ≤ ticket_most
 total_ticket t few =
     let mode : List Entry = set keys.Mode (Word (word_of t.manual)) ∷ [] in
-    let prereqs : List Entry = map prereq_entry t.prereqs.items in
+    let prereqs : List Entry = map prereq_entry t.prereqs in
     let handler : List Entry = handler_entries t.handler in
     let weights : List Entry = weights_entries t.weights.items in
     let most_weights : sum weights ≤ 28 + 11 * MEMBERS = sum_optional keys.Weights (weights_said t.weights.items) in
@@ -211,7 +211,7 @@ total_ticket t few =
       sum_times t.times,
       most_weights,
       most_handler,
-      sum_prereqs t.prereqs.items,
+      sum_prereqs t.prereqs,
       most_mode,
     )
 

@@ -47,7 +47,7 @@ abbrev mode_on : TicketConf → List Entry
 mode_on t = set keys.Mode (Word (word_of t.manual)) ∷ []
 
 abbrev prereqs_on : TicketConf → List Entry
-prereqs_on t = map prereq_entry t.prereqs.items ++ mode_on t
+prereqs_on t = map prereq_entry t.prereqs ++ mode_on t
 
 abbrev handler_on : TicketConf → List Entry
 handler_on t = optional keys.BeforeAcquireHandler (option_map Text t.handler) ++ prereqs_on t
@@ -59,27 +59,27 @@ handler_given : (t : TicketConf) → given keys.BeforeAcquireHandler (key_entrie
 handler_given t =
     given_behind keys.BeforeAcquireHandler keys.RenewalFreq (option_map Number (renewal_said t.times)) (weights_on t) refl
     ∙ given_behind keys.BeforeAcquireHandler keys.Weights (weights_said t.weights.items) (handler_on t) refl
-    ∙ given_here keys.BeforeAcquireHandler (option_map Text t.handler) (prereqs_on t) refl (given_prereqs keys.BeforeAcquireHandler t.prereqs.items (mode_on t) refl)
+    ∙ given_here keys.BeforeAcquireHandler (option_map Text t.handler) (prereqs_on t) refl (given_prereqs keys.BeforeAcquireHandler t.prereqs (mode_on t) refl)
 
 weights_are : (t : TicketConf) → given keys.Weights (key_entries t) ≡ weights_said t.weights.items
 weights_are t =
     given_behind keys.Weights keys.RenewalFreq (option_map Number (renewal_said t.times)) (weights_on t) refl
     ∙ given_here keys.Weights (weights_said t.weights.items) (handler_on t) refl
-    (given_behind keys.Weights keys.BeforeAcquireHandler (option_map Text t.handler) (prereqs_on t) refl ∙ given_prereqs keys.Weights t.prereqs.items (mode_on t) refl)
+    (given_behind keys.Weights keys.BeforeAcquireHandler (option_map Text t.handler) (prereqs_on t) refl ∙ given_prereqs keys.Weights t.prereqs (mode_on t) refl)
 
 renewal_given : (t : TicketConf) → given keys.RenewalFreq (key_entries t) ≡ option_map Number (renewal_said t.times)
 renewal_given t =
     given_here keys.RenewalFreq (option_map Number (renewal_said t.times)) (weights_on t) refl
     (given_behind keys.RenewalFreq keys.Weights (weights_said t.weights.items) (handler_on t) refl
     ∙ given_behind keys.RenewalFreq keys.BeforeAcquireHandler (option_map Text t.handler) (prereqs_on t) refl
-    ∙ given_prereqs keys.RenewalFreq t.prereqs.items (mode_on t) refl)
+    ∙ given_prereqs keys.RenewalFreq t.prereqs (mode_on t) refl)
 
 mode_given : (t : TicketConf) → given keys.Mode (key_entries t) ≡ Some (Word (word_of t.manual))
 mode_given t =
     given_behind keys.Mode keys.RenewalFreq (option_map Number (renewal_said t.times)) (weights_on t) refl
     ∙ given_behind keys.Mode keys.Weights (weights_said t.weights.items) (handler_on t) refl
     ∙ given_behind keys.Mode keys.BeforeAcquireHandler (option_map Text t.handler) (prereqs_on t) refl
-    ∙ given_prereqs keys.Mode t.prereqs.items (mode_on t) refl
+    ∙ given_prereqs keys.Mode t.prereqs (mode_on t) refl
 
 -- PREREQUISITES
 
@@ -102,12 +102,12 @@ prereqs_here : (qs : List PrereqOf) (t : TicketConf) → filter_map prereq_of (m
 prereqs_here [] t = refl
 prereqs_here (q ∷ qs) t = ap (λ xs. q ∷ xs) (prereqs_here qs t)
 
-prereqs_given : (t : TicketConf) → filter_map prereq_of (key_entries t) ≡ t.prereqs.items
+prereqs_given : (t : TicketConf) → filter_map prereq_of (key_entries t) ≡ t.prereqs
 prereqs_given t =
     no_prereq_number (renewal_said t.times) (weights_on t)
     ∙ no_prereq_weights t.weights.items (handler_on t)
     ∙ no_prereq_handler t.handler (prereqs_on t)
-    ∙ prereqs_here t.prereqs.items t
+    ∙ prereqs_here t.prereqs t
 
 -- THE TICKET
 
@@ -117,7 +117,7 @@ pub record TicketFacts (t : TicketConf) : Type 0 where
   pub times : are_times t.times ≡ true
   pub weights : are_weights t.weights.items ≡ true
   pub handler : each is_command t.handler ≡ true
-  pub prereqs : are_prereqs t.prereqs.items ≡ true
+  pub prereqs : are_prereqs t.prereqs ≡ true
 
 pub ticket_facts : (t : TicketConf) → is_ticket t ≡ true → TicketFacts t
 ticket_facts t h =
@@ -142,11 +142,11 @@ times_facts times h =
     let d = both_true _ _ c.1 in
     record { expire = a.0; after = b.0; timeout = c.0; retries = d.0; renewal = d.1 }
 
-pub ticket_few : (t : TicketConf) → is_ticket t ≡ true → length t.prereqs.items ≤ PREREQS
+pub ticket_few : (t : TicketConf) → is_ticket t ≡ true → length t.prereqs ≤ PREREQS
 ticket_few t h =
     let f : TicketFacts t = ticket_facts t h in
     let b =
-    both_true (nat_le (length t.prereqs.items) PREREQS) (list_all is_prereq t.prereqs.items) f.prereqs in
+    both_true (nat_le (length t.prereqs) PREREQS) (list_all is_prereq t.prereqs) f.prereqs in
     grind (arith, nat_tests, b.0)
 
 -- the section that is printed of a ticket
@@ -252,7 +252,7 @@ timed t =
     set keys.Expire (Number (t.times.expire / 1000)) ∷ set keys.AcquireAfter (Number (t.times.after / 1000))
     ∷ set keys.Timeout (Number (t.times.timeout / 1000)) ∷ set keys.Retries (Number t.times.retries) ∷ []
 
-stands : (t : TicketConf) → length t.prereqs.items ≤ PREREQS → MayStand [] (key_entries t)
+stands : (t : TicketConf) → length t.prereqs ≤ PREREQS → MayStand [] (key_entries t)
 stands t few = (
   refl,
   (
@@ -265,7 +265,7 @@ stands t few = (
             behind keys.Weights (weights_said t.weights.items) a (handler_on t) low_a (λ b low_b.
             behind keys.BeforeAcquireHandler (option_map Text t.handler) b (prereqs_on t) low_b (λ c low_c.
             let none : count_by (has_key keys.AttrPrereq) c ≡ 0 = none_counted keys.AttrPrereq c low_c in
-            stands_prereqs t.prereqs.items c (mode_on t) (below_more 20 21 c (lit≤ tt) low_c) (omega (arith, none)) (λ d low_d.
+            stands_prereqs t.prereqs c (mode_on t) (below_more 20 21 c (lit≤ tt) low_c) (omega (arith, none)) (λ d low_d.
             (may_behind d (set keys.Mode (Word (word_of t.manual))) low_d, tt))))),
       ),
     ),

@@ -69,7 +69,7 @@ ticket_of defaults t = record {
   times = times_of defaults t.section;
   weights = chosen (weights_given keys.Weights t.section) (weights_given keys.Weights defaults) (record { items = [] });
   handler = option_or (text_given keys.BeforeAcquireHandler t.section) (text_given keys.BeforeAcquireHandler defaults);
-  prereqs = record { items = filter_map prereq_of t.section };
+  prereqs = filter_map prereq_of t.section;
 }
 
 -- the defaults, which are empty where there is no `__default__`

@@ -181,7 +181,7 @@ times_entries times =
 abbrev pub key_entries : TicketConf → List Entry
 key_entries t =
     times_entries t.times ++ (weights_entries t.weights.items ++ (handler_entries t.handler
-    ++ (map prereq_entry t.prereqs.items ++ set keys.Mode (Word (word_of t.manual)) ∷ [])))
+    ++ (map prereq_entry t.prereqs ++ set keys.Mode (Word (word_of t.manual)) ∷ [])))
 
 abbrev pub ticket_settings : TicketConf → List Setting
 ticket_settings t = Ticket t.name ∷ map Of (key_entries t)

@@ -84,7 +84,7 @@ are_prereqs qs = nat_le (length qs) PREREQS && list_all is_prereq qs
 abbrev pub is_ticket : TicketConf → Bool
 is_ticket t =
     is_ticket_name t.name && (are_times t.times && (are_weights t.weights.items
-    && (each is_command t.handler && are_prereqs t.prereqs.items)))
+    && (each is_command t.handler && are_prereqs t.prereqs)))
 
 -- no element is the same as one before it, or as one of these
 abbrev pub are_new : {X : Type 0} → (X → X → Bool) → List X → List X → Bool

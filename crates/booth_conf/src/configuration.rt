@@ -160,7 +160,7 @@ fn copy_tickets(alloc: Global, tickets: &[TicketConf]) -> Result<Vec<TicketConf>
 {
     let mut copied = Vec::with_capacity(alloc, tickets.len())?;
     for ticket in tickets {
-        copied.push(ticket.copy())?;
+        copied.push(ticket.copy(alloc)?)?;
     }
     Ok(copied)
 }

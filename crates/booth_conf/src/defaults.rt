@@ -1,9 +1,7 @@
 //! Tickets with the defaults filled in.
-ghost use Rattle.std.specs.Prelude.{◌≡◌, ◌*◌, true, [], IfOk, map};
-ghost use Rattle.std.specs.List.{list_all};
+ghost use Rattle.std.specs.Prelude.{◌≡◌, ◌*◌, [], IfOk, map};
 ghost use Rattle.std.specs.Option.{option_or};
 ghost use Rattle.booth_conf.specs.Config.{chosen, is_manual, renewal_of, ticket_of, times_of};
-ghost use Rattle.booth_conf.specs.SoundDraft.{is_named_section, is_section};
 
 use crate::keys::ConfKey;
 use crate::sections::{NamedSection, Section};
@@ -66,12 +64,11 @@ fn is_manual(own: Option<usize>, default: Option<usize>) -> bool
     own.or(default).unwrap_or(0) == 1
 }
 
-fn ticket(defaults: &Section, named: &NamedSection) -> TicketConf
-    requires { is_section named.now.section ≡ true }
-    ensures { result ≡ ticket_of defaults.now named.now }
+fn ticket(alloc: Global, defaults: &Section, named: &NamedSection) -> Result<TicketConf, AllocError>
+    ensures { IfOk result (λ ticket. ticket ≡ ticket_of defaults.now named.now) }
 {
     let own = &named.section;
-    TicketConf {
+    Ok(TicketConf {
         name: named.name.copy(),
         manual: is_manual(own.word(ConfKey::Mode), defaults.word(ConfKey::Mode)),
         times: times(defaults, own),
@@ -82,23 +79,21 @@ fn ticket(defaults: &Section, named: &NamedSection) -> TicketConf
         handler: own
             .text(ConfKey::BeforeAcquireHandler)
             .or(defaults.text(ConfKey::BeforeAcquireHandler)),
-        prereqs: own.prereqs(),
-    }
+        prereqs: own.prereqs(alloc)?,
+    })
 }
 
 /// The tickets, each with its own values or else with the defaults.
-#[tactic(auto, using(crate::proofs::SectionLemmas::section_at))]
 pub fn tickets(
     alloc: Global,
     defaults: &Section,
     sections: &[NamedSection],
 ) -> Result<Vec<TicketConf>, AllocError>
-    requires { list_all is_named_section sections.now ≡ true }
     ensures { IfOk result (λ tickets. tickets.items ≡ map (ticket_of defaults.now) sections.now) }
 {
     let mut tickets = Vec::with_capacity(alloc, sections.len())?;
     for named in sections {
-        tickets.push(ticket(defaults, named))?;
+        tickets.push(ticket(alloc, defaults, named)?)?;
     }
     Ok(tickets)
 }

@@ -33,4 +33,4 @@ pub use limits::{PREREQS, TEXT_BYTES, TICKETS};
 pub use members::Member;
 pub use names::ticket_name;
 pub use sections::Extra;
-pub use tickets::{GrantKind, Prereq, TicketConf};
+pub use tickets::{GrantKind, Prereq, Prereqs, TicketConf};

@@ -122,7 +122,7 @@ fn push_ticket(alloc: Global, out: &mut Vec<u8>, ticket: &TicketConf) -> Result<
     push_times(out, &ticket.times)?;
     push_weights(alloc, out, &ticket.weights)?;
     push_handler(out, &ticket.handler)?;
-    push_prereqs(alloc, out, &ticket.prereqs)?;
+    push_prereqs(alloc, out, ticket.prereqs.all())?;
     push_line(out, ConfKey::Mode.row().name, mode_word(ticket.manual))
 }
 

@@ -10,7 +10,7 @@ use crate::faults::{LineFault, Stop};
 use crate::keys::{ConfKey, Form, KeyNo};
 use crate::limits::PREREQS;
 use crate::settings::{Entry, Value};
-use crate::tickets::{Prereq, copy_weights};
+use crate::tickets::{Prereq, Prereqs, copy_weights};
 use arrayvec::ArrayVec;
 use booth_base::{MEMBERS, Name, PathText};
 use std::alloc::{AllocError, Global};
@@ -145,7 +145,11 @@ impl Section {
         if self.count(entry.key) >= most_of(form) {
             return Err(Stop::Line(too_often(form)));
         }
-        self.entries.push(entry).map_err(|_| Stop::Memory)
+        if self.entries.reserve(1).is_err() {
+            return Err(Stop::Memory);
+        }
+        self.entries.push_reserved(entry);
+        Ok(())
     }
 
     fn given(&self, key: ConfKey) -> Option<&Value>
@@ -198,18 +202,16 @@ impl Section {
     }
 
     /// The prerequisites, those that it inherits before its own.
-    #[tactic(auto, using(crate::proofs::SectionLemmas::prereq_room))]
-    pub fn prereqs(&self) -> ArrayVec<Prereq, PREREQS>
-        requires { is_section self.now ≡ true }
-        ensures { result.items ≡ filter_map prereq_of self.now }
+    pub fn prereqs(&self, alloc: Global) -> Result<Prereqs, AllocError>
+        ensures { IfOk result (λ prereqs. prereqs ≡ filter_map prereq_of self.now) }
     {
-        let mut prereqs = ArrayVec::new();
+        let mut prereqs = Vec::new(alloc);
         for entry in &self.entries {
             if let Some(prereq) = prereq_of(entry) {
-                prereqs.push(prereq);
+                prereqs.push(prereq)?;
             }
         }
-        prereqs
+        Ok(Prereqs::of(prereqs))
     }
 
     /// The keys without effect, with their texts.

@@ -1,10 +1,11 @@
 //! What a configuration says of a ticket.
 ghost use Rattle.booth_base.specs.declared.limits.TheConstants.{MEMBERS};
-ghost use Rattle.std.specs.Prelude.{◌≡◌, ◌≤◌, length};
+ghost use Rattle.std.specs.Prelude.{◌≡◌, ◌≤◌, IfOk, length};
 
-use crate::limits::PREREQS;
 use arrayvec::ArrayVec;
 use booth_base::{AttrValue, MEMBERS, Name, PathText, Times};
+use std::alloc::{AllocError, Global};
+use std::marker::Model;
 
 /// How a ticket is granted: by an election, or by hand.
 #[derive(Clone, Copy, Debug, PartialEq, Eq)]
@@ -25,18 +26,6 @@ pub struct Prereq {
     pub value: AttrValue,
 }
 
-// What an array of prerequisites holds where it has none.
-impl Default for Prereq {
-    fn default() -> Prereq {
-        Prereq {
-            kind: GrantKind::Auto,
-            name: Name::default(),
-            equal: false,
-            value: AttrValue::default(),
-        }
-    }
-}
-
 impl Prereq {
     /// An equal prerequisite.
     pub fn copy(&self) -> Prereq
@@ -51,6 +40,56 @@ impl Prereq {
     }
 }
 
+/// The prerequisites of a ticket, in the order of the file. Where there are none they take no memory. Contracts see a
+/// list of them.
+#[derive(Drop)]
+pub struct Prereqs {
+    list: Vec<Prereq>,
+}
+
+impl Model for Prereqs {
+    ghost use Rattle.std.specs.Prelude.{List};
+    ghost use Rattle.booth_conf.specs.declared.tickets.Prereq.{Prereq};
+
+    ghost Value = { List Prereq };
+
+    ghost view = { λ p. p.list.items };
+}
+
+fn copy_list(alloc: Global, prereqs: &[Prereq]) -> Result<Vec<Prereq>, AllocError>
+    ensures { IfOk result (λ v. v.items ≡ prereqs.now) }
+{
+    let mut copied = Vec::with_capacity(alloc, prereqs.len())?;
+    for prereq in prereqs {
+        copied.push(prereq.copy())?;
+    }
+    Ok(copied)
+}
+
+impl Prereqs {
+    /// Those of a list.
+    pub(crate) fn of(list: Vec<Prereq>) -> Prereqs
+        ensures { result ≡ list.items }
+    {
+        Prereqs { list }
+    }
+
+    /// Each, in their order.
+    pub fn all(&self) -> &[Prereq]
+        ensures { result.now ≡ self.now }
+    {
+        &self.list
+    }
+
+    /// Equal ones.
+    pub fn copy(&self, alloc: Global) -> Result<Prereqs, AllocError>
+        ensures { IfOk result (λ copied. copied ≡ self.now) }
+    {
+        let list = copy_list(alloc, &self.list)?;
+        Ok(Prereqs { list })
+    }
+}
+
 /// A ticket. Its times are in milliseconds.
 #[derive(Drop)]
 pub struct TicketConf {
@@ -62,19 +101,7 @@ pub struct TicketConf {
     pub weights: ArrayVec<u32, MEMBERS>,
     /// The path and the arguments of the program that is asked before the ticket is acquired.
     pub handler: Option<PathText>,
-    pub prereqs: ArrayVec<Prereq, PREREQS>,
-}
-
-/// An equal list of prerequisites.
-pub fn copy_prereqs(prereqs: &[Prereq]) -> ArrayVec<Prereq, PREREQS>
-    requires { length prereqs.now ≤ PREREQS }
-    ensures { result.items ≡ prereqs.now }
-{
-    let mut copied = ArrayVec::new();
-    for prereq in prereqs {
-        copied.push(prereq.copy());
-    }
-    copied
+    pub prereqs: Prereqs,
 }
 
 /// An equal list of weights.
@@ -99,16 +126,16 @@ pub fn copy_path(path: &Option<PathText>) -> Option<PathText>
 
 impl TicketConf {
     /// An equal ticket.
-    pub fn copy(&self) -> TicketConf
-        ensures { result ≡ self.now }
+    pub fn copy(&self, alloc: Global) -> Result<TicketConf, AllocError>
+        ensures { IfOk result (λ ticket. ticket ≡ self.now) }
     {
-        TicketConf {
+        Ok(TicketConf {
             name: self.name.copy(),
             manual: self.manual,
             times: self.times,
             weights: copy_weights(&self.weights),
             handler: copy_path(&self.handler),
-            prereqs: copy_prereqs(&self.prereqs),
-        }
+            prereqs: self.prereqs.copy(alloc)?,
+        })
     }
 }

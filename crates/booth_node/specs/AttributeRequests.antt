@@ -31,7 +31,7 @@ use Rattle.booth_node.specs.Replies.{Reply, reply_message}
 
 -- the prerequisites of the ticket at a place
 abbrev pub prereqs_at : List TicketConf → ℕ → List Prereq
-prereqs_at tickets place = option_map_or (λ ticket. ticket.prereqs.items) (slice_get tickets place) []
+prereqs_at tickets place = option_map_or (λ ticket. ticket.prereqs) (slice_get tickets place) []
 
 -- whether the prerequisites of the ticket at a place hold that a grant of this kind asks for
 abbrev pub is_ready : NodeConfig → Attributes → ℕ → GrantKind → Bool

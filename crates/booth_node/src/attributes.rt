@@ -41,7 +41,7 @@ pub(crate) fn is_ready(node: &NodeConfig, attrs: &Attrs, place: u32, kind: Grant
     ensures { result ≡ is_ready node.now attrs.now place kind }
 {
     match node.config.tickets().get(place as usize) {
-        Some(ticket) => attrs.holds(place, &ticket.prereqs, kind),
+        Some(ticket) => attrs.holds(place, ticket.prereqs.all(), kind),
         None => true,
     }
 }

@@ -65,6 +65,13 @@ impl Backlog {
         self.bytes.len() <= BACKLOG_BYTES - DATAGRAM_BYTES && self.held.len() < BACKLOG_DATAGRAMS
     }
 
+    /// Whether nothing waits.
+    pub(crate) fn is_empty(&self) -> bool
+        ensures { IsTrue result → waits self.now.held.items self.now.given self.now.bytes.items ≡ [] }
+    {
+        self.held.is_empty()
+    }
+
     /// Adds one behind the others.
     pub(crate) fn put(&mut self, from: &Peer, bytes: &[u8])
         requires room { HasRoom (vec_len self.old.bytes) (length self.old.held.items) }

@@ -130,6 +130,15 @@ fn require_told(source: Source, clock: OwnClock) -> io::Result<()> {
     }
 }
 
+// A step of the wall clock against this one.
+fn look_for_step(clock: &mut OwnClock) -> Option<Step> {
+    // (where the two are not read at one moment, a later look tells of a step)
+    match read_both() {
+        Ok(Some(readings)) => clock.step(readings),
+        Ok(None) | Err(_) => None,
+    }
+}
+
 impl Clocks {
     /// The wall clock, which is not read yet.
     pub(crate) fn new() -> Clocks {
@@ -142,39 +151,24 @@ impl Clocks {
 
     /// Reads the clock.
     pub(crate) fn now(&mut self) -> io::Result<Told> {
-        let source = self.source;
-        match source {
+        match &mut self.source {
             Source::Wall(_) | Source::Unread => self.read_wall(),
-            Source::Awaited(clock, at) => {
-                let mut clock = clock;
-                let reading = clock.read(since_boot()?);
-                self.source = Source::Awaited(clock, at);
-                Ok(Told {
-                    reading,
-                    step: None,
-                })
-            }
+            Source::Awaited(clock, _) => Ok(Told {
+                reading: clock.read(since_boot()?),
+                step: None,
+            }),
             Source::Open(clock) => {
-                let mut clock = clock;
                 let boot = since_boot()?;
                 let reading = clock.read(boot);
-                let step = self.look_for_step(boot, &mut clock);
-                self.source = Source::Open(clock);
+                let is_time = boot >= self.looked_at.saturating_add(LOOK_EVERY_MS);
+                let step = if is_time {
+                    self.looked_at = boot;
+                    look_for_step(clock)
+                } else {
+                    None
+                };
                 Ok(Told { reading, step })
             }
-        }
-    }
-
-    // A step of the wall clock against this one, where it is time to look for one.
-    fn look_for_step(&mut self, boot: u64, clock: &mut OwnClock) -> Option<Step> {
-        if boot < self.looked_at.saturating_add(LOOK_EVERY_MS) {
-            return None;
-        }
-        self.looked_at = boot;
-        // (where the two are not read at one moment, a later look tells of a step)
-        match read_both() {
-            Ok(Some(readings)) => clock.step(readings),
-            Ok(None) | Err(_) => None,
         }
     }
 
@@ -275,7 +269,7 @@ impl Clocks {
         rt: &HostRuntime,
         directory: &PathText,
     ) -> Option<io::Result<()>> {
-        let Source::Open(clock) = self.source else {
+        let Source::Open(clock) = &self.source else {
             return None;
         };
         let kept = clock.kept();

@@ -141,6 +141,11 @@ impl Jobs {
         }
     }
 
+    /// Whether nothing runs, and each ended program was seen to be over.
+    pub(crate) fn are_over(&self) -> bool {
+        self.running.is_empty() && self.killed.is_empty()
+    }
+
     // Lets go of the ended programs that are over.
     fn reap(&mut self) {
         self.killed

@@ -1,5 +1,5 @@
 //! The datagrams of a host: its socket, and what it took of it before anybody asked.
-ghost use Rattle.std.specs.Prelude.{◌≡◌, ◌⊎◌, [], None, Some, IfOk, IfSome, MatchOption, OnErr, OnOk, vec_len};
+ghost use Rattle.std.specs.Prelude.{◌≡◌, ◌⊎◌, [], None, Some, IfOk, IfSome, IsTrue, MatchOption, OnErr, OnOk, vec_len};
 ghost use Rattle.booth_host.specs.declared.datagram.TheConstants.{DATAGRAM_BYTES};
 ghost use Rattle.booth_real.specs.Hearing.{BringsTo, hearing, turned_to};
 ghost use Rattle.booth_real.specs.Taking.{IsGiven, TakesIn, WaitsFor, waiting};
@@ -81,6 +81,13 @@ impl Mail {
         self.socket = Some(socket);
     }
 
+    // Whether nothing waits, and no receive failed.
+    fn is_empty(&self) -> bool
+        ensures { IsTrue result → waiting self.now.backlog ≡ [] }
+    {
+        self.backlog.is_empty() && self.unreceived.is_none()
+    }
+
     // The first that waits, and what a receive failed with behind them.
     fn give(&mut self, into: &mut Datagram) -> Option<io::Result<Arrival>>
         ensures given { MatchOption result
@@ -102,12 +109,26 @@ impl Mail {
         ensures socket { self.new.socket ≡ self.old.socket }
     {
         into.clear();
-        if let Some(answer) = self.give(into) {
-            if let Some(socket) = &self.socket {
-                socket.look_at(&self.wake);
-            }
-            return answer;
+        if self.is_empty() {
+            return self.receive_new(wait_ms, into);
         }
+        match self.give(into) {
+            Some(answer) => {
+                if let Some(socket) = &self.socket {
+                    socket.look_at(&self.wake);
+                }
+                answer
+            }
+            None => self.receive_new(wait_ms, into),
+        }
+    }
+
+    // What comes within this time, where nothing waits.
+    fn receive_new(&mut self, wait_ms: u64, into: &mut Datagram) -> io::Result<Arrival>
+        ensures brings { IfOk result (λ arrival. BringsTo (hearing self.old.socket) arrival) }
+        ensures socket { self.new.socket ≡ self.old.socket }
+        ensures backlog { self.new.backlog ≡ self.old.backlog }
+    {
         match &self.socket {
             Some(socket) => socket.receive(wait_ms, &self.wake, &mut self.buffer, into),
             None => Err(unopened()),

@@ -220,9 +220,21 @@ impl RealHost {
         }
     }
 
-    // How a job ended, where one did. Where the system does not tell, or a program could not be started behind
-    // another, it counts as one that a signal ended.
+    // How a job ended, where one did.
     fn ended_job(&mut self) -> Option<Arrival>
+        ensures handler { IfSome result IsHandler }
+        ensures later { self.old.faults ≤ self.new.faults }
+        ensures mail { self.new.mail ≡ self.old.mail }
+    {
+        if self.jobs.are_over() {
+            return None;
+        }
+        self.look_at_jobs()
+    }
+
+    // The same where one may have. Where the system does not tell, or a program could not be started behind another,
+    // it counts as one that a signal ended.
+    fn look_at_jobs(&mut self) -> Option<Arrival>
         ensures handler { IfSome result IsHandler }
         ensures later { self.old.faults ≤ self.new.faults }
         ensures mail { self.new.mail ≡ self.old.mail }

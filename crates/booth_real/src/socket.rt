@@ -242,7 +242,13 @@ impl Socket {
             wake.note();
         }
         // (what poll does not tell, a receive does)
-        ready < 0 || asked[0].revents != 0
+        let is_there = ready < 0 || asked[0].revents != 0;
+        if is_there {
+            wake.go_ahead();
+        } else {
+            wake.stay();
+        }
+        is_there
     }
 
     fn peer_at(&self, from: SocketAddr) -> Peer {
@@ -318,7 +324,8 @@ impl Socket {
     }
 
     /// What comes within this time, through the buffer. It is Quiet where nothing came that it takes, a signal cut
-    /// the call short, or the other file can be read. Where that file is known to have something, nobody waits.
+    /// the call short, or the other file can be read. Where that file is known to have something, nobody waits. Behind
+    /// a datagram that came some receives ask for the next one before they wait.
     pub(crate) fn receive(
         &self,
         wait_ms: u64,
@@ -328,9 +335,26 @@ impl Socket {
     ) -> io::Result<Arrival>
         ensures { IfOk result (λ arrival. BringsTo (Some self.now.takes) arrival) }
     {
-        if !wake.is_known() && !self.wait(wait_ms, wake) {
-            return Ok(Arrival::Quiet);
+        if wake.is_known() {
+            return self.take(buffer, into);
         }
+        if wake.goes_ahead() {
+            match self.take(buffer, into) {
+                Ok(Arrival::Quiet) => {}
+                answer => return answer,
+            }
+        }
+        if self.wait(wait_ms, wake) {
+            self.take(buffer, into)
+        } else {
+            Ok(Arrival::Quiet)
+        }
+    }
+
+    // What is there, through the buffer. It is Quiet where nothing is that it takes, or a signal cut the call short.
+    fn take(&self, buffer: &mut [u8], into: &mut Datagram) -> io::Result<Arrival>
+        ensures { IfOk result (λ arrival. BringsTo (Some self.now.takes) arrival) }
+    {
         match self.udp.recv_from(buffer) {
             Ok((count, from)) => {
                 let from = self.peer_at(from);
@@ -344,9 +368,13 @@ impl Socket {
         }
     }
 
-    /// Looks at the other file, without a wait, and notes whether it can be read.
+    /// Looks at the other file, without a wait, and notes whether it can be read; not where it was looked at shortly
+    /// before.
     pub(crate) fn look_at(&self, wake: &Wake) {
-        self.wait(0, wake);
+        if !wake.goes_ahead() {
+            self.wait(0, wake);
+            wake.go_ahead();
+        }
     }
 
     /// Takes what the system holds for this socket into the backlog, as far as there is room, and waits for nothing:

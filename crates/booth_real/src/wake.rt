@@ -6,6 +6,9 @@ use std::cell::Cell;
 use std::os::fd::RawFd;
 use std::rc::Rc;
 
+/// How many receives go before the file is looked at again.
+const AHEAD: u32 = 16;
+
 /// A file that ends a wait when it can be read.
 #[derive(Drop)]
 pub(crate) struct Wake {
@@ -13,6 +16,8 @@ pub(crate) struct Wake {
     file: RawFd,
     /// Whether it has something, as far as is known.
     known: Option<Rc<Cell<bool>>>,
+    /// How many receives go yet without a look at it.
+    ahead: Cell<u32>,
 }
 
 impl Wake {
@@ -21,6 +26,7 @@ impl Wake {
         Wake {
             file: -1,
             known: None,
+            ahead: Cell::new(0),
         }
     }
 
@@ -31,6 +37,7 @@ impl Wake {
         Wake {
             file,
             known: Some(known),
+            ahead: Cell::new(0),
         }
     }
 
@@ -54,5 +61,22 @@ impl Wake {
         if let Some(known) = &self.known {
             known.set(true);
         }
+    }
+
+    /// Has some receives go before it is looked at again: where something came, more may be there.
+    pub(crate) fn go_ahead(&self) {
+        self.ahead.set(AHEAD);
+    }
+
+    /// Has none go before it is looked at again.
+    pub(crate) fn stay(&self) {
+        self.ahead.set(0);
+    }
+
+    /// Whether one more receive goes without a look at it.
+    pub(crate) fn goes_ahead(&self) -> bool {
+        let ahead = self.ahead.get();
+        self.ahead.set(ahead.saturating_sub(1));
+        ahead > 0
     }
 }

@@ -66,7 +66,7 @@ names_free config sound place ticket is =
     let passes : is_ticket ticket ≡ true = passes_at is_ticket config.tickets place ticket sound.tickets is in
     let named : is_ticket_name ticket.name ≡ true =
     (both_parts (is_ticket_name ticket.name)
-    (are_times ticket.times && (are_weights ticket.weights.items && (each is_command ticket.handler && are_prereqs ticket.prereqs.items))) passes).0 in
+    (are_times ticket.times && (are_weights ticket.weights.items && (each is_command ticket.handler && are_prereqs ticket.prereqs))) passes).0 in
     let name : is_name ticket.name ≡ true =
     (both_parts (is_name ticket.name) (not (bytes_eq ticket.name default_name) && is_sayable ticket.name) named).0 in
     let bytes : list_all is_name_byte ticket.name ≡ true =

@@ -42,7 +42,7 @@ web = record {
   times = record { expire = 6000; after = 0; timeout = 1000; retries = 3; renewal = 5000 };
   weights = record { items = [] };
   handler = None;
-  prereqs = record { items = [] };
+  prereqs = [];
 }
 
 abbrev pub two_sites : List Member
