@@ -107,17 +107,17 @@ def said_in(crate, name):
 def pages_have_all_texts(room):
     """each text that a program says of a refusal stands in a page"""
     daemon, clients, follower = page("boothd.8"), page("booth.8") + page("geostore.8"), page("booth-follow.8")
-    refusals = said_in("booth_clients", "refusals.rt")
+    refusals = said_in("booth_tools", "refusals.rt")
     need("prerequisite not met" in refusals, f"no refusal was found in the program, but {sorted(refusals)}")
     missing = [text for text in refusals if not re.search(rf"^\.It (?:ticket NAME )?{re.escape(text)}", clients, re.M)]
     need(not missing, f"not in booth.8 or geostore.8: {missing}")
-    faults = {text for text in said_in("booth_stages", "texts.rt") if re.fullmatch("[a-z_ -]+", text) and text not in ("line", "ticket")}
+    faults = {text for text in said_in("booth_outcomes", "texts.rt") if re.fullmatch("[a-z_ -]+", text) and text not in ("line", "ticket")}
     need("misplaced key" in faults, f"no fault was found in the program, but {sorted(faults)}")
     # (what is wrong with the times of a ticket stands there in other words)
     faults -= {"renewal-freq is not below expire", "timeout and retries do not fit renewal-freq"}
     words = {"bad ticket", "bad name", "bad value", "is not a site"}
     follows = {"bad program", "cannot follow ticket"}
-    source = read(f"{TOP}/crates/booth_stages/src/texts.rt")
+    source = read(f"{TOP}/crates/booth_outcomes/src/texts.rt")
     causes = set(re.findall(r'FollowFault::\w+ => "([^"]+)"', source))
     need(len(causes) == 6, f"the causes for which no ticket is followed: {sorted(causes)}")
     missing = [text for text in faults - words - follows if text not in daemon] + [text for text in words if text not in clients]

@@ -1,8 +1,8 @@
 //! The program `booth`: its words over the real host.
 #![tactic(auto)]
 
-use booth_clients::{Outcome, booth};
 use booth_real::RealHost;
+use booth_tools::{Outcome, booth};
 use std::alloc::{AllocError, Global};
 use std::env;
 use std::io::{ErrorKind, Write};

@@ -11,27 +11,27 @@ use Rattle.booth_conf.proofs.OneAnswers.{one_answer}
 use Rattle.booth_host.specs.declared.host.ReadFault.TheVariants as reads
 use Rattle.booth_host.specs.declared.entry.Entry.{Entry}
 use Rattle.booth_host.specs.declared.entry.Entry.TheVariants.{Open, Now, ReadFile, Lock, Kept, Out}
-use Rattle.booth_stages.specs.declared.outcome.Outcome.{Outcome}
-use Rattle.booth_stages.specs.declared.outcome.Outcome.TheVariants.{Done, ConfUnread, ConfBad}
-use Rattle.booth_stages.specs.declared.outcome.Outcome.TheVariants.{NotMember, KeyUnread, KeyBad}
-use Rattle.booth_stages.specs.declared.outcome.Outcome.TheVariants.{LockFault, Running, NotRunning, OpenFault}
-use Rattle.booth_stages.specs.declared.outcome.Outcome.TheVariants.{RecordUnread, TurnsSpent, PrintFault}
-use Rattle.booth_stages.specs.declared.outcome.Outcome.TheVariants.{OutOfMemory}
+use Rattle.booth_outcomes.specs.declared.outcome.Outcome.{Outcome}
+use Rattle.booth_outcomes.specs.declared.outcome.Outcome.TheVariants.{Done, ConfUnread, ConfBad}
+use Rattle.booth_outcomes.specs.declared.outcome.Outcome.TheVariants.{NotMember, KeyUnread, KeyBad}
+use Rattle.booth_outcomes.specs.declared.outcome.Outcome.TheVariants.{LockFault, Running, NotRunning, OpenFault}
+use Rattle.booth_outcomes.specs.declared.outcome.Outcome.TheVariants.{RecordUnread, TurnsSpent, PrintFault}
+use Rattle.booth_outcomes.specs.declared.outcome.Outcome.TheVariants.{OutOfMemory}
 use Rattle.booth_daemon.specs.Fitness.{has_member, IsUnserved}
-use Rattle.booth_stages.specs.Configuration.{IsUnread}
-use Rattle.booth_stages.specs.Keys.{FirstKeyless, IsFileKeyless, IsKeyless, NamesKeyFile, OldKeyless}
+use Rattle.booth_outcomes.specs.Configuration.{IsUnread}
+use Rattle.booth_outcomes.specs.Keys.{FirstKeyless, IsFileKeyless, IsKeyless, NamesKeyFile, OldKeyless}
 use Rattle.booth_daemon.specs.Opening.{IsLockless, IsUnopened, opened, reads_of}
 use Rattle.booth_daemon.specs.Serving.{IsServing, Unread, Refused, Unkeyed, Unlocked, Unopened, Turning, IsStuck}
 use Rattle.booth_daemon.specs.Serving.{IsTurning}
-use Rattle.booth_words.specs.declared.command.Verb.TheVariants as verbs
-use Rattle.booth_words.specs.declared.asking.DaemonWords.{DaemonWords}
-use Rattle.booth_words.specs.declared.program.Program.TheVariants.{Boothd}
+use Rattle.booth_cli.specs.declared.command.Verb.TheVariants as verbs
+use Rattle.booth_cli.specs.declared.asking.DaemonWords.{DaemonWords}
+use Rattle.booth_cli.specs.declared.program.Program.TheVariants.{Boothd}
 use Rattle.booth_daemon.specs.Status.{IsStatus, status_text}
 use Rattle.booth_daemon.specs.Simulating.{IsSimulated, IsSummed, IsUnchosen, Simulated, Unchosen, summary_text}
-use Rattle.booth_words.specs.declared.asking.SimulationWords.{SimulationWords}
+use Rattle.booth_cli.specs.declared.asking.SimulationWords.{SimulationWords}
 use Rattle.booth_daemon.specs.Run.{IsMade, Unasked, Served, Summed, Looked}
-use Rattle.booth_stages.proofs.CallLemmas.{among, first_of, same_calls, second_of, third_of}
-use Rattle.booth_stages.proofs.UsageLemmas.{for_memory}
+use Rattle.booth_outcomes.proofs.CallLemmas.{among, first_of, same_calls, second_of, third_of}
+use Rattle.booth_outcomes.proofs.UsageLemmas.{for_memory}
 use Rattle.booth_daemon.specs.Faultless.{IsValid, IsFaultless, EndsWell, FaultlessRuns, IsUnfailing}
 use Rattle.booth_daemon.specs.Faultless.{Tells, FaultlessLooks, FaultlessSimulations, IsFaultlessFor, Sums}
 

@@ -11,9 +11,9 @@ use Rattle.booth_host.specs.declared.entry.Entry.{Entry}
 use Rattle.booth_host.specs.declared.entry.Entry.TheVariants.{Kept}
 use Rattle.booth_host.specs.Past.{GrewSome}
 use Rattle.booth_host.proofs.PastLemmas.{some_joined}
-use Rattle.booth_stages.specs.declared.outcome.Ended.{Ended}
+use Rattle.booth_outcomes.specs.declared.outcome.Ended.{Ended}
 use Rattle.booth_daemon.specs.Records.{AreKept, AreUnread, IsRecordRead, kept_call}
-use Rattle.booth_stages.proofs.EndedLemmas.{ErrIs, err_has}
+use Rattle.booth_outcomes.proofs.EndedLemmas.{ErrIs, err_has}
 
 pub one_longer : {X : Type 0} (xs ys : List X) (x : X) (n : ℕ) → ys ≡ xs ++ x ∷ [] → length xs ≡ n →
     length ys ≡ n + 1

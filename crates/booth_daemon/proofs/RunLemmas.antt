@@ -6,24 +6,24 @@ use Rattle.clap.specs.declared.error.kind.ErrorKind.{ErrorKind}
 use Rattle.booth_host.specs.declared.entry.Entry.{Entry}
 use Rattle.booth_host.specs.Past.{GrewSome}
 use Rattle.booth_host.proofs.PastLemmas.{no_entry, some_of, some_joined, some_weaker}
-use Rattle.booth_stages.specs.declared.outcome.Outcome.{Outcome}
-use Rattle.booth_stages.specs.declared.outcome.Outcome.TheVariants.{Done, Usage, BadWord, LockFault, NotRunning}
-use Rattle.booth_stages.specs.declared.outcome.Outcome.TheVariants.{PrintFault, OutOfMemory, Report, Refused, NoReply}
-use Rattle.booth_stages.specs.declared.outcome.Outcome.TheVariants.{SendFault, ConfUnread, ConfBad, NotSite, NotFollowed, Stranded}
-use Rattle.booth_words.specs.declared.program.Program.TheVariants.{Boothd}
-use Rattle.booth_words.specs.declared.asking.DaemonWords.{DaemonWords}
-use Rattle.booth_words.specs.declared.asking.SimulationWords.{SimulationWords}
-use Rattle.booth_words.specs.declared.asking.Asked.{Asked}
-use Rattle.booth_words.specs.declared.asking.Asked.TheVariants.{Daemon, Status, Simulation}
-use Rattle.booth_words.specs.Asking.{Asks, AsksDaemon, AsksSimulation, AsksStatus, IsUntaken, IsUntakenFor}
-use Rattle.booth_words.proofs.AskingLemmas.{untaken_of}
-use Rattle.booth_stages.proofs.UsageLemmas.{no_memory, unasked_of}
-use Rattle.booth_stages.specs.Unasked.{IsTold, IsToldOutcome, IsUnasked}
+use Rattle.booth_outcomes.specs.declared.outcome.Outcome.{Outcome}
+use Rattle.booth_outcomes.specs.declared.outcome.Outcome.TheVariants.{Done, Usage, BadWord, LockFault, NotRunning}
+use Rattle.booth_outcomes.specs.declared.outcome.Outcome.TheVariants.{PrintFault, OutOfMemory, Report, Refused, NoReply}
+use Rattle.booth_outcomes.specs.declared.outcome.Outcome.TheVariants.{SendFault, ConfUnread, ConfBad, NotSite, NotFollowed, Stranded}
+use Rattle.booth_cli.specs.declared.program.Program.TheVariants.{Boothd}
+use Rattle.booth_cli.specs.declared.asking.DaemonWords.{DaemonWords}
+use Rattle.booth_cli.specs.declared.asking.SimulationWords.{SimulationWords}
+use Rattle.booth_cli.specs.declared.asking.Asked.{Asked}
+use Rattle.booth_cli.specs.declared.asking.Asked.TheVariants.{Daemon, Status, Simulation}
+use Rattle.booth_cli.specs.Asking.{Asks, AsksDaemon, AsksSimulation, AsksStatus, IsUntaken, IsUntakenFor}
+use Rattle.booth_cli.proofs.AskingLemmas.{untaken_of}
+use Rattle.booth_outcomes.proofs.UsageLemmas.{no_memory, unasked_of}
+use Rattle.booth_outcomes.specs.Unasked.{IsTold, IsToldOutcome, IsUnasked}
 use Rattle.booth_daemon.specs.Serving.{IsServing}
-use Rattle.booth_stages.specs.Outcomes.{IsServed}
+use Rattle.booth_outcomes.specs.Outcomes.{IsServed}
 use Rattle.booth_daemon.specs.Status.{IsStatus, IsStatusOutcome}
 use Rattle.booth_daemon.specs.Simulating.{IsSimulated}
-use Rattle.booth_stages.specs.Texts.{IsText}
+use Rattle.booth_outcomes.specs.Texts.{IsText}
 use Rattle.booth_daemon.specs.Run.{IsMade, Unasked, Served, Summed, Looked, IsRun, FitsWords}
 
 -- ---- words that ask for nothing

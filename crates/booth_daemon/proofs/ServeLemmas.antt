@@ -4,7 +4,7 @@ use Rattle.std.proofs.Common.{◌≡◌, ◌≤◌, ℕ, List, [], ◌∷◌, �
 use Rattle.std.proofs.Common.{◌∙◌, append_assoc, subst, inl, inr}
 use Rattle.booth_keys.specs.declared.ring.Ring.{Ring}
 use Rattle.booth_base.specs.declared.address.Address.{Address}
-use Rattle.booth_words.specs.declared.asking.DaemonWords.{DaemonWords}
+use Rattle.booth_cli.specs.declared.asking.DaemonWords.{DaemonWords}
 use Rattle.booth_conf.specs.Config.{ConfigSays}
 use Rattle.booth_rec.specs.declared.record.Record.{Record}
 use Rattle.booth_host.specs.declared.entry.Entry.{Entry}
@@ -17,20 +17,20 @@ use Rattle.booth_node.specs.State.{State}
 use Rattle.booth_node.specs.declared.node.Node.{Node}
 use Rattle.booth_node.specs.View.{node_config, state_of}
 use Rattle.booth_node.specs.Opening.{opened as start_state}
-use Rattle.booth_stages.specs.declared.outcome.Ended.{Ended}
-use Rattle.booth_stages.specs.declared.outcome.Outcome.{Outcome}
-use Rattle.booth_stages.specs.declared.outcome.Outcome.TheVariants.{ConfUnread, KeyUnread, LockFault, OpenFault}
-use Rattle.booth_stages.specs.declared.outcome.Outcome.TheVariants.{RecordUnread, PrintFault, OutOfMemory, SendFault}
-use Rattle.booth_stages.specs.Texts.{out_of_memory_text, unopened_text}
+use Rattle.booth_outcomes.specs.declared.outcome.Ended.{Ended}
+use Rattle.booth_outcomes.specs.declared.outcome.Outcome.{Outcome}
+use Rattle.booth_outcomes.specs.declared.outcome.Outcome.TheVariants.{ConfUnread, KeyUnread, LockFault, OpenFault}
+use Rattle.booth_outcomes.specs.declared.outcome.Outcome.TheVariants.{RecordUnread, PrintFault, OutOfMemory, SendFault}
+use Rattle.booth_outcomes.specs.Texts.{out_of_memory_text, unopened_text}
 use Rattle.booth_daemon.specs.Fitness.{IsAdmitted}
 use Rattle.booth_daemon.specs.Records.{AreKept, AreUnread}
-use Rattle.booth_stages.specs.Configuration.{IsConfigRead}
-use Rattle.booth_stages.proofs.EndedLemmas.{ErrIs, err_has}
-use Rattle.booth_stages.specs.Keys.{IsRingRead}
+use Rattle.booth_outcomes.specs.Configuration.{IsConfigRead}
+use Rattle.booth_outcomes.proofs.EndedLemmas.{ErrIs, err_has}
+use Rattle.booth_outcomes.specs.Keys.{IsRingRead}
 use Rattle.booth_daemon.specs.Opening.{IsLocked, IsNodeOpened, IsReady, IsUnopened}
 use Rattle.booth_daemon.specs.Opening.{IsStarted, reads_of, opened as opening_calls, member_config}
 use Rattle.booth_daemon.specs.Serving.{IsNodeRun, IsServing, Refused, Unkeyed, Unlocked, Unopened}
-use Rattle.booth_stages.specs.Outcomes.{HasBlame}
+use Rattle.booth_outcomes.specs.Outcomes.{HasBlame}
 use Rattle.booth_daemon.specs.Serving.{Turning, IsOpened}
 
 -- ---- whom an end blames

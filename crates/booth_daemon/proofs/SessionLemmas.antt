@@ -13,11 +13,11 @@ use Rattle.booth_node.specs.declared.node_config.NodeConfig.{NodeConfig}
 use Rattle.booth_world.specs.Tellers.{TellersAreApart, WhoTellsHolds}
 use Rattle.booth_world.specs.Worlds.{made, LaterHoldersHaveLaterTerms, WorldsHoldOne, WorldTermsNeverFall}
 use Rattle.booth_world.proofs.LogSessions.{logs_are_sessions, stopped_logs_are_sessions, cut_sessions_are_sessions}
-use Rattle.booth_stages.specs.declared.outcome.Outcome.{Outcome}
-use Rattle.booth_stages.specs.declared.outcome.Outcome.TheVariants.{Done, TurnsSpent}
-use Rattle.booth_stages.specs.Keys.{FirstKeyless, IsKeyless, OldKeyless}
-use Rattle.booth_words.specs.declared.asking.DaemonWords.{DaemonWords}
-use Rattle.booth_words.specs.Asking.{AsksDaemon}
+use Rattle.booth_outcomes.specs.declared.outcome.Outcome.{Outcome}
+use Rattle.booth_outcomes.specs.declared.outcome.Outcome.TheVariants.{Done, TurnsSpent}
+use Rattle.booth_outcomes.specs.Keys.{FirstKeyless, IsKeyless, OldKeyless}
+use Rattle.booth_cli.specs.declared.asking.DaemonWords.{DaemonWords}
+use Rattle.booth_cli.specs.Asking.{AsksDaemon}
 use Rattle.booth_daemon.specs.Headline.{IsSafe, IsTurningEnd, DaemonsTurn, RunsAreSessions, CutRunsAreSessions}
 use Rattle.booth_daemon.specs.Opening.{member_config}
 use Rattle.booth_daemon.specs.Run.{IsRun, IsMade, Unasked, Served, Summed, Looked, AskForDaemon}

@@ -6,9 +6,9 @@ use Rattle.booth_conf.specs.Says.{Says}
 use Rattle.booth_host.specs.declared.entry.Entry.{Entry}
 use Rattle.booth_host.specs.Past.{GrewSome}
 use Rattle.booth_host.proofs.PastLemmas.{no_entry, some_of, some_joined}
-use Rattle.booth_words.specs.declared.asking.SimulationWords.{SimulationWords}
-use Rattle.booth_stages.specs.declared.outcome.Ended.{Ended}
-use Rattle.booth_stages.specs.declared.outcome.Outcome.{Outcome}
+use Rattle.booth_cli.specs.declared.asking.SimulationWords.{SimulationWords}
+use Rattle.booth_outcomes.specs.declared.outcome.Ended.{Ended}
+use Rattle.booth_outcomes.specs.declared.outcome.Outcome.{Outcome}
 use Rattle.booth_daemon.specs.Simulating.{HasNoMemory, IsConfigChosen, IsSimulated, IsSummed, Simulated, example_text}
 
 example_is : (r : Result ConfigSays Ended) → IfOk r (λ config. Says example_text config) → IfErr r HasNoMemory → IsConfigChosen None r []

@@ -5,8 +5,8 @@ use Rattle.booth_host.specs.declared.entry.Entry.{Entry}
 use Rattle.booth_host.specs.declared.entry.Entry.TheVariants.{Lock}
 use Rattle.booth_host.specs.Past.{GrewBy, GrewSome}
 use Rattle.booth_host.proofs.PastLemmas.{then_some}
-use Rattle.booth_stages.specs.declared.outcome.Outcome.{Outcome}
-use Rattle.booth_stages.specs.declared.outcome.Outcome.TheVariants.{Done, NotRunning, LockFault, PrintFault}
+use Rattle.booth_outcomes.specs.declared.outcome.Outcome.{Outcome}
+use Rattle.booth_outcomes.specs.declared.outcome.Outcome.TheVariants.{Done, NotRunning, LockFault, PrintFault}
 use Rattle.booth_daemon.specs.Status.{IsPrinted, IsStatus, IsStatusOutcome}
 
 printed : (lock said : List ℕ) (free : Bool) (outcome : Outcome) (es : List Entry) → IsStatusOutcome outcome → IsPrinted free outcome said es →

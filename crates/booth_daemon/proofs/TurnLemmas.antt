@@ -9,8 +9,8 @@ use Rattle.booth_node.specs.declared.node.Turn.TheVariants.{Stopped}
 use Rattle.booth_node.specs.declared.node_config.NodeConfig.{NodeConfig}
 use Rattle.booth_node.specs.Reaction.{IsTurn}
 use Rattle.booth_node.specs.Log.{IsNodeLog}
-use Rattle.booth_stages.specs.declared.outcome.Outcome.{Outcome}
-use Rattle.booth_stages.specs.declared.outcome.Outcome.TheVariants.{Done, TurnsSpent}
+use Rattle.booth_outcomes.specs.declared.outcome.Outcome.{Outcome}
+use Rattle.booth_outcomes.specs.declared.outcome.Outcome.TheVariants.{Done, TurnsSpent}
 use Rattle.booth_daemon.specs.Serving.{AreSpent, IsNodeRun, IsStoppedWithin}
 
 -- a last turn that stopped, before as many turns were made

@@ -7,16 +7,16 @@ use Rattle.booth_host.specs.declared.host.Failed.{Failed}
 use Rattle.booth_host.specs.declared.host.ReadFault.TheVariants as reads
 use Rattle.booth_host.specs.declared.entry.Entry.{Entry}
 use Rattle.booth_host.specs.declared.entry.Entry.TheVariants.{Open, ReadFile, Lock, Kept, Out}
-use Rattle.booth_words.specs.declared.command.Verb.TheVariants as verbs
-use Rattle.booth_stages.specs.declared.outcome.Outcome.{Outcome}
-use Rattle.booth_stages.specs.declared.outcome.Outcome.TheVariants.{Done, TurnsSpent, NotRunning}
-use Rattle.booth_stages.specs.declared.outcome.Outcome.TheVariants.{OutOfMemory}
-use Rattle.booth_words.specs.declared.asking.DaemonWords.{DaemonWords}
-use Rattle.booth_words.specs.declared.asking.SimulationWords.{SimulationWords}
-use Rattle.booth_words.specs.declared.program.Program.TheVariants.{Boothd}
-use Rattle.booth_words.specs.Asking.{AsksDaemon, AsksSimulation}
-use Rattle.booth_words.specs.Valid.{AreValid}
-use Rattle.booth_stages.specs.Keys.{IsKeyFile, NamesKeyFile}
+use Rattle.booth_cli.specs.declared.command.Verb.TheVariants as verbs
+use Rattle.booth_outcomes.specs.declared.outcome.Outcome.{Outcome}
+use Rattle.booth_outcomes.specs.declared.outcome.Outcome.TheVariants.{Done, TurnsSpent, NotRunning}
+use Rattle.booth_outcomes.specs.declared.outcome.Outcome.TheVariants.{OutOfMemory}
+use Rattle.booth_cli.specs.declared.asking.DaemonWords.{DaemonWords}
+use Rattle.booth_cli.specs.declared.asking.SimulationWords.{SimulationWords}
+use Rattle.booth_cli.specs.declared.program.Program.TheVariants.{Boothd}
+use Rattle.booth_cli.specs.Asking.{AsksDaemon, AsksSimulation}
+use Rattle.booth_cli.specs.Valid.{AreValid}
+use Rattle.booth_outcomes.specs.Keys.{IsKeyFile, NamesKeyFile}
 use Rattle.booth_daemon.specs.Fitness.{has_member}
 use Rattle.booth_daemon.specs.Run.{IsRun}
 

@@ -6,10 +6,10 @@ use Rattle.booth_base.specs.declared.address.Address.{Address}
 use Rattle.booth_conf.specs.Config.{ConfigSays}
 use Rattle.booth_conf.specs.Says.{Says}
 use Rattle.booth_conf.specs.Rules.{is_at}
-use Rattle.booth_stages.specs.declared.outcome.Outcome.{Outcome}
-use Rattle.booth_stages.specs.declared.outcome.Outcome.TheVariants.{NotMember}
-use Rattle.booth_stages.specs.declared.outcome.Ended.{Ended}
-use Rattle.booth_stages.specs.Texts.{not_member_text}
+use Rattle.booth_outcomes.specs.declared.outcome.Outcome.{Outcome}
+use Rattle.booth_outcomes.specs.declared.outcome.Outcome.TheVariants.{NotMember}
+use Rattle.booth_outcomes.specs.declared.outcome.Ended.{Ended}
+use Rattle.booth_outcomes.specs.Texts.{not_member_text}
 
 -- a member has this address
 abbrev pub has_member : ConfigSays → Address → Bool

@@ -6,10 +6,10 @@ use Rattle.booth_node.specs.Session.{SessionEntry, Starts, Down, AreSessions}
 use Rattle.booth_node.specs.World.{World, IsNodeOf, IsWorld, IsSecondWorld, entries_of}
 use Rattle.booth_world.specs.Tellers.{TellersAreApartIn, TellersHoldIn}
 use Rattle.booth_world.specs.Worlds.{HoldsOneIn, LaterTermsIn, TermsNeverFallIn, made}
-use Rattle.booth_stages.specs.declared.outcome.Outcome.{Outcome}
-use Rattle.booth_stages.specs.declared.outcome.Outcome.TheVariants.{Done, TurnsSpent}
-use Rattle.booth_words.specs.declared.asking.DaemonWords.{DaemonWords}
-use Rattle.booth_words.specs.Asking.{AsksDaemon}
+use Rattle.booth_outcomes.specs.declared.outcome.Outcome.{Outcome}
+use Rattle.booth_outcomes.specs.declared.outcome.Outcome.TheVariants.{Done, TurnsSpent}
+use Rattle.booth_cli.specs.declared.asking.DaemonWords.{DaemonWords}
+use Rattle.booth_cli.specs.Asking.{AsksDaemon}
 use Rattle.booth_daemon.specs.Opening.{member_config}
 use Rattle.booth_daemon.specs.Serving.{IsTurning}
 use Rattle.booth_daemon.specs.Run.{IsRun, AskForDaemon}

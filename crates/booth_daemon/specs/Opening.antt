@@ -13,13 +13,13 @@ use Rattle.booth_node.specs.declared.node_config.NodeConfig.{NodeConfig}
 use Rattle.booth_node.specs.declared.node.Node.{Node}
 use Rattle.booth_node.specs.View.{node_config, state_of}
 use Rattle.booth_node.specs.Opening.{opened as start_state}
-use Rattle.booth_stages.specs.declared.outcome.Outcome.{Outcome}
-use Rattle.booth_stages.specs.declared.outcome.Outcome.TheVariants.{LockFault, Running, OpenFault, RecordUnread}
-use Rattle.booth_stages.specs.declared.outcome.Outcome.TheVariants.{OutOfMemory}
-use Rattle.booth_stages.specs.declared.outcome.Ended.{Ended}
-use Rattle.booth_words.specs.declared.asking.DaemonWords.{DaemonWords}
-use Rattle.booth_stages.specs.Texts.{unlocked_text, unopened_text, out_of_memory_text}
-use Rattle.booth_stages.specs.Keys.{HasRing, KeyTexts, key_calls}
+use Rattle.booth_outcomes.specs.declared.outcome.Outcome.{Outcome}
+use Rattle.booth_outcomes.specs.declared.outcome.Outcome.TheVariants.{LockFault, Running, OpenFault, RecordUnread}
+use Rattle.booth_outcomes.specs.declared.outcome.Outcome.TheVariants.{OutOfMemory}
+use Rattle.booth_outcomes.specs.declared.outcome.Ended.{Ended}
+use Rattle.booth_cli.specs.declared.asking.DaemonWords.{DaemonWords}
+use Rattle.booth_outcomes.specs.Texts.{unlocked_text, unopened_text, out_of_memory_text}
+use Rattle.booth_outcomes.specs.Keys.{HasRing, KeyTexts, key_calls}
 use Rattle.booth_daemon.specs.Fitness.{IsFit}
 use Rattle.booth_daemon.specs.Records.{AreKept, AreNoneOrAll, IsRecordUnread}
 

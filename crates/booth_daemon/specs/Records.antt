@@ -6,10 +6,10 @@ use Rattle.booth_rec.specs.declared.record.Record.{Record}
 use Rattle.booth_host.specs.declared.host.Failed.{Failed}
 use Rattle.booth_host.specs.declared.entry.Entry.{Entry}
 use Rattle.booth_host.specs.declared.entry.Entry.TheVariants.{Kept}
-use Rattle.booth_stages.specs.declared.outcome.Outcome.{Outcome}
-use Rattle.booth_stages.specs.declared.outcome.Outcome.TheVariants.{RecordUnread, OutOfMemory}
-use Rattle.booth_stages.specs.declared.outcome.Ended.{Ended}
-use Rattle.booth_stages.specs.Texts.{unread_record_text, out_of_memory_text}
+use Rattle.booth_outcomes.specs.declared.outcome.Outcome.{Outcome}
+use Rattle.booth_outcomes.specs.declared.outcome.Outcome.TheVariants.{RecordUnread, OutOfMemory}
+use Rattle.booth_outcomes.specs.declared.outcome.Ended.{Ended}
+use Rattle.booth_outcomes.specs.Texts.{unread_record_text, out_of_memory_text}
 
 -- a ticket's record, or that none was kept, was read
 abbrev pub kept_call : TicketConf × Option Record → Entry

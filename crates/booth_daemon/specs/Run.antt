@@ -1,17 +1,17 @@
 -- The calls of a whole run of boothd.
 use Rattle.std.specs.Prelude.{◌≡◌, ◌++◌, ◌⊎◌, ℕ, List, Some, None, IsSome}
 use Rattle.booth_host.specs.declared.entry.Entry.{Entry}
-use Rattle.booth_stages.specs.declared.outcome.Outcome.{Outcome}
-use Rattle.booth_stages.specs.declared.outcome.Outcome.TheVariants.{Done, Usage, BadWord, LockFault, NotRunning}
-use Rattle.booth_stages.specs.declared.outcome.Outcome.TheVariants.{PrintFault, OutOfMemory, Report, Refused, NoReply}
-use Rattle.booth_stages.specs.declared.outcome.Outcome.TheVariants.{SendFault, ConfUnread, ConfBad, NotSite, NotFollowed, Stranded}
-use Rattle.booth_words.specs.declared.program.Program.TheVariants.{Boothd}
-use Rattle.booth_words.specs.declared.asking.DaemonWords.{DaemonWords}
-use Rattle.booth_words.specs.declared.asking.SimulationWords.{SimulationWords}
-use Rattle.booth_words.specs.Commands.{verb_in}
-use Rattle.booth_words.specs.Asking.{AsksDaemon, AsksSimulation, AsksStatus, IsUntaken, HasBadWord}
-use Rattle.booth_stages.specs.Texts.{IsText}
-use Rattle.booth_stages.specs.Unasked.{IsRequest, IsUnasked}
+use Rattle.booth_outcomes.specs.declared.outcome.Outcome.{Outcome}
+use Rattle.booth_outcomes.specs.declared.outcome.Outcome.TheVariants.{Done, Usage, BadWord, LockFault, NotRunning}
+use Rattle.booth_outcomes.specs.declared.outcome.Outcome.TheVariants.{PrintFault, OutOfMemory, Report, Refused, NoReply}
+use Rattle.booth_outcomes.specs.declared.outcome.Outcome.TheVariants.{SendFault, ConfUnread, ConfBad, NotSite, NotFollowed, Stranded}
+use Rattle.booth_cli.specs.declared.program.Program.TheVariants.{Boothd}
+use Rattle.booth_cli.specs.declared.asking.DaemonWords.{DaemonWords}
+use Rattle.booth_cli.specs.declared.asking.SimulationWords.{SimulationWords}
+use Rattle.booth_cli.specs.Commands.{verb_in}
+use Rattle.booth_cli.specs.Asking.{AsksDaemon, AsksSimulation, AsksStatus, IsUntaken, HasBadWord}
+use Rattle.booth_outcomes.specs.Texts.{IsText}
+use Rattle.booth_outcomes.specs.Unasked.{IsRequest, IsUnasked}
 use Rattle.booth_daemon.specs.Serving.{IsServing}
 use Rattle.booth_daemon.specs.Status.{IsStatus}
 use Rattle.booth_daemon.specs.Simulating.{IsSimulated}

@@ -12,15 +12,15 @@ use Rattle.booth_node.specs.State.{State}
 use Rattle.booth_node.specs.declared.node.Node.{Node}
 use Rattle.booth_node.specs.Opening.{opened as start_state}
 use Rattle.booth_node.specs.Log.{IsNodeLog, IsStoppedLog}
-use Rattle.booth_stages.specs.declared.outcome.Outcome.{Outcome}
-use Rattle.booth_stages.specs.declared.outcome.Outcome.TheVariants.{Done}
-use Rattle.booth_stages.specs.declared.outcome.Outcome.TheVariants.{TurnsSpent}
-use Rattle.booth_stages.specs.declared.outcome.Ended.{Ended}
-use Rattle.booth_words.specs.declared.asking.DaemonWords.{DaemonWords}
+use Rattle.booth_outcomes.specs.declared.outcome.Outcome.{Outcome}
+use Rattle.booth_outcomes.specs.declared.outcome.Outcome.TheVariants.{Done}
+use Rattle.booth_outcomes.specs.declared.outcome.Outcome.TheVariants.{TurnsSpent}
+use Rattle.booth_outcomes.specs.declared.outcome.Ended.{Ended}
+use Rattle.booth_cli.specs.declared.asking.DaemonWords.{DaemonWords}
 use Rattle.booth_daemon.specs.Fitness.{IsFit, IsUnserved}
 use Rattle.booth_daemon.specs.Records.{AreKept}
-use Rattle.booth_stages.specs.Configuration.{IsUnread}
-use Rattle.booth_stages.specs.Keys.{IsKeyless}
+use Rattle.booth_outcomes.specs.Configuration.{IsUnread}
+use Rattle.booth_outcomes.specs.Keys.{IsKeyless}
 use Rattle.booth_daemon.specs.Opening.{IsReady, reads_of, IsLockless, opened, IsUnopened}
 use Rattle.booth_daemon.specs.Opening.{IsStarted, member_config}
 

@@ -7,13 +7,13 @@ use Rattle.booth_host.specs.declared.entry.Entry.{Entry}
 use Rattle.booth_host.specs.declared.entry.Entry.TheVariants.{Out, ReadFile}
 use Rattle.booth_sim.specs.Laws.{IsSummary}
 use Rattle.booth_sim.specs.declared.summary.Summary.{Summary}
-use Rattle.booth_words.specs.declared.asking.SimulationWords.{SimulationWords}
-use Rattle.booth_stages.specs.declared.outcome.Outcome.{Outcome}
-use Rattle.booth_stages.specs.declared.outcome.Outcome.TheVariants.{Done, PrintFault, OutOfMemory}
-use Rattle.booth_stages.specs.declared.outcome.Outcome.TheVariants.{ConfUnread, ConfBad}
-use Rattle.booth_stages.specs.declared.outcome.Ended.{Ended}
-use Rattle.booth_stages.specs.Configuration.{IsUnread}
-use Rattle.booth_stages.specs.Texts.{out_of_memory_text, unprinted_text}
+use Rattle.booth_cli.specs.declared.asking.SimulationWords.{SimulationWords}
+use Rattle.booth_outcomes.specs.declared.outcome.Outcome.{Outcome}
+use Rattle.booth_outcomes.specs.declared.outcome.Outcome.TheVariants.{Done, PrintFault, OutOfMemory}
+use Rattle.booth_outcomes.specs.declared.outcome.Outcome.TheVariants.{ConfUnread, ConfBad}
+use Rattle.booth_outcomes.specs.declared.outcome.Ended.{Ended}
+use Rattle.booth_outcomes.specs.Configuration.{IsUnread}
+use Rattle.booth_outcomes.specs.Texts.{out_of_memory_text, unprinted_text}
 
 -- two sites, an arbitrator, and a ticket of the default times
 abbrev pub example_text : List ℕ

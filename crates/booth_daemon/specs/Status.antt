@@ -3,9 +3,9 @@ use Rattle.std.specs.Prelude.{◌≡◌, ℕ, Bool, true, false, List, [], ◌�
 use Rattle.booth_host.specs.declared.host.Failed.{Failed}
 use Rattle.booth_host.specs.declared.entry.Entry.{Entry}
 use Rattle.booth_host.specs.declared.entry.Entry.TheVariants.{Lock, Out}
-use Rattle.booth_stages.specs.declared.outcome.Outcome.{Outcome}
-use Rattle.booth_stages.specs.declared.outcome.Outcome.TheVariants.{Done, NotRunning, LockFault, PrintFault}
-use Rattle.booth_stages.specs.Texts.{unlocked_text, unprinted_text}
+use Rattle.booth_outcomes.specs.declared.outcome.Outcome.{Outcome}
+use Rattle.booth_outcomes.specs.declared.outcome.Outcome.TheVariants.{Done, NotRunning, LockFault, PrintFault}
+use Rattle.booth_outcomes.specs.Texts.{unlocked_text, unprinted_text}
 
 -- what is printed of a lock that was free, or was another's
 abbrev pub status_text : Bool → List ℕ

@@ -1,12 +1,12 @@
 //! Whether a configuration can be served: it has this member.
 ghost use Rattle.std.specs.Prelude.{◌≡◌, ℕ, IfErr};
 ghost use Rattle.booth_conf.specs.Rules.{is_at};
-ghost use Rattle.booth_stages.specs.Outcomes.{HasBlame, IsServed};
+ghost use Rattle.booth_outcomes.specs.Outcomes.{HasBlame, IsServed};
 ghost use Rattle.booth_daemon.specs.Fitness.{IsAdmitted, has_member};
 
 use booth_base::Address;
 use booth_conf::{Config, Member};
-use booth_stages::{Ended, Outcome, texts};
+use booth_outcomes::{Ended, Outcome, texts};
 
 fn is_at(address: &Address, member: &Member) -> bool
     ensures { result ≡ is_at address.now member.now }

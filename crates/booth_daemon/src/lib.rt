@@ -11,5 +11,5 @@ mod simulating;
 mod status;
 mod summary_text;
 
-pub use booth_stages::{Outcome, Word};
+pub use booth_outcomes::{Outcome, Word};
 pub use run::{boothd, quiet_boothd};

@@ -5,19 +5,19 @@ ghost use Rattle.booth_conf.specs.Config.{has_id};
 ghost use Rattle.booth_host.specs.Past.{GrewBy, GrewSome};
 ghost use Rattle.booth_host.specs.Causes.{HasCause};
 ghost use Rattle.booth_host.specs.declared.entry.Entry.{Entry};
-ghost use Rattle.booth_stages.specs.Outcomes.{HasBlame, IsServed};
+ghost use Rattle.booth_outcomes.specs.Outcomes.{HasBlame, IsServed};
 ghost use Rattle.booth_daemon.specs.Opening.{IsLocked, IsNodeOpened};
 ghost use Rattle.booth_daemon.specs.Serving.{IsOpened};
 
 use crate::fitness::admit;
 use crate::records::read_records;
 use booth_base::PathText;
+use booth_cli::DaemonWords;
 use booth_conf::Config;
 use booth_host::{Failed, Host, Place};
 use booth_keys::Ring;
 use booth_node::Node;
-use booth_stages::{Ended, Outcome, read_config, read_ring, texts};
-use booth_words::DaemonWords;
+use booth_outcomes::{Ended, Outcome, read_config, read_ring, texts};
 use std::alloc::Global;
 
 // The lock that this daemon alone is to hold.

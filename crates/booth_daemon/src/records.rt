@@ -1,14 +1,14 @@
 //! The records that a daemon starts from, one for each ticket.
 ghost use Rattle.std.specs.Prelude.{◌≡◌, ◌≤◌, IfErr, IfOk, MatchResult, length};
 ghost use Rattle.booth_host.specs.Past.{GrewSome};
-ghost use Rattle.booth_stages.specs.Outcomes.{HasBlame, IsServed};
+ghost use Rattle.booth_outcomes.specs.Outcomes.{HasBlame, IsServed};
 ghost use Rattle.booth_daemon.specs.Records.{AreKept, AreUnread, IsRecordRead};
 
 use booth_base::Name;
 use booth_conf::TicketConf;
 use booth_host::{Failed, Host};
+use booth_outcomes::{Ended, Outcome, texts};
 use booth_rec::Record;
-use booth_stages::{Ended, Outcome, texts};
 use std::alloc::Global;
 
 // The record of this ticket, where one was kept.

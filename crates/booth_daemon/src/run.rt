@@ -2,16 +2,16 @@
 ghost use Rattle.std.specs.Prelude.{◌≤◌, map, string_bytes};
 ghost use Rattle.booth_host.specs.Past.{GrewSome};
 ghost use Rattle.booth_host.specs.Memory.{quiet_past};
-ghost use Rattle.booth_stages.specs.Outcomes.{HasBlame, IsBlameless};
+ghost use Rattle.booth_outcomes.specs.Outcomes.{HasBlame, IsBlameless};
 ghost use Rattle.booth_daemon.specs.Headline.{IsSafe};
 ghost use Rattle.booth_daemon.specs.Run.{FitsWords, IsMade, IsRun};
 
 use crate::serving::serve;
 use crate::simulating::simulate;
 use crate::status::status;
+use booth_cli::{Asked, Program, Refusal, ask};
 use booth_host::{Host, QuietHost};
-use booth_stages::{Ended, Outcome, tell, tell_error, texts};
-use booth_words::{Asked, Program, Refusal, ask};
+use booth_outcomes::{Ended, Outcome, tell, tell_error, texts};
 use booth_world::laws;
 use std::alloc::Global;
 

@@ -3,15 +3,15 @@ ghost use Rattle.std.specs.Prelude.{◌≤◌, ℕ};
 ghost use Rattle.booth_host.specs.Past.{GrewSome};
 ghost use Rattle.booth_node.specs.View.{node_config, state_of};
 ghost use Rattle.booth_node.specs.Log.{IsNodeLog};
-ghost use Rattle.booth_stages.specs.Outcomes.{HasBlame, IsServed};
+ghost use Rattle.booth_outcomes.specs.Outcomes.{HasBlame, IsServed};
 ghost use Rattle.booth_daemon.specs.Ending.{MatchEnding};
 ghost use Rattle.booth_daemon.specs.Serving.{AreSpent, IsNodeRun, IsServing, IsStoppedWithin};
 
 use crate::opening::open;
+use booth_cli::DaemonWords;
 use booth_host::Host;
 use booth_node::{Node, Turn};
-use booth_stages::{Ended, ErrorLine, Outcome, texts};
-use booth_words::DaemonWords;
+use booth_outcomes::{Ended, ErrorLine, Outcome, texts};
 use std::alloc::Global;
 
 /// How many turns a daemon makes at most, where none are asked for.

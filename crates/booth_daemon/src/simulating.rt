@@ -2,20 +2,20 @@
 ghost use Rattle.std.specs.Prelude.{◌≤◌, ℕ, List, Option, IfErr, IfOk};
 ghost use Rattle.booth_conf.specs.Says.{Says};
 ghost use Rattle.booth_host.specs.Past.{GrewSome};
-ghost use Rattle.booth_stages.specs.Outcomes.{HasBlame};
+ghost use Rattle.booth_outcomes.specs.Outcomes.{HasBlame};
 ghost use Rattle.booth_daemon.specs.Simulating.{HasNoMemory, IsConfigChosen, IsPrinted, IsSimulated, IsSimulationEnd, IsSummed, example_text};
 
 use crate::summary_text::summary_text;
 use booth_base::PathText;
+use booth_cli::SimulationWords;
 use booth_conf::Config;
 use booth_host::{Failed, Host};
+use booth_outcomes::{Ended, ErrorLine, Outcome, read_config, texts};
 use booth_sim::{Summary, simulate as run_cluster};
-use booth_stages::{Ended, ErrorLine, Outcome, read_config, texts};
-use booth_words::SimulationWords;
 use std::alloc::Global;
 
 // What words may ask for is within what a simulation may have.
-const _: () = prove!(booth_words::MOST_EVENTS <= booth_sim::MOST_EVENTS);
+const _: () = prove!(booth_cli::MOST_EVENTS <= booth_sim::MOST_EVENTS);
 
 /// The configuration of a simulation, where none is named.
 const EXAMPLE: &[u8] =

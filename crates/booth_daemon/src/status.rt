@@ -1,12 +1,12 @@
 //! `boothd status`: whether a daemon holds the lock.
 ghost use Rattle.std.specs.Prelude.{◌≡◌, ◌≤◌};
 ghost use Rattle.booth_host.specs.Past.{GrewSome};
-ghost use Rattle.booth_stages.specs.Outcomes.{HasBlame};
+ghost use Rattle.booth_outcomes.specs.Outcomes.{HasBlame};
 ghost use Rattle.booth_daemon.specs.Status.{IsPrinted, IsStatus, IsStatusOutcome, found, status_text};
 
 use booth_base::PathText;
 use booth_host::{Failed, Host};
-use booth_stages::{Ended, ErrorLine, Outcome, texts};
+use booth_outcomes::{Ended, ErrorLine, Outcome, texts};
 
 fn status_text(is_free: bool) -> &'static [u8]
     ensures { result.now ≡ status_text is_free }

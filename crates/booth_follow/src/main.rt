@@ -1,9 +1,9 @@
 //! The program `booth-follow`: its words over the real host.
 #![tactic(auto)]
 
+use booth_cli::{Asked, Program, ask};
 use booth_followers::{Outcome, booth_follow};
 use booth_real::RealHost;
-use booth_words::{Asked, Program, ask};
 use std::alloc::{AllocError, Global};
 use std::env;
 use std::io::{ErrorKind, Write};

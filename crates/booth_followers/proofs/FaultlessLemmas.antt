@@ -18,15 +18,15 @@ use Rattle.booth_following.specs.Choosing.{HasFault, IsChosen, IsUnfit, margins_
 use Rattle.booth_host.specs.declared.host.ReadFault.TheVariants as reads
 use Rattle.booth_host.specs.declared.entry.Entry.{Entry}
 use Rattle.booth_host.specs.declared.entry.Entry.TheVariants.{Open, ReadFile}
-use Rattle.booth_words.specs.declared.asking.FollowWords.{FollowWords}
-use Rattle.booth_words.specs.declared.command.Verb.TheVariants as verbs
-use Rattle.booth_words.specs.declared.program.Program.TheVariants.{BoothFollow}
-use Rattle.booth_stages.specs.declared.outcome.Outcome.{Outcome}
-use Rattle.booth_stages.specs.declared.outcome.Outcome.TheVariants as outs
-use Rattle.booth_stages.specs.Configuration.{IsUnread}
-use Rattle.booth_stages.specs.Keys.{FirstKeyless, IsFileKeyless, IsKeyless, NamesKeyFile, OldKeyless, key_calls}
-use Rattle.booth_stages.proofs.CallLemmas.{AreAmong, among, first_of, left_among, only, right_among}
-use Rattle.booth_stages.proofs.UsageLemmas.{for_memory}
+use Rattle.booth_cli.specs.declared.asking.FollowWords.{FollowWords}
+use Rattle.booth_cli.specs.declared.command.Verb.TheVariants as verbs
+use Rattle.booth_cli.specs.declared.program.Program.TheVariants.{BoothFollow}
+use Rattle.booth_outcomes.specs.declared.outcome.Outcome.{Outcome}
+use Rattle.booth_outcomes.specs.declared.outcome.Outcome.TheVariants as outs
+use Rattle.booth_outcomes.specs.Configuration.{IsUnread}
+use Rattle.booth_outcomes.specs.Keys.{FirstKeyless, IsFileKeyless, IsKeyless, NamesKeyFile, OldKeyless, key_calls}
+use Rattle.booth_outcomes.proofs.CallLemmas.{AreAmong, among, first_of, left_among, only, right_among}
+use Rattle.booth_outcomes.proofs.UsageLemmas.{for_memory}
 use Rattle.booth_followers.specs.Faultless.{FaultlessServices, IsFollowedThrough, IsUnhindered}
 use Rattle.booth_followers.specs.Run.{Followed, IsFollowMade, Unasked}
 use Rattle.booth_followers.specs.Service.{EndsAs, Fitted, FollowsConfig, FollowsKey, FollowsMargins, IsFollowLog, IsRoomless, IsStarted, IsSocketless, IsUnfollowed, Keyed, Keyless, Read, Roomless, Serving, SetOut, Socketless, Unfollowed, Unread}

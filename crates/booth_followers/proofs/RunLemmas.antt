@@ -5,17 +5,17 @@ use Rattle.clap.specs.declared.error.kind.ErrorKind.{ErrorKind}
 use Rattle.booth_host.specs.declared.entry.Entry.{Entry}
 use Rattle.booth_host.specs.Past.{GrewSome}
 use Rattle.booth_host.proofs.PastLemmas.{no_entry, some_joined, some_of, some_weaker}
-use Rattle.booth_words.specs.declared.asking.Asked.{Asked}
-use Rattle.booth_words.specs.declared.asking.Asked.TheVariants.{Follow}
-use Rattle.booth_words.specs.declared.asking.FollowWords.{FollowWords}
-use Rattle.booth_words.specs.declared.program.Program.TheVariants.{BoothFollow}
-use Rattle.booth_words.specs.Asking.{Asks, AsksFollow, IsUntaken, IsUntakenFor}
-use Rattle.booth_words.proofs.AskingLemmas.{untaken_of}
-use Rattle.booth_stages.specs.declared.outcome.Outcome.{Outcome}
-use Rattle.booth_stages.specs.declared.outcome.Outcome.TheVariants as outs
-use Rattle.booth_stages.specs.Texts.{IsText}
-use Rattle.booth_stages.specs.Unasked.{IsTold, IsToldOutcome, IsUnasked}
-use Rattle.booth_stages.proofs.UsageLemmas.{no_memory, unasked_of}
+use Rattle.booth_cli.specs.declared.asking.Asked.{Asked}
+use Rattle.booth_cli.specs.declared.asking.Asked.TheVariants.{Follow}
+use Rattle.booth_cli.specs.declared.asking.FollowWords.{FollowWords}
+use Rattle.booth_cli.specs.declared.program.Program.TheVariants.{BoothFollow}
+use Rattle.booth_cli.specs.Asking.{Asks, AsksFollow, IsUntaken, IsUntakenFor}
+use Rattle.booth_cli.proofs.AskingLemmas.{untaken_of}
+use Rattle.booth_outcomes.specs.declared.outcome.Outcome.{Outcome}
+use Rattle.booth_outcomes.specs.declared.outcome.Outcome.TheVariants as outs
+use Rattle.booth_outcomes.specs.Texts.{IsText}
+use Rattle.booth_outcomes.specs.Unasked.{IsTold, IsToldOutcome, IsUnasked}
+use Rattle.booth_outcomes.proofs.UsageLemmas.{no_memory, unasked_of}
 use Rattle.booth_followers.specs.Run.{FitsFollowWords, IsFollowMade, IsFollowRun, Followed, Unasked}
 use Rattle.booth_followers.specs.Service.{IsFollowAnswered, IsFollowLog}
 

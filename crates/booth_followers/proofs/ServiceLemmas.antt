@@ -14,13 +14,13 @@ use Rattle.booth_host.specs.declared.entry.Entry.{Entry}
 use Rattle.booth_host.specs.declared.entry.Entry.TheVariants.{Open}
 use Rattle.booth_host.specs.Past.{GrewBy, GrewSome}
 use Rattle.booth_host.proofs.PastLemmas.{no_entry, some_joined, some_of, some_weaker, then_some}
-use Rattle.booth_words.specs.declared.asking.FollowWords.{FollowWords}
-use Rattle.booth_stages.specs.declared.outcome.Ended.{Ended}
-use Rattle.booth_stages.specs.declared.outcome.Outcome.{Outcome}
-use Rattle.booth_stages.specs.declared.outcome.Outcome.TheVariants as outs
-use Rattle.booth_stages.specs.Configuration.{IsConfigRead, IsUnreadOutcome}
-use Rattle.booth_stages.specs.Keys.{IsRingRead, IsKeylessOutcome}
-use Rattle.booth_stages.specs.Texts.{not_followed_text, out_of_memory_text}
+use Rattle.booth_cli.specs.declared.asking.FollowWords.{FollowWords}
+use Rattle.booth_outcomes.specs.declared.outcome.Ended.{Ended}
+use Rattle.booth_outcomes.specs.declared.outcome.Outcome.{Outcome}
+use Rattle.booth_outcomes.specs.declared.outcome.Outcome.TheVariants as outs
+use Rattle.booth_outcomes.specs.Configuration.{IsConfigRead, IsUnreadOutcome}
+use Rattle.booth_outcomes.specs.Keys.{IsRingRead, IsKeylessOutcome}
+use Rattle.booth_outcomes.specs.Texts.{not_followed_text, out_of_memory_text}
 use Rattle.booth_followers.specs.Service.{EndsAs, FollowsConfig, FollowsKey, FollowsMargins, IsFollowAnswered, IsFollowLog, IsService, IsStarted, daemon_of}
 use Rattle.booth_followers.specs.Service.{Fitted, Keyed, Keyless, Read, Roomless, Serving, SetOut, Unfollowed, Unread}
 

@@ -9,14 +9,14 @@ use Rattle.booth_host.specs.declared.host.Failed.{Failed}
 use Rattle.booth_host.specs.declared.host.ReadFault.TheVariants as reads
 use Rattle.booth_host.specs.declared.entry.Entry.{Entry}
 use Rattle.booth_host.specs.declared.entry.Entry.TheVariants.{Open, ReadFile}
-use Rattle.booth_words.specs.declared.asking.FollowWords.{FollowWords}
-use Rattle.booth_words.specs.declared.command.Verb.TheVariants as verbs
-use Rattle.booth_words.specs.declared.program.Program.TheVariants.{BoothFollow}
-use Rattle.booth_words.specs.Asking.{AsksFollow}
-use Rattle.booth_words.specs.Valid.{AreValid}
-use Rattle.booth_stages.specs.declared.outcome.Outcome.{Outcome}
-use Rattle.booth_stages.specs.declared.outcome.Outcome.TheVariants as outs
-use Rattle.booth_stages.specs.Keys.{IsKeyFile, NamesKeyFile}
+use Rattle.booth_cli.specs.declared.asking.FollowWords.{FollowWords}
+use Rattle.booth_cli.specs.declared.command.Verb.TheVariants as verbs
+use Rattle.booth_cli.specs.declared.program.Program.TheVariants.{BoothFollow}
+use Rattle.booth_cli.specs.Asking.{AsksFollow}
+use Rattle.booth_cli.specs.Valid.{AreValid}
+use Rattle.booth_outcomes.specs.declared.outcome.Outcome.{Outcome}
+use Rattle.booth_outcomes.specs.declared.outcome.Outcome.TheVariants as outs
+use Rattle.booth_outcomes.specs.Keys.{IsKeyFile, NamesKeyFile}
 use Rattle.booth_followers.specs.Run.{IsFollowRun}
 
 -- No call up to the turns failed for another reason than want of memory, and what was read is valid: each text of the

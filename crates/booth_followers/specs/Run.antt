@@ -1,14 +1,14 @@
 -- The calls of a whole run of booth-follow.
 use Rattle.std.specs.Prelude.{◌≡◌, ◌++◌, ℕ, List, Some, None}
 use Rattle.booth_host.specs.declared.entry.Entry.{Entry}
-use Rattle.booth_words.specs.declared.asking.FollowWords.{FollowWords}
-use Rattle.booth_words.specs.declared.program.Program.TheVariants.{BoothFollow}
-use Rattle.booth_words.specs.Commands.{verb_in}
-use Rattle.booth_words.specs.Asking.{AsksFollow, IsUntaken, HasBadWord}
-use Rattle.booth_stages.specs.declared.outcome.Outcome.{Outcome}
-use Rattle.booth_stages.specs.declared.outcome.Outcome.TheVariants.{Usage, BadWord, PrintFault, OutOfMemory}
-use Rattle.booth_stages.specs.Texts.{IsText}
-use Rattle.booth_stages.specs.Unasked.{IsRequest, IsUnasked}
+use Rattle.booth_cli.specs.declared.asking.FollowWords.{FollowWords}
+use Rattle.booth_cli.specs.declared.program.Program.TheVariants.{BoothFollow}
+use Rattle.booth_cli.specs.Commands.{verb_in}
+use Rattle.booth_cli.specs.Asking.{AsksFollow, IsUntaken, HasBadWord}
+use Rattle.booth_outcomes.specs.declared.outcome.Outcome.{Outcome}
+use Rattle.booth_outcomes.specs.declared.outcome.Outcome.TheVariants.{Usage, BadWord, PrintFault, OutOfMemory}
+use Rattle.booth_outcomes.specs.Texts.{IsText}
+use Rattle.booth_outcomes.specs.Unasked.{IsRequest, IsUnasked}
 use Rattle.booth_followers.specs.Service.{IsFollowAnswered, IsFollowLog}
 
 -- the calls up to where the outcome is decided, by what the words ask for

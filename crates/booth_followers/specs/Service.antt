@@ -14,12 +14,12 @@ use Rattle.booth_following.specs.Turns.{IsFollowed}
 use Rattle.booth_host.specs.declared.host.Failed.{Failed}
 use Rattle.booth_host.specs.declared.entry.Entry.{Entry}
 use Rattle.booth_host.specs.declared.entry.Entry.TheVariants.{Open, ReadFile}
-use Rattle.booth_words.specs.declared.asking.FollowWords.{FollowWords}
-use Rattle.booth_stages.specs.declared.outcome.Outcome.{Outcome}
-use Rattle.booth_stages.specs.declared.outcome.Outcome.TheVariants as outs
-use Rattle.booth_stages.specs.Configuration.{IsUnread}
-use Rattle.booth_stages.specs.Keys.{HasRing, IsKeyless, KeyTexts, key_calls}
-use Rattle.booth_stages.specs.Texts.{not_followed_text, out_of_memory_text, unopened_text}
+use Rattle.booth_cli.specs.declared.asking.FollowWords.{FollowWords}
+use Rattle.booth_outcomes.specs.declared.outcome.Outcome.{Outcome}
+use Rattle.booth_outcomes.specs.declared.outcome.Outcome.TheVariants as outs
+use Rattle.booth_outcomes.specs.Configuration.{IsUnread}
+use Rattle.booth_outcomes.specs.Keys.{HasRing, IsKeyless, KeyTexts, key_calls}
+use Rattle.booth_outcomes.specs.Texts.{not_followed_text, out_of_memory_text, unopened_text}
 
 -- ---- how it ends
 

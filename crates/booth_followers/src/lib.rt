@@ -5,5 +5,5 @@ pub mod laws;
 mod run;
 mod service;
 
-pub use booth_stages::Outcome;
+pub use booth_outcomes::Outcome;
 pub use run::{booth_follow, quiet_booth_follow};

@@ -2,13 +2,13 @@
 ghost use Rattle.std.specs.Prelude.{◌≤◌, map, string_bytes};
 ghost use Rattle.booth_host.specs.Past.{GrewSome};
 ghost use Rattle.booth_host.specs.Memory.{quiet_past};
-ghost use Rattle.booth_stages.specs.Outcomes.{HasBlame, IsBlameless};
+ghost use Rattle.booth_outcomes.specs.Outcomes.{HasBlame, IsBlameless};
 ghost use Rattle.booth_followers.specs.Run.{FitsFollowWords, IsFollowMade, IsFollowRun};
 
 use crate::service::follow_ticket;
+use booth_cli::{Asked, Program, Refusal, ask};
 use booth_host::{Host, QuietHost};
-use booth_stages::{Ended, Outcome, tell, tell_error, texts};
-use booth_words::{Asked, Program, Refusal, ask};
+use booth_outcomes::{Ended, Outcome, tell, tell_error, texts};
 use std::alloc::Global;
 
 // The calls of a run up to where its outcome is decided.

@@ -3,18 +3,18 @@ ghost use Rattle.std.specs.Prelude.{◌≡◌, ◌≤◌, ◌∷◌, [], None};
 ghost use Rattle.booth_host.specs.Past.{GrewBy, GrewSome};
 ghost use Rattle.booth_host.specs.Causes.{HasCause};
 ghost use Rattle.booth_host.specs.declared.entry.Entry.{Entry};
-ghost use Rattle.booth_stages.specs.Outcomes.{HasBlame};
+ghost use Rattle.booth_outcomes.specs.Outcomes.{HasBlame};
 ghost use Rattle.booth_followers.specs.Service.{EndsAs, FollowsConfig, FollowsKey, FollowsMargins, IsFollowAnswered};
 ghost use Rattle.booth_followers.specs.Service.{IsFollowLog, IsService, IsStarted};
 
 use booth_base::{PathText, Peer};
+use booth_cli::FollowWords;
 use booth_conf::Config;
 use booth_follow_rule::Margins;
 use booth_following::{FollowEnd, Following, Room, follow, margins_for};
 use booth_host::{Failed, Host, Place};
 use booth_keys::Ring;
-use booth_stages::{Ended, ErrorLine, Outcome, read_config, read_ring, texts};
-use booth_words::FollowWords;
+use booth_outcomes::{Ended, ErrorLine, Outcome, read_config, read_ring, texts};
 use std::alloc::Global;
 
 fn ended_as(end: FollowEnd) -> Ended

@@ -5,7 +5,7 @@ use Rattle.std.specs.List.{list_all}
 use Rattle.booth_base.specs.declared.address.Address.{Address}
 use Rattle.booth_base.specs.Address.{printed}
 use Rattle.booth_base.specs.Name.{is_text_byte}
-use Rattle.booth_client.specs.Civil.{date_text}
+use Rattle.booth_talk.specs.Civil.{date_text}
 use Rattle.booth_manual.specs.declared.view.TheConstants.{NO_END}
 use Rattle.booth_rec.specs.declared.record.Lease.{Lease}
 use Rattle.booth_log.specs.declared.happening.Happening.{Happening}

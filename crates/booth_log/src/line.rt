@@ -3,12 +3,12 @@ ghost use Rattle.std.specs.Prelude.{◌≡◌, ◌≤◌, ◌+◌, ◌++◌, cod
 ghost use Rattle.std.specs.Fmt.{signed_decimal};
 ghost use Rattle.std.specs.List.{list_all};
 ghost use Rattle.booth_base.specs.Name.{is_text_byte};
-ghost use Rattle.booth_client.specs.Civil.{date_text};
+ghost use Rattle.booth_talk.specs.Civil.{date_text};
 ghost use Rattle.booth_log.specs.Texts.{printed_path};
 
 use arrayvec::ArrayVec;
 use booth_base::PathText;
-use booth_client::date_text;
+use booth_talk::date_text;
 use itoa::Buffer;
 use std::marker::Model;
 

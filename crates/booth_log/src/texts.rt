@@ -1,6 +1,6 @@
 //! The lines of the log.
 ghost use Rattle.std.specs.Prelude.{◌≡◌, ◌≤◌, ◌+◌, ◌/◌, ◌++◌, codes, length};
-ghost use Rattle.booth_client.specs.Civil.{date_text};
+ghost use Rattle.booth_talk.specs.Civil.{date_text};
 ghost use Rattle.booth_log.specs.Texts.{begins_text, end_text, happening_text, lease_text, line, of_ticket, printed_local, ready_text, status_text, stray_text, unstarted_text};
 
 use crate::happening::Happening;

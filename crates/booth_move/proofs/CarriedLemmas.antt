@@ -13,8 +13,8 @@ use Rattle.booth_auth.specs.Verdict.{is_signed}
 use Rattle.booth_wire.specs.declared.message.FrameFault.{FrameFault}
 use Rattle.booth_wire.specs.PlainMessage.{PlainMessage}
 use Rattle.booth_wire.specs.Reading.{decoded}
-use Rattle.booth_client.specs.Waiting.{Pair as CallPair, calls_of}
-use Rattle.booth_client.specs.Asking.{peer_at}
+use Rattle.booth_talk.specs.Waiting.{Pair as CallPair, calls_of}
+use Rattle.booth_talk.specs.Asking.{peer_at}
 use Rattle.booth_move.specs.declared.carrying.Asks.{Asks}
 use Rattle.booth_move.specs.declared.carrying.Asks.TheVariants as asks
 use Rattle.booth_move.specs.declared.carrying.Moving.{Moving}

@@ -8,7 +8,7 @@ use Rattle.booth_host.specs.declared.host.Arrival.{Arrival}
 use Rattle.booth_host.specs.declared.host.Failed.{Failed}
 use Rattle.booth_host.specs.Past.{GrewBy, GrewSome}
 use Rattle.booth_host.proofs.PastLemmas.{one_more, some_joined, some_of, some_weaker, then_some}
-use Rattle.booth_client.specs.Waiting.{Pair as CallPair, calls_of}
+use Rattle.booth_talk.specs.Waiting.{Pair as CallPair, calls_of}
 use Rattle.booth_move.specs.declared.carrying.Moving.{Moving}
 use Rattle.booth_move.specs.declared.carrying.Sending.{Sending}
 use Rattle.booth_move.specs.declared.deeds.MoveDeed.{MoveDeed}

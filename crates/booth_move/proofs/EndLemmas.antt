@@ -1,6 +1,6 @@
 -- Nothing comes after the end of a move, and every move comes to it.
 use Rattle.std.proofs.Common.{◌≡◌, ◌<◌, ◌≤◌, ◌+◌, ◌*◌, ℕ, Bool, true, false, List, [], ◌∷◌, length, Some, None, ap, ◌∙◌, inl, inr, arith}
-use Rattle.booth_client.specs.Waiting.{most}
+use Rattle.booth_talk.specs.Waiting.{most}
 use Rattle.booth_move.specs.declared.deeds.MoveDeed.{MoveDeed}
 use Rattle.booth_move.specs.declared.deeds.MoveDeed.TheVariants as deeds
 use Rattle.booth_move.specs.declared.stage.Request.{Request}

@@ -4,7 +4,7 @@ use Rattle.std.specs.List.{position_or_len}
 use Rattle.booth_base.specs.declared.address.MemberId.{MemberId}
 use Rattle.booth_conf.specs.Config.{has_id}
 use Rattle.booth_conf.specs.declared.members.Member.{Member}
-use Rattle.booth_client.specs.Asking.{number_of}
+use Rattle.booth_talk.specs.Asking.{number_of}
 use Rattle.booth_move.specs.declared.deeds.MoveDeed.{MoveDeed}
 use Rattle.booth_move.specs.declared.deeds.MoveDeed.TheVariants as deeds
 use Rattle.booth_move.specs.declared.stage.Request.{Request}

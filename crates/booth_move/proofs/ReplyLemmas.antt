@@ -3,7 +3,7 @@ use Rattle.std.proofs.Common.{◌≡◌, ◌≤◌, ◌+◌, ℕ, Bool, true, fa
 use Rattle.std.specs.Prelude.{IfSome}
 use Rattle.booth_wire.specs.declared.codes.results.TheConstants.{SUCCESS}
 use Rattle.booth_wire.specs.PlainMessage.{PlainMessage}
-use Rattle.booth_client.specs.Asking.{number_of}
+use Rattle.booth_talk.specs.Asking.{number_of}
 use Rattle.booth_move.specs.declared.deeds.MoveDeed.{MoveDeed}
 use Rattle.booth_move.specs.declared.deeds.MoveDeed.TheVariants as deeds
 use Rattle.booth_move.specs.declared.deeds.MoveEnd.{MoveEnd}

@@ -5,9 +5,9 @@ use Rattle.std.proofs.lemmas.Bool.{cond_both, and_parts, not-true, eqb-true, eqb
 use Rattle.std.proofs.lemmas.Bool.Decides.{nat_tests}
 use Rattle.booth_wire.specs.declared.codes.results.TheConstants.{SUCCESS, ASYN, BUSY, REDR}
 use Rattle.booth_wire.specs.PlainMessage.{PlainMessage}
-use Rattle.booth_client.specs.declared.reply.Reply.{Reply}
-use Rattle.booth_client.specs.Replies.{leader_in, reply_of}
-use Rattle.booth_client.specs.Waiting.{most, patience}
+use Rattle.booth_talk.specs.declared.reply.Reply.{Reply}
+use Rattle.booth_talk.specs.Replies.{leader_in, reply_of}
+use Rattle.booth_talk.specs.Waiting.{most, patience}
 use Rattle.booth_move.specs.declared.stage.Request.{Request}
 use Rattle.booth_move.specs.declared.stage.Stage.{Stage}
 use Rattle.booth_move.specs.declared.stage.Stage.TheVariants.{Opening, Revoking, Granting, Pausing, Ended}

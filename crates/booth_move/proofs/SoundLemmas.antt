@@ -1,7 +1,7 @@
 -- A step keeps to the bounds of waits and repeats.
 use Rattle.std.proofs.Common.{◌≡◌, ◌<◌, ◌≤◌, ◌+◌, Bool, sym, subst, inl, inr, arith}
 use Rattle.std.specs.Prelude.{Some, None}
-use Rattle.booth_client.specs.Waiting.{most}
+use Rattle.booth_talk.specs.Waiting.{most}
 use Rattle.booth_move.specs.declared.deeds.MoveDeed.{MoveDeed}
 use Rattle.booth_move.specs.declared.deeds.MoveDeed.TheVariants as deeds
 use Rattle.booth_move.specs.declared.stage.Request.{Request}

@@ -1,7 +1,7 @@
 -- What holds of the calls of every move.
 use Rattle.std.specs.Prelude.{◌≡◌, ◌<◌, ◌++◌, ℕ, true, List, [], ◌∷◌, length, None, is_some}
 use Rattle.booth_host.specs.declared.entry.Entry.{Entry}
-use Rattle.booth_client.specs.Waiting.{Pair as CallPair, calls_of}
+use Rattle.booth_talk.specs.Waiting.{Pair as CallPair, calls_of}
 use Rattle.booth_move.specs.declared.carrying.Moving.{Moving}
 use Rattle.booth_move.specs.declared.deeds.MoveDeed.{MoveDeed}
 use Rattle.booth_move.specs.declared.deeds.MoveDeed.TheVariants as deeds

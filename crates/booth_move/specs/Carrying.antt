@@ -14,8 +14,8 @@ use Rattle.booth_host.specs.declared.host.Arrival.TheVariants.{Datagram}
 use Rattle.booth_host.specs.declared.host.Failed.{Failed}
 use Rattle.booth_host.specs.declared.entry.Entry.{Entry}
 use Rattle.booth_host.specs.declared.entry.Entry.TheVariants.{Send}
-use Rattle.booth_client.specs.Asking.{asked_part, bit, peer_at}
-use Rattle.booth_client.specs.Waiting.{Pair as CallPair, calls_of}
+use Rattle.booth_talk.specs.Asking.{asked_part, bit, peer_at}
+use Rattle.booth_talk.specs.Waiting.{Pair as CallPair, calls_of}
 use Rattle.booth_move.specs.declared.carrying.Asks.{Asks}
 use Rattle.booth_move.specs.declared.carrying.Asks.TheVariants as asks
 use Rattle.booth_move.specs.declared.carrying.Moving.{Moving}

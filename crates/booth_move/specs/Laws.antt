@@ -6,9 +6,9 @@ use Rattle.booth_conf.specs.declared.members.Member.{Member}
 use Rattle.booth_wire.specs.declared.codes.results.TheConstants.{SUCCESS, ASYN, BUSY, REDR}
 use Rattle.booth_wire.specs.declared.command.Cmd.TheVariants.{CRvk}
 use Rattle.booth_wire.specs.PlainMessage.{PlainMessage}
-use Rattle.booth_client.specs.Asking.{number_of}
-use Rattle.booth_client.specs.Replies.{leader_in}
-use Rattle.booth_client.specs.Waiting.{most}
+use Rattle.booth_talk.specs.Asking.{number_of}
+use Rattle.booth_talk.specs.Replies.{leader_in}
+use Rattle.booth_talk.specs.Waiting.{most}
 use Rattle.booth_move.specs.declared.deeds.MoveDeed.{MoveDeed}
 use Rattle.booth_move.specs.declared.deeds.MoveDeed.TheVariants as deeds
 use Rattle.booth_move.specs.declared.deeds.MoveEnd.{MoveEnd}

@@ -8,7 +8,7 @@ use Rattle.booth_wire.specs.declared.command.Cmd.{Cmd}
 use Rattle.booth_wire.specs.declared.command.Cmd.TheVariants.{CGnt, CRvk}
 use Rattle.booth_wire.specs.Command.{answer_of, code_of}
 use Rattle.booth_wire.specs.PlainMessage.{PlainMessage}
-use Rattle.booth_client.specs.Waiting.{most}
+use Rattle.booth_talk.specs.Waiting.{most}
 use Rattle.booth_move.specs.declared.stage.Stage.{Stage}
 use Rattle.booth_move.specs.declared.stage.Stage.TheVariants.{Opening, Revoking, Granting, Pausing, Ended}
 

@@ -2,9 +2,9 @@
 use Rattle.std.specs.Prelude.{◌≡◌, ◌≢◌, ◌<◌, ◌≤◌, ◌+◌, ◌⊎◌, ℕ, Bool, true, false, Some, None}
 use Rattle.booth_wire.specs.declared.codes.results.TheConstants.{SUCCESS, ASYN, BUSY, REDR}
 use Rattle.booth_wire.specs.PlainMessage.{PlainMessage}
-use Rattle.booth_client.specs.Asking.{number_of}
-use Rattle.booth_client.specs.Replies.{leader_in}
-use Rattle.booth_client.specs.Waiting.{most, patience}
+use Rattle.booth_talk.specs.Asking.{number_of}
+use Rattle.booth_talk.specs.Replies.{leader_in}
+use Rattle.booth_talk.specs.Waiting.{most, patience}
 use Rattle.booth_move.specs.declared.deeds.MoveDeed.{MoveDeed}
 use Rattle.booth_move.specs.declared.deeds.MoveDeed.TheVariants as deeds
 use Rattle.booth_move.specs.declared.deeds.MoveEnd.{MoveEnd}

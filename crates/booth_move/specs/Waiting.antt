@@ -2,9 +2,9 @@
 use Rattle.std.specs.Prelude.{ℕ, Bool, true, false, not, ◌+◌, ◌&&◌, ◌==◌, nat_le, nat_lt, Option, Some, None, if◌then◌else◌}
 use Rattle.booth_wire.specs.declared.codes.results.TheConstants.{ASYN}
 use Rattle.booth_wire.specs.PlainMessage.{PlainMessage}
-use Rattle.booth_client.specs.Asking.{number_of}
-use Rattle.booth_client.specs.Replies.{reply_of}
-use Rattle.booth_client.specs.Waiting.{most, patience}
+use Rattle.booth_talk.specs.Asking.{number_of}
+use Rattle.booth_talk.specs.Replies.{reply_of}
+use Rattle.booth_talk.specs.Waiting.{most, patience}
 use Rattle.booth_move.specs.declared.stage.Request.{Request}
 use Rattle.booth_move.specs.declared.waiting.Waits.{Waits}
 use Rattle.booth_move.specs.declared.waiting.Waits.TheVariants.{On, Over, Came}

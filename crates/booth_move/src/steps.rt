@@ -1,7 +1,7 @@
 //! What follows a pair at each stage of a move.
 ghost use Rattle.std.specs.Prelude.{◌≡◌, ◌<◌, ◌≤◌, length, IfSome};
 ghost use Rattle.booth_base.specs.declared.limits.TheConstants.{MEMBERS};
-ghost use Rattle.booth_client.specs.Waiting.{most};
+ghost use Rattle.booth_talk.specs.Waiting.{most};
 ghost use Rattle.booth_move.specs.Move.{place_of};
 ghost use Rattle.booth_move.specs.Deeds.{ends, followed, grant_answered, grants, opens, repeats_grant, quiet, revoke_answered};
 ghost use Rattle.booth_move.specs.Deeds.{next_number, rests, sends_on, while_granting, while_pausing, while_revoking};
@@ -10,7 +10,7 @@ use crate::deeds::{MoveDeed, MoveEnd};
 use crate::stage::{Request, Stage};
 use crate::waiting::{Waits, is_rested, number_of, one_more, request_of};
 use booth_base::MemberId;
-use booth_client::Reply;
+use booth_talk::Reply;
 use booth_wire::results;
 
 /// How often a grant is repeated.

@@ -1,13 +1,13 @@
 //! The wait for the answer to a request, pair by pair.
 ghost use Rattle.std.specs.Prelude.{◌≡◌, ◌<◌, option_map};
 ghost use Rattle.booth_wire.specs.PlainMessage.{content_of, plain_of};
-ghost use Rattle.booth_client.specs.Replies.{leader_in, reply_of};
-ghost use Rattle.booth_client.specs.Waiting.{most};
+ghost use Rattle.booth_talk.specs.Replies.{leader_in, reply_of};
+ghost use Rattle.booth_talk.specs.Waiting.{most};
 ghost use Rattle.booth_move.specs.Waiting.{is_late, is_rested, judged, one_more, passed_over, request_at, waits_on};
 
 use crate::stage::Request;
 use booth_base::{MemberId, NO_ONE};
-use booth_client::Reply;
+use booth_talk::Reply;
 use booth_wire::{Body, Message, results};
 
 /// The most pairs of a wait.

@@ -5,6 +5,7 @@
 mod error_lines;
 mod journal_path;
 
+use booth_cli::{Asked, Program, ask};
 use booth_daemon::{Outcome, boothd};
 use booth_host::Host;
 use booth_journal::JournalHost;
@@ -13,7 +14,6 @@ use booth_links::RealLinks;
 use booth_log::LogHost;
 use booth_real::RealHost;
 use booth_stream::StreamHost;
-use booth_words::{Asked, Program, ask};
 use error_lines::ErrorLines;
 use journal_path::journal_path;
 use std::alloc::{AllocError, Global};

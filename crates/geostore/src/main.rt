@@ -1,8 +1,8 @@
 //! The program `geostore`: its words over the real host.
 #![tactic(auto)]
 
-use booth_clients::{Outcome, geostore};
 use booth_real::RealHost;
+use booth_tools::{Outcome, geostore};
 use std::alloc::{AllocError, Global};
 use std::env;
 use std::io::{ErrorKind, Write};

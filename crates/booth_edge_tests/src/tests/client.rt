@@ -1,6 +1,6 @@
 //! Dates as another calendar gives them, and which texts are shown line by line.
 use booth_base::MemberId;
-use booth_client::{Order, report};
+use booth_talk::{Order, report};
 use booth_wire::{Body, Cmd, Head, Message};
 use std::alloc::Global;
 use std::process::Abort;

@@ -1,6 +1,6 @@
 use Rattle.std.proofs.Common.{map, rules, string_bytes, subst}
 use Rattle.booth_host.specs.Past.{GrewSome}
-use Rattle.booth_words.specs.declared.asking.FollowWords.{FollowWords}
+use Rattle.booth_cli.specs.declared.asking.FollowWords.{FollowWords}
 use Rattle.booth_followers.specs.Service.{IsFollowLog}
 use Rattle.booth_followers.proofs.RunLemmas.{asks_follow, followed_made}
 use Rattle.booth_followers.proofs.run.run_words.Goals as goal

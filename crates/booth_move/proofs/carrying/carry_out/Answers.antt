@@ -1,5 +1,5 @@
 use Rattle.std.proofs.Common.{◌≡◌, ◌≤◌, ◌+◌, ◌*◌, ℕ, List, Option, None, Ok, ap, subst, ◌∙◌, arith}
-use Rattle.booth_client.specs.Waiting.{most}
+use Rattle.booth_talk.specs.Waiting.{most}
 use Rattle.booth_host.specs.Past.{GrewSome}
 use Rattle.booth_move.specs.declared.deeds.MoveEnd.{MoveEnd}
 use Rattle.booth_move.specs.declared.stage.Stage.{Stage}

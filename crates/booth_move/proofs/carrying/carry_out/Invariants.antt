@@ -1,5 +1,5 @@
 use Rattle.std.proofs.Common.{◌≡◌, ◌≤◌, ◌+◌, ◌*◌}
-use Rattle.booth_client.specs.Waiting.{most}
+use Rattle.booth_talk.specs.Waiting.{most}
 use Rattle.booth_host.specs.Past.{GrewSome}
 use Rattle.booth_move.specs.Bound.{pairs_left}
 use Rattle.booth_move.specs.Carrying.{IsUnderway, setup_of}

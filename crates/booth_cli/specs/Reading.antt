@@ -1,0 +1,227 @@
+-- What the readers make of the options and words, and which is refused first.
+use Rattle.std.specs.Prelude.{◌≡◌, ◌<◌, ◌≤◌, ◌^◌, ◌==◌, ◌&&◌, ◌⊎◌, ◌++◌}
+use Rattle.std.specs.Prelude.{◌*◌, nat_le, nat_lt, decimal, ℕ, Bool, false, List, Option, Some, None, Result, Ok, Err}
+use Rattle.std.specs.Prelude.{◌-◌, codes, is_some, length, unwrap_or, if◌then◌else◌}
+use Rattle.std.specs.Prelude.{eqb}
+use Rattle.std.specs.List.{list_any, ends_with}
+use Rattle.booth_base.specs.declared.address.Address.{Address}
+use Rattle.booth_base.specs.Address.{Spells}
+use Rattle.booth_base.specs.Name.{is_name, is_value}
+use Rattle.booth_talk.specs.declared.order.Options.{Options}
+use Rattle.booth_following.specs.declared.programs.Programs.{Programs}
+use Rattle.booth_following.specs.Programs.{programs_of}
+use Rattle.booth_cli.specs.declared.word.Word.{Word}
+use Rattle.booth_cli.specs.declared.word.Word.TheVariants as words
+use Rattle.booth_cli.specs.declared.reading.Addresses.{Addresses}
+use Rattle.booth_cli.specs.declared.reading.Counts.{Counts}
+use Rattle.booth_cli.specs.declared.reading.Times.{Times}
+use Rattle.booth_cli.specs.declared.reading.Named.{Named}
+use Rattle.booth_cli.specs.declared.reading.Numbers.{Numbers}
+use Rattle.booth_cli.specs.declared.reading.Read.{Read}
+use Rattle.booth_cli.specs.Given.{Texts}
+
+-- ---- the path of the configuration
+
+abbrev pub with_ending : List ℕ → List ℕ
+with_ending word = if ends_with eqb word (codes ".conf") then word else word ++ codes ".conf"
+
+-- a word with a slash is a path, and another is a name in `/etc/booth`
+abbrev pub completed : List ℕ → List ℕ
+completed word =
+    if list_any (λ b. b == 0x2F) word then word else codes "/etc/booth/" ++ with_ending word
+
+abbrev pub conf_path : Option (List ℕ) → List ℕ
+conf_path word = completed (unwrap_or word (codes "booth"))
+
+-- ---- the other options
+
+abbrev pub default_lock : List ℕ
+default_lock = codes "/var/run/booth.lock"
+
+abbrev pub default_records : List ℕ
+default_records = codes "/var/lib/booth"
+
+abbrev pub IsNoName : Option (List ℕ) → Type 0
+IsNoName None = ⊥
+IsNoName (Some text) = is_name text ≡ false
+
+abbrev pub IsNoValue : Option (List ℕ) → Type 0
+IsNoValue None = ⊥
+IsNoValue (Some text) = is_value text ≡ false
+
+abbrev pub IsNoAddress : Option (List ℕ) → Type 0
+IsNoAddress None = ⊥
+IsNoAddress (Some text) = (address : Address) → Spells text address → ⊥
+
+-- a path of 1 to 255 bytes
+abbrev pub is_path : List ℕ → Bool
+is_path text = nat_le 1 (length text) && nat_le (length text) 255
+
+abbrev pub IsNoPath : Option (List ℕ) → Type 0
+IsNoPath None = ⊥
+IsNoPath (Some text) = is_path text ≡ false
+
+-- a number in this range, in decimal digits without a sign or a leading zero
+pub record IsNumber (low high : ℕ) (text : List ℕ) (n : ℕ) : Type 0 where
+  pub spelled : text ≡ decimal n
+  pub least : low ≤ n
+  pub most : n ≤ high
+
+abbrev pub IsNoNumber : ℕ → ℕ → Option (List ℕ) → Type 0
+IsNoNumber low high None = ⊥
+IsNoNumber low high (Some text) = (n : ℕ) → IsNumber low high text n → ⊥
+
+-- a program with its arguments: at most 249 bytes, and not blanks alone
+abbrev pub is_program : List ℕ → Bool
+is_program text = list_any (λ b. nat_lt 0x20 b) text && nat_le (length text) 249
+
+abbrev pub IsNoProgram : Option (List ℕ) → Type 0
+IsNoProgram None = ⊥
+IsNoProgram (Some text) = is_program text ≡ false
+
+-- a time in whole seconds, below 2^32
+abbrev pub IsNoTime : Option (List ℕ) → Type 0
+IsNoTime text = IsNoNumber 1 (2 ^ 32 - 1) text
+
+-- ---- refusals
+
+-- a count of turns or of events, or the number of a simulation
+abbrev pub RefusesCount : Texts → Type 0
+RefusesCount t = IsNoNumber 1 (2 ^ 62) t.turns ⊎ (IsNoNumber 0 10000000 t.events ⊎ IsNoNumber 0 (2 ^ 64 - 1) t.number)
+
+-- a margin, or the time of a kill
+abbrev pub RefusesTime : Texts → Type 0
+RefusesTime t = IsNoTime t.margin ⊎ IsNoTime t.kill
+
+-- The reader of this kind of word refuses.
+abbrev pub Refuses : Texts → Word → Type 0
+Refuses t words.Ticket = IsNoName t.ticket
+Refuses t words.Name = IsNoName t.name
+Refuses t words.Value = IsNoValue t.value
+Refuses t words.Site = IsNoAddress t.target ⊎ IsNoAddress t.site
+Refuses t words.Number = RefusesCount t ⊎ RefusesTime t
+Refuses t words.Path = IsNoPath t.lock ⊎ IsNoPath t.records
+Refuses t words.Program = IsNoProgram t.program
+Refuses t words.Configuration = 255 < length (conf_path t.conf)
+
+-- the order in which a refusal is told
+abbrev pub place_of : Word → ℕ
+place_of words.Ticket = 0
+place_of words.Name = 1
+place_of words.Value = 2
+place_of words.Site = 3
+place_of words.Number = 4
+place_of words.Path = 5
+place_of words.Program = 6
+place_of words.Configuration = 7
+
+-- this is the first word that is refused
+pub record IsFirstRefused (t : Texts) (word : Word) : Type 0 where
+  pub refused : Refuses t word
+  pub first : (other : Word) → place_of other < place_of word → Refuses t other → ⊥
+
+-- ---- what is read
+
+-- the name or the value in a word is its bytes
+abbrev pub HasName : Option (List ℕ) → Option (List ℕ) → Type 0
+HasName None None = Unit {0}
+HasName (Some text) (Some name) = name ≡ text
+HasName word read = ⊥
+
+-- the flags
+abbrev pub options_in : Texts → Options
+options_in t = record { immediate = t.immediate; wait = t.wait; commit = t.commit }
+
+abbrev pub HasAddress : Option (List ℕ) → Option Address → Type 0
+HasAddress None None = Unit {0}
+HasAddress (Some text) (Some address) = Spells text address
+HasAddress word read = ⊥
+
+abbrev pub HasNumber : ℕ → ℕ → Option (List ℕ) → Option ℕ → Type 0
+HasNumber low high None None = Unit {0}
+HasNumber low high (Some text) (Some n) = IsNumber low high text n
+HasNumber low high word read = ⊥
+
+-- the number in a word, or this one where there is no word
+abbrev pub HasNumberOr : ℕ → ℕ → ℕ → Option (List ℕ) → ℕ → Type 0
+HasNumberOr low high default None n = n ≡ default
+HasNumberOr low high default (Some text) n = IsNumber low high text n
+
+-- the programs that a word says, with each word that a service is run with
+abbrev pub HasProgram : Option (List ℕ) → Option Programs → Type 0
+HasProgram None None = Unit {0}
+HasProgram (Some text) (Some programs) = programs ≡ programs_of text
+HasProgram word read = ⊥
+
+-- these milliseconds are a word's seconds
+pub record AreSeconds (text : List ℕ) (millis : ℕ) : Type 0 where
+  pub seconds : ℕ
+  pub is : IsNumber 1 (2 ^ 32 - 1) text seconds
+  pub same : millis ≡ seconds * 1000
+
+abbrev pub HasTime : Option (List ℕ) → Option ℕ → Type 0
+HasTime None None = Unit {0}
+HasTime (Some text) (Some millis) = AreSeconds text millis
+HasTime word read = ⊥
+
+-- the counts that words spell, none of which is refused
+pub record AreCounts (t : Texts) (n : Counts) : Type 0 where
+  pub accepted : RefusesCount t → ⊥
+  pub turns : HasNumber 1 (2 ^ 62) t.turns n.turns
+  pub events : HasNumberOr 0 10000000 100000 t.events n.events
+  pub number : HasNumberOr 0 (2 ^ 64 - 1) 1 t.number n.number
+
+-- the times that words spell, neither of which is refused
+pub record AreTimes (t : Texts) (n : Times) : Type 0 where
+  pub accepted : RefusesTime t → ⊥
+  pub margin : HasTime t.margin n.margin
+  pub kill : HasTime t.kill n.kill
+
+-- the numbers that words spell, none of which is refused
+pub record AreNumbers (t : Texts) (n : Numbers) : Type 0 where
+  pub accepted : Refuses t words.Number → ⊥
+  pub counts : AreCounts t n.counts
+  pub times : AreTimes t n.times
+
+-- the addresses that words spell, neither of which is refused
+pub record AreAddresses (t : Texts) (a : Addresses) : Type 0 where
+  pub accepted : Refuses t words.Site → ⊥
+  pub target : HasAddress t.target a.target
+  pub site : HasAddress t.site a.site
+
+-- no word is refused, and this is what they say
+pub record IsRead (t : Texts) (r : Read) : Type 0 where
+  pub accepted : (word : Word) → Refuses t word → ⊥
+  pub ticket : HasName t.ticket r.ticket
+  pub name : HasName t.name r.name
+  pub value : HasName t.value r.value
+  pub options : r.options ≡ options_in t
+  pub target : HasAddress t.target r.target
+  pub site : HasAddress t.site r.site
+  pub turns : HasNumber 1 (2 ^ 62) t.turns r.turns
+  pub events : HasNumberOr 0 10000000 100000 t.events r.events
+  pub number : HasNumberOr 0 (2 ^ 64 - 1) 1 t.number r.number
+  pub margin : HasTime t.margin r.margin
+  pub kill : HasTime t.kill r.kill
+  pub program : HasProgram t.program r.program
+  pub names_conf : r.names_conf ≡ is_some t.conf
+  pub lock : r.lock ≡ unwrap_or t.lock default_lock
+  pub records : r.records ≡ unwrap_or t.records default_records
+  pub conf : r.conf ≡ conf_path t.conf
+
+-- the names and the value were read, or this word is the first that is refused
+pub record AreNamed (t : Texts) (n : Named) : Type 0 where
+  pub ticket : HasName t.ticket n.ticket
+  pub name : HasName t.name n.name
+  pub value : HasName t.value n.value
+  pub no_ticket : Refuses t words.Ticket → ⊥
+  pub no_name : Refuses t words.Name → ⊥
+  pub no_value : Refuses t words.Value → ⊥
+
+abbrev pub Names : Texts → Result Named Word → Type 0
+Names t (Ok n) = AreNamed t n
+Names t (Err word) = IsFirstRefused t word
+
+abbrev pub Reads : Texts → Result Read Word → Type 0
+Reads t (Ok r) = IsRead t r
+Reads t (Err word) = IsFirstRefused t word

@@ -1,0 +1,31 @@
+//! The programs, by their names.
+ghost use Rattle.std.specs.Prelude.{◌≡◌, ◌≤◌, length};
+ghost use Rattle.booth_cli.specs.Commands.{name_of};
+
+/// A program.
+#[derive(Clone, Copy, Debug, PartialEq, Eq)]
+pub enum Program {
+    /// The daemon.
+    Boothd,
+    /// The client.
+    Booth,
+    /// The client for attributes.
+    Geostore,
+    /// Has a service follow its ticket.
+    BoothFollow,
+}
+
+impl Program {
+    /// The name with which each of its lines begins.
+    pub fn name(self) -> &'static str
+        ensures name { result.now ≡ name_of self }
+        ensures short { length result.now ≤ 12 }
+    {
+        match self {
+            Program::Boothd => "boothd",
+            Program::Booth => "booth",
+            Program::Geostore => "geostore",
+            Program::BoothFollow => "booth-follow",
+        }
+    }
+}

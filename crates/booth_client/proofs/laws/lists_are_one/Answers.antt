@@ -1,5 +1,0 @@
-use Rattle.booth_client.proofs.PartLemmas.{lists_are_one}
-use Rattle.booth_client.proofs.laws.lists_are_one.Goals as goal
-
-pub returns : goal.returns
-returns c = lists_are_one

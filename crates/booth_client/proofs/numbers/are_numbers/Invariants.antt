@@ -1,8 +1,0 @@
-use Rattle.booth_client.proofs.FieldLemmas.{AreLeft}
-use Rattle.booth_client.proofs.numbers.are_numbers.Given as goal
-
--- the numbers so far are some, and these are left
-abbrev pub invariant-loop-number : goal.invariant-loop-number
-invariant-loop-number l = record {
-  done : AreLeft l.more l._number l.text l.left;
-}

@@ -1,9 +1,0 @@
-use Rattle.std.proofs.Common.{◌∙◌, sym}
-use Rattle.booth_client.proofs.ReplyLemmas.{replies}
-use Rattle.booth_client.proofs.reports.report_of.Goals as goal
-
-pub unreachable-requires : goal.unreachable-requires
-unreachable-requires c =
-    let heard = replies.only c.args.asking.now c.requires.0 c.args.bytes.now c.args.reply.now c.requires.1 in
-    let bad = sym c.in-Err.ensures.exact ∙ heard.1.read in
-    cc

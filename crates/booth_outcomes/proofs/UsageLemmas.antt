@@ -1,0 +1,50 @@
+-- What is told of an error of `clap`, and words that ask for nothing.
+use Rattle.std.specs.Prelude.{Option, Some, None, Result}
+use Rattle.std.proofs.Common.{◌≡◌, ◌∙◌, ℕ, true, false, true≢false, List, [], ◌∷◌, refl, sym, ap, subst}
+use Rattle.clap.specs.declared.error.kind.ErrorKind.{ErrorKind}
+use Rattle.clap.specs.declared.error.kind.ErrorKind.TheVariants as kinds
+use Rattle.booth_host.specs.declared.host.Failed.{Failed}
+use Rattle.booth_host.specs.declared.entry.Entry.{Entry}
+use Rattle.booth_host.specs.declared.entry.Entry.TheVariants as calls
+use Rattle.booth_host.specs.Past.{GrewBy, GrewSome}
+use Rattle.booth_host.proofs.PastLemmas.{some_of}
+use Rattle.booth_cli.specs.declared.command.Verb.{Verb}
+use Rattle.booth_cli.specs.declared.program.Program.{Program}
+use Rattle.booth_cli.specs.Asking.{IsUntaken, IsUntakenFor}
+use Rattle.booth_cli.specs.Valid.{AreValid}
+use Rattle.booth_cli.proofs.AskingLemmas.{untaken_of}
+use Rattle.booth_cli.proofs.ValidLemmas.{good_words, taken_words}
+use Rattle.booth_outcomes.specs.declared.outcome.Outcome.{Outcome}
+use Rattle.booth_outcomes.specs.declared.outcome.Outcome.TheVariants.{Usage, BadWord, PrintFault, OutOfMemory}
+use Rattle.booth_outcomes.specs.Unasked.{IsShown, IsTold, IsToldOutcome, IsUnasked, is_request}
+
+-- what is no answer to a request is one err
+pub complained : {a b : Option (List Entry)} (program : Program) (kind : ErrorKind) (said text : List ℕ) (answer : Result (Unit {0}) Failed) → is_request kind ≡ false →
+    said ≡ [] → GrewBy a b (calls.Err text answer ∷ []) → GrewSome (IsTold program kind (Usage (Some kind)) said) a b
+complained program kind said text answer mistake nothing grew =
+    some_of (IsTold program kind (Usage (Some kind)) said) grew
+    (refl, nothing, subst (λ b. IsShown program kind b (calls.Err text answer ∷ [])) (sym mistake) (text, answer, refl))
+
+-- ---- words that ask for nothing
+
+pub no_memory : (kind : ErrorKind) → is_request kind ≡ true → kind ≡ kinds.OutOfMemory → ⊥
+no_memory kind asked same = true≢false (sym asked ∙ ap is_request same)
+
+pub unasked_of : (program : Program) (words : List (List ℕ)) (kind : ErrorKind) (outcome : Outcome) (said : List ℕ) (es : List Entry) →
+    IsUntakenFor program words kind → IsToldOutcome kind outcome → IsTold program kind outcome said es → IsUnasked program words outcome said es
+unasked_of program words kind (Usage (Some told)) said es un out is =
+    (subst (λ k. IsUntaken program words k) (sym is.0) (untaken_of program words kind out.1 un), is.1, subst (λ k. IsShown program k (is_request k) es) (sym is.0) is.2)
+unasked_of program words kind PrintFault said es un out is =
+    (kind, untaken_of program words kind (no_memory kind out) un, is.0, is.1, is.2, is.3, is.4, is.5)
+unasked_of program words kind OutOfMemory said es un out is = is
+unasked_of program words kind outcome said es un out is = absurd is
+
+-- the only outcome of valid words that ask for nothing is want of memory
+pub for_memory : (program : Program) (words : List (List ℕ)) (verb : Verb) (outcome : Outcome) (said : List ℕ) (es : List Entry) → AreValid program words verb →
+    IsUnasked program words outcome said es → outcome ≡ OutOfMemory
+for_memory program words verb (Usage None) said es valid is = let named = valid.named in let none = is.0 in cc
+for_memory program words verb (Usage (Some kind)) said es valid is = absurd (taken_words program words verb kind valid is.0)
+for_memory program words verb (BadWord word) said es valid is = absurd (good_words program words verb word valid is.0)
+for_memory program words verb PrintFault said es valid is = absurd (taken_words program words verb is.0 valid is.1)
+for_memory program words verb OutOfMemory said es valid is = refl
+for_memory program words verb outcome said es valid is = absurd is

@@ -1,0 +1,70 @@
+-- Words that ask for nothing, and how that is told: help and version by an out, all else by an err.
+use Rattle.std.specs.Prelude.{◌≡◌, ℕ, Bool, true, false, List, [], ◌∷◌, Some, None, Result, Ok}
+use Rattle.std.specs.Prelude.{Err}
+use Rattle.clap.specs.declared.error.kind.ErrorKind.{ErrorKind}
+use Rattle.clap.specs.declared.error.kind.ErrorKind.TheVariants.{DisplayHelp, DisplayVersion}
+use Rattle.clap.specs.declared.error.kind.ErrorKind.TheVariants.{OutOfMemory as NoMemory}
+use Rattle.booth_host.specs.declared.host.Failed.{Failed}
+use Rattle.booth_host.specs.declared.entry.Entry.{Entry}
+use Rattle.booth_host.specs.declared.entry.Entry.TheVariants as calls
+use Rattle.booth_outcomes.specs.declared.outcome.Outcome.{Outcome}
+use Rattle.booth_outcomes.specs.declared.outcome.Outcome.TheVariants.{Usage, BadWord, PrintFault, OutOfMemory}
+use Rattle.booth_cli.specs.declared.program.Program.{Program}
+use Rattle.booth_cli.specs.Commands.{verb_in}
+use Rattle.booth_cli.specs.Asking.{IsUntaken, HasBadWord}
+use Rattle.booth_outcomes.specs.Texts.{usage_text, version_text, bad_word_text, unprinted_text, out_of_memory_text}
+
+-- the kind answers a request, and is no mistake
+abbrev pub is_request : ErrorKind → Bool
+is_request DisplayHelp = true
+is_request DisplayVersion = true
+is_request kind = false
+
+-- The text is printed for a request of this kind: the version is a line of its own, and help is any text.
+abbrev pub IsShownText : Program → ErrorKind → List ℕ → Type 0
+IsShownText program kind text = kind ≡ DisplayVersion → text ≡ version_text program
+
+-- one out of the text where it was asked for, and else one err of some text
+abbrev pub IsShown : Program → ErrorKind → Bool → List Entry → Type 0
+IsShown program kind true entries = (text : List ℕ) × IsShownText program kind text
+    × (entries ≡ calls.Out text (Ok tt) ∷ [])
+IsShown program kind false entries = (text : List ℕ) × (answer : Result (Unit {0}) Failed)
+    × (entries ≡ calls.Err text answer ∷ [])
+
+-- what a program tells of an error of this kind of `clap`'s
+abbrev pub IsTold : Program → ErrorKind → Outcome → List ℕ → List Entry → Type 0
+IsTold program kind (Usage (Some told)) said entries = (told ≡ kind) × (said ≡ [])
+    × IsShown program kind (is_request kind) entries
+IsTold program kind PrintFault said entries = (is_request kind ≡ true) × (said ≡ unprinted_text)
+    × (text : List ℕ) × IsShownText program kind text
+    × (failed : Failed) × (entries ≡ calls.Out text (Err failed) ∷ [])
+IsTold program kind OutOfMemory said entries = (said ≡ out_of_memory_text) × (entries ≡ [])
+IsTold program kind outcome said entries = ⊥
+
+-- the outcomes of an error of this kind
+abbrev pub IsToldOutcome : ErrorKind → Outcome → Type 0
+IsToldOutcome kind (Usage (Some told)) = (told ≡ kind) × (kind ≡ NoMemory → ⊥)
+IsToldOutcome kind PrintFault = is_request kind ≡ true
+IsToldOutcome kind OutOfMemory = Unit {0}
+IsToldOutcome kind outcome = ⊥
+
+-- help or the version was asked for
+pub record IsRequest (program : Program) (words : List (List ℕ)) : Type 0 where
+  pub kind : ErrorKind
+  pub untaken : IsUntaken program words kind
+  pub is : is_request kind ≡ true
+
+-- the words ask this program for nothing, by the outcome that this has
+abbrev pub IsUnasked : Program → List (List ℕ) → Outcome → List ℕ → List Entry → Type 0
+IsUnasked program words (Usage None) said entries = (verb_in program words ≡ None)
+    × (said ≡ usage_text program) × (entries ≡ [])
+IsUnasked program words (Usage (Some kind)) said entries = IsUntaken program words kind × (said ≡ [])
+    × IsShown program kind (is_request kind) entries
+IsUnasked program words (BadWord word) said entries = HasBadWord program words word
+    × (said ≡ bad_word_text word) × (entries ≡ [])
+IsUnasked program words PrintFault said entries = (kind : ErrorKind) × IsUntaken program words kind
+    × (is_request kind ≡ true) × (said ≡ unprinted_text)
+    × (text : List ℕ) × IsShownText program kind text
+    × (failed : Failed) × (entries ≡ calls.Out text (Err failed) ∷ [])
+IsUnasked program words OutOfMemory said entries = (said ≡ out_of_memory_text) × (entries ≡ [])
+IsUnasked program words outcome said entries = ⊥

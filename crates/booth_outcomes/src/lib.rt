@@ -1,0 +1,19 @@
+//! What the programs share: how a run ends and what is said of it, words that ask for nothing, the configuration
+//! and the key.
+#![tactic(auto)]
+
+mod configuration;
+mod error_line;
+mod keys;
+mod outcome;
+mod telling;
+pub mod texts;
+mod usage;
+
+pub use booth_cli::Word;
+pub use configuration::read_config;
+pub use error_line::ErrorLine;
+pub use keys::read_ring;
+pub use outcome::{Ended, Outcome};
+pub use telling::tell;
+pub use usage::tell_error;

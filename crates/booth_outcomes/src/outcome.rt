@@ -1,0 +1,106 @@
+//! How a run ends: the outcome and its exit status.
+ghost use Rattle.std.specs.Prelude.{◌≡◌};
+ghost use Rattle.booth_outcomes.specs.Texts.{out_of_memory_text, status_of};
+
+use crate::error_line::ErrorLine;
+use crate::texts;
+use booth_cli::Word;
+use booth_conf::ConfFault;
+use booth_following::FollowFault;
+use booth_keys::KeyFault;
+use clap::error::ErrorKind;
+
+/// How a run ended.
+#[derive(Clone, Copy, Debug, PartialEq, Eq)]
+pub enum Outcome {
+    /// The end was asked for, or the turns that were asked for were made; or a daemon runs, and that was
+    /// printed; or a simulation's counts were printed.
+    Done,
+    /// A daemon did or began what it was asked for, and that was printed.
+    Report,
+    /// A daemon refused, with this result.
+    Refused(u32),
+    /// A ticket was given back, and its grant to another site was refused, with this result.
+    Stranded(u32),
+    /// No daemon answered in time.
+    NoReply,
+    /// A request could not be sent.
+    SendFault,
+    /// The words are none that are taken, or ask for help. The kind is none where there is no command in
+    /// them.
+    Usage(Option<ErrorKind>),
+    /// This word is not of its form.
+    BadWord(Word),
+    /// The configuration could not be read.
+    ConfUnread,
+    /// The configuration is faulty.
+    ConfBad(ConfFault),
+    /// No member of the configuration has the address.
+    NotMember,
+    /// No site of the configuration has the address.
+    NotSite,
+    /// The ticket cannot be followed at the site, or not with these margins.
+    NotFollowed(FollowFault),
+    /// The key file could not be read.
+    KeyUnread,
+    /// The key file holds no key.
+    KeyBad(KeyFault),
+    /// The lock file could not be locked.
+    LockFault,
+    /// Another daemon holds the lock.
+    Running,
+    /// No daemon runs, and that was printed.
+    NotRunning,
+    /// The socket or the directory of the records could not be opened.
+    OpenFault,
+    /// The record of a ticket could not be read.
+    RecordUnread,
+    /// 2^62 turns were made, and no count of them was asked for.
+    TurnsSpent,
+    /// What was asked for could not be printed.
+    PrintFault,
+    /// There was no memory; at a daemon, before the first turn.
+    OutOfMemory,
+}
+
+impl Outcome {
+    /// The exit status of the program.
+    pub fn status(&self) -> u8
+        ensures { result ≡ status_of self.now }
+    {
+        match self {
+            Outcome::Done | Outcome::Report => 0,
+            Outcome::NotRunning => 7,
+            Outcome::Usage(Some(ErrorKind::DisplayHelp | ErrorKind::DisplayVersion)) => 0,
+            Outcome::Usage(_) | Outcome::BadWord(_) => 1,
+            Outcome::ConfUnread | Outcome::ConfBad(_) => 1,
+            Outcome::NotMember | Outcome::NotSite | Outcome::NotFollowed(_) => 1,
+            Outcome::KeyUnread | Outcome::KeyBad(_) => 1,
+            Outcome::LockFault | Outcome::Running | Outcome::OpenFault => 1,
+            Outcome::RecordUnread => 1,
+            Outcome::Refused(_) | Outcome::Stranded(_) => 1,
+            Outcome::NoReply | Outcome::SendFault => 1,
+            Outcome::TurnsSpent | Outcome::PrintFault | Outcome::OutOfMemory => 1,
+        }
+    }
+}
+
+/// An outcome, and what is said of it on standard error: nothing or one line.
+#[derive(Drop)]
+pub struct Ended {
+    pub outcome: Outcome,
+    pub said: ErrorLine,
+}
+
+impl Ended {
+    /// How a run ends where there was no memory.
+    pub fn out_of_memory() -> Ended
+        ensures outcome { result.outcome ≡ Outcome.OutOfMemory }
+        ensures said { result.said ≡ out_of_memory_text }
+    {
+        Ended {
+            outcome: Outcome::OutOfMemory,
+            said: texts::out_of_memory_text(),
+        }
+    }
+}

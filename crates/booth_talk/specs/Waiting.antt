@@ -1,0 +1,140 @@
+-- The wait for a reply, as a row of pairs of one arrival and one reading.
+use Rattle.std.specs.Prelude.{◌≡◌, ◌<◌, ◌≤◌, ◌+◌, ◌^◌, ◌++◌, ◌⊎◌, ◌==◌, ℕ, Bool, List, [], ◌∷◌, length}
+use Rattle.std.specs.Prelude.{Option, Some, None, Result, Ok, if◌then◌else◌}
+use Rattle.std.specs.List.{All}
+use Rattle.booth_wire.specs.declared.codes.results.TheConstants.{ASYN}
+use Rattle.booth_wire.specs.PlainMessage.{PlainMessage}
+use Rattle.booth_host.specs.declared.host.Arrival.{Arrival}
+use Rattle.booth_host.specs.declared.host.Arrival.TheVariants.{Datagram}
+use Rattle.booth_host.specs.declared.host.Failed.{Failed}
+use Rattle.booth_host.specs.declared.entry.Entry.{Entry}
+use Rattle.booth_host.specs.declared.entry.Entry.TheVariants.{Next, Now}
+use Rattle.booth_talk.specs.declared.order.Asking.{Asking}
+use Rattle.booth_talk.specs.declared.reply.Reply.{Reply}
+use Rattle.booth_talk.specs.declared.wait.Heard.{Heard}
+use Rattle.booth_talk.specs.declared.wait.Heard.TheVariants as heard
+use Rattle.booth_talk.specs.declared.wait.Waited.{Waited}
+use Rattle.booth_talk.specs.declared.wait.Waited.TheVariants.{Came, Over}
+use Rattle.booth_talk.specs.Replies.{message_in, reply_in}
+
+-- ---- pairs
+
+-- one arrival, with the datagram's bytes after it, and one reading
+pub record Pair : Type 0 where
+  pub answer : Result Arrival Failed
+  pub bytes : List ℕ
+  pub reading : ℕ
+
+abbrev pub calls_of : Pair → List Entry
+calls_of p = Next 100 p.answer p.bytes ∷ Now p.reading ∷ []
+
+unfoldable pub all_calls : List Pair → List Entry
+all_calls [] = []
+all_calls (p ∷ ps) = calls_of p ++ all_calls ps
+
+-- so many pairs, of each of which P holds
+pub record IsRow (P : Pair → Type 0) (count : ℕ) (entries : List Entry) : Type 0 where
+  pub pairs : List Pair
+  pub number : length pairs ≡ count
+  pub whole : entries ≡ all_calls pairs
+  pub each : All P pairs
+
+-- fewer pairs than there may be, of each of which P holds, and then a last one, of which Q holds
+pub record EndsBy (P Q : Pair → Type 0) (limit : ℕ) (entries : List Entry) : Type 0 where
+  pub count : ℕ
+  pub below : count < limit
+  pub early : List Entry
+  pub row : IsRow P count early
+  pub last : Pair
+  pub whole : entries ≡ early ++ calls_of last
+  pub holds : Q last
+
+-- ---- what a pair brings
+
+-- the reply that a datagram's bytes are; nothing else brings one
+abbrev pub brought : Asking → ℕ → Result Arrival Failed → List ℕ → Option Reply
+brought asking start (Ok (Datagram peer)) bytes = reply_in asking start bytes
+brought asking start answer bytes = None
+
+-- the authentic message that a datagram's bytes spell
+abbrev pub message_brought : Asking → ℕ → Result Arrival Failed → List ℕ → Option PlainMessage
+message_brought asking start (Ok (Datagram peer)) bytes = message_in asking start bytes
+message_brought asking start answer bytes = None
+
+abbrev pub message_at : Asking → ℕ → Pair → Option PlainMessage
+message_at asking start p = message_brought asking start p.answer p.bytes
+
+abbrev pub reply_at : Asking → ℕ → Pair → Option Reply
+reply_at asking start p = brought asking start p.answer p.bytes
+
+-- the most pairs of a wait
+abbrev pub most : ℕ
+most = 2 ^ 40
+
+-- how long a client waits for the first reply, in ms
+abbrev pub patience : ℕ
+patience = 5000
+
+-- no reply came with the pair, and its reading is not late
+pub record IsSilent (asking : Asking) (start : ℕ) (p : Pair) : Type 0 where
+  pub none : reply_at asking start p ≡ None
+  pub early : p.reading ≤ start + patience
+
+-- no reply came with the pair, and its reading is late
+pub record IsLate (asking : Asking) (start : ℕ) (p : Pair) : Type 0 where
+  pub none : reply_at asking start p ≡ None
+  pub late : start + patience < p.reading
+
+-- this reply came with the pair, at its reading and with its bytes; the reading may be late
+pub record Brings (asking : Asking) (start : ℕ) (reply : Reply) (reading : ℕ) (bytes : List ℕ)
+    (p : Pair) : Type 0 where
+  pub is : reply_at asking start p ≡ Some reply
+  pub at : p.reading ≡ reading
+  pub with : p.bytes ≡ bytes
+
+-- The wait for the first reply. It is over at the first late reading before a reply, or with the last pair.
+abbrev pub IsFirstWait : Asking → ℕ → Waited → List ℕ → List Entry → Type 0
+IsFirstWait asking start (Came reply reading) bytes entries =
+    EndsBy (IsSilent asking start) (Brings asking start reply reading bytes) most entries
+IsFirstWait asking start Over bytes entries =
+    EndsBy (IsSilent asking start) (IsLate asking start) most entries
+    ⊎ IsRow (IsSilent asking start) most entries
+
+-- ---- outcomes of what was begun
+
+-- the reply says that it was begun, and that the outcome is still to come
+abbrev pub is_begun : Reply → Bool
+is_begun reply = reply.result == ASYN
+
+-- the reply, where it tells an outcome
+abbrev pub settled : Option Reply → Option Reply
+settled None = None
+settled (Some reply) = if is_begun reply then None else Some reply
+
+abbrev pub outcome_at : Asking → ℕ → Pair → Option Reply
+outcome_at asking start p = settled (reply_at asking start p)
+
+-- no outcome came with the pair
+pub record IsUnsettled (asking : Asking) (start : ℕ) (p : Pair) : Type 0 where
+  pub none : outcome_at asking start p ≡ None
+
+-- this outcome came with the pair, at its reading and with its bytes
+pub record BringsOutcome (asking : Asking) (start : ℕ) (reply : Reply) (reading : ℕ) (bytes : List ℕ)
+    (p : Pair) : Type 0 where
+  pub is : outcome_at asking start p ≡ Some reply
+  pub at : p.reading ≡ reading
+  pub with : p.bytes ≡ bytes
+
+-- the wait for the outcome, without a bound of time
+abbrev pub IsFinalWait : Asking → ℕ → Waited → List ℕ → List Entry → Type 0
+IsFinalWait asking start (Came reply reading) bytes entries =
+    EndsBy (IsUnsettled asking start) (BringsOutcome asking start reply reading bytes) most entries
+IsFinalWait asking start Over bytes entries = IsRow (IsUnsettled asking start) most entries
+
+-- ---- in the code
+
+-- a pair as it was heard by one who waits for the first reply
+abbrev pub IsHeard : Asking → ℕ → Pair → Heard → Type 0
+IsHeard asking start p (heard.Answer reply) = reply_at asking start p ≡ Some reply
+IsHeard asking start p heard.Late = IsLate asking start p
+IsHeard asking start p heard.Silent = IsSilent asking start p

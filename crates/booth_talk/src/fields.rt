@@ -1,0 +1,72 @@
+//! The fields of a line, between which one blank stands.
+ghost use Rattle.std.specs.Prelude.{◌≡◌, ◌≤◌, length, MatchBool};
+ghost use Rattle.std.specs.List.{prefix_len};
+ghost use Rattle.booth_base.specs.Address.{IsAddress};
+ghost use Rattle.booth_talk.specs.Fields.{IsOwner, IsPrinted, IsRole, first, is_field_byte, rest};
+
+use booth_base::Address;
+
+fn first_len(line: &[u8]) -> usize
+    ensures len { result ≡ prefix_len is_field_byte line.now }
+{
+    line.iter().take_while(|b| **b != b' ').count()
+}
+
+/// The bytes before the first blank.
+#[tactic(auto, using(booth_keys::proofs::KeyLemmas::cuts))]
+pub(crate) fn first(line: &[u8]) -> &[u8]
+    ensures { result.now ≡ first line.now }
+{
+    &line[..first_len(line)]
+}
+
+/// The bytes behind the first blank, and none where there is no blank.
+pub(crate) fn rest(line: &[u8]) -> &[u8]
+    ensures { result.now ≡ rest line.now }
+{
+    let end = first_len(line);
+    if end < line.len() {
+        &line[end + 1..]
+    } else {
+        &[]
+    }
+}
+
+// An address has 4 or 16 bytes.
+fn is_whole(address: Address)
+    ensures { IsAddress address }
+{
+    match address {
+        Address::V4(_) | Address::V6(_) => {}
+    }
+}
+
+/// Whether this is an address as it is printed.
+pub(crate) fn is_printed(text: &[u8]) -> bool
+    ensures { MatchBool result (IsPrinted text.now) (IsPrinted text.now → ⊥) }
+{
+    match Address::read(text) {
+        Ok(address) => {
+            is_whole(address);
+            address.print().as_bytes() == text
+        }
+        Err(_) => false,
+    }
+}
+
+/// Whether this names an owner, or nobody.
+pub(crate) fn is_owner(text: &[u8]) -> bool
+    ensures { MatchBool result (IsOwner text.now) (IsOwner text.now → ⊥) }
+{
+    if text == "none".as_bytes() {
+        return true;
+    }
+    is_printed(text)
+}
+
+/// Whether this is what a member is.
+pub(crate) fn is_role(text: &[u8]) -> bool
+    ensures { MatchBool result (IsRole text.now) (IsRole text.now → ⊥) }
+{
+    text == "site".as_bytes() || text == "arbitrator".as_bytes()
+}

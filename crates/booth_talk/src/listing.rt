@@ -1,0 +1,75 @@
+//! A list that is asked for: the request, the wait for its parts, and what is printed of it.
+ghost use Rattle.std.specs.Prelude.{◌≡◌, true, IfOk};
+ghost use Rattle.booth_host.specs.Past.{GrewSome};
+ghost use Rattle.booth_host.specs.Causes.{HasCause};
+ghost use Rattle.booth_talk.specs.Asking.{is_list};
+ghost use Rattle.booth_talk.specs.Listing.{IsListTalk};
+ghost use Rattle.booth_talk.specs.Parts.{AreNone, text_of};
+ghost use Rattle.booth_talk.specs.Report.{IsListReport};
+
+use crate::Asking;
+use crate::list_wait::{Listed, wait_list};
+use crate::parts::Parts;
+use crate::reports::list_report;
+use crate::request::put_request;
+use booth_base::{ByteText, Peer};
+use booth_host::{Datagram, Failed, Host};
+use booth_wire::Frame;
+use std::alloc::{AllocError, Global};
+
+/// The memory of a list that is asked for: a frame to send, a datagram that arrives, and all parts.
+#[derive(Drop)]
+pub struct ListRoom {
+    frame: Frame,
+    datagram: Datagram,
+    /// The parts that have come.
+    pub parts: Parts,
+}
+
+impl ListRoom {
+    /// All memory that is taken until a list is whole. No part has come.
+    pub fn new(alloc: Global) -> Result<ListRoom, AllocError>
+        ensures { IfOk result (λ room. AreNone room.parts) }
+    {
+        let frame = Frame::new(alloc)?;
+        let datagram = Datagram::new(alloc)?;
+        let parts = Parts::new(alloc)?;
+        Ok(ListRoom {
+            frame,
+            datagram,
+            parts,
+        })
+    }
+
+    /// What is printed of the list whose parts have come: their texts, joined by number, line by line, with dates.
+    /// A text that is no list is printed as it is.
+    pub fn report(&self, alloc: Global) -> Result<ByteText, AllocError>
+        ensures { IfOk result (λ report. IsListReport (text_of self.now.parts) report) }
+    {
+        let text = self.parts.text(alloc)?;
+        list_report(alloc, &text)
+    }
+}
+
+/// Asks this peer for the list, at this reading, and waits until all its parts have come.
+///
+/// They are then in the room. It fails only where the request could not be sent.
+pub fn talk_list<H: Host>(
+    asking: &Asking,
+    to: &Peer,
+    start: u64,
+    room: &mut ListRoom,
+    host: &mut H,
+) -> Result<Listed, Failed>
+    requires list { is_list asking.now.order ≡ true }
+    requires none { AreNone room.old.parts }
+    ensures past { GrewSome (IsListTalk asking.now to.now start result (text_of room.new.parts))
+        (H.past host.old) (H.past host.new) }
+    ensures cause { HasCause (H.faults host.old) (H.faults host.new) result }
+{
+    put_request(asking, start, &mut room.frame);
+    match host.send(to, room.frame.bytes()) {
+        Ok(()) => Ok(wait_list(asking, start, &mut room.datagram, &mut room.parts, host)),
+        Err(failed) => Err(failed),
+    }
+}

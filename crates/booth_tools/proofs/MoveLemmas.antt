@@ -1,0 +1,192 @@
+-- A move's calls from their parts.
+use Rattle.std.specs.Prelude.{Option, Some, None, Ok, Err, IsSomeAnd, IsTrue, MatchOption, codes, position, slice_get, ◌&&◌}
+use Rattle.std.proofs.Common.{◌≡◌, ◌++◌, ℕ, Bool, true, false, List, [], ◌∷◌, append-nil, get_or, refl, sym, ap, subst, inl, inr}
+use Rattle.std.proofs.lemmas.List.Quantifiers.{position-Some}
+use Rattle.std.proofs.lemmas.Option.{slice_get-get_or}
+use Rattle.booth_keys.specs.declared.ring.Ring.{Ring}
+use Rattle.booth_base.specs.declared.address.Address.{Address}
+use Rattle.booth_base.specs.declared.address.Peer.{Peer}
+use Rattle.booth_conf.specs.Config.{ConfigSays}
+use Rattle.booth_conf.specs.Rules.{is_at}
+use Rattle.booth_conf.specs.declared.members.Member.{Member}
+use Rattle.booth_host.specs.declared.host.Failed.{Failed}
+use Rattle.booth_host.specs.declared.entry.Entry.{Entry}
+use Rattle.booth_host.specs.declared.entry.Entry.TheVariants.{Open, Now}
+use Rattle.booth_host.specs.Past.{GrewBy, GrewSome}
+use Rattle.booth_host.proofs.PastLemmas.{no_entry, one_more, some_joined, some_of, some_weaker, then_some}
+use Rattle.booth_move.specs.declared.carrying.Moving.{Moving as Move_}
+use Rattle.booth_move.specs.declared.deeds.MoveEnd.{MoveEnd}
+use Rattle.booth_move.specs.Carrying.{IsCarried}
+use Rattle.booth_cli.specs.declared.asking.Asked.{Asked}
+use Rattle.booth_cli.specs.declared.asking.Asked.TheVariants.{Move}
+use Rattle.booth_cli.specs.declared.asking.MoveWords.{MoveWords}
+use Rattle.booth_cli.specs.declared.program.Program.{Program}
+use Rattle.booth_cli.specs.declared.program.Program.TheVariants.{Booth}
+use Rattle.booth_cli.specs.Asking.{Asks, AsksMove}
+use Rattle.booth_outcomes.specs.declared.outcome.Ended.{Ended}
+use Rattle.booth_outcomes.specs.declared.outcome.Outcome.{Outcome}
+use Rattle.booth_outcomes.specs.declared.outcome.Outcome.TheVariants as outs
+use Rattle.booth_outcomes.specs.Configuration.{IsConfigRead, IsUnreadOutcome}
+use Rattle.booth_outcomes.specs.Texts.{not_site_text, out_of_memory_text}
+use Rattle.booth_tools.specs.declared.client.Cluster.{Cluster}
+use Rattle.booth_tools.specs.Client.{IsKeyed, IsPlainEnd, destination}
+use Rattle.booth_tools.specs.ClientRun.{FitsClientWords, IsAnswered, IsClientMade, IsMoveAnswered, Moved}
+use Rattle.booth_tools.specs.MoveRun.{FollowsConfig, FollowsKey, FollowsSite, IsMoveLog, IsMoveTold, MoveEndsWith, is_site_at, moving_of, site_at}
+use Rattle.booth_tools.specs.MoveRun.{Keyed, Keyless, Read, Socketless, Started, Unread}
+
+-- ---- outcomes
+
+pub answered_moved : (outcome : Outcome) → IsAnswered outcome → IsMoveAnswered outcome
+answered_moved outs.NotSite is = tt
+answered_moved (outs.Stranded result) is = tt
+answered_moved outcome is = is
+
+pub unread_moved : (outcome : Outcome) → IsUnreadOutcome outcome → IsMoveAnswered outcome
+unread_moved outs.ConfUnread unread = tt
+unread_moved (outs.ConfBad fault) unread = tt
+unread_moved outs.OutOfMemory unread = tt
+unread_moved outcome unread = absurd unread
+
+-- ---- the site that is to have the ticket
+
+left_true : (a b : Bool) → a && b ≡ true → IsTrue a
+left_true true b both = refl
+left_true false b both = absurd cc
+
+-- the place of a site with an address is that of a site
+pub is_there : (address : Address) (config : ConfigSays) (i : ℕ) → site_at address config ≡ Some i →
+    IsSomeAnd (slice_get config.members i) (λ m. IsTrue m.site)
+is_there address config i there = go config.members there
+  where
+    go : (ms : List Member) → position (is_site_at address) ms ≡ Some i → IsSomeAnd (slice_get ms i) (λ m. IsTrue m.site)
+    go [] is = absurd cc
+    go (m ∷ ms) is =
+        let found = position-Some (is_site_at address) (m ∷ ms) i m is in
+        subst (λ (o : Option Member). IsSomeAnd o (λ m. IsTrue m.site)) (sym (slice_get-get_or (m ∷ ms) i m found.0))
+        (let x : Member = get_or (m ∷ ms) i m in left_true x.site (is_at address x) found.1)
+
+-- ---- how a move ends
+
+module _ (asked : MoveWords) (moving : Move_) (start : ℕ) where
+  pub move_told : (end : MoveEnd) (outcome : Outcome) (said : List ℕ) {a b c : Option (List Entry)} → GrewSome (IsCarried moving start (Ok end)) a b →
+      GrewSome (MoveEndsWith asked (Ok end) outcome said) b c → GrewSome (IsMoveTold asked moving start outcome said) a c
+  move_told end outcome said carried told =
+      some_joined (IsCarried moving start (Ok end)) (MoveEndsWith asked (Ok end) outcome said) (IsMoveTold asked moving start outcome said)
+      (λ xs ys h k. record { end = Ok end; early = xs; late = ys; whole = refl; carried = h; told = k }) carried told
+
+  pub move_untold : (failed : Failed) (said : List ℕ) {a b : Option (List Entry)} → said ≡ codes "cannot send" →
+      GrewSome (IsCarried moving start (Err failed)) a b → GrewSome (IsMoveTold asked moving start outs.SendFault said) a b
+  move_untold failed said is carried =
+      some_weaker (IsCarried moving start (Err failed)) (IsMoveTold asked moving start outs.SendFault said)
+      (λ xs h. record {
+        end = Err failed;
+        early = xs;
+        late = [];
+        whole = sym (append-nil xs);
+        carried = h;
+        told = record { is = refl; told = is; none = refl };
+      }) carried
+
+-- ---- the socket and the clock
+
+-- a move of the ticket with this name
+abbrev pub named_so : MoveWords → ConfigSays → Option Ring → ℕ → Peer → List ℕ → Move_
+named_so asked config ring target to ticket = record (moving_of asked config ring target to) { ticket = ticket }
+
+module _ (asked : MoveWords) (config : ConfigSays) (ring : Option Ring) (target : ℕ) where
+  pub no_move_room : (ended : Ended) {a : Option (List Entry)} → ended.outcome ≡ outs.OutOfMemory → ended.said ≡ out_of_memory_text →
+      GrewSome (FollowsKey asked config ring target ended.outcome ended.said) a a
+  no_move_room ended out is =
+      some_of (FollowsKey asked config ring target ended.outcome ended.said) no_entry
+      (subst (λ outcome. FollowsKey asked config ring target outcome ended.said []) (sym out) (Socketless (is, refl)))
+
+  pub moved_on : (to : Peer) (start : ℕ) (ticket : List ℕ) (outcome : Outcome) (said : List ℕ) {a b c d : Option (List Entry)} →
+      destination asked.site config ≡ Some to → ticket ≡ asked.ticket →
+      GrewBy a b (Open None 0 [] [] (Ok tt) ∷ []) → GrewBy b c (Now start ∷ []) →
+      GrewSome (IsMoveTold asked (named_so asked config ring target to ticket) start outcome said) c d → GrewSome (FollowsKey asked config ring target outcome said) a d
+  moved_on to start ticket outcome said {a} {b} {c} {d} named same socket clock rest =
+      let so : GrewSome (IsMoveTold asked (moving_of asked config ring target to) start outcome said) c d =
+      subst (λ (t : List ℕ). GrewSome (IsMoveTold asked (named_so asked config ring target to t) start outcome said) c d) same rest in
+      then_some (IsMoveTold asked (moving_of asked config ring target to) start outcome said) (FollowsKey asked config ring target outcome said)
+      (one_more socket clock)
+      (λ ys h. Started (record { to = to; named = named; start = start; rest = ys; whole = refl; told = h })) so
+
+-- ---- the key
+
+pub move_keyed : (asked : MoveWords) (config : ConfigSays) (target : ℕ) (cluster : Cluster) (outcome : Outcome) (said : List ℕ) {a b c : Option (List Entry)} →
+    GrewSome (IsKeyed config (Ok cluster)) a b → GrewSome (FollowsKey asked cluster.config cluster.ring target outcome said) b c →
+    GrewSome (FollowsSite asked config target outcome said) a c
+move_keyed asked config target cluster outcome said read follows =
+    some_joined (IsKeyed config (Ok cluster)) (FollowsKey asked cluster.config cluster.ring target outcome said) (FollowsSite asked config target outcome said)
+    (λ xs ys h k. Keyed (record {
+      ring = cluster.ring;
+      texts = h.1;
+      holds = h.2;
+      rest = ys;
+      whole = ap (λ zs. zs ++ ys) h.3;
+      here = subst (λ (c : ConfigSays). FollowsKey asked c cluster.ring target outcome said ys) h.0 k;
+    })) read follows
+
+pub move_keyless : (asked : MoveWords) (config : ConfigSays) (target : ℕ) (ended : Ended) {a b : Option (List Entry)} → GrewSome (IsKeyed config (Err ended)) a b →
+    GrewSome (FollowsSite asked config target ended.outcome ended.said) a b
+move_keyless asked config target ended read =
+    some_weaker (IsKeyed config (Err ended)) (FollowsSite asked config target ended.outcome ended.said) (λ es h. Keyless h) read
+
+-- ---- the configuration
+
+module _ (asked : MoveWords) (config : ConfigSays) where
+  -- what follows the configuration, by the place of the target
+  abbrev At : Outcome → List ℕ → List Entry → Option ℕ → Type 0
+  At outcome said entries place =
+      MatchOption place (IsPlainEnd outcome outs.NotSite said (not_site_text asked.target) entries) (λ target. FollowsSite asked config target outcome said entries)
+
+  pub at_site : (target : ℕ) (outcome : Outcome) (said : List ℕ) {a b : Option (List Entry)} → site_at asked.target config ≡ Some target →
+      GrewSome (FollowsSite asked config target outcome said) a b → GrewSome (FollowsConfig asked config outcome said) a b
+  at_site target outcome said is follows =
+      some_weaker (FollowsSite asked config target outcome said) (FollowsConfig asked config outcome said)
+      (λ es h. subst (At outcome said es) (sym is) h) follows
+
+  pub at_no_site : (said : List ℕ) {a : Option (List Entry)} → site_at asked.target config ≡ None → said ≡ not_site_text asked.target →
+      GrewSome (FollowsConfig asked config outs.NotSite said) a a
+  at_no_site said is told =
+      some_of (FollowsConfig asked config outs.NotSite said) no_entry
+      (subst (At outs.NotSite said []) (sym is) (record { is = refl; told = told; none = refl }))
+
+  pub moved_all : (outcome : Outcome) (said : List ℕ) {a b c : Option (List Entry)} → GrewSome (IsConfigRead asked.conf (Ok config)) a b →
+      GrewSome (FollowsConfig asked config outcome said) b c → GrewSome (IsMoveLog asked outcome said) a c
+  moved_all outcome said read follows =
+      some_joined (IsConfigRead asked.conf (Ok config)) (FollowsConfig asked config outcome said) (IsMoveLog asked outcome said)
+      (λ xs ys h k. Read (record {
+        text = h.0;
+        config = config;
+        says = h.1;
+        rest = ys;
+        whole = ap (λ zs. zs ++ ys) h.2;
+        here = k;
+      })) read follows
+
+pub not_moved : (asked : MoveWords) (ended : Ended) {a b : Option (List Entry)} → GrewSome (IsConfigRead asked.conf (Err ended)) a b →
+    GrewSome (IsMoveLog asked ended.outcome ended.said) a b
+not_moved asked ended read = some_weaker (IsConfigRead asked.conf (Err ended)) (IsMoveLog asked ended.outcome ended.said) (λ es h. Unread h) read
+
+-- ---- the words
+
+pub moved_made : {a b : Option (List Entry)} (program : Program) (words : List (List ℕ)) (asked : MoveWords) (outcome : Outcome) (said : List ℕ) →
+    (program ≡ Booth) × AsksMove words asked → GrewSome (IsMoveLog asked outcome said) a b → GrewSome (IsClientMade program words outcome said) a b
+moved_made program words asked outcome said asks log =
+    some_weaker (IsMoveLog asked outcome said) (IsClientMade program words outcome said) (λ es is. Moved asked asks.0 asks.1 is) log
+
+pub asks_move : (program : Program) (words : List (List ℕ)) (asked : MoveWords) (all : Asked) → Asks program words (Ok all) → all ≡ Move asked →
+    (program ≡ Booth) × AsksMove words asked
+asks_move program words asked all asks same =
+    let is : Asks program words (Ok (Move asked)) = subst (λ x. Asks program words (Ok x)) same asks in is
+
+pub fits_moved : (program : Program) (words : List (List ℕ)) (asked : MoveWords) (outcome : Outcome) → (program ≡ Booth) × AsksMove words asked → IsMoveAnswered outcome →
+    FitsClientWords program words outcome
+fits_moved program words asked (outs.Usage kind) asks is = absurd is
+fits_moved program words asked (outs.BadWord word) asks is = absurd is
+fits_moved program words asked outs.PrintFault asks is = inl (inr (record { asked = asked; own = asks.0; asks = asks.1 }))
+fits_moved program words asked outs.OutOfMemory asks is = tt
+fits_moved program words asked outs.NotSite asks is = record { asked = asked; own = asks.0; asks = asks.1 }
+fits_moved program words asked (outs.Stranded result) asks is = record { asked = asked; own = asks.0; asks = asks.1 }
+fits_moved program words asked outcome asks is = (inr (record { asked = asked; own = asks.0; asks = asks.1 }), is)

@@ -1,0 +1,33 @@
+use Rattle.std.proofs.Common.{map, rules, string_bytes, subst}
+use Rattle.booth_host.specs.Past.{GrewSome}
+use Rattle.booth_tools.specs.Client.{IsClientLog}
+use Rattle.booth_cli.specs.declared.asking.ClientWords.{ClientWords}
+use Rattle.booth_cli.specs.declared.asking.MoveWords.{MoveWords}
+use Rattle.booth_tools.specs.MoveRun.{IsMoveLog}
+use Rattle.booth_tools.proofs.ClientLemmas.{asks_client, fits_answered, talked_made}
+use Rattle.booth_tools.proofs.MoveLemmas.{asks_move, fits_moved, moved_made}
+use Rattle.booth_tools.proofs.client_run.run_words.Goals as goal
+
+pub returns-in-Ok-Client-clause-past : goal.returns-in-Ok-Client-clause-past
+returns-in-Ok-Client-clause-past g c =
+    talked_made c.args.program (map string_bytes c.args.words.now) c.in-Ok-Client.asked c.ask_daemon.result.outcome c.ask_daemon.result.said
+    (asks_client c.args.program (map string_bytes c.args.words.now) c.in-Ok-Client.asked c.in-Ok-Client.field-0 c.in-Ok-Client.ensures (search rules))
+    (subst (λ (a : ClientWords). GrewSome (IsClientLog a c.ask_daemon.result.outcome c.ask_daemon.result.said) (g.H.Host.past c.args.host.now) (g.H.Host.past c.ask_daemon.new.host))
+    (search rules) c.ask_daemon.ensures.past)
+
+pub returns-in-Ok-Client-clause-words : goal.returns-in-Ok-Client-clause-words
+returns-in-Ok-Client-clause-words g c =
+    fits_answered c.args.program (map string_bytes c.args.words.now) c.in-Ok-Client.asked c.ask_daemon.result.outcome
+    (asks_client c.args.program (map string_bytes c.args.words.now) c.in-Ok-Client.asked c.in-Ok-Client.field-0 c.in-Ok-Client.ensures (search rules)) c.ask_daemon.ensures.served
+
+pub returns-in-Ok-Move-clause-past : goal.returns-in-Ok-Move-clause-past
+returns-in-Ok-Move-clause-past g c =
+    moved_made c.args.program (map string_bytes c.args.words.now) c.in-Ok-Move.asked c.move_ticket.result.outcome c.move_ticket.result.said
+    (asks_move c.args.program (map string_bytes c.args.words.now) c.in-Ok-Move.asked c.in-Ok-Move.field-0 c.in-Ok-Move.ensures (search rules))
+    (subst (λ (a : MoveWords). GrewSome (IsMoveLog a c.move_ticket.result.outcome c.move_ticket.result.said) (g.H.Host.past c.args.host.now) (g.H.Host.past c.move_ticket.new.host))
+    (search rules) c.move_ticket.ensures.past)
+
+pub returns-in-Ok-Move-clause-words : goal.returns-in-Ok-Move-clause-words
+returns-in-Ok-Move-clause-words g c =
+    fits_moved c.args.program (map string_bytes c.args.words.now) c.in-Ok-Move.asked c.move_ticket.result.outcome
+    (asks_move c.args.program (map string_bytes c.args.words.now) c.in-Ok-Move.asked c.in-Ok-Move.field-0 c.in-Ok-Move.ensures (search rules)) c.move_ticket.ensures.served

@@ -1,0 +1,136 @@
+-- The calls of a whole run of booth or geostore.
+use Rattle.std.specs.Prelude.{◌≡◌, ◌⊎◌, ◌++◌, ℕ, List, [], ◌∷◌, Option, Some, None, Ok, Err, Contains, codes, if◌then◌else◌}
+use Rattle.std.specs.Str.{bytes_eq}
+use Rattle.booth_host.specs.declared.entry.Entry.{Entry}
+use Rattle.booth_cli.specs.declared.program.Program.{Program}
+use Rattle.booth_cli.specs.declared.program.Program.TheVariants.{Booth}
+use Rattle.booth_outcomes.specs.declared.outcome.Outcome.{Outcome}
+use Rattle.booth_outcomes.specs.declared.outcome.Outcome.TheVariants.{Usage, BadWord, ConfUnread, ConfBad, KeyUnread, KeyBad}
+use Rattle.booth_outcomes.specs.declared.outcome.Outcome.TheVariants.{OpenFault, SendFault, NoReply, Report, Refused, PrintFault, OutOfMemory}
+use Rattle.booth_outcomes.specs.declared.outcome.Outcome.TheVariants.{NotSite, Stranded}
+use Rattle.booth_cli.specs.declared.asking.ClientWords.{ClientWords}
+use Rattle.booth_cli.specs.declared.asking.MoveWords.{MoveWords}
+use Rattle.booth_cli.specs.Commands.{verb_in}
+use Rattle.booth_cli.specs.Asking.{AsksClient, AsksMove, IsUntaken, HasBadWord}
+use Rattle.booth_outcomes.specs.Unasked.{IsRequest, IsUnasked}
+use Rattle.booth_tools.specs.Client.{IsClientLog}
+use Rattle.booth_tools.specs.MoveRun.{IsMoveLog}
+use Rattle.booth_outcomes.specs.Texts.{IsText}
+use Rattle.booth_base.specs.declared.address.Address.{Address}
+use Rattle.booth_base.specs.declared.address.Peer.{Peer}
+use Rattle.booth_conf.specs.Config.{ConfigSays}
+use Rattle.booth_conf.specs.Says.{Says}
+use Rattle.booth_host.specs.declared.host.Failed.{Failed}
+use Rattle.booth_host.specs.declared.host.ReadFault.TheVariants as reads
+use Rattle.booth_host.specs.declared.entry.Entry.TheVariants.{Open, ReadFile, Send, Out}
+use Rattle.booth_cli.specs.declared.command.Verb.{Verb}
+use Rattle.booth_cli.specs.declared.command.Verb.TheVariants as verbs
+use Rattle.booth_cli.specs.Valid.{AreValid}
+use Rattle.booth_outcomes.specs.Keys.{IsKeyFile, NamesKeyFile}
+
+-- one leading `client` is passed over
+abbrev pub passed : List (List ℕ) → List (List ℕ)
+passed [] = []
+passed (word ∷ words) = if bytes_eq word (codes "client") then words else word ∷ words
+
+-- the calls up to where the outcome is decided, by what the words ask for
+pub data IsClientMade (program : Program) (words : List (List ℕ)) (outcome : Outcome) (said : List ℕ)
+    (entries : List Entry) : Type 0 where
+  Unasked : IsUnasked program words outcome said entries → IsClientMade program words outcome said entries
+  Talked : (asked : ClientWords) → AsksClient program words asked → IsClientLog asked outcome said entries →
+      IsClientMade program words outcome said entries
+  Moved : (asked : MoveWords) → program ≡ Booth → AsksMove words asked → IsMoveLog asked outcome said entries →
+      IsClientMade program words outcome said entries
+
+-- all calls of a run on these words, the last of which says how it ended
+pub record IsClientRun (program : Program) (words : List (List ℕ)) (outcome : Outcome) (entries : List Entry)
+    : Type 0 where
+  pub said : List ℕ
+  pub body : List Entry
+  pub last : List Entry
+  pub whole : entries ≡ body ++ last
+  pub made : IsClientMade program words outcome said body
+  pub told : IsText program said last
+
+-- ---- over every host
+
+-- an outcome of a client that was asked for
+abbrev pub IsAnswered : Outcome → Type 0
+IsAnswered ConfUnread = Unit {0}
+IsAnswered (ConfBad fault) = Unit {0}
+IsAnswered KeyUnread = Unit {0}
+IsAnswered (KeyBad fault) = Unit {0}
+IsAnswered OpenFault = Unit {0}
+IsAnswered SendFault = Unit {0}
+IsAnswered NoReply = Unit {0}
+IsAnswered Report = Unit {0}
+IsAnswered (Refused result) = Unit {0}
+IsAnswered PrintFault = Unit {0}
+IsAnswered OutOfMemory = Unit {0}
+IsAnswered outcome = ⊥
+
+-- an outcome of a move that was asked for
+abbrev pub IsMoveAnswered : Outcome → Type 0
+IsMoveAnswered NotSite = Unit {0}
+IsMoveAnswered (Stranded result) = Unit {0}
+IsMoveAnswered outcome = IsAnswered outcome
+
+-- the words ask for a client, whatever they say of it
+pub record AskForClient (program : Program) (words : List (List ℕ)) : Type 0 where
+  pub asked : ClientWords
+  pub asks : AsksClient program words asked
+
+-- the words ask for a move, whatever they say of it
+pub record AskForMove (program : Program) (words : List (List ℕ)) : Type 0 where
+  pub asked : MoveWords
+  pub own : program ≡ Booth
+  pub asks : AsksMove words asked
+
+-- Usage comes only for words that are not taken, and BadWord exactly where that word is the first refused; NotSite and
+-- Stranded only where the words ask for a move, and all else that a client may come to only where they ask for one or
+-- for a move
+abbrev pub FitsClientWords : Program → List (List ℕ) → Outcome → Type 0
+FitsClientWords program words (Usage None) = verb_in program words ≡ None
+FitsClientWords program words (Usage (Some kind)) = IsUntaken program words kind
+FitsClientWords program words (BadWord word) = HasBadWord program words word
+FitsClientWords program words PrintFault =
+    (AskForClient program words ⊎ AskForMove program words) ⊎ IsRequest program words
+FitsClientWords program words OutOfMemory = Unit {0}
+FitsClientWords program words NotSite = AskForMove program words
+FitsClientWords program words (Stranded result) = AskForMove program words
+FitsClientWords program words outcome =
+    (AskForClient program words ⊎ AskForMove program words) × IsAnswered outcome
+
+-- ---- where nothing fails
+
+-- No file, no socket, no send and no print failed; what was read at the path says a configuration, and what was
+-- read at a key file that it names holds a key.
+pub record IsUnhindered (conf : List ℕ) (entries : List Entry) : Type 0 where
+  pub read : (file : List ℕ) → Contains entries (ReadFile file (Err reads.Failed)) → ⊥
+  pub valid : (text : List ℕ) → Contains entries (ReadFile conf (Ok text)) →
+      (config : ConfigSays) × Says text config
+  pub keyed : (text file key_text : List ℕ) (config : ConfigSays) → Contains entries
+      (ReadFile conf (Ok text)) → Says text config →
+      NamesKeyFile config file → Contains entries (ReadFile file (Ok key_text)) → IsKeyFile key_text
+  pub opened : (local : Option Address) (port : ℕ) (records conf_path : List ℕ) (failed : Failed) →
+      Contains entries (Open local port records conf_path (Err failed)) → ⊥
+  pub sent : (to : Peer) (bytes : List ℕ) (failed : Failed) → Contains entries (Send to bytes (Err failed)) → ⊥
+  pub printed : (text : List ℕ) (failed : Failed) → Contains entries (Out text (Err failed)) → ⊥
+
+-- the outcomes that are no one's fault here, by the command
+abbrev pub IsTalked : Verb → Outcome → Type 0
+IsTalked verb Report = Unit {0}
+IsTalked verb (Refused result) = Unit {0}
+IsTalked verb NoReply = Unit {0}
+IsTalked verb OutOfMemory = Unit {0}
+IsTalked verbs.Move NotSite = Unit {0}
+IsTalked verbs.Move (Stranded result) = Unit {0}
+IsTalked verb outcome = ⊥
+
+-- Valid words, a valid file and key and an outside that does not fail give Report, Refused, NoReply or OutOfMemory;
+-- those of a move give NotSite or Stranded too, and no others.
+abbrev pub FaultlessTalks : Type 0
+FaultlessTalks = (program : Program) (words : List (List ℕ)) (verb : Verb) (outcome : Outcome) (entries : List Entry) →
+    AreValid program words verb → IsClientRun program words outcome entries →
+    ((asked : ClientWords) → AsksClient program words asked → IsUnhindered asked.conf entries) →
+    ((asked : MoveWords) → AsksMove words asked → IsUnhindered asked.conf entries) → IsTalked verb outcome

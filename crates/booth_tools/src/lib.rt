@@ -1,0 +1,16 @@
+//! The programs `booth` and `geostore` over any host: words in, calls on the host, texts and outcome out.
+#![tactic(auto)]
+
+mod client;
+mod client_run;
+pub mod laws;
+mod lists;
+mod memory;
+mod move_replies;
+mod move_run;
+mod refusals;
+mod replies;
+
+pub use booth_outcomes::{Outcome, Word};
+pub use booth_talk::report;
+pub use client_run::{booth, geostore, quiet_booth, quiet_geostore};
