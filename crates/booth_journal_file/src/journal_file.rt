@@ -88,7 +88,7 @@ impl Sink for JournalFile {
             Ok(()) => Ok(()),
             Err(error) => {
                 let line = failed_line(self.path.as_str(), &error);
-                let _ = write_at_once(&self.rt.stderr(), &line);
+                let _ = write_at_once(&mut self.rt.stderr(), &line);
                 self.faults = self.faults.saturating_add(1);
                 Err(Failed)
             }

@@ -107,7 +107,8 @@ impl<H: Host, L: Lines> LogHost<H, L> {
 
     // Says of an arrival what belongs into a log.
     fn tell_arrival(&mut self, answer: &Result<Arrival, Failed>)
-        ensures says { SaidMore (L.said self.old.lines) (L.said self.new.lines) (arrival_lines self.old.seen answer.now) }
+        ensures says { SaidMore (L.said self.old.lines) (L.said self.new.lines)
+            (arrival_lines self.old.seen answer.now) }
         ensures host { self.new.host ≡ self.old.host }
         ensures seen { self.new.seen ≡ self.old.seen }
     {

@@ -1,3 +1,4 @@
 pub mod Hearing
+pub mod Outlet
 pub mod Waiting
 pub mod Taking

@@ -9,6 +9,7 @@ mod jobs;
 mod lines;
 mod lock;
 mod mail;
+mod outlet;
 mod programs;
 mod real_host;
 mod record_disk;
@@ -18,5 +19,5 @@ mod streams;
 mod telling;
 mod wake;
 
+pub use outlet::{Outlet, Unwritten, write_at_once};
 pub use real_host::RealHost;
-pub use streams::write_at_once;

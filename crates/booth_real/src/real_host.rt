@@ -13,7 +13,7 @@ use crate::files::contents;
 use crate::jobs::{Ended, Jobs, SIGNALLED};
 use crate::lock::take_lock;
 use crate::mail::{Mail, unopened};
-use crate::records::Records;
+use crate::records::{Records, read_from, write_into};
 use crate::socket::Socket;
 use crate::streams::{Standing, error_stream, hold_streams, write_to};
 use crate::telling::Telling;
@@ -312,26 +312,6 @@ impl RealHost {
             self.take_in();
         }
     }
-
-    fn read_record(&mut self, ticket: &Name) -> io::Result<Option<Record>>
-        ensures faults { self.new.faults ≡ self.old.faults }
-        ensures mail { self.new.mail ≡ self.old.mail }
-    {
-        match &mut self.records {
-            Some(records) => records.read(&self.rt, ticket),
-            None => Err(unopened()),
-        }
-    }
-
-    fn write_record(&mut self, ticket: &Name, rec: &Record) -> io::Result<()>
-        ensures faults { self.new.faults ≡ self.old.faults }
-        ensures mail { self.new.mail ≡ self.old.mail }
-    {
-        match &mut self.records {
-            Some(records) => records.write(&self.rt, ticket, rec),
-            None => Err(unopened()),
-        }
-    }
 }
 
 impl Host for RealHost {
@@ -425,7 +405,7 @@ impl Host for RealHost {
         ensures cause { HasCause self.old.faults self.new.faults result }
         ensures mail { self.new.mail ≡ self.old.mail }
     {
-        let answer = self.read_record(ticket);
+        let answer = read_from(&mut self.records, &self.rt, ticket);
         if let Err(error) = &answer {
             let parts = [
                 b"cannot read the record of ticket ".as_slice(),
@@ -445,7 +425,7 @@ impl Host for RealHost {
         ensures socket { self.new.mail.socket ≡ self.old.mail.socket }
     {
         self.take_in();
-        let answer = self.write_record(ticket, rec);
+        let answer = write_into(&mut self.records, &self.rt, ticket, rec);
         self.take_in();
         self.telling.keep(&self.rt, ticket, &answer);
         self.checked(answer)

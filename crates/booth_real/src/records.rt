@@ -5,6 +5,7 @@ ghost use Rattle.std.specs.Prelude.{◌≤◌, length};
 
 use crate::files::{make_named, open_named};
 use crate::lock::lock_file;
+use crate::mail::unopened;
 use crate::record_disk::FileDisk;
 use arrayvec::ArrayString;
 use booth_base::{Name, PathText};
@@ -238,5 +239,30 @@ impl Records {
                 Err(slots.disk().error())
             }
         }
+    }
+}
+
+/// The record that a ticket's file keeps in the directory that is open, where one is.
+pub(crate) fn read_from(
+    records: &mut Option<Records>,
+    rt: &HostRuntime,
+    ticket: &Name,
+) -> io::Result<Option<Record>> {
+    match records {
+        Some(records) => records.read(rt, ticket),
+        None => Err(unopened()),
+    }
+}
+
+/// Keeps this record in the directory that is open, where one is.
+pub(crate) fn write_into(
+    records: &mut Option<Records>,
+    rt: &HostRuntime,
+    ticket: &Name,
+    record: &Record,
+) -> io::Result<()> {
+    match records {
+        Some(records) => records.write(rt, ticket, record),
+        None => Err(unopened()),
     }
 }

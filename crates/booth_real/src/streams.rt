@@ -1,10 +1,11 @@
 //! The standard streams.
 
+use crate::outlet::Outlet;
 use libc::net::{POLLOUT, poll};
 use libc::types::pollfd;
 use std::fs::File;
 use std::io;
-use std::io::{ErrorKind, Write};
+use std::io::{Stderr, Write};
 use std::os::fd::{AsFd, AsRawFd};
 use std::process::ChildStdin;
 
@@ -60,7 +61,7 @@ pub(crate) fn write_to<S: AsFd>(stream: &S, bytes: &[u8]) -> io::Result<()> {
 }
 
 // Whether a write to a stream would not wait. One that is closed, or that nobody reads, fails at once.
-fn has_room<S: AsFd>(stream: &S) -> bool {
+fn has_room(stream: &Stderr) -> bool {
     let fd = stream.as_fd().as_raw_fd();
     let mut asked = [pollfd {
         fd,
@@ -70,11 +71,15 @@ fn has_room<S: AsFd>(stream: &S) -> bool {
     poll(&mut asked, 0) == 1
 }
 
-/// Writes a line to a standard stream, and fails where that would wait: for a reader, who may never come.
-pub fn write_at_once<S: AsFd>(stream: &S, line: &[u8]) -> io::Result<()> {
-    if has_room(stream) {
-        write_to(stream, line)
-    } else {
-        Err(io::Error::from(ErrorKind::WouldBlock))
+/// Standard error as a stream to which nobody waits to write. It tells nothing of what it took.
+///
+/// A write goes through the type of a pipe to another program, as that of `write_to`.
+impl Outlet for Stderr {
+    fn has_room(&mut self) -> bool {
+        has_room(self)
+    }
+
+    fn put(&mut self, bytes: &[u8]) -> io::Result<usize> {
+        ChildStdin::from(self.as_fd().try_clone_to_owned()?).write(bytes)
     }
 }

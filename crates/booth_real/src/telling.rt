@@ -2,7 +2,7 @@
 
 use crate::clocks::since_boot;
 use crate::lines::{Line, line_of, put_number, said_by};
-use crate::streams::write_at_once;
+use crate::outlet::write_at_once;
 use booth_base::{Name, Peer};
 use booth_clock::Step;
 use std::alloc::Global;
@@ -137,7 +137,7 @@ impl Telling {
     // Says this line, where one more may be said. One that cannot be written at once is lost.
     fn say(&mut self, rt: &HostRuntime, line: Line) {
         if self.limit.admits(now()) {
-            let _ = write_at_once(&rt.stderr(), &said_by(self.name, &line));
+            let _ = write_at_once(&mut rt.stderr(), &said_by(self.name, &line));
         }
     }
 

@@ -1,6 +1,6 @@
 -- What a next and a send of a host over streams did, from the parts that did it.
 use Rattle.std.specs.Prelude.{Option, Result, Ok}
-use Rattle.std.proofs.Common.{◌≡◌, ℕ, List, [], ◌∷◌, ◌++◌, refl, ◌∙◌, ap, subst}
+use Rattle.std.proofs.Common.{◌≡◌, ℕ, List, [], ◌∷◌, ◌++◌, refl, sym, ◌∙◌, ap, append-nil, subst}
 use Rattle.std.specs.List.{All}
 use Rattle.booth_base.specs.declared.address.Peer.{Peer}
 use Rattle.booth_host.specs.declared.entry.Entry.{Entry}
@@ -21,37 +21,35 @@ use Rattle.booth_stream.proofs.CallLemmas.{no_call, calls_joined}
 use Rattle.booth_stream.proofs.StepLemmas.{both_of}
 
 -- a frame was there
-pub ready_next : (old new : List (Option OpenLink)) (wait : ℕ) (peer : Peer) (bytes : List ℕ) {links : Option (List LinkCall)}
-    {host : Option (List Entry)} → Gives old peer bytes new
-    → BothGrew (λ calls entries. IsNext old wait calls entries (Ok (Datagram peer)) bytes new) links links host host
-ready_next old new wait peer bytes gives =
-    both_of (λ calls entries. IsNext old wait calls entries (Ok (Datagram peer)) bytes new) no_call no_entry
-    (Ready peer gives refl refl refl)
+pub ready_next : (old new : List (Option OpenLink)) (wait : ℕ) (peer : Peer) (bytes : List ℕ) (calls : List LinkCall)
+    {links linked : Option (List LinkCall)} {host : Option (List Entry)} → CallsGrewBy links linked calls
+    → Gives old peer bytes new → calls ≡ []
+    → BothGrew (λ made entries. IsNext old wait made entries (Ok (Datagram peer)) bytes new) links linked host host
+ready_next old new wait peer bytes calls grew gives none =
+    both_of (λ made entries. IsNext old wait made entries (Ok (Datagram peer)) bytes new) grew no_entry
+    (Ready peer gives refl none refl)
 
 -- one came with the poll
-pub arrived_next : (old start mid new : List (Option OpenLink)) (wait : ℕ) (peer : Peer) (bytes : List ℕ)
-    (polled : Result LinkEvent Failed) (calls : List LinkCall) {links linked : Option (List LinkCall)} {host : Option (List Entry)}
-    → start ≡ old → CallsGrewBy links linked calls → Polls start polled calls mid → Gives mid peer bytes new
-    → BothGrew (λ calls entries. IsNext old wait calls entries (Ok (Datagram peer)) bytes new) links linked host host
-arrived_next old start mid new wait peer bytes polled calls same grew polls gives =
-    let from_old : Polls old polled calls mid = subst (λ (l : List (Option OpenLink)). Polls l polled calls mid) same polls in
-    both_of (λ made entries. IsNext old wait made entries (Ok (Datagram peer)) bytes new) grew no_entry
-    (Arrived polled mid peer from_old gives refl refl)
+pub arrived_next : (old mid new : List (Option OpenLink)) (wait : ℕ) (peer : Peer) (bytes : List ℕ)
+    (polled : Result LinkEvent Failed) (calls more : List LinkCall) {links linked ended : Option (List LinkCall)}
+    {host : Option (List Entry)} → CallsGrewBy links linked calls → Polls old polled calls mid
+    → CallsGrewBy linked ended more → more ≡ [] → Gives mid peer bytes new
+    → BothGrew (λ made entries. IsNext old wait made entries (Ok (Datagram peer)) bytes new) links ended host host
+arrived_next old mid new wait peer bytes polled calls more {links} {linked} {ended} grew polls last none gives =
+    let is : calls ++ more ≡ calls = ap (λ (l : List LinkCall). calls ++ l) none ∙ append-nil calls in
+    both_of (λ made entries. IsNext old wait made entries (Ok (Datagram peer)) bytes new) (calls_joined grew last) no_entry
+    (Arrived polled mid peer (subst (λ (l : List LinkCall). Polls old polled l mid) (sym is) polls) gives refl refl)
 
 -- none came
-pub passed_next : (old start mid late new : List (Option OpenLink)) (wait : ℕ) (answer : Result Arrival Failed) (bytes : List ℕ)
-    (polled : Result LinkEvent Failed) (calls : List LinkCall) (entries : List Entry)
+pub passed_next : (old mid new : List (Option OpenLink)) (wait : ℕ) (answer : Result Arrival Failed) (bytes : List ℕ)
+    (polled : Result LinkEvent Failed) (calls more : List LinkCall) (entries : List Entry)
     {links linked ended : Option (List LinkCall)} {host hosted : Option (List Entry)}
-    → start ≡ old → CallsGrewBy links linked calls → Polls start polled calls mid → late ≡ mid → NoneWhole late
-    → CallsGrewBy linked ended (closings late) → new ≡ unbroken late → GrewBy host hosted entries
-    → AnswersElse wait polled entries answer bytes
-    → BothGrew (λ calls entries. IsNext old wait calls entries answer bytes new) links ended host hosted
-passed_next old start mid late new wait answer bytes polled calls entries same grew polls kept none closed now inside answers =
-    let from_old : Polls old polled calls mid = subst (λ (l : List (Option OpenLink)). Polls l polled calls mid) same polls in
-    let of_mid : NoneWhole mid = subst NoneWhole kept none in
-    both_of (λ made given. IsNext old wait made given answer bytes new) (calls_joined grew closed) inside
-    (Passed polled mid calls from_old of_mid (ap (λ (l : List (Option OpenLink)). calls ++ closings l) kept)
-    (now ∙ ap unbroken kept) answers)
+    → CallsGrewBy links linked calls → Polls old polled calls mid → CallsGrewBy linked ended more → NoneWhole mid
+    → more ≡ closings mid → new ≡ unbroken mid → GrewBy host hosted entries → AnswersElse wait polled entries answer bytes
+    → BothGrew (λ made given. IsNext old wait made given answer bytes new) links ended host hosted
+passed_next old mid new wait answer bytes polled calls more entries grew polls last none closes now inside answers =
+    both_of (λ made given. IsNext old wait made given answer bytes new) (calls_joined grew last) inside
+    (Passed polled mid calls polls none (ap (λ (l : List LinkCall). calls ++ l) closes) now answers)
 
 -- a link was written to
 pub linked_send : (old new : List (Option OpenLink)) (to : Peer) (bytes : List ℕ) (number : ℕ) (wrote : Wrote)

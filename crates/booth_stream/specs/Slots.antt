@@ -1,9 +1,10 @@
 -- The slots of a host over streams, one after the other.
-use Rattle.std.specs.Prelude.{◌≡◌, ℕ, List, map, Option, None, Some, slice_get}
+use Rattle.std.specs.Prelude.{◌≡◌, ℕ, List, [], map, Option, None, Some, slice_get}
 use Rattle.std.specs.List.{All}
 use Rattle.booth_base.specs.declared.address.Peer.{Peer}
-use Rattle.booth_stream.specs.Places.{OpenLink, Gives}
-use Rattle.booth_stream.specs.Slot.{PlainSlot, link_in, IsDry}
+use Rattle.booth_stream.specs.Places.{OpenLink, Gives, NoneWhole, closings, unbroken}
+use Rattle.booth_stream.specs.Slot.{PlainSlot, link_in, IsAtRest, IsDry}
+use Rattle.booth_stream.specs.declared.link_call.LinkCall.{LinkCall}
 
 abbrev pub links_in : List PlainSlot → List (Option OpenLink)
 links_in slots = map link_in slots
@@ -12,6 +13,13 @@ links_in slots = map link_in slots
 abbrev pub GivesOne : List PlainSlot → Option Peer → List ℕ → List PlainSlot → Type 0
 GivesOne old None bytes new = (links_in new ≡ links_in old) × All IsDry new
 GivesOne old (Some peer) bytes new = Gives (links_in old) peer bytes (links_in new)
+
+-- The first frame of one of the links is given without a call. Where there is none, links in which no frame follows are
+-- closed, and all are at rest.
+abbrev pub GivesOrRests : List PlainSlot → Option Peer → List ℕ → List LinkCall → List PlainSlot → Type 0
+GivesOrRests old None bytes calls new =
+    NoneWhole (links_in old) × (calls ≡ closings (links_in old)) × (links_in new ≡ unbroken (links_in old)) × All IsAtRest new
+GivesOrRests old (Some peer) bytes calls new = Gives (links_in old) peer bytes (links_in new) × (calls ≡ [])
 
 -- whether a link of this peer is open, and its number
 pub record IsOpen (places : List (Option OpenLink)) (peer : Peer) (number : ℕ) : Type 0 where

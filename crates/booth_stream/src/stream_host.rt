@@ -92,14 +92,13 @@ impl<H: Host, L: Links> StreamHost<H, L> {
             (summed (H.faults self.new.host) (L.faults self.new.links) self.new.faults) result }
         ensures told { self.new.told ≡ self.old.told }
     {
-        if let Some(peer) = self.table.give(into) {
+        if let Some(peer) = self.table.give_or_rest(into, &mut self.links) {
             return Ok(Arrival::Datagram(peer));
         }
         let polled = self.table.poll(&mut self.piece, &mut self.links);
-        if let Some(peer) = self.table.give(into) {
+        if let Some(peer) = self.table.give_polled(into, &mut self.links) {
             return Ok(Arrival::Datagram(peer));
         }
-        self.table.close_broken(&mut self.links);
         match polled {
             Ok(_) => self.host.next(wait_ms, into),
             Err(Failed) => Err(Failed),

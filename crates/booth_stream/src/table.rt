@@ -1,12 +1,12 @@
 //! The places of a host over streams: which links are open.
-ghost use Rattle.std.specs.Prelude.{◌≡◌, ◌≤◌, List, IfOk, None, ◌∷◌, [], replicate};
+ghost use Rattle.std.specs.Prelude.{◌≡◌, ◌≤◌, List, IfOk, IsTrue, None, ◌∷◌, [], replicate};
 ghost use Rattle.std.specs.List.{All};
 ghost use Rattle.booth_host.specs.Causes.{HasCause};
 ghost use Rattle.booth_stream.specs.Calls.{CallsGrewBy};
 ghost use Rattle.booth_stream.specs.Known.{KnowsEmpty, KnowsRest};
-ghost use Rattle.booth_stream.specs.Places.{Polls, after_event, after_poll, closings, unbroken, without};
+ghost use Rattle.booth_stream.specs.Places.{after_event, after_poll, closings, unbroken, without};
 ghost use Rattle.booth_stream.specs.Slot.{IsAtRest, IsDry};
-ghost use Rattle.booth_stream.specs.Slots.{GivesOne, Reaches};
+ghost use Rattle.booth_stream.specs.Slots.{GivesOne, GivesOrRests, Reaches};
 ghost use Rattle.booth_stream.specs.declared.link_call.LinkCall.{LinkCall};
 
 use crate::slot::{Caller, Slot};
@@ -48,8 +48,18 @@ impl Table {
         })
     }
 
-    /// The next frame of a link that has a whole one, and its peer. At most the link whose bytes came last has one.
-    pub(crate) fn give(&mut self, into: &mut Datagram) -> Option<Peer>
+    // Whether no link has a frame, and none is broken, as far as is known.
+    fn is_at_rest(&self) -> bool
+        ensures { IsTrue result → All IsAtRest self.now.slots.items }
+    {
+        match self.known {
+            Known::Empty | Known::AtRest => true,
+            Known::Nothing => false,
+        }
+    }
+
+    // The next frame of a link that has a whole one, and its peer. At most the link whose bytes came last has one.
+    fn give(&mut self, into: &mut Datagram) -> Option<Peer>
         ensures { GivesOne self.old.slots.items result into.new self.new.slots.items }
     {
         match self.known {
@@ -58,8 +68,8 @@ impl Table {
         }
     }
 
-    /// Closes each link in which no frame follows.
-    pub(crate) fn close_broken<L: Links>(&mut self, links: &mut L)
+    // Closes each link in which no frame follows.
+    fn close_broken<L: Links>(&mut self, links: &mut L)
         requires { All IsDry self.old.slots.items }
         ensures places { places_of self.new ≡ unbroken (places_of self.old) }
         ensures rests { All IsAtRest self.new.slots.items }
@@ -77,6 +87,52 @@ impl Table {
                 };
             }
         }
+    }
+
+    /// The next frame of a link that has a whole one, and its peer. Where none has, each link in which no frame follows
+    /// is closed, and all are at rest.
+    pub(crate) fn give_or_rest<L: Links>(
+        &mut self,
+        into: &mut Datagram,
+        links: &mut L,
+    ) -> Option<Peer>
+        ensures does { (calls : List LinkCall) × CallsGrewBy (L.past links.old) (L.past links.new) calls
+            × GivesOrRests self.old.slots.items result into.new calls self.new.slots.items }
+        ensures later { L.faults links.old ≤ L.faults links.new }
+    {
+        if self.is_at_rest() {
+            return None;
+        }
+        self.give_or_close(into, links)
+    }
+
+    /// The same after a poll. Each of the two is called at one place, so that where all are at rest nothing is called.
+    pub(crate) fn give_polled<L: Links>(
+        &mut self,
+        into: &mut Datagram,
+        links: &mut L,
+    ) -> Option<Peer>
+        ensures does { (calls : List LinkCall) × CallsGrewBy (L.past links.old) (L.past links.new) calls
+            × GivesOrRests self.old.slots.items result into.new calls self.new.slots.items }
+        ensures later { L.faults links.old ≤ L.faults links.new }
+    {
+        if self.is_at_rest() {
+            return None;
+        }
+        self.give_or_close(into, links)
+    }
+
+    // The same where a link may have a frame, or be broken.
+    fn give_or_close<L: Links>(&mut self, into: &mut Datagram, links: &mut L) -> Option<Peer>
+        ensures does { (calls : List LinkCall) × CallsGrewBy (L.past links.old) (L.past links.new) calls
+            × GivesOrRests self.old.slots.items result into.new calls self.new.slots.items }
+        ensures later { L.faults links.old ≤ L.faults links.new }
+    {
+        if let Some(peer) = self.give(into) {
+            return Some(peer);
+        }
+        self.close_broken(links);
+        None
     }
 
     // Does what an event demands. All that came before was taken.
@@ -104,8 +160,8 @@ impl Table {
         }
     }
 
-    // Polls once, and does what that demands.
-    fn poll_links<L: Links>(
+    /// Polls once where all links are at rest, and does what that demands.
+    pub(crate) fn poll<L: Links>(
         &mut self,
         piece: &mut Piece,
         links: &mut L,
@@ -122,21 +178,6 @@ impl Table {
             Err(Failed) => {}
         }
         polled
-    }
-
-    /// Polls once, where no link has a frame: links in which none follows are closed first.
-    pub(crate) fn poll<L: Links>(
-        &mut self,
-        piece: &mut Piece,
-        links: &mut L,
-    ) -> Result<LinkEvent, Failed>
-        requires { All IsDry self.old.slots.items }
-        ensures polls { (calls : List LinkCall) × CallsGrewBy (L.past links.old) (L.past links.new) calls
-            × Polls (places_of self.old) result calls (places_of self.new) }
-        ensures cause { HasCause (L.faults links.old) (L.faults links.new) result }
-    {
-        self.close_broken(links);
-        self.poll_links(piece, links)
     }
 
     /// The number of a link that is open to this peer.

@@ -1,5 +1,5 @@
 -- Reading gives the first of the seven conditions that holds.
-use Rattle.std.proofs.Common.{◌≡◌, ℕ, Bool, true, false, cond, List, [], ◌∷◌, length, Option, Some, None, Result, Ok, Err, refl}
+use Rattle.std.proofs.Common.{◌≡◌, ℕ, Bool, true, false, cond, List, [], ◌∷◌, length, Option, Some, None, Result, Ok, Err, refl, ap}
 use Rattle.std.specs.Prelude.{not, ◌&&◌, ◌||◌, ◌==◌, nat_le, nat_lt, is_none, option_map, ok_or}
 use Rattle.booth_wire.specs.declared.command.Cmd.{Cmd}
 use Rattle.booth_wire.specs.declared.message.FrameFault.{FrameFault}
@@ -10,7 +10,7 @@ use Rattle.booth_wire.specs.declared.frame.TheConstants.{FRAME_BYTES}
 use Rattle.booth_wire.specs.Faults.{GivesFirstFault, around, fault_of, first_of, head_in, of_head, size_of}
 use Rattle.booth_wire.specs.Layout.{word_at, field_at}
 use Rattle.booth_wire.specs.PlainMessage.{Content, PlainMessage}
-use Rattle.booth_wire.specs.Reading.{◌>>=◌, auth_in, body_read, content_in, has_size, head_at}
+use Rattle.booth_wire.specs.Reading.{◌>>=◌, auth_in, body_read, content_in, decoded, has_size, head_at, head_read}
 
 -- a test in front of what is read, and its condition in front of the others
 tested : {A B : Type 0} (b : Bool) (fault : FrameFault) (read : Result A FrameFault) (f : A → Result B FrameFault)
@@ -23,6 +23,10 @@ tested false fault read f others e = e
 abbrev behind : List ℕ → Head → Result PlainMessage FrameFault
 behind bytes h = body_read h bytes >>= λ inner. ok_or (content_in h.cmd (kind_of h.cmd) inner) faults.Name
     >>= λ content. Ok (record { head = h; content = content })
+
+-- a fault of the head is that of the message
+pub of_read_head : (bytes : List ℕ) (fault : FrameFault) → head_read bytes ≡ Err fault → decoded bytes ≡ Err fault
+of_read_head bytes fault is = ap (λ (read : Result Head FrameFault). read >>= behind bytes) is
 
 -- the last three conditions, by the head
 abbrev by_head : List ℕ → Option Head → List (Bool × FrameFault)

@@ -208,10 +208,11 @@ fn read_content(cmd: Cmd, bytes: &[u8]) -> Option<Body<'_>>
     }
 }
 
-fn read_frame(bytes: &[u8]) -> Result<Message<'_>, FrameFault>
+// The message behind this head, which these bytes begin with.
+fn read_behind(head: Head, bytes: &[u8]) -> Result<Message<'_>, FrameFault>
+    requires { head_read bytes.now ≡ Ok head }
     ensures { Gives result (decoded bytes.now) }
 {
-    let head = read_head(bytes)?;
     let inner = read_body(&head, bytes)?;
     let body = read_content(head.cmd, inner).ok_or(FrameFault::Name)?;
     Ok(Message { head, body })
@@ -230,5 +231,9 @@ pub fn decode(bytes: &[u8]) -> Result<Message<'_>, FrameFault>
     // Which fault it is.
     ensures exact { Gives result (decoded bytes.now) }
 {
-    read_frame(bytes)
+    // (a message is large, and most faults are those of a head)
+    match read_head(bytes) {
+        Ok(head) => read_behind(head, bytes),
+        Err(fault) => Err(fault),
+    }
 }

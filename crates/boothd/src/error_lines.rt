@@ -32,7 +32,7 @@ impl Lines for ErrorLines {
 
     fn say(&mut self, line: &[u8]) {
         if self.is_on {
-            let _ = write_at_once(&self.rt.stderr(), line);
+            let _ = write_at_once(&mut self.rt.stderr(), line);
         }
     }
 }

@@ -1,0 +1,57 @@
+//! Streams that lines are written to by somebody who waits for no reader.
+ghost use Rattle.std.specs.Prelude.{◌≡◌, Bool, IfSome, List, None, Option, ℕ};
+ghost use Rattle.std.specs.Io.{WritesAtMost};
+ghost use Rattle.std.specs.Io.KnownBytes.{WriteAppends};
+ghost use Rattle.booth_real.specs.Outlet.{IsWritten, SaysFull};
+
+use std::io;
+
+/// A stream of which it can be asked whether a write would wait for a reader, who may never come.
+pub trait Outlet {
+    /// The bytes that it took, where they are told.
+    ghost taken: { Self → Option (List ℕ) } = { λ _. None };
+
+    /// Whether a write would not wait, where that is told.
+    ghost room: { Self → Option Bool } = { λ _. None };
+
+    /// Whether a write would not wait.
+    fn has_room(&mut self) -> bool
+        ensures room { IfSome (room self.old) (λ there. result ≡ there) }
+        ensures taken { taken self.new ≡ taken self.old };
+
+    /// Gives it these bytes, and says how many of them it took, from the first.
+    fn put(&mut self, bytes: &[u8]) -> io::Result<usize>
+        ensures fits { WritesAtMost result bytes.now }
+        ensures taken { WriteAppends (taken self.old) (taken self.new) result bytes.now };
+}
+
+/// Why a line was not written whole.
+#[derive(Clone, Copy, Debug, PartialEq, Eq)]
+pub enum Unwritten {
+    /// The write would have waited, and none was made.
+    Full,
+    /// So many of its bytes were taken, from the first, and no more.
+    Cut(usize),
+    /// The write failed. Nothing was taken.
+    Failed,
+}
+
+/// Writes a line by one write, and by none where that would wait.
+pub fn write_at_once<O: Outlet>(outlet: &mut O, line: &[u8]) -> Result<(), Unwritten>
+    ensures written { IsWritten (O.taken outlet.old) line.now result (O.taken outlet.new) }
+    ensures full { SaysFull (O.room outlet.old) result }
+{
+    if !outlet.has_room() {
+        return Err(Unwritten::Full);
+    }
+    match outlet.put(line) {
+        Ok(count) => {
+            if count < line.len() {
+                Err(Unwritten::Cut(count))
+            } else {
+                Ok(())
+            }
+        }
+        Err(_) => Err(Unwritten::Failed),
+    }
+}
