@@ -76,8 +76,8 @@ impl Model for Config {
         }) };
 }
 
-fn defaults(alloc: Global, draft: Option<Section>) -> Section
-    ensures { result ≡ unwrap_or draft [] }
+fn defaults(alloc: Global, draft: Option<Section<'_>>) -> Section<'_>
+    ensures { result ≡ unwrap_or draft.entry [] }
 {
     match draft {
         Some(section) => section,
@@ -86,7 +86,7 @@ fn defaults(alloc: Global, draft: Option<Section>) -> Section
 }
 
 #[tactic(auto, using(crate::proofs::DefaultLemmas::port_fits))]
-fn port(top: &Section) -> u16
+fn port(top: &Section<'_>) -> u16
     requires { is_section top.now ≡ true }
     ensures { result ≡ unwrap_or (number_given ConfKey.Port top.now) 9929 }
 {
@@ -108,9 +108,9 @@ fn hash(place: Option<usize>) -> Hash
 }
 
 // The configuration of a draft, or the first fault of the whole file.
-fn complete(alloc: Global, draft: Draft) -> Result<Config, ConfFault>
+fn complete(alloc: Global, draft: Draft<'_>) -> Result<Config, ConfFault>
     requires { IsSoundDraft draft }
-    ensures { Completes draft result }
+    ensures { Completes draft.entry result }
 {
     let Draft {
         top,

@@ -25,7 +25,7 @@ fn renewal(own: Option<u32>, default: Option<u32>, expire: u64) -> u64
     }
 }
 
-fn times(defaults: &Section, own: &Section) -> Times
+fn times(defaults: &Section<'_>, own: &Section<'_>) -> Times
     ensures { result ≡ times_of defaults.now own.now }
 {
     let expire = milliseconds(
@@ -64,7 +64,11 @@ fn is_manual(own: Option<usize>, default: Option<usize>) -> bool
     own.or(default).unwrap_or(0) == 1
 }
 
-fn ticket(alloc: Global, defaults: &Section, named: &NamedSection) -> Result<TicketConf, AllocError>
+fn ticket(
+    alloc: Global,
+    defaults: &Section<'_>,
+    named: &NamedSection<'_>,
+) -> Result<TicketConf, AllocError>
     ensures { IfOk result (λ ticket. ticket ≡ ticket_of defaults.now named.now) }
 {
     let own = &named.section;
@@ -73,12 +77,9 @@ fn ticket(alloc: Global, defaults: &Section, named: &NamedSection) -> Result<Tic
         manual: is_manual(own.word(ConfKey::Mode), defaults.word(ConfKey::Mode)),
         times: times(defaults, own),
         weights: own
-            .weights(ConfKey::Weights)
-            .or(defaults.weights(ConfKey::Weights))
+            .weights_or(defaults, ConfKey::Weights)
             .unwrap_or(ArrayVec::new()),
-        handler: own
-            .text(ConfKey::BeforeAcquireHandler)
-            .or(defaults.text(ConfKey::BeforeAcquireHandler)),
+        handler: own.text_or(defaults, ConfKey::BeforeAcquireHandler),
         prereqs: own.prereqs(alloc)?,
     })
 }
@@ -86,14 +87,16 @@ fn ticket(alloc: Global, defaults: &Section, named: &NamedSection) -> Result<Tic
 /// The tickets, each with its own values or else with the defaults.
 pub fn tickets(
     alloc: Global,
-    defaults: &Section,
-    sections: &[NamedSection],
+    defaults: &Section<'_>,
+    sections: &[NamedSection<'_>],
 ) -> Result<Vec<TicketConf>, AllocError>
     ensures { IfOk result (λ tickets. tickets.items ≡ map (ticket_of defaults.now) sections.now) }
 {
     let mut tickets = Vec::with_capacity(alloc, sections.len())?;
     for named in sections {
-        tickets.push(ticket(alloc, defaults, named)?)?;
+        let ticket = ticket(alloc, defaults, named)?;
+        tickets.reserve(1)?;
+        tickets.push_reserved(ticket);
     }
     Ok(tickets)
 }

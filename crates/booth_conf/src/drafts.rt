@@ -21,12 +21,12 @@ use std::marker::Model;
 
 /// Tickets of different names, in the order of the file.
 #[derive(Drop)]
-pub struct SectionList {
+pub struct SectionList<'a> {
     names: IndexSet<Name>,
-    sections: Vec<NamedSection>,
+    sections: Vec<NamedSection<'a>>,
 }
 
-impl Model for SectionList {
+impl<'a> Model for SectionList<'a> {
     ghost use Rattle.std.specs.Prelude.{◌≡◌, List, map};
     ghost use Rattle.booth_conf.specs.Rules.{name_of};
     ghost use Rattle.booth_conf.specs.declared.sections.NamedSection.{NamedSection};
@@ -40,13 +40,13 @@ impl Model for SectionList {
 
 /// The names of tickets, and their sections, in one order.
 #[derive(Drop)]
-pub struct NamesAndSections {
+pub struct NamesAndSections<'a> {
     pub names: IndexSet<Name>,
-    pub sections: Vec<NamedSection>,
+    pub sections: Vec<NamedSection<'a>>,
 }
 
-impl SectionList {
-    fn new(alloc: Global) -> SectionList
+impl<'a> SectionList<'a> {
+    fn new(alloc: Global) -> SectionList<'a>
         ensures { result ≡ [] }
     {
         SectionList {
@@ -68,9 +68,9 @@ impl SectionList {
     }
 
     // Adds a ticket of a name that none has. Where there is no memory, nothing changes.
-    fn push(&mut self, name: Name, section: Section) -> Result<(), AllocError>
+    fn push(&mut self, name: Name, section: Section<'a>) -> Result<(), AllocError>
         requires { list_any (has_name name) self.old ≡ false }
-        ensures ok { OnOk result (self.new ≡ self.old ++ (record { name = name; section = section }) ∷ []) }
+        ensures ok { OnOk result (self.new ≡ self.old ++ (record { name = name; section = section.entry }) ∷ []) }
         ensures err { OnErr result (self.new ≡ self.old) }
     {
         self.sections.reserve(1)?;
@@ -84,18 +84,18 @@ impl SectionList {
     }
 
     // Adds an entry to the last ticket, or says what is wrong with it.
-    fn add(&mut self, entry: Entry) -> Result<(), Stop>
+    fn add(&mut self, entry: Entry<'a>) -> Result<(), Stop>
         requires { 0 < length self.old }
-        ensures { Answers result self.new (placed_clash (open_section None self.old) entry)
-            self.old (last_added self.old entry) }
+        ensures { Answers result self.new (placed_clash (open_section None self.old) entry.entry)
+            self.old (last_added self.old entry.entry) }
     {
         add_to_last(&mut self.sections, entry)
     }
 
     /// The names and the sections.
-    pub fn into_sections(self) -> NamesAndSections
-        ensures sections { result.sections.items ≡ self }
-        ensures names { result.names.keys ≡ map name_of self }
+    pub fn into_sections(self) -> NamesAndSections<'a>
+        ensures sections { result.sections.items ≡ self.entry }
+        ensures names { result.names.keys ≡ map name_of self.entry }
     {
         let SectionList { names, sections } = self;
         NamesAndSections { names, sections }
@@ -103,11 +103,11 @@ impl SectionList {
 }
 
 #[tactic(auto, using(crate::proofs::LastLemmas::open_last, crate::proofs::LastLemmas::added_last))]
-fn add_to_last(sections: &mut Vec<NamedSection>, entry: Entry) -> Result<(), Stop>
+fn add_to_last<'a>(sections: &mut Vec<NamedSection<'a>>, entry: Entry<'a>) -> Result<(), Stop>
     requires { 0 < vec_len sections.old }
     ensures { Answers result sections.new.items
-        (placed_clash (open_section None sections.old.items) entry)
-        sections.old.items (last_added sections.old.items entry) }
+        (placed_clash (open_section None sections.old.items) entry.entry)
+        sections.old.items (last_added sections.old.items entry.entry) }
 {
     let last = sections.len() - 1;
     sections[last].section.add(entry)
@@ -115,14 +115,14 @@ fn add_to_last(sections: &mut Vec<NamedSection>, entry: Entry) -> Result<(), Sto
 
 /// What the lines so far say.
 #[derive(Drop)]
-pub struct Draft {
-    pub top: Section,
+pub struct Draft<'a> {
+    pub top: Section<'a>,
     pub members: MemberList,
-    pub defaults: Option<Section>,
-    pub tickets: SectionList,
+    pub defaults: Option<Section<'a>>,
+    pub tickets: SectionList<'a>,
 }
 
-impl Model for Draft {
+impl<'a> Model for Draft<'a> {
     ghost use Rattle.booth_conf.specs.Rules.{Summary};
 
     ghost Value = { Summary };
@@ -130,8 +130,8 @@ impl Model for Draft {
     ghost view = { λ d. record { top = d.top; members = d.members; defaults = d.defaults; tickets = d.tickets } };
 }
 
-impl Draft {
-    pub fn new(alloc: Global) -> Draft
+impl<'a> Draft<'a> {
+    pub fn new(alloc: Global) -> Draft<'a>
         ensures { result ≡ summary [] }
     {
         Draft {
@@ -156,7 +156,7 @@ impl Draft {
     }
 
     // What a new ticket inherits of the defaults.
-    fn inherited(&self, alloc: Global) -> Result<Section, AllocError>
+    fn inherited(&self, alloc: Global) -> Result<Section<'a>, AllocError>
         ensures { IfOk result (λ section. section ≡ prereqs_of self.now.defaults) }
     {
         match &self.defaults {
@@ -195,9 +195,9 @@ impl Draft {
         Ok(())
     }
 
-    fn add_of_ticket(&mut self, entry: Entry) -> Result<(), Stop>
-        ensures { Answers result self.new (clash self.old (Setting.Of entry))
-            self.old (added self.old (Setting.Of entry)) }
+    fn add_of_ticket(&mut self, entry: Entry<'a>) -> Result<(), Stop>
+        ensures { Answers result self.new (clash self.old (Setting.Of entry.entry))
+            self.old (added self.old (Setting.Of entry.entry)) }
     {
         if self.tickets.len() > 0 {
             return self.tickets.add(entry);
@@ -208,9 +208,9 @@ impl Draft {
         }
     }
 
-    fn add(&mut self, alloc: Global, setting: Setting) -> Result<(), Stop>
-        ensures { Answers result self.new (clash self.old setting)
-            self.old (added self.old setting) }
+    fn add(&mut self, alloc: Global, setting: Setting<'a>) -> Result<(), Stop>
+        ensures { Answers result self.new (clash self.old setting.entry)
+            self.old (added self.old setting.entry) }
     {
         match setting {
             Setting::File(entry) => self.top.add(entry),
@@ -225,10 +225,10 @@ impl Draft {
         &mut self,
         alloc: Global,
         key: ConfKey,
-        setting: Option<Setting>,
+        setting: Option<Setting<'a>>,
     ) -> Result<(), Stop>
-        ensures { Answers result self.new (value_fault key self.old setting)
-            self.old (value_added self.old setting) }
+        ensures { Answers result self.new (value_fault key self.old setting.entry)
+            self.old (value_added self.old setting.entry) }
     {
         match setting {
             Some(setting) => self.add(alloc, setting),
@@ -248,7 +248,7 @@ impl Draft {
     }
 
     /// Takes one line, or says what is wrong with it. It is linear in the line's bytes.
-    pub fn line(&mut self, alloc: Global, line: &[u8]) -> Result<(), Stop>
+    pub fn line(&mut self, alloc: Global, line: &'a [u8]) -> Result<(), Stop>
         ensures { Answers result self.new (said_fault self.old (said line.now))
             self.old (said_added self.old (said line.now)) }
     {

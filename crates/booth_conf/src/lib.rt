@@ -20,6 +20,7 @@ mod prints;
 mod ranks;
 mod sections;
 mod settings;
+mod spelled;
 mod texts;
 mod tickets;
 mod values;

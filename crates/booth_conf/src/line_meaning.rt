@@ -9,7 +9,7 @@ use crate::settings::Setting;
 
 /// What a line says.
 #[derive(Drop)]
-pub enum Said {
+pub enum Said<'a> {
     /// Nothing, blanks or a comment.
     Empty,
     /// The line is neither empty nor a key with a value.
@@ -19,11 +19,11 @@ pub enum Said {
     /// A key, and the setting where its value has the key's form.
     Pair {
         key: ConfKey,
-        setting: Option<Setting>,
+        setting: Option<Setting<'a>>,
     },
 }
 
-fn read(line: &[u8]) -> Said
+fn read(line: &[u8]) -> Said<'_>
     ensures { result ≡ said line.now }
 {
     match line_of(line) {
@@ -41,7 +41,7 @@ fn read(line: &[u8]) -> Said
 
 /// What the line says. It is linear in the line's bytes.
 #[tactic(auto, using(crate::proofs::SaidLemmas::said_is))]
-pub fn read_line(line: &[u8]) -> Said
+pub fn read_line(line: &[u8]) -> Said<'_>
     ensures exact { result ≡ said line.now }
     ensures grammar { IsSaid line.now result }
 {

@@ -8,7 +8,7 @@ use crate::drafts::Draft;
 use crate::faults::{ConfFault, at_line};
 use std::alloc::Global;
 
-fn read(alloc: Global, text: &[u8]) -> Result<Draft, ConfFault>
+fn read(alloc: Global, text: &[u8]) -> Result<Draft<'_>, ConfFault>
     requires { length text.now ≤ TEXT_BYTES }
     ensures { ReadsLines result (said_lines text.now) }
 {
@@ -26,7 +26,7 @@ fn read(alloc: Global, text: &[u8]) -> Result<Draft, ConfFault>
 
 /// Reads the lines, up to the first that has a fault. It is linear in the bytes of the text.
 #[tactic(auto, using(crate::proofs::SoundLemmas::reads_sound))]
-pub fn read_lines(alloc: Global, text: &[u8]) -> Result<Draft, ConfFault>
+pub fn read_lines(alloc: Global, text: &[u8]) -> Result<Draft<'_>, ConfFault>
     requires { length text.now ≤ TEXT_BYTES }
     ensures reads { ReadsLines result (said_lines text.now) }
     ensures sound { IfOk result IsSoundDraft }

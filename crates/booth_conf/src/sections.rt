@@ -2,6 +2,7 @@
 ghost use Rattle.booth_base.specs.declared.limits.TheConstants.{MEMBERS};
 ghost use Rattle.std.specs.Prelude.{◌≡◌, ◌++◌, ◌∷◌, [], true, count_by, option_copied, IfOk};
 ghost use Rattle.std.specs.List.{filter_map};
+ghost use Rattle.std.specs.Option.{option_or};
 ghost use Rattle.booth_conf.specs.Answers.{Answers};
 ghost use Rattle.booth_conf.specs.Sections.{entry_clash, extra_of, given, has_key, inherited, is_without_effect, most_of, number_given, prereq_of, text_given, too_often, weights_given, word_given};
 ghost use Rattle.booth_conf.specs.SoundDraft.{is_section};
@@ -56,13 +57,13 @@ fn is_without_effect(key: ConfKey) -> bool
     matches!(key.number().0, 5..=9)
 }
 
-fn extra_of(entry: &Entry) -> Option<Extra>
+fn extra_of(entry: &Entry<'_>) -> Option<Extra>
     ensures { result ≡ extra_of entry.now }
 {
     match &entry.value {
         Value::Text(text) if is_without_effect(entry.key) => Some((
             entry.key.number(),
-            text.copy(),
+            text.path(),
         )),
         Value::Number(_)
         | Value::Text(_)
@@ -75,11 +76,11 @@ fn extra_of(entry: &Entry) -> Option<Extra>
     }
 }
 
-fn prereq_of(entry: &Entry) -> Option<Prereq>
+fn prereq_of(entry: &Entry<'_>) -> Option<Prereq>
     ensures { result ≡ prereq_of entry.now }
 {
     match &entry.value {
-        Value::Prereq(prereq) => Some(prereq.copy()),
+        Value::Prereq(prereq) => Some(prereq.owned()),
         Value::Number(_)
         | Value::Text(_)
         | Value::Word(_)
@@ -93,11 +94,11 @@ fn prereq_of(entry: &Entry) -> Option<Prereq>
 /// What was given for the keys of the whole file or of a ticket, in its order. Contracts see it as
 /// its list of entries.
 #[derive(Drop)]
-pub struct Section {
-    entries: Vec<Entry>,
+pub struct Section<'a> {
+    entries: Vec<Entry<'a>>,
 }
 
-impl Model for Section {
+impl<'a> Model for Section<'a> {
     ghost use Rattle.std.specs.Prelude.{List};
     ghost use Rattle.booth_conf.specs.declared.settings.Entry.{Entry};
 
@@ -106,8 +107,8 @@ impl Model for Section {
     ghost view = { λ s. s.entries.items };
 }
 
-impl Section {
-    pub fn new(alloc: Global) -> Section
+impl<'a> Section<'a> {
+    pub fn new(alloc: Global) -> Section<'a>
         ensures { result ≡ [] }
     {
         Section {
@@ -116,7 +117,7 @@ impl Section {
     }
 
     /// What a new section inherits of this one: its prerequisites.
-    pub fn inherited(&self, alloc: Global) -> Result<Section, AllocError>
+    pub fn inherited(&self, alloc: Global) -> Result<Section<'a>, AllocError>
         ensures { IfOk result (λ section. section ≡ inherited self.now) }
     {
         let mut entries = Vec::new(alloc);
@@ -138,8 +139,8 @@ impl Section {
     }
 
     /// Adds an entry, or says what is wrong with it.
-    pub fn add(&mut self, entry: Entry) -> Result<(), Stop>
-        ensures { Answers result self.new (entry_clash self.old entry) self.old (self.old ++ entry ∷ []) }
+    pub fn add(&mut self, entry: Entry<'a>) -> Result<(), Stop>
+        ensures { Answers result self.new (entry_clash self.old entry.entry) self.old (self.old ++ entry.entry ∷ []) }
     {
         let form = entry.key.form();
         if self.count(entry.key) >= most_of(form) {
@@ -152,7 +153,7 @@ impl Section {
         Ok(())
     }
 
-    fn given(&self, key: ConfKey) -> Option<&Value>
+    fn given(&self, key: ConfKey) -> Option<&Value<'a>>
         ensures { option_copied result ≡ given key self.now }
     {
         match self.entries.iter().find(|entry| entry.key.is(key)) {
@@ -176,8 +177,18 @@ impl Section {
         ensures { result ≡ text_given key self.now }
     {
         match self.given(key) {
-            Some(Value::Text(text)) => Some(text.copy()),
+            Some(Value::Text(text)) => Some(text.path()),
             Some(_) | None => None,
+        }
+    }
+
+    /// The text that was given for a key here, or else in the other section.
+    pub fn text_or(&self, other: &Section<'_>, key: ConfKey) -> Option<PathText>
+        ensures { result ≡ option_or (text_given key self.now) (text_given key other.now) }
+    {
+        match self.given(key) {
+            Some(Value::Text(text)) => Some(text.path()),
+            Some(_) | None => other.text(key),
         }
     }
 
@@ -198,6 +209,16 @@ impl Section {
         match self.given(key) {
             Some(Value::Weights(weights)) => Some(copy_weights(weights)),
             Some(_) | None => None,
+        }
+    }
+
+    /// The weights that were given for a key here, or else in the other section.
+    pub fn weights_or(&self, other: &Section<'_>, key: ConfKey) -> Option<ArrayVec<u32, MEMBERS>>
+        ensures { result ≡ option_or (weights_given key self.now) (weights_given key other.now) }
+    {
+        match self.given(key) {
+            Some(Value::Weights(weights)) => Some(copy_weights(weights)),
+            Some(_) | None => other.weights(key),
         }
     }
 
@@ -230,7 +251,7 @@ impl Section {
 
 /// A ticket's name, and what was given below its line.
 #[derive(Drop)]
-pub struct NamedSection {
+pub struct NamedSection<'a> {
     pub name: Name,
-    pub section: Section,
+    pub section: Section<'a>,
 }

@@ -4,46 +4,47 @@ ghost use Rattle.booth_conf.specs.Values.{in_scope, setting_of};
 
 use crate::keys::{ConfKey, Scope};
 use crate::members::{Member, member_at};
-use crate::tickets::{Prereq, copy_weights};
+use crate::spelled::{SpelledPrereq, SpelledText};
+use crate::tickets::copy_weights;
 use arrayvec::ArrayVec;
-use booth_base::{Address, MEMBERS, Name, PathText};
+use booth_base::{Address, MEMBERS, Name};
 
 /// The value of a key. A word is its place among those of the key. Times are in seconds.
 #[derive(Drop)]
-pub enum Value {
+pub enum Value<'a> {
     Number(u32),
-    Text(PathText),
+    Text(SpelledText<'a>),
     Word(usize),
     Address(Address),
     Name(Name),
     /// The name of the `ticket` line whose values are the defaults of all tickets.
     Defaults,
     Weights(ArrayVec<u32, MEMBERS>),
-    Prereq(Prereq),
+    Prereq(SpelledPrereq<'a>),
 }
 
 /// A key with its value.
 #[derive(Drop)]
-pub struct Entry {
+pub struct Entry<'a> {
     pub key: ConfKey,
-    pub value: Value,
+    pub value: Value<'a>,
 }
 
 /// What a line sets: a key of the whole file, a member, or something of tickets.
 #[derive(Drop)]
-pub enum Setting {
-    File(Entry),
+pub enum Setting<'a> {
+    File(Entry<'a>),
     Member(Member),
     Ticket(Name),
     /// The `ticket` line whose values are the defaults of all tickets.
     Defaults,
     /// A key of a ticket.
-    Of(Entry),
+    Of(Entry<'a>),
 }
 
-impl Value {
+impl<'a> Value<'a> {
     /// An equal value.
-    pub fn copy(&self) -> Value
+    pub fn copy(&self) -> Value<'a>
         ensures { result ≡ self.now }
     {
         match self {
@@ -59,9 +60,9 @@ impl Value {
     }
 }
 
-impl Entry {
+impl<'a> Entry<'a> {
     /// An equal entry.
-    pub fn copy(&self) -> Entry
+    pub fn copy(&self) -> Entry<'a>
         ensures { result ≡ self.now }
     {
         Entry {
@@ -71,8 +72,8 @@ impl Entry {
     }
 }
 
-fn in_scope(scope: Scope, entry: Entry) -> Setting
-    ensures { result ≡ in_scope scope entry }
+fn in_scope(scope: Scope, entry: Entry<'_>) -> Setting<'_>
+    ensures { result ≡ in_scope scope entry.entry }
 {
     match scope {
         Scope::File => Setting::File(entry),
@@ -81,8 +82,8 @@ fn in_scope(scope: Scope, entry: Entry) -> Setting
 }
 
 /// What a key and its value set.
-pub fn setting_of(key: ConfKey, value: Value) -> Setting
-    ensures { result ≡ setting_of key value }
+pub fn setting_of(key: ConfKey, value: Value<'_>) -> Setting<'_>
+    ensures { result ≡ setting_of key value.entry }
 {
     match value {
         Value::Address(address) => Setting::Member(member_at(key.is(ConfKey::Site), address)),

@@ -5,12 +5,13 @@ ghost use Rattle.booth_conf.specs.Grammar.{is_value_byte};
 ghost use Rattle.booth_conf.specs.Values.{is_word_byte};
 ghost use Rattle.booth_conf.specs.ValueReader.{text_in, command_in, name_in, value_in, address_in};
 
+use crate::spelled::SpelledText;
 use crate::words::is_gap;
-use booth_base::{Address, AttrValue, Name, PathText};
+use booth_base::{Address, AttrValue, Name};
 
 /// A text of at most 255 bytes, and of at least so many.
 #[tactic(auto, using(crate::proofs::TextLemmas::plain_utf8))]
-pub fn text(bytes: &[u8], least: usize) -> Option<PathText>
+pub fn text(bytes: &[u8], least: usize) -> Option<SpelledText<'_>>
     requires { list_all is_value_byte bytes.now ≡ true }
     ensures { result ≡ text_in least bytes.now }
 {
@@ -18,7 +19,7 @@ pub fn text(bytes: &[u8], least: usize) -> Option<PathText>
         return None;
     }
     let text = std::str::from_utf8(bytes).ok()?;
-    PathText::read(text).ok()
+    SpelledText::new(text)
 }
 
 fn has_word(bytes: &[u8]) -> bool
@@ -28,7 +29,7 @@ fn has_word(bytes: &[u8]) -> bool
 }
 
 /// A path and its arguments.
-pub fn command(bytes: &[u8]) -> Option<PathText>
+pub fn command(bytes: &[u8]) -> Option<SpelledText<'_>>
     requires { list_all is_value_byte bytes.now ≡ true }
     ensures { result ≡ command_in bytes.now }
 {

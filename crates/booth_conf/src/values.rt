@@ -1,5 +1,5 @@
 //! The value of a key.
-ghost use Rattle.std.specs.Prelude.{◌≡◌, true, bytes_eq, position};
+ghost use Rattle.std.specs.Prelude.{◌≡◌, true, bytes_eq, position, option_map};
 ghost use Rattle.std.specs.List.{list_all};
 ghost use Rattle.booth_conf.specs.Grammar.{is_value_byte};
 ghost use Rattle.booth_conf.specs.Values.{is_word_of, words_of};
@@ -8,8 +8,9 @@ ghost use Rattle.booth_conf.specs.ValueReader.{form_in, kind_in, prereq_in, sett
 use crate::digits::number_within;
 use crate::keys::{Choice, ConfKey, Form};
 use crate::settings::{Setting, Value, setting_of};
+use crate::spelled::{SpelledPrereq, SpelledText};
 use crate::texts::{address, attr_value, command, name, text};
-use crate::tickets::{GrantKind, Prereq};
+use crate::tickets::GrantKind;
 use crate::weights::weights;
 use crate::words::{four_words, is_either};
 
@@ -61,53 +62,75 @@ fn test(word: &[u8]) -> Option<bool>
     is_word(word, "ne").then_some(false)
 }
 
-fn prereq(bytes: &[u8]) -> Option<Prereq>
+fn prereq(bytes: &[u8]) -> Option<SpelledPrereq<'_>>
     ensures { result ≡ prereq_in bytes.now }
 {
     let words = four_words(bytes)?;
     let kind = kind(words.kind)?;
-    let name = name(words.name)?;
+    let _name = name(words.name)?;
     let equal = test(words.test)?;
-    let value = attr_value(words.value)?;
-    Some(Prereq {
-        kind,
-        name,
-        equal,
-        value,
-    })
+    let _value = attr_value(words.value)?;
+    Some(SpelledPrereq::new(kind, words.name, equal, words.value))
 }
 
-fn ticket(bytes: &[u8]) -> Option<Value>
+fn ticket(bytes: &[u8]) -> Option<Value<'_>>
     ensures { result ≡ form_in Form.TicketName bytes.now }
 {
     if is_word(bytes, DEFAULTS) {
         return Some(Value::Defaults);
     }
-    name(bytes).map(Value::Name)
+    match name(bytes) {
+        Some(name) => Some(Value::Name(name)),
+        None => None,
+    }
+}
+
+fn text_value(text: Option<SpelledText<'_>>) -> Option<Value<'_>>
+    ensures { result ≡ option_map Value.Text text.entry }
+{
+    match text {
+        Some(text) => Some(Value::Text(text)),
+        None => None,
+    }
 }
 
 impl Form {
     /// The value that the text spells in this form.
-    pub fn read(self, bytes: &[u8]) -> Option<Value>
+    pub fn read(self, bytes: &[u8]) -> Option<Value<'_>>
         requires { list_all is_value_byte bytes.now ≡ true }
         ensures { result ≡ form_in self bytes.now }
     {
         match self {
-            Form::Number { least, most } => number_within(bytes, least, most).map(Value::Number),
-            Form::Text { least } => text(bytes, least).map(Value::Text),
-            Form::Command => command(bytes).map(Value::Text),
-            Form::OneOf(choice) => word(choice, bytes).map(Value::Word),
-            Form::Address => address(bytes).map(Value::Address),
+            Form::Number { least, most } => match number_within(bytes, least, most) {
+                Some(number) => Some(Value::Number(number)),
+                None => None,
+            },
+            Form::Text { least } => text_value(text(bytes, least)),
+            Form::Command => text_value(command(bytes)),
+            Form::OneOf(choice) => match word(choice, bytes) {
+                Some(place) => Some(Value::Word(place)),
+                None => None,
+            },
+            Form::Address => match address(bytes) {
+                Some(address) => Some(Value::Address(address)),
+                None => None,
+            },
             Form::TicketName => ticket(bytes),
-            Form::Weights => weights(bytes).map(Value::Weights),
-            Form::Prereq => prereq(bytes).map(Value::Prereq),
+            Form::Weights => match weights(bytes) {
+                Some(weights) => Some(Value::Weights(weights)),
+                None => None,
+            },
+            Form::Prereq => match prereq(bytes) {
+                Some(prereq) => Some(Value::Prereq(prereq)),
+                None => None,
+            },
         }
     }
 }
 
 impl ConfKey {
     /// The setting that this value of the key makes, where the value has the key's form.
-    pub fn setting(self, value: &[u8]) -> Option<Setting>
+    pub fn setting(self, value: &[u8]) -> Option<Setting<'_>>
         requires { list_all is_value_byte value.now ≡ true }
         ensures { result ≡ setting_in self value.now }
     {
