@@ -1,4 +1,14 @@
+pub mod BlankLemmas
+pub mod FieldLemmas
 pub mod HexLemmas
 pub mod JournalLemmas
+pub mod LookLemmas
+pub mod OneLemmas
+pub mod OnceLemmas
+pub mod PartLemmas
 pub mod PieceLemmas
+pub mod PlainLemmas
+pub mod ReadingLemmas
 pub mod RecordLemmas
+pub mod SaysLemmas
+pub mod TextLemmas

@@ -1,4 +1,9 @@
 pub mod Held
 pub mod Memory
 pub mod Lines
+pub mod Fields
+pub mod Reading
+pub mod Texts
+pub mod Says
+pub mod Looking
 pub mod Journal

@@ -15,7 +15,7 @@ pub(crate) const DRAFT_BYTES: usize = 33_024;
 
 /// The bytes of a line, as far as it is written. Contracts see them as a list.
 #[derive(Drop)]
-pub(crate) struct Draft {
+pub struct Draft {
     bytes: Vec<u8>,
 }
 
@@ -41,7 +41,7 @@ fn digits_of(byte: u8) -> [u8; 2]
 
 impl Draft {
     /// An empty draft, with all its memory.
-    pub(crate) fn new(alloc: Global) -> Result<Draft, AllocError>
+    pub fn new(alloc: Global) -> Result<Draft, AllocError>
         ensures { IfOk result (λ draft. draft ≡ []) }
     {
         Ok(Draft {
@@ -50,7 +50,7 @@ impl Draft {
     }
 
     /// The bytes.
-    pub(crate) fn bytes(&self) -> &[u8]
+    pub fn bytes(&self) -> &[u8]
         ensures value { result.now ≡ self.now }
         ensures short { length result.now ≤ DRAFT_BYTES }
     {

@@ -1,15 +1,27 @@
 //! The journal of a host: the lines that its calls are said by, and a host over any host that writes them.
 #![tactic(auto)]
 
+mod cutting;
 mod draft;
+mod fields;
 mod journal;
 mod journal_host;
+pub mod laws;
+mod looking;
 mod memory_sink;
+mod reading;
 mod said;
 mod sink;
 mod spelling;
+mod texts;
 
+pub use draft::Draft;
+pub use fields::LineFault;
 pub use journal_host::JournalHost;
+pub use looking::{Looked, is_open, look};
 pub use memory_sink::MemorySink;
+pub use reading::{read_answer, read_arrival, read_call, read_done, read_found, read_reading};
 pub use said::{Answer, Call};
 pub use sink::Sink;
+pub use spelling::{spell_job, spell_keep, spell_kept, spell_open, spell_send};
+pub use texts::{TextFault, read_lines};

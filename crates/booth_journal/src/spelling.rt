@@ -1,4 +1,4 @@
-//! The lines of calls and of answers, each spelled into a draft.
+//! Calls, and the lines of calls and of answers, each spelled into a draft.
 ghost use Rattle.std.specs.Prelude.{◌≡◌, ◌≤◌, ◌+◌, ◌++◌, codes, length};
 ghost use Rattle.hex.specs.Hex.{encode_lower};
 ghost use Rattle.booth_rec.specs.Spelling.{first_spelling};
@@ -60,15 +60,23 @@ fn put_record(kept: &Record, draft: &mut Draft)
     }
 }
 
-/// The line of an `open` at this address, or at any.
-pub(crate) fn open_line(local: &Option<Address>, draft: &mut Draft)
-    ensures { draft.new ≡ line (call_text (Call.Open local.now)) }
+/// Spells an `open` at this address, or at any.
+pub fn spell_open(local: &Option<Address>, draft: &mut Draft)
+    ensures bytes { draft.new ≡ call_text (Call.Open local.now) }
+    ensures len { length draft.new ≤ 300 }
 {
     draft.begin(b"open ");
     match local {
         Some(address) => draft.put_address(address),
         None => draft.put(b"-"),
     }
+}
+
+/// The line of an `open` at this address, or at any.
+pub(crate) fn open_line(local: &Option<Address>, draft: &mut Draft)
+    ensures { draft.new ≡ line (call_text (Call.Open local.now)) }
+{
+    spell_open(local, draft);
     draft.put(b"\n");
 }
 
@@ -82,29 +90,55 @@ pub(crate) fn send_head(to: &Peer, draft: &mut Draft)
     draft.put(b" ");
 }
 
+/// Spells a `send` of these bytes to this peer.
+pub fn spell_send(to: &Peer, bytes: &[u8], draft: &mut Draft)
+    requires { length bytes.now ≤ DATAGRAM_BYTES }
+    ensures { draft.new ≡ call_text (Call.Send to.now bytes.now) }
+{
+    send_head(to, draft);
+    put_bytes(bytes, draft);
+}
+
+/// Spells a `kept` of this ticket.
+pub fn spell_kept(ticket: &Name, draft: &mut Draft)
+    ensures bytes { draft.new ≡ call_text (Call.Kept ticket.now) }
+    ensures len { length draft.new ≤ 300 }
+{
+    draft.begin(b"kept ");
+    draft.put(ticket.bytes());
+}
+
 /// The line of a `kept` of this ticket.
 pub(crate) fn kept_line(ticket: &Name, draft: &mut Draft)
     ensures { draft.new ≡ line (call_text (Call.Kept ticket.now)) }
 {
-    draft.begin(b"kept ");
-    draft.put(ticket.bytes());
+    spell_kept(ticket, draft);
     draft.put(b"\n");
+}
+
+/// Spells a `keep` of this record of this ticket.
+pub fn spell_keep(ticket: &Name, kept: &Record, draft: &mut Draft)
+    ensures bytes { draft.new ≡ call_text (Call.Keep ticket.now (written kept.now)) }
+    ensures len { length draft.new ≤ 300 }
+{
+    draft.begin(b"keep ");
+    draft.put(ticket.bytes());
+    draft.put(b" ");
+    put_record(kept, draft);
 }
 
 /// The line of a `keep` of this record of this ticket.
 pub(crate) fn keep_line(ticket: &Name, kept: &Record, draft: &mut Draft)
     ensures { draft.new ≡ line (call_text (Call.Keep ticket.now (written kept.now))) }
 {
-    draft.begin(b"keep ");
-    draft.put(ticket.bytes());
-    draft.put(b" ");
-    put_record(kept, draft);
+    spell_keep(ticket, kept, draft);
     draft.put(b"\n");
 }
 
-/// The line of the start of this job's handler.
-pub(crate) fn job_line(job: &Job, draft: &mut Draft)
-    ensures { draft.new ≡ line (call_text (Call.Job job.now.number job.now.ticket job.now.expires)) }
+/// Spells the start of this job's handler.
+pub fn spell_job(job: &Job, draft: &mut Draft)
+    ensures bytes { draft.new ≡ call_text (Call.Job job.now.number job.now.ticket job.now.expires) }
+    ensures len { length draft.new ≤ 300 }
 {
     draft.begin(b"job ");
     draft.put_number(job.number);
@@ -112,6 +146,13 @@ pub(crate) fn job_line(job: &Job, draft: &mut Draft)
     draft.put(job.ticket.bytes());
     draft.put(b" ");
     draft.put_number(job.expires);
+}
+
+/// The line of the start of this job's handler.
+pub(crate) fn job_line(job: &Job, draft: &mut Draft)
+    ensures { draft.new ≡ line (call_text (Call.Job job.now.number job.now.ticket job.now.expires)) }
+{
+    spell_job(job, draft);
     draft.put(b"\n");
 }
 
