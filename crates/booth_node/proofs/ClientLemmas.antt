@@ -1,12 +1,11 @@
--- The laws on tickets, drops and clients.
+-- The laws on clients: who asks is answered, nobody else is, and nobody is forgotten.
 use Rattle.std.proofs.Common.{◌≡◌, ◌<◌, ◌≤◌, ◌⊎◌, inl, inr, ℕ, List, [], ◌∷◌, ◌++◌, length, slice_get, get_or, refl, sym, ap, ◌∙◌, subst, arith}
 use Rattle.std.specs.Prelude.{Option, Some, None, Result, Ok, Err, position}
 use Rattle.std.specs.List.{All}
-use Rattle.std.proofs.lemmas.List.{length-replicate}
 use Rattle.std.proofs.lemmas.Option.{slice_get_cases}
 use Rattle.booth_base.specs.declared.address.Peer.{Peer}
-use Rattle.booth_base.specs.Tree.{Ends, Does, Leads, ◌>>=◌}
-use Rattle.booth_base.proofs.TreeLemmas.{Split, at_end, split}
+use Rattle.booth_base.specs.Tree.{Ends, Does, Leads}
+use Rattle.booth_base.proofs.TreeLemmas.{at_end}
 use Rattle.booth_conf.specs.Lookups.{is_called}
 use Rattle.booth_wire.specs.declared.command.Direction.{Direction}
 use Rattle.booth_wire.specs.declared.command.Direction.TheVariants.{ToDaemon, ToClient, BetweenMembers}
@@ -26,266 +25,30 @@ use Rattle.booth_ticket.specs.declared.request.Request.{Request}
 use Rattle.booth_ticket.specs.declared.waiters.Waiter.{Waiter}
 use Rattle.booth_ticket.specs.Acts.{Act}
 use Rattle.booth_ticket.specs.Requests.{reply_cmd}
-use Rattle.booth_ticket.specs.declared.handling.Service.{Service}
 use Rattle.booth_ticket.specs.Handling.{service_of}
 use Rattle.booth_ticket.specs.Ticket.{TicketState}
 use Rattle.booth_ticket.specs.Waiting.{spare_in, waiting_at}
-use Rattle.booth_node.specs.declared.event.Event.{Event}
-use Rattle.booth_node.specs.declared.event.Event.TheVariants.{Due, Heard, Asked, Over}
-use Rattle.booth_node.specs.declared.node.Turn.{Turn}
-use Rattle.booth_node.specs.declared.node.Turn.TheVariants.{Went, Stopped}
+use Rattle.booth_node.specs.declared.event.Event.TheVariants.{Heard, Asked}
+use Rattle.booth_node.specs.declared.node.Turn.TheVariants.{Went}
 use Rattle.booth_node.specs.declared.node_config.NodeConfig.{NodeConfig}
 use Rattle.booth_node.specs.AttributeRequests.{attr_message, is_ready}
 use Rattle.booth_node.specs.Calls.{IsAmong, ReachesWaiters}
 use Rattle.booth_node.specs.Counting.{accepted, dropped}
-use Rattle.booth_node.specs.Laws.{IsSettled, NobodyIsForgotten, NothingRests, OpensWithItsTickets, KeepsItsTickets, DropsAlone, CountsEachFault, drops_by, drops_after, IsReplyTo, AreRepliesTo, AreSends, ClientsAreAnswered, asked_by, request_let_in, request_of, OthersAreNotAnswered}
-use Rattle.booth_node.specs.Opening.{AreSetUp, start_reading}
+use Rattle.booth_node.specs.Laws.{NobodyIsForgotten, IsReplyTo, AreRepliesTo, AreSends, ClientsAreAnswered, asked_by, request_let_in, request_of, OthersAreNotAnswered}
+use Rattle.booth_node.specs.Opening.{AreSetUp}
 use Rattle.booth_node.specs.Jobs.{job_at}
-use Rattle.booth_node.specs.Reaction.{Action, Drops, Hears, Asks, Attends, Answers, Rests, Send, IsDone, action, after_attending, acts, acts_as, all_places, arrived, demanded, due_places, dues, each_due, each_over, met, react, sent_as, turn_end}
+use Rattle.booth_node.specs.Reaction.{Action, Drops, Hears, Asks, Attends, Answers, Rests, Send, IsDone, action, after_attending, acts, acts_as, all_places, arrived, demanded, met, sent_as, turn_end}
 use Rattle.booth_node.specs.State.{State}
 use Rattle.booth_node.proofs.RoutingLemmas.{ticket_below}
 use Rattle.booth_node.proofs.ComesLemmas.{Comes, IsAnsweredAtOnce, IsAsked, IsAttended, IsHeard, comes}
 use Rattle.booth_node.proofs.DueLemmas.{Each, all_of_each}
 use Rattle.booth_node.proofs.PathLemmas.{Seen, is_send, seen_parts, sent_back}
-use Rattle.booth_node.proofs.StayLemmas.{AllFewer, AllRemember, Stays, acted_at, acted_remember, acted_set_up, acted_undropped, acts_stay, all_among, as_many, dues_stay, each_fewer, each_over_stays, remember_on, set_up_at, started_set_up, stays_here}
+use Rattle.booth_node.proofs.SetupLemmas.{as_many, set_up_at}
+use Rattle.booth_node.proofs.WaiterLemmas.{AllFewer, AllRemember, all_among, each_fewer, remember_on}
+use Rattle.booth_node.proofs.StayLemmas.{Stays, acted_at, acted_remember, acted_set_up, acts_stay, dues_stay, each_over_stays, stays_here}
 use Rattle.booth_node.proofs.ReachLemmas.{Replies, each_joined, reply_act}
 use Rattle.booth_node.proofs.TalkLemmas.{asked_replied, heard_among}
-
-abbrev pub at_moment : State → ℕ → State
-at_moment state now = record state { last_reading = now }
-
--- ---- the tickets
-
-pub opens : OpensWithItsTickets
-opens node records reading same = (
-  started_set_up node (start_reading reading) 0 node.config.tickets records same,
-  length-replicate {A = List Waiter} (length node.config.tickets) [],
-)
-
-module _ (node : NodeConfig) (now : ℕ) where
-  acts_set_up : (state : State) (place : ℕ) (event : Event) (es : List Entry) (after : State)
-      → AreSetUp node state
-      → Leads (IsDone node.ring) (acts node now state place event) es (Ends after) → AreSetUp node after
-  acts_set_up state place event es after set_up leads = by_ticket (slice_get state.tickets place) refl
-    where
-      by_ticket : (o : Option TicketState) → slice_get state.tickets place ≡ o → AreSetUp node after
-      by_ticket None is =
-          (stays_here node state after es set_up
-          (subst (λ (o : Option TicketState). Leads (IsDone node.ring)
-          (acts_as node now state place event o) es (Ends after))
-          is leads)).set_up
-      by_ticket (Some ticket) is =
-          acted_set_up node now state place event ticket es after set_up is
-          (acted_at node now state place event ticket es after is leads)
-
-  met_set_up : (state : State) (from : Peer) (a : Action) (es : List Entry) (after : State)
-      → AreSetUp node state
-      → Leads (IsDone node.ring) (met node now state from a) es (Ends after) → AreSetUp node after
-  met_set_up state from (Drops fault) es after set_up leads =
-      (stays_here node (dropped state fault) after es set_up leads).set_up
-  met_set_up state from (Hears member ticket head part) es after set_up leads =
-      acts_set_up (accepted state member now) ticket (Heard member head part) es after set_up leads
-  met_set_up state from (Asks ticket request) es after set_up leads =
-      acts_set_up state ticket (Asked request) es after set_up leads
-  met_set_up state from (Attends ticket request) [] after set_up leads = absurd cc
-  met_set_up state from (Attends ticket request) (e ∷ es) after set_up leads =
-      (stays_here node (after_attending state ticket request) after es set_up leads.2).set_up
-  met_set_up state from (Answers messages) es after set_up leads =
-      subst (λ (s : State). AreSetUp node s) (sym (sent_back node.ring from messages state es after leads).left) set_up
-  met_set_up state from Rests es after set_up leads = (stays_here node state after es set_up leads).set_up
-
-  arrived_set_up : (state : State) (arrival : Result Arrival Failed) (bytes : List ℕ) (es : List Entry)
-      (after : State)
-      → AreSetUp node state
-      → Leads (IsDone node.ring) (arrived node now state arrival bytes) es (Ends after)
-      → AreSetUp node after
-  arrived_set_up state (Ok (arrivals.Datagram from)) bytes es after set_up leads =
-      met_set_up state from (action node now state.tickets state.common from bytes) es after set_up leads
-  arrived_set_up state (Ok (arrivals.Handler job status)) bytes es after set_up leads =
-      (each_over_stays node now job (service_of status) (all_places state) state after es set_up leads).set_up
-  arrived_set_up state (Ok arrivals.Quiet) bytes es after set_up leads =
-      (stays_here node state after es set_up leads).set_up
-  arrived_set_up state (Ok arrivals.Stop) bytes es after set_up leads =
-      (stays_here node state after es set_up leads).set_up
-  arrived_set_up state (Err failed) bytes es after set_up leads =
-      (stays_here node state after es set_up leads).set_up
-
--- the arrival's row of a turn, and then the deadlines'
-abbrev pub Parts : NodeConfig → State → ℕ → Result Arrival Failed → List ℕ → List Entry → State → Type 0
-Parts node old now arrival bytes entries new =
-    Split (IsDone node.ring) (arrived node now (at_moment old now) arrival bytes)
-    (dues node now (turn_end arrival)) entries new
-
-pub parts_of : (node : NodeConfig) (old new : State) (now : ℕ) (arrival : Result Arrival Failed)
-    (bytes : List ℕ)
-    (entries : List Entry) → Leads (IsDone node.ring) (react node old now arrival bytes) entries (Ends new)
-    → Parts node old now arrival bytes entries new
-parts_of node old new now arrival bytes entries leads =
-    split (IsDone node.ring) (arrived node now (at_moment old now) arrival bytes)
-    (dues node now (turn_end arrival))
-    entries new leads
-
-pub keeps : KeepsItsTickets
-keeps node old new now arrival bytes entries set_up leads =
-    let parts = parts_of node old new now arrival bytes entries leads in
-    (dues_stay node now (turn_end arrival) parts.mid new parts.later
-    (arrived_set_up node now (at_moment old now) arrival bytes parts.first parts.mid set_up
-    parts.to_mid) parts.to_end).set_up
-
--- ---- what a datagram comes to
-
-settled : (node : NodeConfig) (from : Peer) (message : PlainMessage) (a : Action) → Comes node from message a
-    → IsSettled node a
-settled node from message a (IsAnsweredAtOnce to reply is replies) = subst (λ (x : Action). IsSettled node x)
-    (sym is) tt
-settled node from message a (IsAsked to place request is part named same_from same_number answer) =
-    subst (λ (x : Action). IsSettled node x) (sym is)
-    (ticket_below node.config.tickets part.ticket place named)
-settled node from message a (IsAttended to place request is below number answer) =
-    subst (λ (x : Action). IsSettled node x) (sym is) below
-settled node from message a (IsHeard to member place part is content known named) =
-    subst (λ (x : Action). IsSettled node x) (sym is) (known, named)
-
-pub rests_not : NothingRests
-rests_not node now state from bytes = by_verdict (verdict node.config node.ring node.me now bytes) refl
-  where
-    by_verdict : (v : Result PlainMessage DropFault) → verdict node.config node.ring node.me now bytes ≡ v
-        → IsSettled node (action node now state.tickets state.common from bytes)
-    by_verdict (Err fault) is =
-        subst (λ (v : Result PlainMessage DropFault). IsSettled node
-        (demanded node now state.tickets state.common from v))
-        (sym is) tt
-    by_verdict (Ok message) is =
-        settled node from message (action node now state.tickets state.common from bytes)
-        (comes node now state.tickets state.common from bytes message is)
-
--- ---- drops
-
-pub alone : DropsAlone
-alone node old new now from bytes fault entries is leads =
-    subst (λ (v : Result PlainMessage DropFault).
-    Leads (IsDone node.ring)
-    (met node now (at_moment old now) from (demanded node now old.tickets old.common from v)
-    >>= dues node now Went)
-    entries (Ends new)) is leads
-
-module _ (node : NodeConfig) (now : ℕ) where
-  acts_undropped : (state : State) (place : ℕ) (event : Event) (es : List Entry) (after : State)
-      → Leads (IsDone node.ring) (acts node now state place event) es (Ends after)
-      → after.common.drops ≡ state.common.drops
-  acts_undropped state place event es after leads = by_ticket (slice_get state.tickets place) refl
-    where
-      by_ticket : (o : Option TicketState) → slice_get state.tickets place ≡ o
-          → after.common.drops ≡ state.common.drops
-      by_ticket None is =
-          ap (λ (s : State). s.common.drops)
-          (at_end (IsDone node.ring) state after es
-          (subst (λ (o : Option TicketState). Leads (IsDone node.ring)
-          (acts_as node now state place event o) es (Ends after))
-          is leads)).1
-      by_ticket (Some ticket) is =
-          acted_undropped node now state place event ticket es after
-          (acted_at node now state place event ticket es after is leads)
-
-  each_undropped : (places : List ℕ) (state after : State) (es : List Entry)
-      → Leads (IsDone node.ring) (each_due node now places state) es (Ends after)
-      → after.common.drops ≡ state.common.drops
-  each_undropped [] state after es leads = ap (λ (s : State). s.common.drops)
-      (at_end (IsDone node.ring) state after es leads).1
-  each_undropped (place ∷ places) state after es leads =
-      let parts : Split (IsDone node.ring) (acts node now state place Due) (each_due node now places)
-      es after =
-      split (IsDone node.ring) (acts node now state place Due) (each_due node now places) es after
-      leads in
-      each_undropped places parts.mid after parts.later parts.to_end
-      ∙ acts_undropped state place Due parts.first parts.mid parts.to_mid
-
-  each_over_undropped : (job : ℕ) (service : Service) (places : List ℕ) (state after : State) (es : List Entry)
-      → Leads (IsDone node.ring) (each_over node now job service places state) es (Ends after)
-      → after.common.drops ≡ state.common.drops
-  each_over_undropped job service [] state after es leads = ap (λ (s : State). s.common.drops)
-      (at_end (IsDone node.ring) state after es leads).1
-  each_over_undropped job service (place ∷ places) state after es leads =
-      let parts : Split (IsDone node.ring) (acts node now state place (Over job service))
-      (each_over node now job service places) es after =
-      split (IsDone node.ring) (acts node now state place (Over job service))
-      (each_over node now job service places) es after leads in
-      each_over_undropped job service places parts.mid after parts.later parts.to_end
-      ∙ acts_undropped state place (Over job service) parts.first parts.mid parts.to_mid
-
-  dues_undropped : (turn : Turn) (state after : State) (es : List Entry)
-      → Leads (IsDone node.ring) (dues node now turn state) es (Ends after)
-      → after.common.drops ≡ state.common.drops
-  dues_undropped Went state after es leads = each_undropped (due_places now state.tickets) state after es
-      leads
-  dues_undropped Stopped state after es leads = ap (λ (s : State). s.common.drops)
-      (at_end (IsDone node.ring) state after es leads).1
-
-  let_in_undropped : (state : State) (from : Peer) (message : PlainMessage) (a : Action) (es : List Entry)
-      (after : State)
-      → Comes node from message a → Leads (IsDone node.ring) (met node now state from a) es (Ends after)
-      → after.common.drops ≡ state.common.drops
-  let_in_undropped state from message a es after (IsAnsweredAtOnce to replies is answers) leads =
-      ap (λ (s : State). s.common.drops)
-      (sent_back node.ring from replies state es after
-      (subst (λ (x : Action). Leads (IsDone node.ring) (met node now state from x) es (Ends after)) is leads)).left
-  let_in_undropped state from message a es after
-      (IsAsked to place request is part named same_from same_number answer) leads =
-      acts_undropped state place (Asked request) es after
-      (subst (λ (x : Action). Leads (IsDone node.ring) (met node now state from x) es (Ends after)) is
-      leads)
-  let_in_undropped state from message a es after (IsAttended to place request is below number answer) leads =
-      sent es (subst (λ (x : Action). Leads (IsDone node.ring) (met node now state from x) es
-      (Ends after)) is leads)
-    where
-      sent : (es : List Entry)
-          → Leads (IsDone node.ring) (met node now state from (Attends place request)) es (Ends after)
-          → after.common.drops ≡ state.common.drops
-      sent [] leads = absurd cc
-      sent (e ∷ es) leads = ap (λ (s : State). s.common.drops)
-          (at_end (IsDone node.ring) (after_attending state place request) after es leads.2).1
-  let_in_undropped state from message a es after (IsHeard to member place part is content known named) leads =
-      acts_undropped (accepted state member now) place (Heard member message.head part) es after
-      (subst (λ (x : Action). Leads (IsDone node.ring) (met node now state from x) es (Ends after)) is
-      leads)
-
-  arrived_drops : (state : State) (arrival : Result Arrival Failed) (bytes : List ℕ) (es : List Entry)
-      (after : State)
-      → Leads (IsDone node.ring) (arrived node now state arrival bytes) es (Ends after)
-      → after.common.drops ≡ drops_after node now state.common arrival bytes
-  arrived_drops state (Ok (arrivals.Datagram from)) bytes es after leads =
-      by_verdict (verdict node.config node.ring node.me now bytes) refl
-    where
-      by_verdict : (v : Result PlainMessage DropFault) → verdict node.config node.ring node.me now bytes ≡ v
-          → after.common.drops ≡ drops_by state.common (verdict node.config node.ring node.me now bytes)
-      by_verdict (Err fault) is =
-          ap (λ (s : State). s.common.drops)
-          (at_end (IsDone node.ring) (dropped state fault) after es
-          (subst (λ (v : Result PlainMessage DropFault).
-          Leads (IsDone node.ring)
-          (met node now state from (demanded node now state.tickets state.common from v)) es
-          (Ends after))
-          is leads)).1
-          ∙ ap (λ (v : Result PlainMessage DropFault). drops_by state.common v) (sym is)
-      by_verdict (Ok message) is =
-          let_in_undropped state from message (action node now state.tickets state.common from bytes) es
-          after
-          (comes node now state.tickets state.common from bytes message is) leads
-          ∙ ap (λ (v : Result PlainMessage DropFault). drops_by state.common v) (sym is)
-  arrived_drops state (Ok (arrivals.Handler job status)) bytes es after leads =
-      each_over_undropped job (service_of status) (all_places state) state after es leads
-  arrived_drops state (Ok arrivals.Quiet) bytes es after leads =
-      ap (λ (s : State). s.common.drops) (at_end (IsDone node.ring) state after es leads).1
-  arrived_drops state (Ok arrivals.Stop) bytes es after leads =
-      ap (λ (s : State). s.common.drops) (at_end (IsDone node.ring) state after es leads).1
-  arrived_drops state (Err failed) bytes es after leads =
-      ap (λ (s : State). s.common.drops) (at_end (IsDone node.ring) state after es leads).1
-
-pub counts : CountsEachFault
-counts node old new now arrival bytes entries leads =
-    let parts = parts_of node old new now arrival bytes entries leads in
-    dues_undropped node now (turn_end arrival) parts.mid new parts.later parts.to_end
-    ∙ arrived_drops node now (at_moment old now) arrival bytes parts.first parts.mid parts.to_mid
+use Rattle.booth_node.proofs.TicketLemmas.{at_moment, arrived_set_up, parts_of}
 
 -- ---- clients
 

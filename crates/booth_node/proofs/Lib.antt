@@ -16,8 +16,12 @@ pub mod PathLemmas
 pub mod ReachLemmas
 pub mod ManualTalkLemmas
 pub mod TalkLemmas
+pub mod SetupLemmas
+pub mod WaiterLemmas
 pub mod StayLemmas
 pub mod ComesLemmas
+pub mod TicketLemmas
+pub mod DropLemmas
 pub mod ClientLemmas
 pub mod MayLemmas
 pub mod AttributeLemmas

@@ -52,11 +52,12 @@ use Rattle.booth_node.specs.Reaction.{Action, Hears, Asks, IsDone, action, acts,
 use Rattle.booth_node.specs.Replies.{replies_to, request_of, wish_of}
 use Rattle.booth_node.specs.State.{State}
 use Rattle.booth_node.proofs.RoutingLemmas.{place_below}
-use Rattle.booth_node.proofs.ClientLemmas.{Parts, at_moment, parts_of}
+use Rattle.booth_node.proofs.TicketLemmas.{Parts, at_moment, parts_of}
 use Rattle.booth_node.proofs.ComesLemmas.{Comes, IsAnsweredAtOnce, IsAsked, IsAttended, IsHeard, comes}
 use Rattle.booth_node.proofs.DueLemmas.{Each}
 use Rattle.booth_node.proofs.PathLemmas.{ActFirst, HasPeer, HavePeers, SaidFirst, Seen, are_calls, seen_parts}
-use Rattle.booth_node.proofs.StayLemmas.{Acted, acted_at, as_many, set_up_at}
+use Rattle.booth_node.proofs.SetupLemmas.{as_many, set_up_at}
+use Rattle.booth_node.proofs.StayLemmas.{Acted, acted_at}
 use Rattle.booth_node.proofs.TalkLemmas.{setup_stays}
 
 -- ---- everyone has a place to listen at

@@ -144,8 +144,8 @@ BeginsFree w =
     (m : ℕ) (name : List ℕ) → AtEach w (λ before entry. HasNoManual name entry.what)
     → HoldsNothing w m (clock_at w m 0) (begins_with w m name)
 
--- A start reads of each ticket that it has a record that its member may have kept, a site or an arbitrator. So where the member
--- never started in this world before, it reads that which it begins with.
+-- A start reads of each ticket that it has a record that its member may have kept, a site or an arbitrator. So where
+-- the member never started in this world before, it reads that which it begins with.
 abbrev pub ReadsKept : World → List WorldEntry → WorldEntry → SessionEntry → Type 0
 ReadsKept w before entry (Starts node reading records) =
     (place : ℕ) (ticket : TicketConf) → slice_get node.config.tickets place ≡ Some ticket

@@ -192,6 +192,7 @@ module _ (w : World) (is_world : IsWorld w) (ticket : TicketConf) (automatic : I
         no_later = let l = y.no_later in omega (arith, in_order, l);
         kept = x.kept;
         held = x.held;
+        in_force = x.in_force;
         given_back = given;
       })
       (worlds_are_apart w is_world ticket automatic early late (x.entry ∷ behind.more) later s t ne x.kept x.held (y.kept, y.held))

@@ -110,7 +110,8 @@ ServesUnderALease =
     → (m : ℕ) (x : Follower) → IsFollowerAt w ticket m x
     → (time : ℕ) → MayServe w m x time → HeldUntil w ticket m time
 
--- The member held the ticket by a record, and gave its lease back after that, no later than at this time.
+-- The member held the ticket by a record, and gave its lease back after that, no later than at this time; and but for
+-- that the lease would be in force at this time.
 pub record GaveBack (w : World) (ticket : TicketConf) (m time : ℕ) : Type 0 where
   pub moment : Moment w
   pub between : List WorldEntry
@@ -119,9 +120,10 @@ pub record GaveBack (w : World) (ticket : TicketConf) (m time : ℕ) : Type 0 wh
   pub no_later : last_time moment.time between ≤ time
   pub kept : Record
   pub held : HoldsBy w ticket m moment kept
+  pub in_force : IsInForce kept (clock_at w m time)
   pub given_back : ReleasedIn w ticket m kept moment.before between
 
--- Where services at two sites may run at one time, one of the sites gave its lease back before.
+-- Where services at two sites may run at one time, one of the sites gave a lease back before whose end is to come.
 abbrev pub ServicesAreApart : Type 0
 ServicesAreApart =
     (w : World) → IsWorld w → (ticket : TicketConf) → IsAutomatic w ticket

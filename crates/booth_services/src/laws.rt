@@ -6,8 +6,8 @@ pub fn serves_under_a_lease()
     ensures { ServesUnderALease }
 {}
 
-/// The services of a ticket at two sites do not run at one moment, unless one of the sites gave its lease back after it
-/// told the list of it.
+/// The services of a ticket at two sites do not run at one moment, unless one of the sites gave back a lease whose
+/// end is still to come.
 pub fn services_are_apart()
     ensures { ServicesAreApart }
 {}

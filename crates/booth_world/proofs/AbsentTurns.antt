@@ -38,7 +38,7 @@ use Rattle.booth_world.specs.Rules.{MemberMessage}
 use Rattle.booth_world.specs.Turns.{TurnTree, Keeps, AsksElse}
 use Rattle.booth_world.proofs.Lists.{some_same}
 use Rattle.booth_world.proofs.Mirrors.{Mirrors, mirrors_next}
-use Rattle.booth_world.proofs.NodeArrivals.{AreReplies, Comes, comes}
+use Rattle.booth_world.proofs.NodeActions.{AreReplies, Comes, comes}
 use Rattle.booth_world.proofs.NodeTrees.{IsFew, Minds, HasSetup, minds_asked, minds_due, minds_heard, minds_over, other_lifted}
 
 -- no ticket of these has the name

@@ -1,5 +1,5 @@
 -- What members of a world begin with, as the cluster of a ticket has it.
-use Rattle.std.proofs.Common.{◌≡◌, ⊎_elim, inl, ℕ, ◌<◌, ◌≤◌, Bool, true, false, List, refl, sym, ap, ◌∙◌, subst, arith, if◌then◌else◌}
+use Rattle.std.proofs.Common.{◌≡◌, ⊎_elim, ℕ, ◌<◌, ◌≤◌, Bool, true, false, refl, sym, ap, ◌∙◌, subst, arith, if◌then◌else◌}
 use Rattle.std.specs.Prelude.{Option, Some, None, unwrap_or}
 use Rattle.std.specs.Option.{ForSome}
 use Rattle.std.proofs.lemmas.Bool.Decides.{nat_tests}
@@ -7,24 +7,14 @@ use Rattle.booth_base.specs.declared.address.MemberId.{MemberId}
 use Rattle.booth_conf.specs.declared.tickets.TicketConf.{TicketConf}
 use Rattle.booth_rec.specs.declared.record.Promise.{Promise as IdPromise}
 use Rattle.booth_rec.specs.declared.record.Record.{Record}
-use Rattle.booth_rec.specs.Record.{first_plain, is_second, no_record}
-use Rattle.booth_node.specs.World.{World, members_of, id_at, clock_at, begins_with, IsMemberId, HoldsNothing, BeginsFree}
+use Rattle.booth_rec.specs.Record.{first_plain, is_second}
+use Rattle.booth_node.specs.World.{World, members_of, id_at, IsMemberId, HoldsNothing}
 use Rattle.booth_world.specs.Agreement.{bound_in, promise_in, record_in}
 use Rattle.booth_world.specs.Clusters.{place_of, bound_at, promise_at, kept_at}
 use Rattle.booth_world.specs.States.{Promise, IsWithin, Pledge, KeptRecord, BeginsWell}
 use Rattle.booth_world.proofs.Lists.{none_is, some_same}
 use Rattle.booth_world.proofs.Stays.{not_up}
 use Rattle.booth_world.proofs.WorldSteps.{Setting}
-
--- where no member kept anything before, none holds
-pub none_holds : (w : World) → ((m : ℕ) (name : List ℕ) → begins_with w m name ≡ no_record) → BeginsFree w
-none_holds w bare m name automatic =
-    subst (λ (kept : Record). HoldsNothing w m (clock_at w m 0) kept) (sym (bare m name)) (record {
-      over = λ l e. absurd (none_is l e);
-      version = inl refl;
-      bound = λ id e. absurd (none_is id e);
-      promise = λ p e. absurd (none_is p e);
-    })
 
 module _ (w : World) (ticket : TicketConf) (setting : Setting w ticket) where
   -- a member's id has its place

@@ -238,7 +238,7 @@ module _ (config : ConfigSays) (sound : IsSoundConfig config) where
       by_test true = few
       by_test false = omega arith
 
-  timed_so : (place : ℕ) (ticket : TicketConf) → slice_get config.tickets place ≡ Some ticket → HasTimes ticket
+  pub timed_so : (place : ℕ) (ticket : TicketConf) → slice_get config.tickets place ≡ Some ticket → HasTimes ticket
   timed_so place ticket is =
       subst HasTimes (get_or_from_slice_get config.tickets place ticket ticket is)
       (tickets_timed config sound place ticket (slice_get_within config.tickets place ticket is))

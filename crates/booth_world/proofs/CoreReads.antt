@@ -12,7 +12,7 @@ use Rattle.booth_world.specs.HostLaws.{AreSecondBoots}
 use Rattle.booth_world.specs.Hosts.{HostEntry, LetsPass, BeginsTurn, DoesAsk, Halts, Boots}
 use Rattle.booth_world.specs.Rules.{lease_rules}
 use Rattle.booth_world.proofs.Lists.{put_all}
-use Rattle.booth_world.proofs.TurnPlaces.{AreCalls, IsUp}
+use Rattle.booth_world.proofs.TreePlaces.{AreCalls, IsUp}
 
 -- ---- the readings of the hosts
 

@@ -10,7 +10,7 @@ use Rattle.booth_world.specs.Hosts.{HostEntry, DoesAsk, HostPlace, Hosts, IsNext
 use Rattle.booth_world.specs.HostLaws.{IsHostReleaseIn}
 use Rattle.booth_world.proofs.CallSteps.{put_same}
 use Rattle.booth_world.proofs.CoreReads.{ReadsIn, StartsIn}
-use Rattle.booth_world.proofs.TurnPlaces.{put_other}
+use Rattle.booth_world.proofs.TreePlaces.{put_other}
 use Rattle.booth_world.proofs.Mirrors.{skip, sent_by, SentMore}
 
 module _ (c : Cluster) (cast : Cast) where

@@ -24,7 +24,8 @@ use Rattle.booth_world.proofs.Lists.{none_is, some_same, put_all}
 use Rattle.booth_world.proofs.AskSteps.{the_value}
 use Rattle.booth_world.proofs.CallSteps.{put_same}
 use Rattle.booth_world.proofs.CoreReads.{ReadsAt, ReadsIn, HasRead, AreReadBy, calls_read, read_more, read_join, StartsAt, StartsIn, AreStartedBy, calls_start, start_more, start_join}
-use Rattle.booth_world.proofs.TurnPlaces.{IsOwn, own_given, put_other, MayMore, more_after, IsUp, up_given, IsLater, IsIdle, IsLed, IsToldAfter, IsSeatedAt, At, Soon, at_later, at_no_more, release_split, entries_join, plan_at, heard_at}
+use Rattle.booth_world.proofs.TreePlaces.{IsOwn, own_given, put_other, MayMore, more_after, IsUp, up_given, IsLater, IsIdle, IsLed, IsToldAfter, IsSeatedAt, At, Soon, at_later, at_no_more, release_split, entries_join}
+use Rattle.booth_world.proofs.TurnPlaces.{plan_at, heard_at}
 
 -- ---- the relation
 

@@ -24,7 +24,8 @@ use Rattle.booth_world.specs.Kept.{IsOfKind, RestsInKind, StandsInKind}
 use Rattle.booth_world.specs.Worlds.{IsLater}
 use Rattle.booth_world.proofs.Configured.{found_at, found_named, found_there}
 use Rattle.booth_world.proofs.Lists.{none_is, some_same}
-use Rattle.booth_world.proofs.ManualKeeps.{IsHigh, IsHighOwn, IsPlaced, KeepsHigh, keeps_lower, turn_keeps}
+use Rattle.booth_world.proofs.ManualDeeds.{IsHigh}
+use Rattle.booth_world.proofs.ManualKeeps.{IsHighOwn, IsPlaced, KeepsHigh, keeps_lower, turn_keeps}
 use Rattle.booth_world.proofs.WorldEntries.{started_at, started_is}
 use Rattle.booth_world.proofs.WorldHosts.{append_none, entries_join, entry_other, entry_own, may_join, sessions_at, stand_own}
 use Rattle.booth_world.proofs.WorldRuns.{append_both}

@@ -31,7 +31,9 @@ use Rattle.booth_world.specs.Turns.{TurnTree, Plan, Rests, plan_tree, MayPlan}
 use Rattle.booth_world.proofs.Lists.{none_is, some_same}
 use Rattle.booth_world.proofs.Mirrors.{skip, IsKept, Mirrors, mirrors_next}
 use Rattle.booth_world.proofs.Echoes.{Echoes, echoes_as}
-use Rattle.booth_world.proofs.Plans.{due_plan, due_may, ticked}
+use Rattle.booth_world.proofs.Plans.{due_plan}
+use Rattle.booth_world.proofs.PlanCalls.{due_may}
+use Rattle.booth_world.proofs.PlanDeeds.{ticked}
 use Rattle.booth_world.proofs.NodeTrees.{IsFew, Minds, HasSetup, minds_due, own_lifted, other_lifted}
 
 -- ---- one ticket among others

@@ -17,7 +17,7 @@ use Rattle.booth_ticket.specs.Ticket.{TicketState, Known}
 use Rattle.booth_node.specs.Records.{Has}
 use Rattle.booth_world.specs.Tellers.{Claim, IsGranted, HasLeft, EndsIn, IsListed, BearsOut, HasNone, JobTells, ListTells, MessageTells}
 use Rattle.booth_world.proofs.Lists.{none_is, some_same}
-use Rattle.booth_world.proofs.TellerTickets.{IsHonest}
+use Rattle.booth_world.proofs.TellerSteps.{IsHonest}
 
 -- one of these records may be kept; and where a grant's success is told, it is kept, as no other may be
 abbrev pub IsKeptFor : List Record → Record → Claim → Type 0

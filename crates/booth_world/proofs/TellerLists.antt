@@ -24,7 +24,7 @@ use Rattle.booth_world.specs.Tellers.{IsListed, BearsOut, HasNone}
 use Rattle.booth_world.proofs.Lists.{none_is, some_same}
 use Rattle.booth_world.proofs.TellerClaims.{IsBacked, IsOwn, IsPlaced, found_or_not, in_lease}
 use Rattle.booth_world.proofs.TellerRules.{OwnShown}
-use Rattle.booth_world.proofs.TellerTickets.{IsHonest}
+use Rattle.booth_world.proofs.TellerSteps.{IsHonest}
 use Rattle.booth_world.proofs.TellerTexts.{AllOf, IsLineOf, cut_same, none_in_address, none_in_both, none_in_decimal, none_is_no_address}
 
 -- What a list needs of the configuration: addresses are addresses, and ids are theirs.

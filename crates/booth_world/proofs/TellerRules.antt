@@ -31,19 +31,19 @@ use Rattle.booth_raft.specs.declared.view.Shown.{Shown}
 use Rattle.booth_raft.specs.declared.view.TheConstants.{LAST_NUMBER}
 use Rattle.booth_raft.specs.declared.view.View.{View}
 use Rattle.booth_raft.specs.declared.view.Waiting.{Waiting}
-use Rattle.booth_raft.specs.AskAndRenew.{answers_itself, are_terms_spent, ask, asked_all, asking, begin_round, bound_itself, finish, goes_on, in_next_term, needs_term, new_round, own_answer, promised_itself, renew, renew_by_term, with_own_promise, with_round}
+use Rattle.booth_raft.specs.AskAndRenew.{answers_itself, are_terms_spent, ask, asked_all, asking, begin_round, bound_itself, in_next_term, needs_term, new_round, own_answer, promised_itself, renew, renew_by_term, with_own_promise, with_round}
 use Rattle.booth_raft.specs.Deadlines.{candidate_due, due_now, follower_due, is_tried, leader_due, resends_or_renews, waits_or_acquires}
 use Rattle.booth_raft.specs.GainReleaseLost.{gain, lease_record, lost, own_end, release, round_ends}
 use Rattle.booth_raft.specs.Members.{is_candidate, is_follower, is_leader, is_majority, is_promised_elsewhere, is_same}
-use Rattle.booth_raft.specs.Messages.{owner_now, part_of, revokes, round_part, shown_end, state_part}
+use Rattle.booth_raft.specs.Messages.{owner_now, part_of, round_part, shown_end, state_part}
 use Rattle.booth_raft.specs.Notes.{noted}
 use Rattle.booth_raft.specs.Numbers.{seconds_left}
 use Rattle.booth_raft.specs.OtherMessages.{freed, hear, is_freed_by, is_owner, revoked}
-use Rattle.booth_raft.specs.Outcome.{Outcome, keeping, quiet, saying, telling}
+use Rattle.booth_raft.specs.Outcome.{Outcome, keeping, quiet}
 use Rattle.booth_raft.specs.RoundsAndAnswers.{answered_round, hear_answer, hear_round, is_answer_to, may_answer, promised, shows_site, stood_down, told_by_answer, wins, with_answer, with_site}
-use Rattle.booth_raft.specs.StartAndLearn.{awaits_failover, holds_at_start, learned, shows_leader, started, with_seen, with_shown}
+use Rattle.booth_raft.specs.StartAndLearn.{awaits_failover, learned, shows_leader, with_seen, with_shown}
 use Rattle.booth_raft.proofs.AnswerLemmas.{same-is_same}
-use Rattle.booth_raft.proofs.FactsLemmas.{on_active, on_cond, on_option, on_role, on_test, untrue}
+use Rattle.booth_raft.proofs.FactsLemmas.{on_active, on_cond, on_option, on_role, on_test}
 use Rattle.booth_world.proofs.Lists.{none_is, some_same}
 
 -- ---- what is to be shown
@@ -105,10 +105,10 @@ pub record IsCalm (s : Setup) (base : Record) (Q : Type 0) (view : View) : Type 
   pub rests : view.waiting ≡ None
   pub trusted : view.sure ≡ true → Q
 
-for_this : {A : Type 0} (P : A → Type 0) (y : A) → P y → ForSome (Some y) P
+pub for_this : {A : Type 0} (P : A → Type 0) (y : A) → P y → ForSome (Some y) P
 for_this P y p x e = subst P (some_same y x e) p
 
-for_none : {A : Type 0} (P : A → Type 0) → ForSome None P
+pub for_none : {A : Type 0} (P : A → Type 0) → ForSome None P
 for_none P x e = absurd (none_is x e)
 
 none_left : (now end : ℕ) → end < now + 1 → 0 < seconds_left end now → ⊥
@@ -141,7 +141,7 @@ module _ (s : Setup) (now : ℕ) (base : Record) (Q : Type 0) where
       let until : lease_end view.kept.lease ≡ end_of = ap (λ (r : Record). lease_end r.lease) same in
       (subst (λ (n : ℕ). now < n) until (some_left now (lease_end view.kept.lease) some), ap (λ (n : ℕ). seconds_left n now) until)
 
-  nothing_left : (part : TicketPart) → part.valid_for ≡ 0 → IsBorne s.me end_of now part
+  pub nothing_left : (part : TicketPart) → part.valid_for ≡ 0 → IsBorne s.me end_of now part
   nothing_left part none leads some = absurd (omega (arith, none, some))
 
   -- ---- outcomes
@@ -189,7 +189,7 @@ module _ (s : Setup) (now : ℕ) (base : Record) (Q : Type 0) where
 
   -- ---- what is heard
 
-  calm_if : (b : Bool) (x y : View) → IsCalm s base Q x → IsCalm s base Q y → IsCalm s base Q (if b then x else y)
+  pub calm_if : (b : Bool) (x y : View) → IsCalm s base Q x → IsCalm s base Q y → IsCalm s base Q (if b then x else y)
   calm_if b x y p q = on_cond (IsCalm s base Q) b x y p q
 
   module _ (view : View) (calm : IsCalm s base Q view) where
@@ -349,7 +349,7 @@ module _ (s : Setup) (now : ℕ) (base : Record) (Q : Type 0) where
     promised_calm view calm =
         calm_if (answers_itself s view now) (with_own_promise s view now) view (in_parts view calm _ refl refl refl refl) calm
 
-    begins : (view : View) (number : ℕ) → IsCalm s base Q view → Shows s now base Q (begin_round s view number now)
+    pub begins : (view : View) (number : ℕ) → IsCalm s base Q view → Shows s now base Q (begin_round s view number now)
     begins view number calm =
         let promises : IsCalm s base Q (promised_itself s view now) = promised_calm view calm in
         let open_view : View = with_round s view number now in
@@ -441,105 +441,3 @@ module _ (s : Setup) (now : ℕ) (base : Record) (Q : Type 0) where
     pub due_shows : (view : View) → IsCalm s base Q view → Shows s now base Q (due_now s view now)
     due_shows view calm =
         on_role (Shows s now base Q) view.role _ _ _ _ (followers view calm) (quietly view calm) (candidates view calm) (leaders view calm)
-
--- ---- the answer of a keep
-
-module _ (s : Setup) (now : ℕ) (lasts : 0 < s.times.expire) where
-  -- the record that was tried is kept now, and its lease is that of the one before
-  kept_calm : (Q : Type 0) → Q → (view other : View) (tried : Record) → OwnShown s.me view.kept view.shown → lease_end tried.lease ≡ lease_end view.kept.lease
-      → other.shown ≡ view.shown → other.kept ≡ tried → other.waiting ≡ None → IsCalm s tried Q other
-  kept_calm Q q view other tried own lease shown kept none = record {
-    own = subst (λ (o : Option Shown). OwnShown s.me other.kept o) (sym shown)
-        (λ x e is. own x e is ∙ sym lease ∙ ap (λ (r : Record). lease_end r.lease) (sym kept));
-    same = kept;
-    rests = none;
-    trusted = λ e. q;
-  }
-
-  hidden_calm : (Q : Type 0) → Q → (other : View) (tried : Record) → other.shown ≡ None → other.kept ≡ tried → other.waiting ≡ None → IsCalm s tried Q other
-  hidden_calm Q q other tried shown kept none = record {
-    own = subst (λ (o : Option Shown). OwnShown s.me other.kept o) (sym shown)
-        (for_none (λ (x : Shown). x.owner ≡ s.me → x.until ≡ lease_end other.kept.lease));
-    same = kept;
-    rests = none;
-    trusted = λ e. q;
-  }
-
-  goes_kept : (Q : Type 0) → Q → (view : View) (rule : Rule) (tried : Record) → OwnShown s.me view.kept view.shown → view.waiting ≡ None
-      → MayGoOn now view.kept rule tried → Shows s now tried Q (goes_on s view rule tried now true)
-  goes_kept Q q view rules.Gain tried own none may =
-      let calm : IsCalm s tried Q view = record { own = own; same = may.0; rests = none; trusted = λ e. q } in
-      calmly s now tried Q _ (kept_calm Q q view _ tried own (ap (λ (r : Record). lease_end r.lease) (sym may.0)) refl may.0 none) refl (state_borne s now tried Q view calm)
-      (λ e. (subst (λ (r : Record). now < lease_end r.lease) may.0 may.1, q))
-  goes_kept Q q view (rules.Ask reason) tried own none may =
-      begins s now tried Q lasts _ 0 (kept_calm Q q view _ tried own may refl refl none)
-  goes_kept Q q view (rules.Release reason) tried own none may =
-      on_cond (λ (v : View). Shows s now tried Q (saying v (revokes s view.term reason) tells.Released)) (reason == SPLT) _ _
-      (calmly s now tried Q _ (hidden_calm Q q _ tried refl refl none) refl (nothing_left s now tried Q (part_of s NO_ONE view.term 0) refl) (λ e. absurd e))
-      (calmly s now tried Q _ (hidden_calm Q q _ tried refl refl none) refl (nothing_left s now tried Q (part_of s NO_ONE view.term 0) refl) (λ e. absurd e))
-  goes_kept Q q view rules.EndRound tried own none may =
-      calmly s now tried Q _ (hidden_calm Q q _ tried refl refl none) refl (nothing_left s now tried Q (part_of s NO_ONE view.term 0) refl) (λ e. absurd e)
-  goes_kept Q q view (rules.Answer kind to number request told) tried own none may =
-      calmly s now tried Q _ (kept_calm Q q view _ tried own may.0 refl refl none) refl (nothing_left s now tried Q (part_of s to view.term 0) refl)
-      (λ e. absurd (may.1 e))
-  goes_kept Q q view (rules.Renew number) tried own none may =
-      begins s now tried Q lasts _ number (kept_calm Q q view _ tried own may refl refl none)
-
-  goes_failed : (Q : Type 0) (view : View) (rule : Rule) (tried : Record) → OwnShown s.me view.kept view.shown → view.waiting ≡ None
-      → MayGoOn now view.kept rule tried → Shows s now view.kept Q (goes_on s view rule tried now false)
-  goes_failed Q view rule tried own none may = by_rule rule may
-    where
-      so : (other : View) → other.shown ≡ view.shown → other.kept ≡ view.kept → other.waiting ≡ view.waiting → other.sure ≡ false
-          → IsCalm s view.kept Q other
-      so other shown kept waiting unsure = record {
-        own = subst (λ (o : Option Shown). OwnShown s.me other.kept o) (sym shown)
-            (subst (λ (r : Record). OwnShown s.me r view.shown) (sym kept) own);
-        same = kept;
-        rests = waiting ∙ none;
-        trusted = λ e. absurd (untrue (sym unsure ∙ e));
-      }
-
-      ends : (told : Told) → (IsGained told → ⊥) → (other : View) → IsCalm s view.kept Q other → Shows s now view.kept Q (telling other told)
-      ends told never other other_calm = calmly s now view.kept Q _ other_calm refl tt (λ e. absurd (never e))
-
-      by_rule : (rule : Rule) → MayGoOn now view.kept rule tried → Shows s now view.kept Q (goes_on s view rule tried now false)
-      by_rule rules.Gain may = ends (tells.Gained false) (λ e. e) _ (so _ refl refl refl refl)
-      by_rule (rules.Ask reason) may =
-          on_cond (Shows s now view.kept Q) (is_leader view.role) _ _ (quietly s now view.kept Q _ (so _ refl refl refl refl))
-          (ends tells.AskFailed (λ e. e) _ (so _ refl refl refl refl))
-      by_rule (rules.Release reason) may =
-          ends tells.ReleaseFailed (λ e. e) _
-          (calm_if s now view.kept Q (reason == SPLT) _ _ (so _ refl refl refl refl)
-          (calm_if s now view.kept Q (is_leader view.role) _ _ (so _ refl refl refl refl) (so _ refl refl refl refl)))
-      by_rule rules.EndRound may = ends tells.RoundFailed (λ e. e) _ (so _ refl refl refl refl)
-      by_rule (rules.Answer kind to number request told) may = ends told may.1 _ (so _ refl refl refl refl)
-      by_rule (rules.Renew number) may = quietly s now view.kept Q _ (so _ refl refl refl refl)
-
-  pub answered_kept : (Q : Type 0) → Q → (view : View) (waits : Waiting) → view.waiting ≡ Some waits → OwnShown s.me view.kept view.shown
-      → MayGoOn now view.kept waits.rule waits.tried → Shows s now waits.tried Q (finish s view now true)
-  answered_kept Q q view waits is own may =
-      on_option (Shows s now waits.tried Q) view.waiting _ _ (λ none. absurd (none_is waits (sym none ∙ is)))
-      (λ w e.
-      let same : waits ≡ w = some_same waits w (sym is ∙ e) in
-      subst (λ (x : Waiting). Shows s now waits.tried Q (goes_on s (record view { waiting = None }) x.rule x.tried now true)) same
-      (goes_kept Q q (record view { waiting = None }) waits.rule waits.tried own refl may))
-
-  pub answered_failed : (Q : Type 0) (view : View) (waits : Waiting) → view.waiting ≡ Some waits → OwnShown s.me view.kept view.shown
-      → MayGoOn now view.kept waits.rule waits.tried → Shows s now view.kept Q (finish s view now false)
-  answered_failed Q view waits is own may =
-      on_option (Shows s now view.kept Q) view.waiting _ _ (λ none. absurd (none_is waits (sym none ∙ is)))
-      (λ w e.
-      let same : waits ≡ w = some_same waits w (sym is ∙ e) in
-      subst (λ (x : Waiting). Shows s now view.kept Q (goes_on s (record view { waiting = None }) x.rule x.tried now false)) same
-      (goes_failed Q (record view { waiting = None }) waits.rule waits.tried own refl may))
-
--- a start shows its record's lease
-pub started_calm : (s : Setup) (kept : Record) (Q : Type 0) → Q → (now : ℕ) → IsCalm s kept Q (started s kept now)
-started_calm s kept Q q now = record {
-  own = on_cond (λ (o : Option Shown). OwnShown s.me kept o) (holds_at_start s kept now) _ None
-      (for_this (λ (x : Shown). x.owner ≡ s.me → x.until ≡ lease_end kept.lease) (record { owner = s.me; until = lease_end kept.lease }) (λ own. refl))
-      (for_none (λ (x : Shown). x.owner ≡ s.me → x.until ≡ lease_end kept.lease));
-  same = refl;
-  rests = refl;
-  trusted = λ e. q;
-}

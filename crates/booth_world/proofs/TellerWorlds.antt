@@ -43,9 +43,10 @@ use Rattle.booth_world.proofs.Configured.{found_at, found_named, found_there, se
 use Rattle.booth_world.proofs.TellerClaims.{IsBacked, IsKeptFor, IsOwn, IsPlaced, IsTold, Teller, any_kept}
 use Rattle.booth_world.proofs.TellerLists.{AreTheirs}
 use Rattle.booth_world.proofs.TellerMembers.{names_free, theirs_of}
-use Rattle.booth_world.proofs.TellerNodes.{KeepsHonest, turn_honest}
-use Rattle.booth_world.proofs.TellerRules.{started_calm}
-use Rattle.booth_world.proofs.TellerTickets.{IsHonest}
+use Rattle.booth_world.proofs.TellerNodes.{KeepsHonest}
+use Rattle.booth_world.proofs.TellerTurns.{turn_honest}
+use Rattle.booth_world.proofs.TellerKeeps.{started_calm}
+use Rattle.booth_world.proofs.TellerSteps.{IsHonest}
 use Rattle.booth_world.proofs.WorldEntries.{started_at, started_is}
 use Rattle.booth_world.proofs.WorldHosts.{append_none, entries_join, entry_other, entry_own, may_join, sessions_at, stand_own}
 use Rattle.booth_world.proofs.WorldLaws.{worlds_are_apart, worlds_hold_one}
@@ -446,7 +447,7 @@ tellers_are_apart w is_world ticket automatic early late between later first sec
     ⊎_elim
     (λ (apart : IsApartFrom (cluster_of w ticket) first.member q.0 early.time late.time).
     inl (apart early.time (omega arith) later.not_before holds.2))
-    (λ (given : ReleasedIn w ticket first.member q.0 early.before between). inr (q.0, q.2, given))
+    (λ (given : ReleasedIn w ticket first.member q.0 early.before between). inr (q.0, holds, q.2, given))
     (worlds_are_apart w is_world ticket automatic early late between later first.member second.member ne q.0 holds holds_too)
 
 -- ---- when a claim is over

@@ -68,7 +68,7 @@ is_none_is None e = refl
 is_none_is (Some n) e = absurd cc
 
 -- whatever deeds ask, and leave
-all_any : {S : Type 0} (deeds : Deeds Ask S) → Always AnyAsk Any deeds
+pub all_any : {S : Type 0} (deeds : Deeds Ask S) → Always AnyAsk Any deeds
 all_any (Ends left) = tt
 all_any (Does ask go) = (tt, λ ok. all_any (go ok))
 
@@ -248,7 +248,7 @@ not_committed request = by_test (waits (unforced request.options))
     by_test true = refl
     by_test false = refl
 
-not_joined : (request : Request) (answer : ℕ) → answer ≢ ASYN → joins request answer ≡ false
+pub not_joined : (request : Request) (answer : ℕ) → answer ≢ ASYN → joins request answer ≡ false
 not_joined request answer ne = by_test (waits request.options)
   where
     other : answer == ASYN ≡ false

@@ -42,7 +42,7 @@ use Rattle.booth_world.specs.Shadows.{IsComing, LastStand, has_ticket, last_afte
 use Rattle.booth_world.proofs.Lists.{some_same}
 use Rattle.booth_world.proofs.AbsentTurns.{IsUnspoken, IsWithout, Quiet}
 use Rattle.booth_world.proofs.Mirrors.{sent_by, SentMore, IsSpoken}
-use Rattle.booth_world.proofs.NodeArrivals.{IsLetIn}
+use Rattle.booth_world.proofs.NodeActions.{IsLetIn}
 use Rattle.booth_world.proofs.WorldSteps.{Setting, Seats, equal_bytes, cluster, setup_at, cast, StandsAt, stands_more, Shows}
 use Rattle.booth_world.proofs.WorldEntries.{when_true, when_false}
 

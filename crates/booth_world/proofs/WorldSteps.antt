@@ -29,7 +29,7 @@ use Rattle.booth_world.specs.Shadows.{KeepsNext, IsNextAt, GivesTermBack, TakesR
 use Rattle.booth_world.proofs.Lists.{some_same}
 use Rattle.booth_world.proofs.CallSteps.{put_same}
 use Rattle.booth_world.proofs.CoreReads.{ReadsAt, ReadsIn, StartsAt, StartsIn}
-use Rattle.booth_world.proofs.TurnPlaces.{put_other}
+use Rattle.booth_world.proofs.TreePlaces.{put_other}
 use Rattle.booth_world.proofs.Mirrors.{skip, sent_by, later, SentMore, sent_more}
 use Rattle.booth_world.proofs.NodeTrees.{IsFew}
 use Rattle.booth_world.proofs.NodeTurns.{IsPlacedAt, Over}

@@ -90,8 +90,8 @@ pub record WaitForJob (known : ManualKnown) (waiters : List Waiter) : Type 0 whe
 abbrev pub LeavesJobs : Deeds Ask ManualLeft → Type 0
 LeavesJobs deeds = Always AnyAsk (λ left. WaitForJob left.ticket.known left.waiters) deeds
 
--- So it is when a manual ticket starts, and whatever befalls it leaves it so. And where somebody waits, a deadline of the
--- ticket is to come.
+-- So it is when a manual ticket starts, and whatever befalls it leaves it so. And where somebody waits, a deadline of
+-- the ticket is to come.
 pub record ManualWaitersHaveJobs : Type 0 where
   pub starts : (rec : Record) (now : ℕ) → WaitForJob (manual_started rec now) []
   pub heard : (ticket : ManualState) (from : ℕ) (head : Head) (part : TicketPart) (waiters : List Waiter)

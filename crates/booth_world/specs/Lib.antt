@@ -27,8 +27,7 @@ pub mod Shadows
 pub mod Laws
 pub mod Examples
 pub mod LoneExamples
-pub mod Premises
-pub mod WorldExamples
-pub mod TakeOverExample
-pub mod PremiseExamples
-pub mod VersionExamples
+pub mod Waits
+pub mod Alone
+pub mod LastNumbers
+pub mod NodeWaits

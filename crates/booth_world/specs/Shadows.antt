@@ -115,8 +115,8 @@ pub record IsSentIn (name : List ℕ) (before : List WorldEntry) (m : ℕ) (mess
 
 -- ---- versions
 
--- whether a member's last session that has the ticket is of version 2 after this entry: a start is in the version of its
--- node
+-- whether a member's last session that has the ticket is of version 2 after this entry: a start is in the version of
+-- its node
 abbrev pub second_after : List ℕ → Bool → SessionEntry → Bool
 second_after name second (Starts node reading records) = if has_ticket name node then node.second else second
 second_after name second entry = second
@@ -149,11 +149,11 @@ pub record Knows (w : World) (ticket : TicketConf) (m : ℕ) (node : NodeConfig)
   pub agrees : Agrees (cluster_of w ticket) (id_at w) state.facts m view (state.member m)
 
 -- Steps from the opening state up to this moment. After them each member's last session is of the version of its last
--- start that has the ticket; the records that a member may have kept are the entries', and that which the member's turn is to keep next;
--- where a node rests between its turns, what it knows of the ticket is what its member is; each release is an entry's,
--- after which the member's turn goes on to tell the others; each round was opened, and each answer given, at a reading
--- that is an entry's, by the member that took it; each message that an entry sent says a fact: that a round was opened,
--- or answered, or a term released; and the ticket is held at each member that holds it.
+-- start that has the ticket; the records that a member may have kept are the entries', and that which the member's turn
+-- is to keep next; where a node rests between its turns, what it knows of the ticket is what its member is; each
+-- release is an entry's, after which the member's turn goes on to tell the others; each round was opened, and each
+-- answer given, at a reading that is an entry's, by the member that took it; each message that an entry sent says a
+-- fact: that a round was opened, or answered, or a term released; and the ticket is held at each member that holds it.
 pub record HasShadow (w : World) (ticket : TicketConf) (moment : Moment w) : Type 0 where
   pub steps : List WorldStep
   pub run : IsRun (cluster_of w ticket) (opening (cluster_of w ticket)) steps

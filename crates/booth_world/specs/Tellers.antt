@@ -18,7 +18,7 @@ use Rattle.booth_node.specs.Jobs.{address_in}
 use Rattle.booth_node.specs.Records.{Has}
 use Rattle.booth_node.specs.Session.{SessionEntry, Makes, IsCut, CutStart}
 use Rattle.booth_node.specs.World.{WorldEntry, World, id_at, clock_at, IsSend, IsWorld}
-use Rattle.booth_node.specs.Held.{Moment, IsAutomatic, may_at, Holds}
+use Rattle.booth_node.specs.Held.{Moment, IsAutomatic, may_at, HoldsBy, Holds}
 use Rattle.booth_world.specs.Clusters.{cluster_of}
 use Rattle.booth_world.specs.Held.{AreApart}
 use Rattle.booth_world.specs.Worlds.{IsLater, ReleasedIn}
@@ -179,7 +179,8 @@ abbrev pub WhoTellsHolds : Type 0
 WhoTellsHolds = (w : World) → IsWorld w → TellersHoldIn w
 
 -- Where one member tells of itself as the holder, and another later, and neither claim is over as it is told, then
--- acquire-after lies between, or the first gave its lease back in between. So they never tell it at one moment.
+-- acquire-after lies between, or the first gave back in between the lease by which it held, and which bears it out. So
+-- they never tell it at one moment, but where it was given back then.
 abbrev pub TellersAreApartIn : World → Type 0
 TellersAreApartIn w =
     (ticket : TicketConf) → IsAutomatic w ticket
@@ -188,7 +189,8 @@ TellersAreApartIn w =
     → (claim other : Claim) → Tells w ticket first claim → Tells w ticket second other
     → IsLive w first.member early claim → IsLive w second.member late other
     → AreApart (cluster_of w ticket) early.time late.time
-    ⊎ ((kept : Record) × IsSomeAnd kept.lease (λ lease. BearsOut claim lease.until)
+    ⊎ ((kept : Record) × HoldsBy w ticket first.member early kept
+    × IsSomeAnd kept.lease (λ lease. BearsOut claim lease.until)
     × ReleasedIn w ticket first.member kept early.before between)
 
 abbrev pub TellersAreApart : Type 0

@@ -1,14 +1,18 @@
 //! The laws of a ticket's world, each the contract of a function that does nothing.
 ghost use Rattle.booth_node.specs.World.{OneConfigurationIsEnough};
+ghost use Rattle.booth_world.specs.Alone.{GrantGainsAlone};
 ghost use Rattle.booth_world.specs.Calls.{CallsAreSteps, PromisesWhereItMayAnswer, StepsOfOneAreSteps};
 ghost use Rattle.booth_world.specs.CoreLaws.{CoreTermsNeverFall, CoresAreApart, CoresHoldOne, LaterCoreHasLaterTerm};
 ghost use Rattle.booth_world.specs.HostLaws.{HostTermsNeverFall, HostsAreApart, HostsHoldOne, LaterHostHasLaterTerm};
 ghost use Rattle.booth_world.specs.Kept.{FailedKeepsSayNothing, ManualWaitersHaveJobs, TicketsKeepTheirKinds, ToldStopWaiting};
+ghost use Rattle.booth_world.specs.LastNumbers.{LastNumbers};
 ghost use Rattle.booth_world.specs.Laws.{HasOneHolder, HoldersAreApart, KeptTermsNeverFall, LaterHolderHasLaterTerm};
+ghost use Rattle.booth_world.specs.NodeWaits.{WorldsWaitersHaveDeadlines};
 ghost use Rattle.booth_world.specs.Rules.{lease_rules};
 ghost use Rattle.booth_world.specs.Stability.{AgreementStays, CallsLeadOn, MembersStay, RunsAppend};
 ghost use Rattle.booth_world.specs.Shadows.{WorldsHaveShadows};
 ghost use Rattle.booth_world.specs.Tellers.{ClaimsLast, GrantsAreKept, TellersAreApart, WhoTellsHasKept, WhoTellsHolds};
+ghost use Rattle.booth_world.specs.Waits.{WaitersHaveDeadlines};
 ghost use Rattle.booth_world.specs.Worlds.{CutSessionsAreSessions, LogsAreSessions, StoppedLogsAreSessions};
 ghost use Rattle.booth_world.specs.Worlds.{LaterHoldersHaveLaterTerms, WorldTermsNeverFall, WorldsAreApart, WorldsHoldOne};
 
@@ -40,8 +44,9 @@ pub fn later_terms()
 
 /// What a member tells of itself as the holder of an automatic ticket is so: just before, it may have
 /// kept a record whose lease bears it out; and where it is a grant's success, that record is kept, and
-/// no other may be. So while that is not over, it holds the ticket, and no other member does. And where two members tell it, the one after the other, acquire-after lies
-/// between, or the first gave its lease back in between.
+/// no other may be. Where that is not over as it tells it, it holds the ticket at that moment, and no
+/// other member does. And where two members tell it, the one after the other, acquire-after lies
+/// between, or the first gave back in between the lease by which it held it.
 pub fn tellers()
     ensures kept { WhoTellsHasKept }
     ensures granted { GrantsAreKept }
@@ -69,6 +74,30 @@ pub fn told_stop_waiting()
 /// Clients wait for a manual ticket only while its handler runs, and then a deadline is to come.
 pub fn manual_waiters_have_jobs()
     ensures { ManualWaitersHaveJobs }
+{}
+
+/// Clients wait for an automatic ticket only while its member works, asks or leads, and then a deadline is to come: at most
+/// so long after the last reading as a round is tried, or at the end of the lease.
+pub fn waiters_have_deadlines()
+    ensures { WaitersHaveDeadlines }
+{}
+
+/// So in each world a deadline of each ticket for which somebody waits is to come, at each moment where a member rests
+/// between two turns, or begins one; whether it is granted by votes or by hand.
+pub fn worlds_waiters_have_deadlines()
+    ensures { WorldsWaitersHaveDeadlines }
+{}
+
+/// A grant that meets no refusal, at a member that is a majority by itself, gives the lease at once: the new term is kept,
+/// then the lease, and who asked is told of success.
+pub fn grant_gains_alone()
+    ensures { GrantGainsAlone }
+{}
+
+/// After the round of the last number none is opened in its term, after the last job's number comes 1 again, and a counter
+/// stays at its greatest value.
+pub fn last_numbers()
+    ensures { LastNumbers }
 {}
 
 /// Where all starts of a world have one configuration, the laws speak of each of its tickets.

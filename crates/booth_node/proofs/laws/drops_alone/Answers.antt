@@ -1,4 +1,4 @@
-use Rattle.booth_node.proofs.ClientLemmas.{alone}
+use Rattle.booth_node.proofs.DropLemmas.{alone}
 use Rattle.booth_node.proofs.laws.drops_alone.Goals as goal
 
 pub returns : goal.returns

@@ -1,4 +1,4 @@
-use Rattle.booth_node.proofs.ClientLemmas.{rests_not}
+use Rattle.booth_node.proofs.DropLemmas.{rests_not}
 use Rattle.booth_node.proofs.laws.nothing_rests.Goals as goal
 
 pub returns : goal.returns

@@ -1,8 +1,0 @@
-use Rattle.booth_world.proofs.OneGoesOn.{on_is_world, on_is_held}
-use Rattle.booth_world.proofs.examples.one_member_goes_on.Goals as goal
-
-pub returns-clause-world : goal.returns-clause-world
-returns-clause-world c = on_is_world
-
-pub returns-clause-holds : goal.returns-clause-holds
-returns-clause-holds c = on_is_held

@@ -1,5 +1,0 @@
-use Rattle.booth_world.proofs.NeededPremises.{premises_are_needed}
-use Rattle.booth_world.proofs.examples.premises_are_needed.Goals as goal
-
-pub returns : goal.returns
-returns c = premises_are_needed
