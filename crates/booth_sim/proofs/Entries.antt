@@ -6,7 +6,7 @@ use Rattle.std.proofs.lemmas.List.{append-nil, append_assoc}
 use Rattle.booth_conf.specs.Config.{ConfigSays}
 use Rattle.booth_node.specs.Session.{SessionEntry, Stand, Down, after_entry, AreSessions, after_entries}
 use Rattle.booth_node.specs.World.{WorldEntry, entries_of, last_time, stand_after}
-use Rattle.booth_world.proofs.AlongWorlds.{Along}
+use Rattle.booth_sim.proofs.AlongWorlds.{Along}
 use Rattle.booth_sim.specs.Drawing.{draw_of}
 use Rattle.booth_sim.specs.Simulation.{IsEvent, IsSimulation, starts}
 

@@ -10,7 +10,7 @@ use Rattle.booth_node.specs.Reaction.{Ask, Send, Keep, Start, IsDone, react, use
 use Rattle.booth_node.specs.Session.{SessionEntry, Starts, Makes}
 use Rattle.booth_node.specs.State.{State}
 use Rattle.booth_node.specs.World.{WorldEntry, last_time, IsSecondStart}
-use Rattle.booth_world.proofs.AlongWorlds.{Along}
+use Rattle.booth_sim.proofs.AlongWorlds.{Along}
 use Rattle.booth_sim.specs.Happenings.{Happening, Turns, Restarts, reading_at}
 use Rattle.booth_sim.specs.Kept.{all_kept}
 use Rattle.booth_sim.specs.Simulation.{IsHappening, entry_at, made_at, node_in}

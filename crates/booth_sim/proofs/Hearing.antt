@@ -26,7 +26,7 @@ use Rattle.booth_node.specs.Records.{Has}
 use Rattle.booth_node.specs.Session.{SessionEntry, Starts, Makes, Stand, Doing, Hearing, after_entry, did}
 use Rattle.booth_node.specs.State.{State}
 use Rattle.booth_node.specs.World.{WorldEntry, World, HearsSent, IsSend, WasSent, id_at, stand_after}
-use Rattle.booth_world.proofs.AlongWorlds.{Along}
+use Rattle.booth_sim.proofs.AlongWorlds.{Along}
 use Rattle.booth_sim.specs.declared.drawing.Draw.{Draw}
 use Rattle.booth_sim.specs.declared.drawing.Kind.{Kind}
 use Rattle.booth_sim.specs.declared.drawing.Kind.TheVariants as kinds

@@ -18,7 +18,7 @@ use Rattle.booth_node.specs.Opening.{is_site_at}
 use Rattle.booth_node.specs.Records.{Has, with_next}
 use Rattle.booth_node.specs.Session.{SessionEntry, Makes, IsCut, CutKeep}
 use Rattle.booth_node.specs.World.{WorldEntry, IsOneTicket, IsWorld, last_time, entries_of}
-use Rattle.booth_world.proofs.AlongWorlds.{Along}
+use Rattle.booth_sim.proofs.AlongWorlds.{Along}
 use Rattle.booth_world.proofs.Configured.{found_at, one_configuration_is_enough}
 use Rattle.booth_world.specs.Worlds.{WorldsHoldOne}
 use Rattle.booth_sim.specs.Counts.{begins, holders, is_holder, is_in_force, most_between, most_of}

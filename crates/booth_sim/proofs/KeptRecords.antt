@@ -15,7 +15,7 @@ use Rattle.booth_node.specs.Session.{SessionEntry, Starts, Makes, IsCut, CutKeep
 use Rattle.booth_node.specs.declared.node_config.NodeConfig.{NodeConfig}
 use Rattle.booth_node.specs.Records.{Has, record_at, may_after, may_after_all}
 use Rattle.booth_node.specs.World.{WorldEntry, entries_of}
-use Rattle.booth_world.proofs.AlongWorlds.{Along}
+use Rattle.booth_sim.proofs.AlongWorlds.{Along}
 use Rattle.booth_sim.specs.Kept.{all_kept, kept_after, kept_by}
 use Rattle.booth_sim.proofs.Entries.{entries_join, entry_own, entry_other}
 use Rattle.booth_sim.proofs.Follows.{Follows, HasNode, StartsKept}

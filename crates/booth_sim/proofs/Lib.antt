@@ -1,3 +1,5 @@
+pub mod AlongWorlds
+pub mod Beginnings
 pub mod Entries
 pub mod Clocks
 pub mod Follows

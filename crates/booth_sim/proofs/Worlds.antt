@@ -16,7 +16,7 @@ use Rattle.booth_node.specs.declared.node_config.NodeConfig.{NodeConfig}
 use Rattle.booth_node.specs.Records.{Has, record_at, may_after_all}
 use Rattle.booth_node.specs.Session.{SessionEntry, Starts, Makes, IsCut}
 use Rattle.booth_node.specs.World.{WorldEntry, World, last_time, entries_of, AtEach, HasConfiguration, HasForm, HasTrueClocks, HearsSent, IsNodeOf, IsSecondStart, IsWorld, StartsIn, ReadsClock, ReadsKept, StaysSecond, clock_at, stand_after}
-use Rattle.booth_world.proofs.AlongWorlds.{Along, at_each}
+use Rattle.booth_sim.proofs.AlongWorlds.{Along, at_each}
 use Rattle.booth_world.proofs.Configured.{found_at}
 use Rattle.booth_sim.specs.declared.drawing.Draw.{Draw}
 use Rattle.booth_sim.specs.Drawing.{draw_of, keeps_fail, rise_of}
@@ -33,7 +33,7 @@ use Rattle.booth_sim.proofs.KeptRecords.{kept_join, may_keep, record_of_all}
 use Rattle.booth_sim.proofs.Owning.{owned}
 use Rattle.booth_sim.proofs.Places.{place_is}
 use Rattle.booth_sim.proofs.Sessions.{are_sessions}
-use Rattle.booth_world.proofs.Beginnings.{none_holds}
+use Rattle.booth_sim.proofs.Beginnings.{none_holds}
 
 -- ---- times
 

@@ -7,7 +7,7 @@ ghost use Rattle.booth_sim.specs.declared.clock.TheConstants.{TIMES_END};
 const TRUE_RATE: u64 = 1_000_000;
 
 /// True times of a simulation are below this.
-pub(crate) const TIMES_END: u64 = 1 << 40;
+pub const TIMES_END: u64 = 1 << 40;
 
 // How far a clock goes in 1,000 seconds, in milliseconds.
 fn rate_at(place: usize) -> u64
@@ -22,7 +22,7 @@ fn rate_at(place: usize) -> u64
 }
 
 /// What the clock of the member at a place reads at a true time.
-pub(crate) fn reading_at(place: usize, time: u64) -> u64
+pub fn reading_at(place: usize, time: u64) -> u64
     requires { time < TIMES_END }
     ensures { result ≡ reading_at place time }
 {

@@ -25,7 +25,7 @@ use std::alloc::{AllocError, Global};
 
 /// A cluster in memory, between two events.
 #[derive(Drop)]
-pub(crate) struct Cluster {
+pub struct Cluster {
     alloc: Global,
     pub config: Config,
     pub daemons: Vec<Daemon>,
@@ -49,11 +49,7 @@ fn start_daemons(alloc: Global, config: &Config) -> Result<Vec<Daemon>, AllocErr
 
 impl Cluster {
     /// All members have started, and nothing was counted.
-    pub(crate) fn new(
-        alloc: Global,
-        config: Config,
-        summary: Summary,
-    ) -> Result<Cluster, AllocError>
+    pub fn new(alloc: Global, config: Config, summary: Summary) -> Result<Cluster, AllocError>
         requires sound { IsSound config }
         requires nothing { IsNothing summary }
         ensures { IfOk result (Stands config summary.events summary.number 0) }
@@ -162,7 +158,7 @@ impl Cluster {
     }
 
     /// The event of this number.
-    pub(crate) fn event(&mut self, event: u32, draw: &Draw) -> Result<(), AllocError>
+    pub fn event(&mut self, event: u32, draw: &Draw) -> Result<(), AllocError>
         requires stands { Stands self.old.config self.old.summary.events self.old.summary.number event self.old }
         requires few { event < most_events }
         requires drawn { draw.now ≡ draw_of self.old.summary.number event }

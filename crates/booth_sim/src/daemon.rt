@@ -21,7 +21,7 @@ const ROOM: u32 = u32::MAX;
 
 /// A member: its node, its host, and the record that it keeps of each ticket.
 #[derive(Drop)]
-pub(crate) struct Daemon {
+pub struct Daemon {
     pub node: Node,
     pub host: MemoryHost,
     pub kept: Vec<Option<Record>>,

@@ -10,7 +10,7 @@ const STREAM: u64 = 54;
 
 /// Three words, in the order in which they are drawn.
 #[derive(Clone, Copy, Debug, PartialEq, Eq)]
-pub(crate) struct Draw {
+pub struct Draw {
     pub first: u32,
     pub second: u32,
     pub third: u32,
@@ -32,7 +32,7 @@ pub(crate) enum Kind {
 }
 
 /// The generator of a number.
-pub(crate) fn generator_of(number: u64) -> Pcg32
+pub fn generator_of(number: u64) -> Pcg32
     ensures { result ≡ generator_of number }
 {
     Pcg32::new(number, STREAM)
@@ -40,7 +40,7 @@ pub(crate) fn generator_of(number: u64) -> Pcg32
 
 impl Draw {
     /// The next three words.
-    pub(crate) fn next(generator: &mut Pcg32) -> Draw
+    pub fn next(generator: &mut Pcg32) -> Draw
         ensures { (result, generator.new) ≡ drawn generator.old }
     {
         let first = generator.next_word();

@@ -17,7 +17,7 @@ pub(crate) const NEWEST_FRAMES: usize = 16;
 
 /// A frame that a member sent to another.
 #[derive(Drop)]
-pub(crate) struct SentFrame {
+pub struct SentFrame {
     /// The place of the member that sent it.
     pub from: usize,
     /// The place of the member that it goes to.
@@ -27,7 +27,7 @@ pub(crate) struct SentFrame {
 
 /// The last frames that were sent, the oldest first.
 #[derive(Drop)]
-pub(crate) struct SentFrames {
+pub struct SentFrames {
     alloc: Global,
     frames: Vec<SentFrame>,
 }
@@ -53,7 +53,7 @@ fn place_at(members: &[Member], address: Address) -> Option<usize>
 }
 
 /// The place of the member that listens there, if one does.
-pub(crate) fn place_of(config: &Config, peer: &Peer) -> Option<usize>
+pub fn place_of(config: &Config, peer: &Peer) -> Option<usize>
     ensures exact { result ≡ place_of config.now peer.now }
     ensures within { IfSome result (λ place. place < length config.now.members) }
 {

@@ -19,7 +19,7 @@ use std::alloc::{AllocError, Global};
 
 /// What an event is.
 #[derive(Drop)]
-pub(crate) enum Happening {
+pub enum Happening {
     /// The member at a place makes a turn, in which this comes.
     Turn {
         place: usize,
@@ -98,7 +98,7 @@ fn asks(
 }
 
 /// What the event of this number is, where these frames were sent; requests are written into a frame.
-pub(crate) fn what_happens(
+pub fn what_happens(
     alloc: Global,
     config: &Config,
     frames: &SentFrames,

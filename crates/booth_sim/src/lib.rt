@@ -13,9 +13,13 @@ pub mod laws;
 mod request;
 mod simulation;
 mod summary;
-#[cfg(test)]
-mod tests;
 mod turn;
 
-pub use simulation::simulate;
+pub use clock::{TIMES_END, reading_at};
+pub use cluster::Cluster;
+pub use daemon::Daemon;
+pub use drawing::{Draw, generator_of};
+pub use frames::{SentFrame, SentFrames, place_of};
+pub use happening::{Happening, what_happens};
+pub use simulation::{nothing_counted, simulate};
 pub use summary::{MOST_EVENTS, Summary};

@@ -11,7 +11,7 @@ use booth_conf::Config;
 use std::alloc::{AllocError, Global};
 
 /// Nothing was counted yet.
-pub(crate) fn nothing_counted(events: u64, number: u64) -> Summary
+pub fn nothing_counted(events: u64, number: u64) -> Summary
     ensures nothing { IsNothing result }
     ensures events { result.events ≡ events }
     ensures number { result.number ≡ number }

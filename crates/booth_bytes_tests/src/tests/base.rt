@@ -164,16 +164,18 @@ fn texts_keep_their_bytes(rt: HostRuntime) -> Result<(), AllocError> {
     Ok(())
 }
 
-fn check_path(rt: &impl Abort, bytes: &[u8], is_path: bool) {
-    let text = str::from_utf8(bytes).expect(rt, "a text");
-    assert!(rt; PathText::read(text).is_ok() == is_path);
+// Whether a text of so many slashes is a path.
+fn check_path(rt: &impl Abort, alloc: Global, len: usize, is_path: bool) {
+    let text = "/".repeat(alloc, len).expect(rt, "memory");
+    assert!(rt; text.len() == len);
+    assert!(rt; PathText::read(&text).is_ok() == is_path, "{len}");
 }
 
 #[test]
 fn a_path_has_at_most_255_bytes(rt: HostRuntime) {
-    check_path(&rt, b"", true);
-    check_path(&rt, &[b'/'; 255], true);
-    check_path(&rt, &[b'/'; 256], false);
+    check_path(&rt, rt.alloc(), 0, true);
+    check_path(&rt, rt.alloc(), 255, true);
+    check_path(&rt, rt.alloc(), 256, false);
     assert!(rt; MEMBERS == 16 && TEXT_BYTES == 16_384);
 }
 

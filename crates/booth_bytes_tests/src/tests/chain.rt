@@ -1,10 +1,21 @@
 //! The order in which items and slots come, in rows that were written by hand.
 ghost use Rattle.booth_chain.specs.Buckets.{most_steps};
+ghost use Rattle.booth_chain.specs.Pool.{SameSize};
 ghost use Rattle.std.specs.Prelude.{◌≡◌, ◌<◌, ◌≤◌, [], ◌∷◌, Some, None, length};
 
 use booth_chain::{Chains, Full, Steps, Wheel};
 use std::marker::Brand;
+use std::process::Abort;
 use std::sync::ledger::{Blank, Ledger};
+
+// The first item of a list is this one, or none, and leaves it.
+fn check_pop(rt: &impl Abort, chains: &mut Chains<u32>, list: u32, item: Option<u32>)
+    requires { list < length chains.old.lists }
+    ensures { SameSize chains.old chains.new }
+{
+    let popped = chains.pop_front(list);
+    assert!(rt; popped == item);
+}
 
 #[test]
 fn an_item_leaves_the_middle(rt: HostRuntime) {
@@ -28,9 +39,9 @@ fn an_item_leaves_the_middle(rt: HostRuntime) {
     assert!(rt; chains.count(0) == 0);
     assert!(rt; chains.count(1) == 2);
     assert!(rt; chains.spare() == 1);
-    assert!(rt; chains.pop_front(1) == Some(11));
-    assert!(rt; chains.pop_front(1) == Some(30));
-    assert!(rt; chains.pop_front(1).is_none());
+    check_pop(&rt, &mut chains, 1, Some(11));
+    check_pop(&rt, &mut chains, 1, Some(30));
+    check_pop(&rt, &mut chains, 1, None);
 }
 
 /// The next slot that is due, by a count of its own.
@@ -54,6 +65,16 @@ fn due_counted<L: Ledger>(wheel: &mut Wheel, now: u64, blank: Blank) -> Option<u
     wheel.due(now, &mut steps)
 }
 
+// The next slot that is due at this reading is this one, or none.
+fn check_due(rt: &impl Abort, wheel: &mut Wheel, now: u64, slot: Option<u32>)
+    requires { wheel.old.last ≤ now }
+    ensures last { wheel.new.last ≡ now }
+    ensures slots { length wheel.new.deadlines ≡ length wheel.old.deadlines }
+{
+    let due = due_now(wheel, now);
+    assert!(rt; due == slot, "at {now}");
+}
+
 #[test]
 fn slots_come_by_deadline_and_then_by_number(rt: HostRuntime) {
     let mut wheel = Wheel::new(rt.alloc(), 5).expect(&rt, "memory");
@@ -63,13 +84,13 @@ fn slots_come_by_deadline_and_then_by_number(rt: HostRuntime) {
     wheel.set(2, 40);
     wheel.set(4, 45);
     wheel.clear(4);
-    assert!(rt; due_now(&mut wheel, 39).is_none());
-    assert!(rt; due_now(&mut wheel, 40) == Some(2));
-    assert!(rt; due_now(&mut wheel, 49).is_none());
-    assert!(rt; due_now(&mut wheel, 50) == Some(1));
-    assert!(rt; due_now(&mut wheel, 50) == Some(3));
-    assert!(rt; due_now(&mut wheel, 69).is_none());
-    assert!(rt; due_now(&mut wheel, 70) == Some(0));
+    check_due(&rt, &mut wheel, 39, None);
+    check_due(&rt, &mut wheel, 40, Some(2));
+    check_due(&rt, &mut wheel, 49, None);
+    check_due(&rt, &mut wheel, 50, Some(1));
+    check_due(&rt, &mut wheel, 50, Some(3));
+    check_due(&rt, &mut wheel, 69, None);
+    check_due(&rt, &mut wheel, 70, Some(0));
 }
 
 #[test]
@@ -86,9 +107,9 @@ fn a_full_pool_hands_back_and_has_room_after_a_removal(rt: HostRuntime) {
     assert!(rt; chains.holds(first));
     assert!(rt; chains.remove(first) == 1);
     assert!(rt; chains.push_back(0, 3).is_ok(), "room for 3");
-    assert!(rt; chains.pop_front(0) == Some(2));
-    assert!(rt; chains.pop_front(0) == Some(3));
-    assert!(rt; chains.pop_front(0).is_none());
+    check_pop(&rt, &mut chains, 0, Some(2));
+    check_pop(&rt, &mut chains, 0, Some(3));
+    check_pop(&rt, &mut chains, 0, None);
 }
 
 #[test]
@@ -97,23 +118,23 @@ fn two_slots_of_one_bucket_come_at_their_own_deadlines(rt: HostRuntime) {
     let mut wheel = Wheel::new(rt.alloc(), 3).expect(&rt, "memory");
     wheel.set(0, 70_000);
     wheel.set(1, 4_400);
-    assert!(rt; due_now(&mut wheel, 4_399).is_none());
-    assert!(rt; due_now(&mut wheel, 4_400) == Some(1));
-    assert!(rt; due_now(&mut wheel, 69_999).is_none());
-    assert!(rt; due_now(&mut wheel, 70_000) == Some(0));
-    assert!(rt; due_now(&mut wheel, 70_000).is_none());
+    check_due(&rt, &mut wheel, 4_399, None);
+    check_due(&rt, &mut wheel, 4_400, Some(1));
+    check_due(&rt, &mut wheel, 69_999, None);
+    check_due(&rt, &mut wheel, 70_000, Some(0));
+    check_due(&rt, &mut wheel, 70_000, None);
     wheel.set(2, 10);
-    assert!(rt;
-        due_now(&mut wheel, 70_000) == Some(2),
-        "a deadline that is long past"
-    );
+    // a deadline that is long past
+    check_due(&rt, &mut wheel, 70_000, Some(2));
 }
 
 /// How many steps the looks of that row may take, counted by hand: at 4,400 one bucket and both slots, at 69,999 all
 /// buckets and the slot that is left.
 fn steps_of_two_slots_in_one_bucket()
-    ensures first { most_steps (record { deadlines = Some 70000 ∷ Some 4400 ∷ None ∷ []; last = 4399; swept = 4399 }) 4400 ≡ 3 }
-    ensures later { most_steps (record { deadlines = Some 70000 ∷ None ∷ None ∷ []; last = 4400; swept = 4399 }) 69999 ≡ 513 }
+    ensures first { most_steps
+        (record { deadlines = Some 70000 ∷ Some 4400 ∷ None ∷ []; last = 4399; swept = 4399 }) 4400 ≡ 3 }
+    ensures later { most_steps
+        (record { deadlines = Some 70000 ∷ None ∷ None ∷ []; last = 4400; swept = 4399 }) 69999 ≡ 513 }
 {}
 
 #[test]
@@ -122,9 +143,9 @@ fn equal_deadlines_come_in_the_order_of_their_slots(rt: HostRuntime) {
     wheel.set(1, 500);
     wheel.set(0, 500);
     wheel.set(2, 400);
-    assert!(rt; due_now(&mut wheel, 499) == Some(2));
-    assert!(rt; due_now(&mut wheel, 499).is_none());
-    assert!(rt; due_now(&mut wheel, 500) == Some(0));
-    assert!(rt; due_now(&mut wheel, 500) == Some(1));
-    assert!(rt; due_now(&mut wheel, 500).is_none());
+    check_due(&rt, &mut wheel, 499, Some(2));
+    check_due(&rt, &mut wheel, 499, None);
+    check_due(&rt, &mut wheel, 500, Some(0));
+    check_due(&rt, &mut wheel, 500, Some(1));
+    check_due(&rt, &mut wheel, 500, None);
 }

@@ -5,6 +5,7 @@
 //! stands `noted` where the bytes that nothing reads hold something, `cut` where the slot ends with its record, `bare`
 //! where the record has no version, `other` where it has the other version, and `behind` where a byte behind the
 //! record's parts is set.
+use super::super::byte_of;
 use booth_rec::{MemoryDisk, Record, Slots};
 use std::alloc::Global;
 use std::process::Abort;
@@ -20,10 +21,6 @@ pub fn slot(version: u8, commit: u8, number: u8, term: u8) -> [u8; 80] {
     bytes[19] = version;
     bytes[23] = term;
     bytes
-}
-
-fn byte_of(rt: &impl Abort, word: &str) -> u8 {
-    word.parse::<u8>().expect(rt, word)
 }
 
 fn marked(rt: &impl Abort, version: u8, slot: [u8; 80], mark: &str) -> [u8; 80] {

@@ -1,4 +1,5 @@
 //! The slots over a disk in memory, with files that were written by hand from the layout.
+use super::super::number_of;
 use super::files::{MANY, disk, file_of, holds, opened, put, reads, slot};
 use booth_rec::{Lease, MemoryDisk, OpenFault, PutFault, Record, ReopenFault, Slots};
 use std::alloc::Global;
@@ -11,7 +12,7 @@ fn free(term: u32) -> Record {
 // A term, and behind it `held` where there is a lease, or `first` where the record is of version 1.
 fn record_of(rt: &impl Abort, words: &str) -> Record {
     let (term, mark) = words.split_once(' ').unwrap_or((words, ""));
-    let term = term.parse::<u32>().expect(rt, words);
+    let term = number_of(rt, term);
     match mark {
         "" => free(term),
         "first" => Record::first(term, None),

@@ -1,4 +1,5 @@
 //! Records spelled by hand from the layout of the record file.
+use super::super::{byte_of, number_of};
 use booth_base::MemberId;
 use booth_rec::{Lease, Promise, Record, RecordFault};
 use std::process::Abort;
@@ -109,11 +110,7 @@ fn set(bytes: &mut [u8], at: usize, byte: u8) {
 fn check_fault(rt: &impl Abort, bytes: &mut [u8], row: &str) {
     let (change, fault) = row.split_once(" => ").expect(rt, row);
     let (at, byte) = change.split_once(' ').expect(rt, row);
-    set(
-        bytes,
-        at.parse::<usize>().expect(rt, row),
-        byte.parse::<u8>().expect(rt, row),
-    );
+    set(bytes, number_of(rt, at) as usize, byte_of(rt, byte));
     assert!(rt; Record::decode(bytes) == Err(fault_of(rt, fault)), "{row}");
 }
 

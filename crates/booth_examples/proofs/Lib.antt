@@ -1,0 +1,11 @@
+pub mod SameLemmas
+pub mod FittingLemmas
+pub mod SessionLemmas
+pub mod WorldLemmas
+pub mod HoldingLemmas
+pub mod CheckLemmas
+pub mod Computing
+pub mod Clocks
+pub mod WorldRuns
+pub mod PremiseRuns
+pub mod NeededPremises

@@ -1,0 +1,17 @@
+use Rattle.booth_world.proofs.WorldShadows.{worlds_have_shadows}
+use Rattle.booth_examples.specs.TakeOverExample.{taken_over}
+use Rattle.booth_examples.specs.WorldExamples.{web}
+use Rattle.booth_examples.proofs.WorldRuns.{taken_over_is_world, first_holds_it, second_takes_it}
+use Rattle.booth_examples.proofs.examples.ticket_is_taken_over.Goals as goal
+
+pub returns-clause-world : goal.returns-clause-world
+returns-clause-world c = taken_over_is_world
+
+pub returns-clause-first : goal.returns-clause-first
+returns-clause-first c = first_holds_it
+
+pub returns-clause-second : goal.returns-clause-second
+returns-clause-second c = second_takes_it
+
+pub returns-clause-shadows : goal.returns-clause-shadows
+returns-clause-shadows c = worlds_have_shadows taken_over taken_over_is_world web first_holds_it.automatic

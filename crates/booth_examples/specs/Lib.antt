@@ -1,0 +1,12 @@
+pub mod Same
+pub mod Fitting
+pub mod Sessions
+pub mod Premises
+pub mod Checks
+pub mod Holding
+pub mod Laws
+pub mod WorldExamples
+pub mod TakeOverExample
+pub mod PremiseExamples
+pub mod VersionExamples
+pub mod ManyKindsExample

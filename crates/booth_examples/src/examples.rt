@@ -1,0 +1,122 @@
+//! Small worlds, each the contract of a function that does nothing: the laws speak of something, and need each premise.
+ghost use Rattle.std.specs.Prelude.{ℕ, ◌<◌};
+ghost use Rattle.booth_world.specs.Shadows.{HasShadow};
+ghost use Rattle.booth_node.specs.Held.{Moment};
+ghost use Rattle.booth_node.specs.Session.{AreSessions, Down};
+ghost use Rattle.booth_node.specs.World.{IsWorld, IsSecondWorld, entries_of};
+ghost use Rattle.booth_examples.specs.ManyKindsExample.{of_many_kinds, web_by_handler};
+ghost use Rattle.booth_examples.specs.Premises.{NothingHeld, SameMembers, TrueClocks, RecordsReturn, VersionsRise, MembersSpeak, OneDaemon, IsWorldBut, TwoHold, HoldsAt, PremisesAreNeeded};
+ghost use Rattle.booth_examples.specs.TakeOverExample.{taken_over};
+ghost use Rattle.booth_examples.specs.PremiseExamples.{with_foreign_records, with_leases_at_first, with_a_lost_record, with_forged_votes, with_two_configurations, with_a_fast_clock, with_two_daemons, AreTrueBut, HasTwoDaemons, daemon_starts, votes_for_one, votes_for_two};
+ghost use Rattle.booth_examples.specs.VersionExamples.{promises_kept, one_after_another, with_a_falling_version};
+ghost use Rattle.booth_examples.specs.WorldExamples.{one_goes_on, one_holds, web};
+
+/// Without the premise that records return: two sites start from a record that they never kept.
+pub fn foreign_records_are_held()
+    ensures others { IsWorldBut RecordsReturn with_foreign_records }
+    ensures two_hold { TwoHold with_foreign_records }
+{}
+
+/// Without the premise that nothing is held at first: two sites begin with leases in force.
+pub fn leases_at_first_are_held()
+    ensures others { IsWorldBut NothingHeld with_leases_at_first }
+    ensures two_hold { TwoHold with_leases_at_first }
+{}
+
+/// A member that is alone begins with the record of a lease that is over, and holds its ticket by the next term.
+pub fn one_member_goes_on()
+    ensures world { IsWorld one_goes_on }
+    ensures holds { HoldsAt one_goes_on web 0 12999 }
+{}
+
+/// A member that is alone starts, is asked by a client for its ticket, and holds it.
+pub fn one_member_holds()
+    ensures world { IsWorld one_holds }
+    ensures holds { HoldsAt one_holds web 0 12999 }
+{}
+
+/// Without the premise that members speak for themselves: to each of two sites comes a forged
+/// vote of the other.
+pub fn forged_votes_give_leases()
+    ensures others { IsWorldBut MembersSpeak with_forged_votes }
+    ensures two_hold { TwoHold with_forged_votes }
+{}
+
+/// A ticket is granted, its holder crashes in the middle of a keep and starts again, and when the
+/// lease is over another takes the ticket over.
+pub fn ticket_is_taken_over()
+    ensures world { IsWorld taken_over }
+    ensures first { HoldsAt taken_over web 0 12999 }
+    ensures second { HoldsAt taken_over web 1 25999 }
+    ensures shadows { (moment : Moment taken_over) → HasShadow taken_over web moment }
+{}
+
+/// Without the premise that all have one configuration: by its own each of two sites is alone.
+pub fn two_configurations_give_leases()
+    ensures others { IsWorldBut SameMembers with_two_configurations }
+    ensures two_hold { TwoHold with_two_configurations }
+{}
+
+/// Without the premise that clocks are true: the clock of a site that voted runs twice as fast,
+/// and so it votes for itself while the first lease is in force.
+pub fn fast_clock_gives_a_lease()
+    ensures others { IsWorldBut TrueClocks with_a_fast_clock }
+    ensures only_one { AreTrueBut 1 with_a_fast_clock }
+    ensures two_hold { TwoHold with_a_fast_clock }
+{}
+
+/// Without the premise that one daemon of each member runs: two of an arbitrator's vote for two
+/// sites in one term.
+pub fn two_daemons_vote_twice()
+    ensures others { IsWorldBut OneDaemon with_two_daemons }
+    ensures two_daemons { HasTwoDaemons with_two_daemons 2 daemon_starts votes_for_one votes_for_two }
+    ensures sites { (m : ℕ) → m < 2 → AreSessions Down (entries_of m with_two_daemons.entries) }
+    ensures two_hold { TwoHold with_two_daemons }
+{}
+
+/// A site holds in version 1, and it and an arbitrator start in version 2. The arbitrator promises to
+/// another site, crashes after its keep, starts from that record and answers at once, and the ticket
+/// is held there.
+pub fn promises_are_kept()
+    ensures world { IsWorld promises_kept }
+    ensures first { HoldsAt promises_kept web 0 12999 }
+    ensures second { HoldsAt promises_kept web 1 25999 }
+{}
+
+/// In version 2 alone a site holds, and when its lease is over another one does.
+pub fn second_holder_follows()
+    ensures world { IsWorld one_after_another }
+    ensures second { IsSecondWorld one_after_another }
+    ensures first_holds { HoldsAt one_after_another web 0 12999 }
+    ensures then_holds { HoldsAt one_after_another web 1 25999 }
+{}
+
+/// With a key, a ticket that has a handler and one that is granted by hand, a send, a next, a keep and a start of a
+/// handler fail, and calls of each kind are cut. A vote comes to another member as well. A site holds by a keep that is
+/// coming, by the same when it failed, and by one that was cut.
+pub fn many_kinds_happen()
+    ensures world { IsWorld of_many_kinds }
+    ensures second { IsSecondWorld of_many_kinds }
+    ensures coming { HoldsAt of_many_kinds web_by_handler 0 28122 }
+    ensures failed { HoldsAt of_many_kinds web_by_handler 0 28130 }
+    ensures cut { HoldsAt of_many_kinds web_by_handler 0 33300 }
+{}
+
+/// Without the premise that versions rise: an arbitrator goes back from version 2 to version 1, and
+/// from one record of version 2 votes for two sites in one term.
+pub fn falling_version_gives_leases()
+    ensures others { IsWorldBut VersionsRise with_a_falling_version }
+    ensures two_hold { TwoHold with_a_falling_version }
+{}
+
+/// Without the premise that records return: a site starts without the term that it kept, and a
+/// vote of its earlier round counts for a later one.
+pub fn lost_record_gives_a_lease()
+    ensures others { IsWorldBut RecordsReturn with_a_lost_record }
+    ensures two_hold { TwoHold with_a_lost_record }
+{}
+
+/// So in each of these worlds the premise that is left out is not met.
+pub fn premises_are_needed()
+    ensures { PremisesAreNeeded }
+{}
