@@ -1,5 +1,5 @@
 -- Laws of the gate and of what is sealed.
-use Rattle.std.specs.Prelude.{◌≡◌, ◌≢◌, ◌↔◌, ◌⊎◌, ◌==◌, ℕ, ◌+◌, ◌*◌, ◌^◌, ◌<◌, ◌≤◌, Bool, true, false, List, [], ◌∷◌, Option, Some, None, is_some, Ok, Err}
+use Rattle.std.specs.Prelude.{◌≡◌, ◌≢◌, ◌↔◌, ◌⊎◌, ◌==◌, ◌&&◌, ℕ, ◌+◌, ◌*◌, ◌^◌, ◌<◌, ◌≤◌, nat_le, Bool, true, false, T, List, [], ◌∷◌, Option, Some, None, is_some, Ok, Err}
 use Rattle.booth_base.specs.declared.address.MemberId.{MemberId}
 use Rattle.booth_conf.specs.Config.{ConfigSays}
 use Rattle.booth_keys.specs.declared.ring.Hash.{Hash}
@@ -109,15 +109,17 @@ ring_at Learning before after hash = record { first = before; old = Some after; 
 ring_at Changed before after hash = record { first = after; old = Some before; hash = hash }
 ring_at New before after hash = record { first = after; old = None; hash = hash }
 
+-- the stages in their order
+abbrev pub place_of : Stage → ℕ
+place_of Old = 0
+place_of Learning = 1
+place_of Changed = 2
+place_of New = 3
+
 -- the same stage, or one beside it
 abbrev pub AreNeighbours : Stage → Stage → Type 0
-AreNeighbours Old New = ⊥
-AreNeighbours Old Changed = ⊥
-AreNeighbours Learning New = ⊥
-AreNeighbours Changed Old = ⊥
-AreNeighbours New Old = ⊥
-AreNeighbours New Learning = ⊥
-AreNeighbours one other = Unit {0}
+AreNeighbours one other =
+    T (nat_le (place_of one) (place_of other + 1) && nat_le (place_of other) (place_of one + 1))
 
 -- Members at one stage of a change, or at two that lie side by side, accept each other, whatever their hashes.
 abbrev pub KeysChangeOneByOne : Type 0

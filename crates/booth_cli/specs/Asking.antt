@@ -1,5 +1,5 @@
 -- What the words ask for, or why they ask for nothing.
-use Rattle.std.specs.Prelude.{◌≡◌, ℕ, Bool, true, List, [], Option, Some, None, is_some, Result, Ok, Err, if◌then◌else◌}
+use Rattle.std.specs.Prelude.{◌≡◌, ℕ, Bool, true, false, T, List, [], Option, Some, None, is_some, Result, Ok, Err, if◌then◌else◌}
 use Rattle.clap.specs.Words.{IsAmong, fault_of, kind_of, takes}
 use Rattle.clap.specs.declared.error.kind.ErrorKind.{ErrorKind}
 use Rattle.clap.specs.declared.error.kind.ErrorKind.TheVariants as kinds
@@ -15,7 +15,7 @@ use Rattle.booth_cli.specs.declared.asking.ClientWords.{ClientWords}
 use Rattle.booth_cli.specs.declared.asking.MoveWords.{MoveWords}
 use Rattle.booth_cli.specs.declared.asking.FollowWords.{FollowWords}
 use Rattle.booth_cli.specs.declared.program.Program.{Program}
-use Rattle.booth_cli.specs.declared.program.Program.TheVariants.{Boothd, Booth, BoothFollow}
+use Rattle.booth_cli.specs.declared.program.Program.TheVariants.{Boothd, Booth, Geostore, BoothFollow}
 use Rattle.booth_talk.specs.declared.order.Order.{Order}
 use Rattle.booth_talk.specs.declared.order.Order.TheVariants as orders
 use Rattle.booth_cli.specs.declared.asking.Refusal.{Refusal}
@@ -91,10 +91,13 @@ pub record IsClientOf (verb : Verb) (read : Read) (asked : ClientWords) : Type 0
   pub conf : asked.conf ≡ read.conf
 
 -- the program asks a daemon
+abbrev pub is_client : Program → Bool
+is_client Booth = true
+is_client Geostore = true
+is_client program = false
+
 abbrev pub IsClient : Program → Type 0
-IsClient Boothd = ⊥
-IsClient BoothFollow = ⊥
-IsClient program = Unit {0}
+IsClient program = T (is_client program)
 
 -- the words ask for this client
 pub record AsksClient (program : Program) (words : List (List ℕ)) (asked : ClientWords) : Type 0 where

@@ -1,7 +1,7 @@
 -- What the readers make of the options and words, and which is refused first.
 use Rattle.std.specs.Prelude.{◌≡◌, ◌<◌, ◌≤◌, ◌^◌, ◌==◌, ◌&&◌, ◌⊎◌, ◌++◌}
 use Rattle.std.specs.Prelude.{◌*◌, nat_le, nat_lt, decimal, ℕ, Bool, false, List, Option, Some, None, Result, Ok, Err}
-use Rattle.std.specs.Prelude.{◌-◌, codes, is_some, length, unwrap_or, if◌then◌else◌}
+use Rattle.std.specs.Prelude.{◌-◌, codes, is_some, IsSomeAnd, length, unwrap_or, if◌then◌else◌}
 use Rattle.std.specs.Prelude.{eqb}
 use Rattle.std.specs.List.{list_any, ends_with}
 use Rattle.booth_base.specs.declared.address.Address.{Address}
@@ -42,24 +42,20 @@ abbrev pub default_records : List ℕ
 default_records = codes "/var/lib/booth"
 
 abbrev pub IsNoName : Option (List ℕ) → Type 0
-IsNoName None = ⊥
-IsNoName (Some text) = is_name text ≡ false
+IsNoName word = IsSomeAnd word (λ text. is_name text ≡ false)
 
 abbrev pub IsNoValue : Option (List ℕ) → Type 0
-IsNoValue None = ⊥
-IsNoValue (Some text) = is_value text ≡ false
+IsNoValue word = IsSomeAnd word (λ text. is_value text ≡ false)
 
 abbrev pub IsNoAddress : Option (List ℕ) → Type 0
-IsNoAddress None = ⊥
-IsNoAddress (Some text) = (address : Address) → Spells text address → ⊥
+IsNoAddress word = IsSomeAnd word (λ text. (address : Address) → Spells text address → ⊥)
 
 -- a path of 1 to 255 bytes
 abbrev pub is_path : List ℕ → Bool
 is_path text = nat_le 1 (length text) && nat_le (length text) 255
 
 abbrev pub IsNoPath : Option (List ℕ) → Type 0
-IsNoPath None = ⊥
-IsNoPath (Some text) = is_path text ≡ false
+IsNoPath word = IsSomeAnd word (λ text. is_path text ≡ false)
 
 -- a number in this range, in decimal digits without a sign or a leading zero
 pub record IsNumber (low high : ℕ) (text : List ℕ) (n : ℕ) : Type 0 where
@@ -68,16 +64,14 @@ pub record IsNumber (low high : ℕ) (text : List ℕ) (n : ℕ) : Type 0 where
   pub most : n ≤ high
 
 abbrev pub IsNoNumber : ℕ → ℕ → Option (List ℕ) → Type 0
-IsNoNumber low high None = ⊥
-IsNoNumber low high (Some text) = (n : ℕ) → IsNumber low high text n → ⊥
+IsNoNumber low high word = IsSomeAnd word (λ text. (n : ℕ) → IsNumber low high text n → ⊥)
 
 -- a program with its arguments: at most 249 bytes, and not blanks alone
 abbrev pub is_program : List ℕ → Bool
 is_program text = list_any (λ b. nat_lt 0x20 b) text && nat_le (length text) 249
 
 abbrev pub IsNoProgram : Option (List ℕ) → Type 0
-IsNoProgram None = ⊥
-IsNoProgram (Some text) = is_program text ≡ false
+IsNoProgram word = IsSomeAnd word (λ text. is_program text ≡ false)
 
 -- a time in whole seconds, below 2^32
 abbrev pub IsNoTime : Option (List ℕ) → Type 0
@@ -122,25 +116,25 @@ pub record IsFirstRefused (t : Texts) (word : Word) : Type 0 where
 
 -- ---- what is read
 
+-- what was read of a word is what its text says, or there is neither
+abbrev pub IsReadAs : {A : Type 0} → (List ℕ → A → Type 0) → Option (List ℕ) → Option A → Type 0
+IsReadAs says None None = Unit {0}
+IsReadAs says (Some text) (Some value) = says text value
+IsReadAs says word read = ⊥
+
 -- the name or the value in a word is its bytes
 abbrev pub HasName : Option (List ℕ) → Option (List ℕ) → Type 0
-HasName None None = Unit {0}
-HasName (Some text) (Some name) = name ≡ text
-HasName word read = ⊥
+HasName word read = IsReadAs (λ text name. name ≡ text) word read
 
 -- the flags
 abbrev pub options_in : Texts → Options
 options_in t = record { immediate = t.immediate; wait = t.wait; commit = t.commit }
 
 abbrev pub HasAddress : Option (List ℕ) → Option Address → Type 0
-HasAddress None None = Unit {0}
-HasAddress (Some text) (Some address) = Spells text address
-HasAddress word read = ⊥
+HasAddress word read = IsReadAs Spells word read
 
 abbrev pub HasNumber : ℕ → ℕ → Option (List ℕ) → Option ℕ → Type 0
-HasNumber low high None None = Unit {0}
-HasNumber low high (Some text) (Some n) = IsNumber low high text n
-HasNumber low high word read = ⊥
+HasNumber low high word read = IsReadAs (IsNumber low high) word read
 
 -- the number in a word, or this one where there is no word
 abbrev pub HasNumberOr : ℕ → ℕ → ℕ → Option (List ℕ) → ℕ → Type 0
@@ -149,9 +143,7 @@ HasNumberOr low high default (Some text) n = IsNumber low high text n
 
 -- the programs that a word says, with each word that a service is run with
 abbrev pub HasProgram : Option (List ℕ) → Option Programs → Type 0
-HasProgram None None = Unit {0}
-HasProgram (Some text) (Some programs) = programs ≡ programs_of text
-HasProgram word read = ⊥
+HasProgram word read = IsReadAs (λ text programs. programs ≡ programs_of text) word read
 
 -- these milliseconds are a word's seconds
 pub record AreSeconds (text : List ℕ) (millis : ℕ) : Type 0 where
@@ -160,9 +152,7 @@ pub record AreSeconds (text : List ℕ) (millis : ℕ) : Type 0 where
   pub same : millis ≡ seconds * 1000
 
 abbrev pub HasTime : Option (List ℕ) → Option ℕ → Type 0
-HasTime None None = Unit {0}
-HasTime (Some text) (Some millis) = AreSeconds text millis
-HasTime word read = ⊥
+HasTime word read = IsReadAs AreSeconds word read
 
 -- the counts that words spell, none of which is refused
 pub record AreCounts (t : Texts) (n : Counts) : Type 0 where

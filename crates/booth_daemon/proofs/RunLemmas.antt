@@ -87,7 +87,7 @@ fits_served words asked LockFault asks served = inl (record { asked = asked; ask
 fits_served words asked OutOfMemory asks served = tt
 fits_served words asked ConfUnread asks served = inl (record { asked = asked; asks = asks })
 fits_served words asked (ConfBad fault) asks served = inl (record { asked = asked; asks = asks })
-fits_served words asked outcome asks served = record { asked = asked; asks = asks }
+fits_served words asked outcome asks served = (served, record { asked = asked; asks = asks })
 
 pub fits_looked : (words : List (List ℕ)) (lock : List ℕ) (outcome : Outcome) → AsksStatus words lock → IsStatusOutcome outcome → FitsWords words outcome
 fits_looked words lock Done asks is = inr (inl (record { lock = lock; asks = asks }))

@@ -1,10 +1,10 @@
 -- The calls of a whole run of boothd.
-use Rattle.std.specs.Prelude.{◌≡◌, ◌++◌, ◌⊎◌, ℕ, List, Some, None, IsSome}
+use Rattle.std.specs.Prelude.{◌≡◌, ◌++◌, ◌⊎◌, ℕ, T, List, Some, None, IsSome}
 use Rattle.booth_host.specs.declared.entry.Entry.{Entry}
 use Rattle.booth_outcomes.specs.declared.outcome.Outcome.{Outcome}
 use Rattle.booth_outcomes.specs.declared.outcome.Outcome.TheVariants.{Done, Usage, BadWord, LockFault, NotRunning}
-use Rattle.booth_outcomes.specs.declared.outcome.Outcome.TheVariants.{PrintFault, OutOfMemory, Report, Refused, NoReply}
-use Rattle.booth_outcomes.specs.declared.outcome.Outcome.TheVariants.{SendFault, ConfUnread, ConfBad, NotSite, NotFollowed, Stranded}
+use Rattle.booth_outcomes.specs.declared.outcome.Outcome.TheVariants.{PrintFault, OutOfMemory, ConfUnread, ConfBad}
+use Rattle.booth_outcomes.specs.Outcomes.{is_served}
 use Rattle.booth_cli.specs.declared.program.Program.TheVariants.{Boothd}
 use Rattle.booth_cli.specs.declared.asking.DaemonWords.{DaemonWords}
 use Rattle.booth_cli.specs.declared.asking.SimulationWords.{SimulationWords}
@@ -71,11 +71,4 @@ FitsWords words PrintFault = AskForStatus words ⊎ (AskForSimulation words ⊎ 
 FitsWords words OutOfMemory = Unit {0}
 FitsWords words ConfUnread = AskForDaemon words ⊎ AskForNamed words
 FitsWords words (ConfBad fault) = AskForDaemon words ⊎ AskForNamed words
-FitsWords words Report = ⊥
-FitsWords words (Refused result) = ⊥
-FitsWords words NoReply = ⊥
-FitsWords words SendFault = ⊥
-FitsWords words NotSite = ⊥
-FitsWords words (NotFollowed fault) = ⊥
-FitsWords words (Stranded result) = ⊥
-FitsWords words outcome = AskForDaemon words
+FitsWords words outcome = T (is_served outcome) × AskForDaemon words

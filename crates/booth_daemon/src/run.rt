@@ -53,7 +53,7 @@ pub fn boothd<H: Host>(alloc: Global, words: &[String], host: &mut H) -> Outcome
     ensures past { GrewSome (IsRun (map string_bytes words.now) result) (H.past host.old) (H.past host.new) }
 
     // What its daemon did is a session of a member. In every world that has it: no automatic ticket is held at two
-    // sites, and no kept term falls; who tells of itself as the holder is it, while what it told is not over. Where
+    // sites, and no kept term falls; who tells of itself as the holder is it, where what it tells is not over. Where
     // all sessions of such a world are of version 2, a later holder has a later term.
     ensures worlds { GrewSome (IsSafe (map string_bytes words.now) result) (H.past host.old) (H.past host.new) }
 

@@ -42,8 +42,10 @@ impl Follower {
     ///
     /// What is to be run is run at once. Where it cannot be, that is told as an end of that run which failed.
     pub fn step(&mut self, reading: u64, news: News) -> FollowDeed
-        ensures deed { result ≡ (follow_step self.old.margins self.old.state (record { reading = reading; heard = news })).deed }
-        ensures state { self.new.state ≡ state_after self.old.margins self.old.state (record { reading = reading; heard = news }) }
+        ensures deed { result
+            ≡ (follow_step self.old.margins self.old.state (record { reading = reading; heard = news })).deed }
+        ensures state { self.new.state
+            ≡ state_after self.old.margins self.old.state (record { reading = reading; heard = news }) }
         ensures margins { self.new.margins ≡ self.old.margins }
     {
         let how = end_of(self.state.run, news);

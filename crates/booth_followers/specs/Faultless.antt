@@ -23,7 +23,8 @@ use Rattle.booth_followers.specs.Run.{IsFollowRun}
 -- configuration says one in which the ticket can be followed so, and each key file that it names holds a key.
 pub record IsUnhindered (asked : FollowWords) (entries : List Entry) : Type 0 where
   pub read : (file : List ℕ) → Contains entries (ReadFile file (Err reads.Failed)) → ⊥
-  pub valid : (text : List ℕ) → Contains entries (ReadFile asked.conf (Ok text)) → (config : ConfigSays) × Says text config
+  pub valid : (text : List ℕ) → Contains entries (ReadFile asked.conf (Ok text))
+      → (config : ConfigSays) × Says text config
   pub fits : (text : List ℕ) (config : ConfigSays) → Contains entries (ReadFile asked.conf (Ok text)) → Says text config
       → (margins : Margins) × IsChosen config asked.ticket asked.site asked.margin asked.kill margins
   pub keyed : (text file key_text : List ℕ) (config : ConfigSays) → Contains entries (ReadFile asked.conf (Ok text))

@@ -1,45 +1,45 @@
 -- What an outcome alone says: whether a daemon that was asked for can have it, and whom it blames.
-use Rattle.std.specs.Prelude.{ℕ}
+use Rattle.std.specs.Prelude.{ℕ, Bool, true, false, not, T, MatchBool, ⊤}
 use Rattle.booth_host.specs.Causes.{Rose}
 use Rattle.booth_outcomes.specs.declared.outcome.Outcome.{Outcome}
-use Rattle.booth_outcomes.specs.declared.outcome.Outcome.TheVariants.{Usage, BadWord, ConfUnread, KeyUnread}
-use Rattle.booth_outcomes.specs.declared.outcome.Outcome.TheVariants.{LockFault, NotRunning, OpenFault}
-use Rattle.booth_outcomes.specs.declared.outcome.Outcome.TheVariants.{RecordUnread, PrintFault, Report, Refused as Denied}
-use Rattle.booth_outcomes.specs.declared.outcome.Outcome.TheVariants.{NoReply, SendFault, NotSite, Stranded, NotFollowed}
+use Rattle.booth_outcomes.specs.declared.outcome.Outcome.TheVariants.{Done, ConfUnread, ConfBad, NotMember}
+use Rattle.booth_outcomes.specs.declared.outcome.Outcome.TheVariants.{KeyUnread, KeyBad, LockFault, Running, OpenFault}
+use Rattle.booth_outcomes.specs.declared.outcome.Outcome.TheVariants.{RecordUnread, TurnsSpent, OutOfMemory}
+use Rattle.booth_outcomes.specs.declared.outcome.Outcome.TheVariants.{PrintFault, SendFault}
 
 -- an outcome of a daemon that was asked for
+abbrev pub is_served : Outcome → Bool
+is_served Done = true
+is_served ConfUnread = true
+is_served (ConfBad fault) = true
+is_served NotMember = true
+is_served KeyUnread = true
+is_served (KeyBad fault) = true
+is_served LockFault = true
+is_served Running = true
+is_served OpenFault = true
+is_served RecordUnread = true
+is_served TurnsSpent = true
+is_served OutOfMemory = true
+is_served outcome = false
+
 abbrev pub IsServed : Outcome → Type 0
-IsServed (Usage kind) = ⊥
-IsServed (BadWord word) = ⊥
-IsServed NotRunning = ⊥
-IsServed PrintFault = ⊥
-IsServed Report = ⊥
-IsServed (Denied result) = ⊥
-IsServed NoReply = ⊥
-IsServed SendFault = ⊥
-IsServed NotSite = ⊥
-IsServed (NotFollowed fault) = ⊥
-IsServed (Stranded result) = ⊥
-IsServed outcome = Unit {0}
+IsServed outcome = T (is_served outcome)
 
--- The outcomes that come only where the outside failed: its count of faults rose.
+-- an outcome that comes only where the outside failed
+abbrev pub has_blame : Outcome → Bool
+has_blame ConfUnread = true
+has_blame KeyUnread = true
+has_blame LockFault = true
+has_blame OpenFault = true
+has_blame RecordUnread = true
+has_blame PrintFault = true
+has_blame SendFault = true
+has_blame outcome = false
+
+-- Where the outside is to blame, its count of faults rose.
 abbrev pub HasBlame : Outcome → ℕ → ℕ → Type 0
-HasBlame ConfUnread before now = Rose before now
-HasBlame KeyUnread before now = Rose before now
-HasBlame LockFault before now = Rose before now
-HasBlame OpenFault before now = Rose before now
-HasBlame RecordUnread before now = Rose before now
-HasBlame PrintFault before now = Rose before now
-HasBlame SendFault before now = Rose before now
-HasBlame outcome before now = Unit {0}
+HasBlame outcome before now = MatchBool (has_blame outcome) (Rose before now) ⊤
 
--- none of the outcomes that come only where the outside failed
 abbrev pub IsBlameless : Outcome → Type 0
-IsBlameless ConfUnread = ⊥
-IsBlameless KeyUnread = ⊥
-IsBlameless LockFault = ⊥
-IsBlameless OpenFault = ⊥
-IsBlameless RecordUnread = ⊥
-IsBlameless PrintFault = ⊥
-IsBlameless SendFault = ⊥
-IsBlameless outcome = Unit {0}
+IsBlameless outcome = T (not (has_blame outcome))
