@@ -67,8 +67,8 @@ def stops_in_time(services, site, until, margin=MARGIN):
     _, listed = services.runs(site)[-1]
     require(last < until, f"the service wrote {last - until:.3f} s after the lease's end")
     require(listed <= until, f"a list told an end {listed - until:.3f} s after the lease's")
-    # (a line may be as old as the next one would be)
-    require(listed - margin - 0.2 < last, f"the service stopped {listed - last:.3f} s before the end that was listed")
+    # (a line may be as old as the next one would be, and late on a busy machine)
+    require(listed - margin - 0.5 < last, f"the service stopped {listed - last:.3f} s before the end that was listed")
     return until - last
 
 

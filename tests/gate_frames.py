@@ -1,9 +1,9 @@
 #!/usr/bin/env python3
-"""Prints datagrams that a gate refuses, for the tests of crates/booth_edge_tests, as constants.
+"""Prints datagrams that a gate refuses, for the tests of crates/booth_auth_tests, as constants.
 
 tools/frames.py spells and signs them: nothing here is of the program's own making. From the top of the repository:
 
-    python3 tests/gate_frames.py > crates/booth_edge_tests/src/tests/auth/gate_frames.rt
+    python3 tests/gate_frames.py > crates/booth_auth_tests/src/tests/gate_frames.rt
 """
 
 import os

@@ -19,8 +19,9 @@ SERVICE = """#!/bin/sh
 cd {folder} || exit 1
 site=$BOOTH_LOCAL
 echo "$1 $BOOTH_TICKET $BOOTH_TICKET_EXPIRES" >>"runs.$site"
-# (a process that is over and that nobody has waited for has no words)
-runs() {{ [ -e "pid.$site" ] && grep -q . "/proc/$(cat "pid.$site")/cmdline" 2>/dev/null; }}
+# (a process that is over and that nobody has waited for has no words; a stop and a kill may run at one time, so the
+# file may be gone)
+runs() {{ pid=$(cat "pid.$site" 2>/dev/null) && grep -q . "/proc/$pid/cmdline" 2>/dev/null; }}
 case $1 in
   start)
     [ ! -e "fails.$site" ] || exit 1
@@ -32,9 +33,9 @@ case $1 in
   stop)
     [ ! -e "slow.$site" ] || sleep "$(cat "slow.$site")"
     [ ! -e "hangs.$site" ] || exec sleep 1000
-    runs && kill "$(cat "pid.$site")"
+    runs && kill "$pid" 2>/dev/null
     ;;
-  kill) runs && kill -9 "$(cat "pid.$site")" ;;
+  kill) runs && kill -9 "$pid" 2>/dev/null ;;
 esac
 [ "$1" = start ] || {{ while runs; do sleep 0.01; done; rm -f "pid.$site"; }}
 """
