@@ -1,0 +1,9 @@
+pub mod HoldingLemmas
+pub mod JudgeLemmas
+pub mod KeptLemmas
+pub mod NotedLemmas
+pub mod OwnLemmas
+pub mod ReadLemmas
+pub mod StartLemmas
+pub mod TurnLemmas
+pub mod TurnedLemmas

@@ -1,0 +1,134 @@
+-- What an audit answers.
+use Rattle.std.specs.Prelude.{◌≡◌, ◌++◌, ℕ, true, List, [], ◌∷◌, map, take, slice_get, Option, None, Some}
+use Rattle.std.specs.List.{All}
+use Rattle.std.specs.Option.{option_map_or}
+use Rattle.booth_base.specs.declared.address.MemberId.{MemberId}
+use Rattle.booth_base.specs.declared.address.TheConstants.{NO_ONE}
+use Rattle.booth_conf.specs.Config.{ConfigSays}
+use Rattle.booth_conf.specs.declared.members.Member.{Member}
+use Rattle.booth_journal.specs.Texts.{IsFirstFault}
+use Rattle.booth_keys.specs.declared.ring.Ring.{Ring}
+use Rattle.booth_node.specs.declared.node_config.NodeConfig.{NodeConfig}
+use Rattle.booth_node.specs.Records.{Has}
+use Rattle.booth_node.specs.Session.{AreSessions, Down}
+use Rattle.booth_audit.specs.declared.audit_fault.AuditFault.{AuditFault}
+use Rattle.booth_audit.specs.declared.audit_fault.AuditFault.TheVariants as faults
+use Rattle.booth_audit.specs.declared.holding.Holding.{Holding}
+use Rattle.booth_audit.specs.Faults.{AllHearSent, AllReadKept, FirstNotKept, FirstUnsent, Heard, IsOf}
+use Rattle.booth_audit.specs.Holdings.{Covers, Deeds, holdings_from}
+use Rattle.booth_audit.specs.Replay.{Event, deeds_of, replay}
+use Rattle.booth_journal.specs.Says.{Said, Says}
+
+-- the id of the member at a place, or nobody's
+abbrev pub id_of : List Member → Option ℕ → MemberId
+id_of members None = NO_ONE
+id_of members (Some place) = option_map_or (λ (member : Member). member.id) (slice_get members place) NO_ONE
+
+-- that member, as its daemon runs
+abbrev pub node_of : ConfigSays → Option Ring → Option ℕ → NodeConfig
+node_of config ring at = record { config = config; ring = ring; me = id_of config.members at; second = true }
+
+-- ---- one journal
+
+-- A text says calls, and all its starts are those of one member, of which no earlier journal is.
+pub record IsMembers (config : ConfigSays) (earlier : List (Option ℕ)) (text : List ℕ) (at : Option ℕ) (all : List Said)
+    : Type 0 where
+  pub says : Says text all
+  pub whose : IsOf config.members all at
+  pub other : (place : ℕ) → at ≡ Some place → Has earlier at → ⊥
+
+-- A text is a journal of the member at a place: each call was demanded, each start read what its member may have kept, and
+-- this is what the member did.
+pub record IsTrue (config : ConfigSays) (ring : Option Ring) (earlier : List (Option ℕ)) (text : List ℕ) (heard : Heard)
+    : Type 0 where
+  pub said : List Said
+  pub members : IsMembers config earlier text heard.member said
+  pub id : heard.id ≡ id_of config.members heard.member
+  pub replayed : replay (node_of config ring heard.member) said ≡ record { events = heard.events; strays = None }
+  pub kept : AllReadKept [] (deeds_of heard.events)
+  pub sessions : AreSessions Down (deeds_of heard.events)
+
+abbrev pub member_places : List Heard → List (Option ℕ)
+member_places all = map (λ (heard : Heard). heard.member) all
+
+-- texts, each of another member than those before it
+abbrev pub AreTrue : ConfigSays → Option Ring → List Heard → List (List ℕ) → List Heard → Type 0
+AreTrue config ring earlier [] [] = Unit {0}
+AreTrue config ring earlier (text ∷ texts) (heard ∷ more) =
+    IsTrue config ring (member_places earlier) text heard × AreTrue config ring (earlier ++ heard ∷ []) texts more
+AreTrue config ring earlier texts more = ⊥
+
+-- ---- all journals
+
+abbrev pub deeds_by : Heard → Deeds
+deeds_by heard = record { member = heard.member; entries = deeds_of heard.events }
+
+-- What an audit that finds no fault says.
+pub record IsAudited (config : ConfigSays) (ring : Option Ring) (texts : List (List ℕ)) (holdings : List Holding) : Type 0
+  where
+    pub heard : List Heard
+    pub each : AreTrue config ring [] texts heard
+    pub sent : All (λ (one : Heard). AllHearSent heard [] (deeds_of one.events)) heard
+    pub held : holdings ≡ holdings_from (map deeds_by heard) 0 config.tickets
+    pub covers : Covers config.tickets (map deeds_by heard) holdings
+
+-- ---- faults
+
+-- the journal at this place, behind others that are true
+pub record Behind (config : ConfigSays) (ring : Option Ring) (texts : List (List ℕ)) (place : ℕ) (text : List ℕ)
+    (earlier : List Heard) : Type 0 where
+  pub is : slice_get texts place ≡ Some text
+  pub before : AreTrue config ring [] (take place texts) earlier
+
+pub record HasLine (config : ConfigSays) (ring : Option Ring) (texts : List (List ℕ)) (place line : ℕ) : Type 0 where
+  pub text : List ℕ
+  pub earlier : List Heard
+  pub behind : Behind config ring texts place text earlier
+  pub wrong : IsFirstFault text line
+
+pub record HasMember (config : ConfigSays) (ring : Option Ring) (texts : List (List ℕ)) (place : ℕ) : Type 0 where
+  pub text : List ℕ
+  pub earlier : List Heard
+  pub behind : Behind config ring texts place text earlier
+  pub said : List Said
+  pub says : Says text said
+  pub wrong : (member : Option ℕ) → IsMembers config (member_places earlier) text member said → ⊥
+
+-- a journal of a member, and what it did before the first call that was not demanded
+pub record Replays (config : ConfigSays) (ring : Option Ring) (texts : List (List ℕ)) (place : ℕ) (events : List Event)
+    (strays : Option ℕ) : Type 0 where
+  pub text : List ℕ
+  pub earlier : List Heard
+  pub behind : Behind config ring texts place text earlier
+  pub said : List Said
+  pub at : Option ℕ
+  pub members : IsMembers config (member_places earlier) text at said
+  pub replayed : replay (node_of config ring at) said ≡ record { events = events; strays = strays }
+
+pub record HasDiffers (config : ConfigSays) (ring : Option Ring) (texts : List (List ℕ)) (place line : ℕ) : Type 0 where
+  pub events : List Event
+  pub replays : Replays config ring texts place events (Some line)
+  pub kept : AllReadKept [] (deeds_of events)
+
+pub record HasNotKept (config : ConfigSays) (ring : Option Ring) (texts : List (List ℕ)) (place line : ℕ) : Type 0 where
+  pub events : List Event
+  pub strays : Option ℕ
+  pub replays : Replays config ring texts place events strays
+  pub wrong : FirstNotKept events line
+
+pub record HasUnsent (config : ConfigSays) (ring : Option Ring) (texts : List (List ℕ)) (place line : ℕ) : Type 0 where
+  pub heard : List Heard
+  pub each : AreTrue config ring [] texts heard
+  pub one : Heard
+  pub is : slice_get heard place ≡ Some one
+  pub before : All (λ (other : Heard). AllHearSent heard [] (deeds_of other.events)) (take place heard)
+  pub wrong : FirstUnsent heard one.events line
+
+-- what a fault says; want of memory may come in place of any answer
+abbrev pub HasFault : ConfigSays → Option Ring → List (List ℕ) → AuditFault → Type 0
+HasFault config ring texts (faults.Line place line) = HasLine config ring texts place line
+HasFault config ring texts (faults.Member place) = HasMember config ring texts place
+HasFault config ring texts (faults.Differs place line) = HasDiffers config ring texts place line
+HasFault config ring texts (faults.Kept place line) = HasNotKept config ring texts place line
+HasFault config ring texts (faults.Unsent place line) = HasUnsent config ring texts place line
+HasFault config ring texts faults.OutOfMemory = Unit {0}

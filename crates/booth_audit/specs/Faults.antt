@@ -1,0 +1,134 @@
+-- What may be wrong with journals, each by itself.
+use Rattle.std.specs.Prelude.{◌≡◌, ◌<◌, ◌+◌, ◌-◌, ◌*◌, ◌++◌, ℕ, Bool, List, [], ◌∷◌, length, position, slice_get, Option, None, Some, Ok}
+use Rattle.std.specs.List.{All, flat_map}
+use Rattle.booth_base.specs.declared.address.Address.{Address}
+use Rattle.booth_base.specs.contracts.address.AddressPartialEq.TheImpl as addresses
+use Rattle.booth_base.specs.declared.address.MemberId.{MemberId}
+use Rattle.booth_conf.specs.declared.members.Member.{Member}
+use Rattle.booth_conf.specs.declared.tickets.TicketConf.{TicketConf}
+use Rattle.booth_host.specs.declared.host.Arrival.TheVariants as arrivals
+use Rattle.booth_host.specs.declared.entry.Entry.TheVariants as entries
+use Rattle.booth_journal.specs.declared.said.Call.{Call}
+use Rattle.booth_journal.specs.declared.said.Call.TheVariants as calls
+use Rattle.booth_node.specs.Reaction.{used}
+use Rattle.booth_node.specs.Records.{Has, may_after_all, record_at}
+use Rattle.booth_node.specs.Session.{Down, Hearing, Makes, SessionEntry, Stand, Starts, after_entries}
+use Rattle.booth_node.specs.World.{IsSend}
+use Rattle.booth_auth.specs.Verdict.{verdict}
+use Rattle.booth_rec.specs.declared.record.Record.{Record}
+use Rattle.booth_rec.specs.Record.{no_record}
+use Rattle.booth_wire.specs.declared.command.Direction.TheVariants.{BetweenMembers}
+use Rattle.booth_wire.specs.Command.{direction_of}
+use Rattle.booth_wire.specs.PlainMessage.{PlainMessage}
+use Rattle.booth_wire.specs.Reading.{decoded}
+use Rattle.booth_audit.specs.Replay.{Event, deeds_of}
+use Rattle.booth_journal.specs.Says.{Said}
+
+-- ---- whose a journal is
+
+-- the addresses that its starts listen at
+abbrev pub opened_by : Call → List (Option Address)
+opened_by (calls.Open local) = local ∷ []
+opened_by call = []
+
+abbrev pub opened_in : List Said → List (Option Address)
+opened_in all = flat_map (λ (said : Said). opened_by said.call) all
+
+abbrev pub is_member_at : Address → Member → Bool
+is_member_at address member = addresses.eq-value.it address member.address
+
+-- the member that listens there; no member listens at any address
+abbrev pub place_of : List Member → Option Address → Option ℕ
+place_of members None = None
+place_of members (Some address) = position (is_member_at address) members
+
+-- All its starts are those of the member at a place. A journal in which none came to listen is nobody's.
+abbrev pub IsOf : List Member → List Said → Option ℕ → Type 0
+IsOf members all None = opened_in all ≡ []
+IsOf members all (Some place) =
+    (opened_in all ≡ [] → ⊥) × All (λ (local : Option Address). place_of members local ≡ Some place) (opened_in all)
+
+-- ---- records
+
+-- a start reads of each ticket a record that its member may have kept
+abbrev pub ReadsKept : List SessionEntry → SessionEntry → Type 0
+ReadsKept before (Starts node reading records) =
+    (place : ℕ) (conf : TicketConf) → slice_get node.config.tickets place ≡ Some conf
+    → Has (may_after_all conf.name (no_record ∷ []) before) (record_at records place)
+ReadsKept before what = Unit {0}
+
+-- each start behind these entries does
+abbrev pub AllReadKept : List SessionEntry → List SessionEntry → Type 0
+AllReadKept before [] = Unit {0}
+AllReadKept before (what ∷ more) = ReadsKept before what × AllReadKept (before ++ what ∷ []) more
+
+-- the record of the ticket at this place may not have been kept, and those of the tickets before it may
+pub record MayNotRead (before : List SessionEntry) (tickets : List TicketConf) (records : List (Option Record)) (place : ℕ)
+    : Type 0 where
+  pub conf : TicketConf
+  pub is : slice_get tickets place ≡ Some conf
+  pub wrong : Has (may_after_all conf.name (no_record ∷ []) before) (record_at records place) → ⊥
+  pub others : (earlier : ℕ) (other : TicketConf) → earlier < place → slice_get tickets earlier ≡ Some other
+      → Has (may_after_all other.name (no_record ∷ []) before) (record_at records earlier)
+
+-- two lines say each read of a start, of which the last begins at the line of the start
+abbrev pub answer_line : ℕ → ℕ → ℕ → ℕ
+answer_line count place last = last + 1 - 2 * (count - 1 - place)
+
+abbrev pub ReadsWrong : List SessionEntry → SessionEntry → ℕ → ℕ → Type 0
+ReadsWrong before (Starts node reading records) last line =
+    (place : ℕ) × MayNotRead before node.config.tickets records place
+    × (line ≡ answer_line (length node.config.tickets) place last)
+ReadsWrong before what last line = ⊥
+
+-- the line of the first record that may not have been kept
+pub record FirstNotKept (events : List Event) (line : ℕ) : Type 0 where
+  pub before : List Event
+  pub event : Event
+  pub after : List Event
+  pub whole : events ≡ before ++ event ∷ after
+  pub earlier : AllReadKept [] (deeds_of before)
+  pub wrong : ReadsWrong (deeds_of before) event.what event.line line
+
+-- ---- messages
+
+-- whose a journal is, the id of that member, and what it did
+pub record Heard : Type 0 where
+  pub member : Option ℕ
+  pub id : MemberId
+  pub events : List Event
+
+-- The member whose id a message bears sent the same message, by its journal. A send that failed or was cut is one too.
+pub record WasSent (all : List Heard) (message : PlainMessage) : Type 0 where
+  pub sender : Heard
+  pub known : Has all sender
+  pub same_id : sender.id ≡ message.head.from
+  pub event : Event
+  pub told : Has sender.events event
+  pub bytes : List ℕ
+  pub sent : IsSend event.what bytes
+  pub same : decoded bytes ≡ Ok message
+
+-- where the reading of a turn lets a member's message in, it was sent
+abbrev pub HearsSent : List Heard → Stand → SessionEntry → Type 0
+HearsSent all (Hearing node old (Ok (arrivals.Datagram from)) bytes) (Makes (entries.Now reading)) =
+    (message : PlainMessage) → verdict node.config node.ring node.me (used old.last_reading reading) bytes ≡ Ok message
+    → direction_of message.head.cmd ≡ BetweenMembers → WasSent all message
+HearsSent all stand what = Unit {0}
+
+-- behind these entries, each reading of a turn does
+abbrev pub AllHearSent : List Heard → List SessionEntry → List SessionEntry → Type 0
+AllHearSent all before [] = Unit {0}
+AllHearSent all before (what ∷ more) =
+    HearsSent all (after_entries Down before) what × AllHearSent all (before ++ what ∷ []) more
+
+-- The line of the first datagram with a member's message that no journal has as a send of that member: it is the answer of
+-- the wait before the reading that lets it in.
+pub record FirstUnsent (all : List Heard) (events : List Event) (line : ℕ) : Type 0 where
+  pub before : List Event
+  pub event : Event
+  pub after : List Event
+  pub whole : events ≡ before ++ event ∷ after
+  pub earlier : AllHearSent all [] (deeds_of before)
+  pub wrong : HearsSent all (after_entries Down (deeds_of before)) event.what → ⊥
+  pub place : line + 1 ≡ event.line

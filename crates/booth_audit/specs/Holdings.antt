@@ -1,0 +1,116 @@
+-- Who held which ticket when, by what the members did.
+use Rattle.std.specs.Prelude.{◌≡◌, ◌≤◌, ◌+◌, ◌++◌, ℕ, List, [], ◌∷◌, bytes_eq, position, slice_get, Option, None, Some, if◌then◌else◌}
+use Rattle.std.specs.List.{flat_map}
+use Rattle.std.specs.Option.{option_map_or}
+use Rattle.booth_conf.specs.Lookups.{is_called}
+use Rattle.booth_conf.specs.declared.tickets.TicketConf.{TicketConf}
+use Rattle.booth_host.specs.declared.entry.Entry.TheVariants as entries
+use Rattle.booth_node.specs.Opening.{start_reading}
+use Rattle.booth_node.specs.Reaction.{used}
+use Rattle.booth_node.specs.Records.{Has, may_after_all, record_at}
+use Rattle.booth_node.specs.Session.{CutKeep, IsCut, Makes, SessionEntry, Starts}
+use Rattle.booth_rec.specs.declared.record.Lease.{Lease}
+use Rattle.booth_rec.specs.declared.record.Record.{Record}
+use Rattle.booth_rec.specs.Record.{IsInForce, lease_end, no_record}
+use Rattle.booth_audit.specs.declared.holding.Holding.{Holding}
+
+-- the reading that is in use after an entry: a start uses what it read of its clock, and so does a turn
+abbrev pub used_after : ℕ → SessionEntry → ℕ
+used_after last (Starts node reading records) = start_reading reading
+used_after last (Makes (entries.Now reading)) = used last reading
+used_after last what = last
+
+abbrev pub used_after_all : ℕ → List SessionEntry → ℕ
+used_after_all last [] = last
+used_after_all last (what ∷ more) = used_after_all (used_after last what) more
+
+-- the holding of a member's ticket that a lease says, from the reading in use
+abbrev pub holding_by : ℕ → ℕ → ℕ → Option Lease → List Holding
+holding_by ticket member from None = []
+holding_by ticket member from (Some lease) =
+    record { ticket = ticket; member = member; from = from; until = lease.until } ∷ []
+
+abbrev pub if_called : List ℕ → List ℕ → List Holding → List Holding
+if_called name ticket holdings = if bytes_eq ticket name then holdings else []
+
+-- A start that read a lease makes one, and so does each keep of a lease, done, failed or cut.
+abbrev pub holding_in : List ℕ → ℕ → ℕ → ℕ → SessionEntry → List Holding
+holding_in name ticket member from (Starts node reading records) =
+    holding_by ticket member from (record_at records ticket).lease
+holding_in name ticket member from (Makes (entries.Keep kept_of rec answer)) =
+    if_called name kept_of (holding_by ticket member from rec.lease)
+holding_in name ticket member from (IsCut (CutKeep kept_of rec)) =
+    if_called name kept_of (holding_by ticket member from rec.lease)
+holding_in name ticket member from what = []
+
+-- those of one ticket of one member, in the order of its journal
+abbrev pub holdings_in : List ℕ → ℕ → ℕ → ℕ → List SessionEntry → List Holding
+holdings_in name ticket member last [] = []
+holdings_in name ticket member last (what ∷ more) =
+    let from : ℕ = used_after last what in
+    holding_in name ticket member from what ++ holdings_in name ticket member from more
+
+-- what one member did, or nobody
+pub record Deeds : Type 0 where
+  pub member : Option ℕ
+  pub entries : List SessionEntry
+
+abbrev pub holdings_by : ℕ → TicketConf → Deeds → List Holding
+holdings_by ticket conf one =
+    option_map_or (λ member. holdings_in conf.name ticket member 0 one.entries) one.member []
+
+abbrev pub holdings_of : List Deeds → ℕ → TicketConf → List Holding
+holdings_of all ticket conf = flat_map (holdings_by ticket conf) all
+
+-- by tickets, then by journals, then by lines; counted from this ticket on
+abbrev pub holdings_from : List Deeds → ℕ → List TicketConf → List Holding
+holdings_from all ticket [] = []
+holdings_from all ticket (conf ∷ more) = holdings_of all ticket conf ++ holdings_from all (ticket + 1) more
+
+-- ---- what holdings are good for
+
+-- Whatever a member did up to some entry: each record of a ticket that it may have kept then, and that is in force at the
+-- reading in use, has a holding with its end, which began no later.
+abbrev pub Covers : List TicketConf → List Deeds → List Holding → Type 0
+Covers tickets all holdings =
+    (one : Deeds) → Has all one → (before after : List SessionEntry) → one.entries ≡ before ++ after → (place : ℕ)
+    → (conf : TicketConf) → slice_get tickets place ≡ Some conf → (kept : Record)
+    → Has (may_after_all conf.name (no_record ∷ []) before) kept → IsInForce kept (used_after_all 0 before)
+    → (holding : Holding) × Has holdings holding × (holding.ticket ≡ place) × (Some holding.member ≡ one.member)
+    × (holding.until ≡ lease_end kept.lease) × (holding.from ≤ used_after_all 0 before)
+
+-- a start finds the ticket of this name at this place
+abbrev pub FindsAt : List ℕ → ℕ → SessionEntry → Type 0
+FindsAt name ticket (Starts node reading records) = position (is_called name) node.config.tickets ≡ Some ticket
+FindsAt name ticket what = Unit {0}
+
+-- each does
+abbrev pub AllFindAt : List ℕ → ℕ → List SessionEntry → Type 0
+AllFindAt name ticket [] = Unit {0}
+AllFindAt name ticket (what ∷ more) = FindsAt name ticket what × AllFindAt name ticket more
+
+-- there is a holding of this ticket of a member with the end of a lease, and it began no later than at this reading
+abbrev pub IsHeld : ℕ → ℕ → List Holding → ℕ → Option Lease → Type 0
+IsHeld ticket member holdings last None = Unit {0}
+IsHeld ticket member holdings last (Some lease) =
+    (holding : Holding) × Has holdings holding × (holding.ticket ≡ ticket) × (holding.member ≡ member)
+    × (holding.until ≡ lease.until) × (holding.from ≤ last)
+
+-- each record that a member may have kept of a ticket after its first entries has its holding
+abbrev pub MembersAreCovered : Type 0
+MembersAreCovered =
+    (name : List ℕ) (ticket member : ℕ) (before after : List SessionEntry) → AllFindAt name ticket before
+    → (kept : Record) → Has (may_after_all name (no_record ∷ []) before) kept
+    → IsHeld ticket member (holdings_in name ticket member 0 (before ++ after)) (used_after_all 0 before) kept.lease
+
+-- the starts of a member are of these tickets, each by a name of its own; nobody does nothing
+abbrev pub IsOfTickets : List TicketConf → Deeds → Type 0
+IsOfTickets tickets one =
+    (one.member ≡ None → one.entries ≡ [])
+    × ((place : ℕ) (conf : TicketConf) → slice_get tickets place ≡ Some conf → AllFindAt conf.name place one.entries)
+
+-- the holdings of such members tell of each lease that may have been kept
+abbrev pub HoldingsCover : Type 0
+HoldingsCover =
+    (tickets : List TicketConf) (all : List Deeds) → ((one : Deeds) → Has all one → IsOfTickets tickets one)
+    → Covers tickets all (holdings_from all 0 tickets)

@@ -1,0 +1,41 @@
+-- What the first call that is left of a journal is, where a call is asked for.
+use Rattle.std.specs.Prelude.{◌≡◌, ◌&&◌, not, ℕ, Bool, List, [], ◌∷◌, bytes_eq, codes, Option, None, Some, Result, Ok, Err, if◌then◌else◌}
+use Rattle.booth_host.specs.declared.host.Arrival.{Arrival}
+use Rattle.booth_host.specs.declared.host.Arrival.TheVariants as arrivals
+use Rattle.booth_host.specs.declared.host.Failed.{Failed}
+use Rattle.booth_journal.specs.declared.said.Answer.{Answer}
+use Rattle.booth_journal.specs.Lines.{call_text}
+use Rattle.booth_journal.specs.Looking.{begins_with_open}
+use Rattle.booth_journal.specs.Says.{Said}
+use Rattle.booth_audit.specs.declared.end.End.{End}
+use Rattle.booth_audit.specs.declared.end.End.TheVariants.{Over, Cut, Differs}
+
+-- ---- one call
+
+abbrev pub is_now_text : List ℕ → Bool
+is_now_text text = bytes_eq (codes "now") text
+
+-- A reading of the clock is the one that is asked for where the next call opens no socket. Each other one begins a start.
+abbrev pub begins_start : List ℕ → List ℕ → List Said → Bool
+begins_start text call more = is_now_text call && not (is_now_text text && not (begins_with_open more))
+
+abbrev pub by_answer : Option Answer → Result Answer End
+by_answer (Some answer) = Ok answer
+by_answer None = Err Cut
+
+abbrev pub judged_by : List ℕ → List ℕ → Option Answer → List Said → Result Answer End
+judged_by text call answer more =
+    if begins_start text call more then Err Over else
+    if bytes_eq text call then by_answer answer else Err Differs
+
+-- its answer, where it is the call of this text
+abbrev pub judged : List ℕ → List Said → Result Answer End
+judged text [] = Err Over
+judged text (said ∷ more) = judged_by text (call_text said.call) said.answer more
+
+-- ---- bytes
+
+-- an arrival that is no datagram has no bytes
+abbrev pub HasBytes : Result Arrival Failed → List ℕ → Type 0
+HasBytes (Ok (arrivals.Datagram from)) bytes = Unit {0}
+HasBytes answer bytes = bytes ≡ []

@@ -1,0 +1,14 @@
+pub mod Demand
+pub mod Replay
+pub mod Judged
+pub mod Left
+pub mod Reads
+pub mod Turns
+pub mod Hosts
+pub mod Starts
+pub mod Holdings
+pub mod Noted
+pub mod Own
+pub mod Kept
+pub mod Faults
+pub mod Audit

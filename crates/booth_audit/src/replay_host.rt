@@ -1,0 +1,195 @@
+//! A host that gives the answers of a journal, as long as it is asked for the calls that the journal says.
+ghost use Rattle.std.specs.Prelude.{◌≡◌, ◌≤◌, ◌+◌, ◌-◌, ◌^◌, List, ℕ, IsSome, MatchBool, None, Some, [], length};
+ghost use Rattle.booth_host.specs.Told.{told_past};
+ghost use Rattle.booth_audit.specs.Hosts.{IsReplay};
+
+use crate::End;
+use crate::lines::Lines;
+use booth_base::{ByteText, Name, Peer};
+use booth_host::{Arrival, DATAGRAM_BYTES, Datagram, Failed, Host, Job, Place, ReadFault, Told};
+use booth_journal::{Draft, spell_job, spell_keep, spell_send};
+use booth_rec::Record;
+use std::alloc::Global;
+use std::marker::{Brand, Model, PhantomData};
+
+/// The text that is replayed and the number of its first line, as part of a type: then a turn, whose contract speaks of
+/// every host, cannot leave a host of another text.
+pub trait ReplayedText {
+    ghost text: { List ℕ };
+
+    ghost line: { ℕ };
+}
+
+impl ReplayedText for Brand {
+    ghost text = { [] };
+
+    ghost line = { 0 };
+}
+
+/// Answers by the lines of the text, and, once these end, anything. It tells all calls that it is asked for, where
+/// there is memory for them. Of a turn it is asked for waits, readings, sends, keeps and starts; where it is asked for
+/// another call it tells nothing from then on.
+#[derive(Drop)]
+pub struct ReplayHost<'a, J: ReplayedText> {
+    alloc: Global,
+    lines: Lines<'a>,
+    told: Told,
+    // the call that is compared, whose bytes mean nothing between two calls
+    draft: Draft,
+    of: PhantomData<J>,
+}
+
+impl<'a, J: ReplayedText> Model for ReplayHost<'a, J> {
+    ghost use Rattle.booth_host.specs.Told.{told_past};
+    ghost use Rattle.booth_audit.specs.Hosts.{IsReplay, Seen};
+
+    ghost Value = { Seen };
+
+    ghost view = { λ h. record { place = h.lines; past = told_past h.told } };
+
+    ghost invariant = { λ h. IsReplay J.text J.line (record { place = h.lines; past = told_past h.told }) };
+}
+
+impl<'a, J: ReplayedText> ReplayHost<'a, J> {
+    /// Begins at the first line of the text. The draft may hold anything.
+    pub fn new(alloc: Global, text: &'a [u8], line: u64, draft: Draft) -> ReplayHost<'a, J>
+        requires text { text.now ≡ J.text }
+        requires line { line ≡ J.line }
+        requires short { line + length text.now ≤ 2 ^ 63 }
+        ensures past { result.past ≡ Some [] }
+        ensures text { result.place.rest ≡ text.now }
+    {
+        ReplayHost {
+            alloc,
+            lines: Lines::new(text, line),
+            told: Told::new(alloc, u32::MAX),
+            draft,
+            of: PhantomData,
+        }
+    }
+
+    /// How the lines ended, once they have.
+    pub fn end(&self) -> Option<End>
+        ensures end { result ≡ self.now.place.end }
+        ensures sound { IsReplay J.text J.line self.now }
+    {
+        self.lines.end()
+    }
+
+    /// Whether it tells its calls: there was memory for all of them.
+    pub fn tells(&self) -> bool
+        ensures { MatchBool result (IsSome self.now.past) (self.now.past ≡ None) }
+    {
+        self.told.entries().is_some()
+    }
+
+    /// The number of the first line that is left.
+    pub fn line(&self) -> u64
+        ensures { result ≡ self.now.place.line }
+    {
+        self.lines.line()
+    }
+
+    /// The bytes that are left.
+    pub fn rest(&self) -> &'a [u8]
+        ensures { result.now ≡ self.now.place.rest }
+    {
+        self.lines.rest()
+    }
+
+    /// What it tells, and the draft again.
+    pub fn into_parts(self) -> (Told, Draft)
+        ensures { told_past result.0 ≡ self.entry.past }
+    {
+        (self.told, self.draft)
+    }
+}
+
+impl<'a, J: ReplayedText> Host for ReplayHost<'a, J> {
+    ghost past = { λ h. h.past };
+
+    // a count that stands at its end
+    ghost faults = { λ _. 2 ^ 64 - 1 };
+
+    fn open(&mut self, place: &Place) -> Result<(), Failed> {
+        self.told.end();
+        Err(Failed)
+    }
+
+    fn next(&mut self, wait_ms: u64, into: &mut Datagram) -> Result<Arrival, Failed> {
+        let Some(answer) = self.lines.arrival(self.alloc, into) else {
+            self.told.end();
+            return Err(Failed);
+        };
+        self.told.next(wait_ms, answer, into.bytes());
+        answer
+    }
+
+    fn now(&mut self) -> u64 {
+        let Some(reading) = self.lines.reading() else {
+            self.told.end();
+            return 0;
+        };
+        self.told.now(reading);
+        reading
+    }
+
+    fn send(&mut self, to: &Peer, bytes: &[u8]) -> Result<(), Failed> {
+        if bytes.len() > DATAGRAM_BYTES {
+            self.told.end();
+            return Err(Failed);
+        }
+        spell_send(to, bytes, &mut self.draft);
+        let Some(answer) = self.lines.done(self.draft.bytes()) else {
+            self.told.end();
+            return Err(Failed);
+        };
+        self.told.send(to, bytes, answer);
+        answer
+    }
+
+    fn kept(&mut self, ticket: &Name) -> Result<Option<Record>, Failed> {
+        self.told.end();
+        Err(Failed)
+    }
+
+    fn keep(&mut self, ticket: &Name, rec: &Record) -> Result<(), Failed> {
+        spell_keep(ticket, rec, &mut self.draft);
+        let Some(answer) = self.lines.done(self.draft.bytes()) else {
+            self.told.end();
+            return Err(Failed);
+        };
+        self.told.keep(ticket, rec, answer);
+        answer
+    }
+
+    fn start(&mut self, job: &Job) -> Result<(), Failed> {
+        spell_job(job, &mut self.draft);
+        let Some(answer) = self.lines.done(self.draft.bytes()) else {
+            self.told.end();
+            return Err(Failed);
+        };
+        self.told.start(job, answer);
+        answer
+    }
+
+    fn read_file(&mut self, alloc: Global, path: &str) -> Result<ByteText, ReadFault> {
+        self.told.end();
+        Err(ReadFault::NoMemory)
+    }
+
+    fn lock(&mut self, path: &str) -> Result<bool, Failed> {
+        self.told.end();
+        Err(Failed)
+    }
+
+    fn out(&mut self, bytes: &[u8]) -> Result<(), Failed> {
+        self.told.end();
+        Err(Failed)
+    }
+
+    fn err(&mut self, bytes: &[u8]) -> Result<(), Failed> {
+        self.told.end();
+        Err(Failed)
+    }
+}
