@@ -62,7 +62,7 @@ whole_if : (b : Bool) (entry : WorldEntry) (entries early late : List WorldEntry
 whole_if true entry entries early late e = ap (λ (xs : List WorldEntry). entry ∷ xs) e
 whole_if false entry entries early late e = refl
 
-whole_is : (time : ℕ) (entries : List WorldEntry) → entries ≡ up_to time entries ++ later_than time entries
+pub whole_is : (time : ℕ) (entries : List WorldEntry) → entries ≡ up_to time entries ++ later_than time entries
 whole_is time [] = refl
 whole_is time (entry ∷ entries) =
     whole_if (nat_le entry.time time) entry entries (up_to time entries) (later_than time entries) (whole_is time entries)
@@ -72,7 +72,7 @@ since_if : (b : Bool) (time first : ℕ) (entry : WorldEntry) (early : List Worl
 since_if true time first entry early before rest = rest refl
 since_if false time first entry early before rest = before
 
-since_is : (time first : ℕ) (entries : List WorldEntry) → first ≤ time → last_time first (up_to time entries) ≤ time
+pub since_is : (time first : ℕ) (entries : List WorldEntry) → first ≤ time → last_time first (up_to time entries) ≤ time
 since_is time first [] early = early
 since_is time first (entry ∷ entries) early =
     since_if (nat_le entry.time time) time first entry (up_to time entries) early
@@ -83,13 +83,13 @@ until_if : (b : Bool) (time : ℕ) (entry : WorldEntry) (entries late : List Wor
 until_if true time entry entries late rest here = rest
 until_if false time entry entries late rest here = here refl
 
-until_is : (time : ℕ) (entries : List WorldEntry) → IsBefore time (later_than time entries)
+pub until_is : (time : ℕ) (entries : List WorldEntry) → IsBefore time (later_than time entries)
 until_is time [] = tt
 until_is time (entry ∷ entries) =
     until_if (nat_le entry.time time) time entry entries (later_than time entries) (until_is time entries)
     (λ e. omega (arith, leb-false entry.time time e))
 
-abbrev moment_at : (w : World) (time : ℕ) → time < w.span → Moment w
+abbrev pub moment_at : (w : World) (time : ℕ) → time < w.span → Moment w
 moment_at w time within = record {
   before = up_to time w.entries;
   after = later_than time w.entries;

@@ -7,5 +7,6 @@ pub mod CheckLemmas
 pub mod Computing
 pub mod Clocks
 pub mod WorldRuns
+pub mod TellingRuns
 pub mod PremiseRuns
 pub mod NeededPremises

@@ -4,6 +4,7 @@ pub mod Sessions
 pub mod Premises
 pub mod Checks
 pub mod Holding
+pub mod Telling
 pub mod Laws
 pub mod WorldExamples
 pub mod TakeOverExample

@@ -7,9 +7,11 @@ ghost use Rattle.booth_node.specs.World.{IsWorld, IsSecondWorld, entries_of};
 ghost use Rattle.booth_examples.specs.ManyKindsExample.{of_many_kinds, web_by_handler};
 ghost use Rattle.booth_examples.specs.Premises.{NothingHeld, SameMembers, TrueClocks, RecordsReturn, VersionsRise, MembersSpeak, OneDaemon, IsWorldBut, TwoHold, HoldsAt, PremisesAreNeeded};
 ghost use Rattle.booth_examples.specs.TakeOverExample.{taken_over};
+ghost use Rattle.booth_examples.specs.Telling.{TellsAt};
 ghost use Rattle.booth_examples.specs.PremiseExamples.{with_foreign_records, with_leases_at_first, with_a_lost_record, with_forged_votes, with_two_configurations, with_a_fast_clock, with_two_daemons, AreTrueBut, HasTwoDaemons, daemon_starts, votes_for_one, votes_for_two};
 ghost use Rattle.booth_examples.specs.VersionExamples.{promises_kept, one_after_another, with_a_falling_version};
-ghost use Rattle.booth_examples.specs.WorldExamples.{one_goes_on, one_holds, web};
+ghost use Rattle.booth_examples.specs.WorldExamples.{one_goes_on, one_holds, site_one, site_two, tells_lease, web};
+ghost use Rattle.booth_world.specs.Tellers.{EndsIn, HasLeft};
 
 /// Without the premise that records return: two sites start from a record that they never kept.
 pub fn foreign_records_are_held()
@@ -43,11 +45,13 @@ pub fn forged_votes_give_leases()
 {}
 
 /// A ticket is granted, its holder crashes in the middle of a keep and starts again, and when the
-/// lease is over another takes the ticket over.
+/// lease is over another takes the ticket over. Each tells the other site of its lease, with six seconds left.
 pub fn ticket_is_taken_over()
     ensures world { IsWorld taken_over }
     ensures first { HoldsAt taken_over web 0 12999 }
     ensures second { HoldsAt taken_over web 1 25999 }
+    ensures first_tells { TellsAt taken_over web 0 7021 (HasLeft (tells_lease site_one 1 7020 6).head 6) }
+    ensures second_tells { TellsAt taken_over web 1 20021 (HasLeft (tells_lease site_two 2 20020 6).head 6) }
     ensures shadows { (moment : Moment taken_over) → HasShadow taken_over web moment }
 {}
 
@@ -93,13 +97,14 @@ pub fn second_holder_follows()
 
 /// With a key, a ticket that has a handler and one that is granted by hand, a send, a next, a keep and a start of a
 /// handler fail, and calls of each kind are cut. A vote comes to another member as well. A site holds by a keep that is
-/// coming, by the same when it failed, and by one that was cut.
+/// coming, by the same when it failed, and by one that was cut. Its handler is told the second in which its lease ends.
 pub fn many_kinds_happen()
     ensures world { IsWorld of_many_kinds }
     ensures second { IsSecondWorld of_many_kinds }
     ensures coming { HoldsAt of_many_kinds web_by_handler 0 28122 }
     ensures failed { HoldsAt of_many_kinds web_by_handler 0 28130 }
     ensures cut { HoldsAt of_many_kinds web_by_handler 0 33300 }
+    ensures handler { TellsAt of_many_kinds web_by_handler 0 33101 (EndsIn 34) }
 {}
 
 /// Without the premise that versions rise: an arbitrator goes back from version 2 to version 1, and

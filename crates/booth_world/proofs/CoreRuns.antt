@@ -268,15 +268,21 @@ module _ (c : Cluster) (cast : Cast) (clocks : HasClocks c) (is_cast : IsCast c 
   up_after cores [] up so = up
   up_after cores (entry ∷ entries) up so = up_after (entered c cast cores entry) entries (entry_second c cast cores entry up so.0) so.1
 
+-- where each start of the cores is of version 2, so is each of the steps
+pub all_are_second : (c : Cluster) (cast : Cast) (early late : List CoreEntry) (course : CoreCourse c cast early late) (r : Runs c cast early late course)
+    → AreSecondStarts early → AreSecondStarts late → AreSecond (r.first ++ r.more)
+all_are_second c cast early late course r es ls =
+    let none_up : UpSecond (opening_cores c cast) = λ m view e. absurd (none_is view e) in
+    let early_up = up_after c cast course.clocks course.is_cast (opening_cores c cast) early none_up es in
+    r.all_second (second_from c cast course.clocks course.is_cast (opening_cores c cast) early none_up es course.enters_early)
+    (second_from c cast course.clocks course.is_cast (early_cores c cast early) late early_up ls course.enters_late)
+
 pub later_core : LaterCoreHasLaterTerm
 later_core c cast early late course es ls s t other k n l m kl nl hs ht =
     let r = runs_of c cast early late course in
     let w = world_of c r.first in
     let z = world_of c (r.first ++ r.more) in
-    let none_up : UpSecond (opening_cores c cast) = λ m view e. absurd (none_is view e) in
-    let early_up = up_after c cast course.clocks course.is_cast (opening_cores c cast) early none_up es in
-    let second = r.all_second (second_from c cast course.clocks course.is_cast (opening_cores c cast) early none_up es course.enters_early)
-    (second_from c cast course.clocks course.is_cast (early_cores c cast early) late early_up ls course.enters_late) in
+    let second = all_are_second c cast early late course r es ls in
     let a = held_by c cast (early_cores c cast early) w s k r.early_holds hs in
     let b = held_by c cast (late_cores c cast early late) z t n r.late_holds ht in
     runs_rise c course.clocks r.first r.more r.run_all second s t other a.0 b.0 l m

@@ -60,6 +60,7 @@ pub mod ManualTerms
 pub mod Configured
 pub mod WorldLaws
 pub mod WorldShadows
+pub mod WorldGrowth
 pub mod LogSessions
 pub mod LoneRuns
 pub mod TellerTexts

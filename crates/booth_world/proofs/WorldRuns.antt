@@ -378,7 +378,7 @@ module _ (w : World) (is_world : IsWorld w) (ticket : TicketConf) (setting : Set
   second_start (IsCut call) version is here = absurd here
 
   -- where each start of the world is of version 2, so is each that left its trace
-  left_second : IsSecondWorld w → (before between after : List WorldEntry) → w.entries ≡ before ++ (between ++ after) → (version : Bool)
+  pub left_second : IsSecondWorld w → (before between after : List WorldEntry) → w.entries ≡ before ++ (between ++ after) → (version : Bool)
       → IsLeftIn before between (Begins version) → version ≡ true
   left_second all before [] after whole version x = absurd x
   left_second all before (e ∷ between) after whole version (inl here) =

@@ -28,17 +28,17 @@ use Rattle.booth_node.specs.State.{State}
 use Rattle.booth_node.specs.World.{WorldEntry, World, members_of, id_at, entries_of, clock_at, stand_after, IsWorld}
 use Rattle.booth_world.specs.Facts.{Has, Release, Facts}
 use Rattle.booth_world.specs.Messages.{IsFact}
-use Rattle.booth_world.specs.States.{WorldState}
-use Rattle.booth_world.specs.Steps.{world_of}
+use Rattle.booth_world.specs.States.{WorldState, opening}
+use Rattle.booth_world.specs.Steps.{WorldStep, IsRun, world_of}
 use Rattle.booth_world.specs.Cores.{Session, Cores, opening_cores, cores_after}
 use Rattle.booth_world.specs.Turns.{Keeps, TurnTree}
 use Rattle.booth_world.specs.Hosts.{Hosts, opening_hosts, pending}
-use Rattle.booth_world.specs.Shadows.{IsComing, LastStand, RestsIn, TakesReading, IsReadIn, IsSentIn, last_after_all, records_of, Knows, WorldsHaveShadows}
+use Rattle.booth_world.specs.Shadows.{IsComing, LastStand, RestsIn, TakesReading, IsReadIn, IsSentIn, last_after_all, records_of, HasShadow, Knows, WorldsHaveShadows}
 use Rattle.booth_world.proofs.CoreSteps.{CoresHold, opens}
-use Rattle.booth_world.proofs.CoreReads.{opening_read, all_read, ReadsIn}
+use Rattle.booth_world.proofs.CoreReads.{AreRead, opening_read, all_read, ReadsIn}
 use Rattle.booth_world.proofs.CoreRuns.{runs_of, held, all_released}
 use Rattle.booth_world.proofs.HostSteps.{HostsHold, follow_all, opens_hosts, host_held}
-use Rattle.booth_world.proofs.WorldSteps.{Reads, Setting, Seats, same_bytes, cluster, setup_at, cast}
+use Rattle.booth_world.proofs.WorldSteps.{Frees, Reads, Setting, Seats, same_bytes, cluster, setup_at, cast}
 use Rattle.booth_world.proofs.NodeTurns.{IsPlacedAt}
 use Rattle.booth_world.proofs.Configured.{names_apart, no_position, setting_of}
 use Rattle.booth_world.proofs.Lists.{some_same}
@@ -68,7 +68,7 @@ one_place config sound i j a b is js same = by_place (same_or_not i j)
 module _ (w : World) (is_world : IsWorld w) (ticket : TicketConf) (setting : Setting w ticket) (moment : Moment w) (hosts : Hosts)
     (shadow : Shadows w is_world ticket setting moment.before hosts) where
   -- what may be kept at a member's host may be kept by the entries, or comes next
-  no_more_at : (m : ℕ) → m < members_of w → (k : Record) → Has (pending (hosts.place m).tree (hosts.place m).may) k
+  pub no_more_at : (m : ℕ) → m < members_of w → (k : Record) → Has (pending (hosts.place m).tree (hosts.place m).may) k
       → Holds (may_at w ticket m moment) k ⊎ IsComing ticket.name (entries_of m moment.before) k
   no_more_at m below k h = by_tree (hosts.place m).tree refl h
     where
@@ -88,7 +88,7 @@ module _ (w : World) (is_world : IsWorld w) (ticket : TicketConf) (setting : Set
       by_tree (Some (Does ask go)) is g = inl (of_may g)
 
   -- where a node rests its host is at its end, and there the core's view is that of the steps' member
-  knows_at : (cores : Cores) (state : WorldState)
+  pub knows_at : (cores : Cores) (state : WorldState)
       → HostsHold (cluster w ticket setting) (cast w ticket setting) hosts cores
       → CoresHold (cluster w ticket setting) (cast w ticket setting) cores state
       → (m : ℕ) → m < members_of w → (node : NodeConfig) (resting : State) → RestsIn (stand_after m moment.before) node resting
@@ -155,7 +155,7 @@ module _ (w : World) (is_world : IsWorld w) (ticket : TicketConf) (setting : Set
       by_stand Down x r = absurd r
 
   -- a message that was sent says a fact, where the steps' world has what the hosts have sent
-  said_at : (cores : Cores) (state : WorldState)
+  pub said_at : (cores : Cores) (state : WorldState)
       → HostsHold (cluster w ticket setting) (cast w ticket setting) hosts cores
       → CoresHold (cluster w ticket setting) (cast w ticket setting) cores state
       → (m : ℕ) (message : PlainMessage) (part : TicketPart) → IsSentIn ticket.name moment.before m message part
@@ -168,7 +168,7 @@ module _ (w : World) (is_world : IsWorld w) (ticket : TicketConf) (setting : Set
       (same_fact (id_at w) state.facts is.entry.member q.1 q.2 q.0 part q.0.cmd fact.1))
 
 -- a reading of the hosts is one of these entries
-read_in : (w : World) (is_world : IsWorld w) (ticket : TicketConf) (setting : Setting w ticket) (before : List WorldEntry)
+pub read_in : (w : World) (is_world : IsWorld w) (ticket : TicketConf) (setting : Setting w ticket) (before : List WorldEntry)
     (m reading time k t : ℕ) → m ≡ k → time ≡ t → reading ≡ clock_at w k t → IsLeftIn w is_world ticket setting [] before (Reads k t)
     → IsReadIn before m reading time
 read_in w is_world ticket setting before m reading time k t same_m same_t is at =
@@ -182,6 +182,56 @@ read_in w is_world ticket setting before m reading time k t same_m same_t is at 
           (ap (λ (j : ℕ). clock_at w j left.0.time) (sym left.2.0) ∙ ap (λ (n : ℕ). clock_at w k n) (sym left.2.1) ∙ sym is) left.2.2;
     }
 
+-- The shadow of a moment, by hosts, cores and steps that stand as its entries leave them. Each release of the cores is an
+-- entry's, and so is each reading that a mark is of.
+abbrev pub shadow_by : (w : World) (is_world : IsWorld w) (ticket : TicketConf) (setting : Setting w ticket) (moment : Moment w)
+    (hosts : Hosts) (cores : Cores) (steps : List WorldStep) (P : ℕ → ℕ → Type 0)
+    → hosts.now ≡ moment.time → Shadows w is_world ticket setting moment.before hosts
+    → HostsHold (cluster w ticket setting) (cast w ticket setting) hosts cores
+    → IsRun (cluster w ticket setting) (opening (cluster w ticket setting)) steps
+    → CoresHold (cluster w ticket setting) (cast w ticket setting) cores (world_of (cluster w ticket setting) steps)
+    → ((z : Release) → Has cores.releases z → IsLeftIn w is_world ticket setting [] moment.before (Frees z))
+    → AreRead (cluster w ticket setting) (cast w ticket setting) P cores
+    → ((k t : ℕ) → P k t → IsLeftIn w is_world ticket setting [] moment.before (Reads k t))
+    → HasShadow w ticket moment
+shadow_by w is_world ticket setting moment hosts cores steps P now_is shadow hold run holds released are read = record {
+  steps = steps;
+  run = run;
+  now = holds.same_now ∙ hold.same_now ∙ now_is;
+  versions = λ m below.
+      (holds.each m below).same_second ∙ ap (λ (s : Session). s.second) (hold.each m below).in_version ∙ (shadow.each m below).version;
+  records = λ m below kept h.
+      holds_back w is_world ticket setting (records_of w (world_of (cluster w ticket setting) steps) m) kept
+      (subst (λ (rs : List Record). Has rs kept) (sym (holds.each m below).same_may)
+      ((hold.each m below).more kept (covers w is_world ticket setting moment m below hosts shadow kept h)));
+  no_more = λ m below kept h.
+      no_more_at w is_world ticket setting moment hosts shadow m below kept
+      ((hold.each m below).only kept
+      (subst (λ (rs : List Record). Has rs kept) (holds.each m below).same_may
+      (has_here (records_of w (world_of (cluster w ticket setting) steps) m) kept h)));
+  knows = λ m below node resting rests place own there named.
+      knows_at w is_world ticket setting moment hosts shadow cores (world_of (cluster w ticket setting) steps) hold holds m below node resting rests place own
+      there named;
+  releases = λ release h. released release (subst (λ (rs : List Release). Has rs release) holds.same_releases h);
+  rounds = λ round h.
+      let q = holds.marked.rounds round h in
+      let by = are.marks q.0 q.1 in
+      read_in w is_world ticket setting moment.before round.site round.opened round.at q.0.member q.0.at q.2.0 q.2.2 (q.2.1 ∙ by.1)
+      (read q.0.member q.0.at by.0);
+  answers = λ answer h.
+      let q = holds.marked.answers answer h in
+      let by = are.marks q.0 q.1 in
+      read_in w is_world ticket setting moment.before answer.member answer.reading answer.at q.0.member q.0.at q.2.0 q.2.2 (q.2.1 ∙ by.1)
+      (read q.0.member q.0.at by.0);
+  said = said_at w is_world ticket setting moment hosts shadow cores (world_of (cluster w ticket setting) steps) hold holds;
+  held = λ m h.
+      held (cluster w ticket setting) (cast w ticket setting) cores (world_of (cluster w ticket setting) steps) m holds (
+        h.0,
+        host_held (cluster w ticket setting) (cast w ticket setting) hosts cores m h.0 hold
+            (holds_so w is_world ticket setting moment m hosts now_is shadow h.0 h.1),
+      );
+}
+
 pub worlds_have_shadows : WorldsHaveShadows
 worlds_have_shadows w is_world ticket automatic moment =
     let setting = setting_of w is_world.form ticket automatic.0 automatic.1 in
@@ -192,43 +242,10 @@ worlds_have_shadows w is_world ticket automatic moment =
     let clocks = has_clocks w is_world.true_clocks ticket setting (begins_free w is_world ticket setting) in
     let seated = is_cast w is_world ticket setting in
     let f = follow_all c k clocks seated (opening_hosts c k) (opening_cores c k) r.entries (opens_hosts c k clocks seated) r.hosted_all in
-    let cores = cores_after c k (opening_cores c k) f.0 in
     let runs = runs_of c k f.0 [] (record { clocks = clocks; is_cast = seated; enters_early = f.1; enters_late = tt }) in
-    let are = all_read c k (ReadsIn r.entries) (opening_cores c k) f.0 (opening_read c k (ReadsIn r.entries)) f.4 in
-    record {
-      steps = runs.first;
-      run = runs.run_first;
-      now = runs.early_holds.same_now ∙ f.2.same_now ∙ r.now_is;
-      versions = λ m below.
-          (runs.early_holds.each m below).same_second ∙ ap (λ (s : Session). s.second) (f.2.each m below).in_version ∙ (r.shadow.each m below).version;
-      records = λ m below kept h.
-          holds_back w is_world ticket setting (records_of w (world_of c runs.first) m) kept
-          (subst (λ (rs : List Record). Has rs kept) (sym (runs.early_holds.each m below).same_may)
-          ((f.2.each m below).more kept (covers w is_world ticket setting moment m below hosts r.shadow kept h)));
-      no_more = λ m below kept h.
-          no_more_at w is_world ticket setting moment hosts r.shadow m below kept
-          ((f.2.each m below).only kept
-          (subst (λ (rs : List Record). Has rs kept) (runs.early_holds.each m below).same_may
-          (has_here (records_of w (world_of c runs.first) m) kept h)));
-      knows = λ m below node resting rests place own there named.
-          knows_at w is_world ticket setting moment hosts r.shadow cores (world_of c runs.first) f.2 runs.early_holds m below node resting rests place own
-          there named;
-      releases = λ release h.
-          ⊎_elim (λ (none : ⊥). absurd none) (λ in_entries. r.released release (f.3 release in_entries))
-          (all_released c k clocks seated (opening_cores c k) f.0 [] release tt (opens c k clocks seated) f.1
-          (subst (λ (rs : List Release). Has rs release) runs.early_holds.same_releases h));
-      rounds = λ round h.
-          let q = runs.early_holds.marked.rounds round h in
-          let by = are.marks q.0 q.1 in
-          read_in w is_world ticket setting moment.before round.site round.opened round.at q.0.member q.0.at q.2.0 q.2.2 (q.2.1 ∙ by.1)
-          (r.read q.0.member q.0.at by.0);
-      answers = λ answer h.
-          let q = runs.early_holds.marked.answers answer h in
-          let by = are.marks q.0 q.1 in
-          read_in w is_world ticket setting moment.before answer.member answer.reading answer.at q.0.member q.0.at q.2.0 q.2.2 (q.2.1 ∙ by.1)
-          (r.read q.0.member q.0.at by.0);
-      said = said_at w is_world ticket setting moment hosts r.shadow cores (world_of c runs.first) f.2 runs.early_holds;
-      held = λ m h.
-          held c k cores (world_of c runs.first) m runs.early_holds
-          (h.0, host_held c k hosts cores m h.0 f.2 (holds_so w is_world ticket setting moment m hosts r.now_is r.shadow h.0 h.1));
-    }
+    shadow_by w is_world ticket setting moment hosts (cores_after c k (opening_cores c k) f.0) runs.first (ReadsIn r.entries)
+    r.now_is r.shadow f.2 runs.run_first runs.early_holds
+    (λ z h. ⊎_elim (λ (none : ⊥). absurd none) (λ in_entries. r.released z (f.3 z in_entries))
+    (all_released c k clocks seated (opening_cores c k) f.0 [] z tt (opens c k clocks seated) f.1 h))
+    (all_read c k (ReadsIn r.entries) (opening_cores c k) f.0 (opening_read c k (ReadsIn r.entries)) f.4)
+    r.read

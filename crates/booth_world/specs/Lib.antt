@@ -24,6 +24,7 @@ pub mod Worlds
 pub mod Tellers
 pub mod Kept
 pub mod Shadows
+pub mod Growth
 pub mod Laws
 pub mod Examples
 pub mod LoneExamples

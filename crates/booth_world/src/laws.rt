@@ -3,6 +3,7 @@ ghost use Rattle.booth_node.specs.World.{OneConfigurationIsEnough};
 ghost use Rattle.booth_world.specs.Alone.{GrantGainsAlone};
 ghost use Rattle.booth_world.specs.Calls.{CallsAreSteps, PromisesWhereItMayAnswer, StepsOfOneAreSteps};
 ghost use Rattle.booth_world.specs.CoreLaws.{CoreTermsNeverFall, CoresAreApart, CoresHoldOne, LaterCoreHasLaterTerm};
+ghost use Rattle.booth_world.specs.Growth.{ShadowsGrow};
 ghost use Rattle.booth_world.specs.HostLaws.{HostTermsNeverFall, HostsAreApart, HostsHoldOne, LaterHostHasLaterTerm};
 ghost use Rattle.booth_world.specs.Kept.{FailedKeepsSayNothing, ManualWaitersHaveJobs, TicketsKeepTheirKinds, ToldStopWaiting};
 ghost use Rattle.booth_world.specs.LastNumbers.{LastNumbers};
@@ -76,8 +77,8 @@ pub fn manual_waiters_have_jobs()
     ensures { ManualWaitersHaveJobs }
 {}
 
-/// Clients wait for an automatic ticket only while its member works, asks or leads, and then a deadline is to come: at most
-/// so long after the last reading as a round is tried, or at the end of the lease.
+/// Clients wait for an automatic ticket only while its member works, asks or leads, and then a deadline is to come: at
+/// most so long after the last reading as a round is tried, or at the end of the lease.
 pub fn waiters_have_deadlines()
     ensures { WaitersHaveDeadlines }
 {}
@@ -88,14 +89,14 @@ pub fn worlds_waiters_have_deadlines()
     ensures { WorldsWaitersHaveDeadlines }
 {}
 
-/// A grant that meets no refusal, at a member that is a majority by itself, gives the lease at once: the new term is kept,
-/// then the lease, and who asked is told of success.
+/// A grant that meets no refusal, at a member that is a majority by itself, gives the lease at once: the new term is
+/// kept, then the lease, and who asked is told of success.
 pub fn grant_gains_alone()
     ensures { GrantGainsAlone }
 {}
 
-/// After the round of the last number none is opened in its term, after the last job's number comes 1 again, and a counter
-/// stays at its greatest value.
+/// After the round of the last number none is opened in its term, after the last job's number comes 1 again, and a
+/// counter stays at its greatest value.
 pub fn last_numbers()
     ensures { LastNumbers }
 {}
@@ -237,4 +238,10 @@ pub fn all_over_hosts()
 /// entry sent says a fact; and the ticket is held at each member that holds it.
 pub fn worlds_have_shadows()
     ensures { WorldsHaveShadows }
+{}
+
+/// The shadow of a later moment goes on from that of an earlier one: what is released in the further steps is released by
+/// an entry between the two, and where all sessions are of version 2, so is each start among the steps.
+pub fn shadows_grow()
+    ensures { ShadowsGrow }
 {}

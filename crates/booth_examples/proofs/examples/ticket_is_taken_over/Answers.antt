@@ -2,6 +2,7 @@ use Rattle.booth_world.proofs.WorldShadows.{worlds_have_shadows}
 use Rattle.booth_examples.specs.TakeOverExample.{taken_over}
 use Rattle.booth_examples.specs.WorldExamples.{web}
 use Rattle.booth_examples.proofs.WorldRuns.{taken_over_is_world, first_holds_it, second_takes_it}
+use Rattle.booth_examples.proofs.TellingRuns.{first_tells_it, second_tells_it}
 use Rattle.booth_examples.proofs.examples.ticket_is_taken_over.Goals as goal
 
 pub returns-clause-world : goal.returns-clause-world
@@ -15,3 +16,9 @@ returns-clause-second c = second_takes_it
 
 pub returns-clause-shadows : goal.returns-clause-shadows
 returns-clause-shadows c = worlds_have_shadows taken_over taken_over_is_world web first_holds_it.automatic
+
+pub returns-clause-first_tells : goal.returns-clause-first_tells
+returns-clause-first_tells c = first_tells_it
+
+pub returns-clause-second_tells : goal.returns-clause-second_tells
+returns-clause-second_tells c = second_tells_it

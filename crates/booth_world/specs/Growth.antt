@@ -1,0 +1,33 @@
+-- Shadows grow: that of a later moment goes on from that of an earlier one.
+use Rattle.std.specs.Prelude.{◌≡◌, ◌⊎◌, ◌++◌, List, [], ◌∷◌}
+use Rattle.booth_conf.specs.declared.tickets.TicketConf.{TicketConf}
+use Rattle.booth_node.specs.Held.{Moment, IsAutomatic}
+use Rattle.booth_node.specs.World.{WorldEntry, World, stand_after, IsSecondWorld, IsWorld}
+use Rattle.booth_world.specs.Clusters.{cluster_of}
+use Rattle.booth_world.specs.Facts.{Release, Has}
+use Rattle.booth_world.specs.Revocations.{AtSome}
+use Rattle.booth_world.specs.Shadows.{GivesTermBack, HasShadow}
+use Rattle.booth_world.specs.Steps.{WorldStep, AreSecond, world_of}
+use Rattle.booth_world.specs.Worlds.{IsLater}
+
+-- Shadows of two moments. The steps of the later go on from those of the earlier; each release that is new in them is
+-- that of an entry between the two; and where all sessions of the world are of version 2, so is each start among them.
+pub record HasLongerShadow (w : World) (ticket : TicketConf) (early late : Moment w) (between : List WorldEntry)
+    : Type 0 where
+  pub first : HasShadow w ticket early
+  pub second : HasShadow w ticket late
+  pub more : List WorldStep
+  pub goes_on : second.steps ≡ first.steps ++ more
+  pub released : (release : Release) → Has (world_of (cluster_of w ticket) second.steps).facts.releases release
+      → Has (world_of (cluster_of w ticket) first.steps).facts.releases release
+      ⊎ AtSome early.before between
+      (λ before entry.
+      GivesTermBack w ticket.name entry.member entry.time (stand_after entry.member (before ++ entry ∷ [])) entry.what
+      release)
+  pub all_second : IsSecondWorld w → AreSecond second.steps
+
+abbrev pub ShadowsGrow : Type 0
+ShadowsGrow =
+    (w : World) → IsWorld w → (ticket : TicketConf) → IsAutomatic w ticket
+    → (early late : Moment w) (between : List WorldEntry) → IsLater w early late between
+    → HasLongerShadow w ticket early late between
