@@ -19,7 +19,7 @@ use Rattle.booth_cli.specs.declared.program.Program.TheVariants.{Boothd, Booth, 
 use Rattle.booth_cli.specs.Commands.{app_for, verb_in}
 use Rattle.booth_cli.specs.Given.{Texts, HasAttribute, HasNeeded, HasService, found_in}
 use Rattle.booth_cli.specs.Reading.{HasAddress, HasName, HasProgram, IsRead}
-use Rattle.booth_cli.specs.Asking.{Asks, AreTaken, AttributeRead, HasOrder, HasWords, IsAskedBy, IsClient, ServiceRead, IsClientOf, IsUntaken, IsUntakenFor, client_of}
+use Rattle.booth_cli.specs.Asking.{Asks, AreTaken, AttributeRead, HasOrder, HasWords, IsAskedBy, IsClient, ServiceRead, IsClientOf, IsUntaken, IsUntakenFor, NamesCommand, client_of}
 
 -- where there is a word there is an address
 has_address : (word : Option (List ℕ)) (read : Option Address) → HasAddress word read → is_some word ≡ true → is_some read ≡ true
@@ -179,7 +179,7 @@ asks program words verb t read asked named taken same is by =
 pub untaken : (program : Program) (words : List (List ℕ)) (verb : Verb) (kind : ErrorKind) → verb_in program words ≡ Some verb →
     (kind ≡ kinds.OutOfMemory) ⊎ IsAmong kind (fault_of (app_for verb) words) →
     (takes (app_for verb) words ≡ true → kind ≡ kinds.OutOfMemory) → IsUntakenFor program words kind
-untaken program words verb kinds.OutOfMemory named among passes = tt
+untaken program words verb kinds.OutOfMemory named among passes = record { verb = verb; named = named }
 untaken program words verb kind named (inl memory) passes = cc
 untaken program words verb kind named (inr among) passes = record {
   verb = verb;
@@ -193,6 +193,15 @@ pub untaken_of : (program : Program) (words : List (List ℕ)) (kind : ErrorKind
     IsUntaken program words kind
 untaken_of program words kinds.OutOfMemory not un = absurd (not refl)
 untaken_of program words kind not un = un
+
+-- where there was no memory for the words, or their command does not take them, there is a command
+pub untaken_named : (program : Program) (words : List (List ℕ)) (kind : ErrorKind) → IsUntakenFor program words kind → NamesCommand program words
+untaken_named program words kinds.OutOfMemory un = un
+untaken_named program words kind un = record { verb = un.verb; named = un.named }
+
+-- so there is where it takes them
+pub taken_named : (program : Program) (words : List (List ℕ)) (verb : Verb) (read : Read) → AreTaken program words verb read → NamesCommand program words
+taken_named program words verb read taken = record { verb = verb; named = taken.named }
 
 -- ---- what a command asks for
 

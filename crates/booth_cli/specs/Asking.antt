@@ -136,6 +136,11 @@ pub record AsksFollow (words : List (List ℕ)) (asked : FollowWords) : Type 0 w
   pub asks : AreTaken BoothFollow words verbs.Follow all
   pub same : IsFollowOf all asked
 
+-- the first word is a command of the program; of `booth-follow` each is
+pub record NamesCommand (program : Program) (words : List (List ℕ)) : Type 0 where
+  pub verb : Verb
+  pub named : verb_in program words ≡ Some verb
+
 -- the command does not take the words, and this kind of fault is one of theirs
 pub record IsUntaken (program : Program) (words : List (List ℕ)) (kind : ErrorKind) : Type 0 where
   pub verb : Verb
@@ -143,9 +148,9 @@ pub record IsUntaken (program : Program) (words : List (List ℕ)) (kind : Error
   pub among : IsAmong kind (fault_of (app_for verb) words)
   pub untaken : takes (app_for verb) words ≡ true → ⊥
 
--- the same, or want of memory, which may come at any words
+-- the same, or want of memory, which may come at any words of a command
 abbrev pub IsUntakenFor : Program → List (List ℕ) → ErrorKind → Type 0
-IsUntakenFor program words kinds.OutOfMemory = Unit {0}
+IsUntakenFor program words kinds.OutOfMemory = NamesCommand program words
 IsUntakenFor program words kind = IsUntaken program words kind
 
 -- a command takes the words, and this is the first that its reader refuses

@@ -8,10 +8,12 @@ use Rattle.booth_base.specs.declared.address.Address.{Address}
 use Rattle.booth_base.specs.Address.{Spells}
 use Rattle.booth_base.specs.Name.{is_name, is_value}
 use Rattle.booth_talk.specs.declared.order.Options.{Options}
+use Rattle.booth_following.specs.declared.programs.TheConstants.{PATH_BYTES, PROGRAM_BYTES}
 use Rattle.booth_following.specs.declared.programs.Programs.{Programs}
 use Rattle.booth_following.specs.Programs.{programs_of}
 use Rattle.booth_cli.specs.declared.word.Word.{Word}
 use Rattle.booth_cli.specs.declared.word.Word.TheVariants as words
+use Rattle.booth_cli.specs.declared.reading.TheConstants.{EVENTS, MOST_EVENTS, MOST_SECONDS, MOST_TURNS, NUMBER}
 use Rattle.booth_cli.specs.declared.reading.Addresses.{Addresses}
 use Rattle.booth_cli.specs.declared.reading.Counts.{Counts}
 use Rattle.booth_cli.specs.declared.reading.Times.{Times}
@@ -50,9 +52,9 @@ IsNoValue word = IsSomeAnd word (λ text. is_value text ≡ false)
 abbrev pub IsNoAddress : Option (List ℕ) → Type 0
 IsNoAddress word = IsSomeAnd word (λ text. (address : Address) → Spells text address → ⊥)
 
--- a path of 1 to 255 bytes
+-- a path of at least one byte
 abbrev pub is_path : List ℕ → Bool
-is_path text = nat_le 1 (length text) && nat_le (length text) 255
+is_path text = nat_le 1 (length text) && nat_le (length text) PATH_BYTES
 
 abbrev pub IsNoPath : Option (List ℕ) → Type 0
 IsNoPath word = IsSomeAnd word (λ text. is_path text ≡ false)
@@ -66,22 +68,23 @@ pub record IsNumber (low high : ℕ) (text : List ℕ) (n : ℕ) : Type 0 where
 abbrev pub IsNoNumber : ℕ → ℕ → Option (List ℕ) → Type 0
 IsNoNumber low high word = IsSomeAnd word (λ text. (n : ℕ) → IsNumber low high text n → ⊥)
 
--- a program with its arguments: at most 249 bytes, and not blanks alone
+-- a program with its arguments, which is not blanks alone, and has room for a word behind it
 abbrev pub is_program : List ℕ → Bool
-is_program text = list_any (λ b. nat_lt 0x20 b) text && nat_le (length text) 249
+is_program text = list_any (λ b. nat_lt 0x20 b) text && nat_le (length text) PROGRAM_BYTES
 
 abbrev pub IsNoProgram : Option (List ℕ) → Type 0
 IsNoProgram word = IsSomeAnd word (λ text. is_program text ≡ false)
 
--- a time in whole seconds, below 2^32
+-- a time in whole seconds
 abbrev pub IsNoTime : Option (List ℕ) → Type 0
-IsNoTime text = IsNoNumber 1 (2 ^ 32 - 1) text
+IsNoTime text = IsNoNumber 1 MOST_SECONDS text
 
 -- ---- refusals
 
 -- a count of turns or of events, or the number of a simulation
 abbrev pub RefusesCount : Texts → Type 0
-RefusesCount t = IsNoNumber 1 (2 ^ 62) t.turns ⊎ (IsNoNumber 0 10000000 t.events ⊎ IsNoNumber 0 (2 ^ 64 - 1) t.number)
+RefusesCount t = IsNoNumber 1 MOST_TURNS t.turns
+    ⊎ (IsNoNumber 0 MOST_EVENTS t.events ⊎ IsNoNumber 0 (2 ^ 64 - 1) t.number)
 
 -- a margin, or the time of a kill
 abbrev pub RefusesTime : Texts → Type 0
@@ -96,7 +99,7 @@ Refuses t words.Site = IsNoAddress t.target ⊎ IsNoAddress t.site
 Refuses t words.Number = RefusesCount t ⊎ RefusesTime t
 Refuses t words.Path = IsNoPath t.lock ⊎ IsNoPath t.records
 Refuses t words.Program = IsNoProgram t.program
-Refuses t words.Configuration = 255 < length (conf_path t.conf)
+Refuses t words.Configuration = PATH_BYTES < length (conf_path t.conf)
 
 -- the order in which a refusal is told
 abbrev pub place_of : Word → ℕ
@@ -118,9 +121,8 @@ pub record IsFirstRefused (t : Texts) (word : Word) : Type 0 where
 
 -- what was read of a word is what its text says, or there is neither
 abbrev pub IsReadAs : {A : Type 0} → (List ℕ → A → Type 0) → Option (List ℕ) → Option A → Type 0
-IsReadAs says None None = Unit {0}
-IsReadAs says (Some text) (Some value) = says text value
-IsReadAs says word read = ⊥
+IsReadAs says None read = read ≡ None
+IsReadAs says (Some text) read = IsSomeAnd read (says text)
 
 -- the name or the value in a word is its bytes
 abbrev pub HasName : Option (List ℕ) → Option (List ℕ) → Type 0
@@ -148,7 +150,7 @@ HasProgram word read = IsReadAs (λ text programs. programs ≡ programs_of text
 -- these milliseconds are a word's seconds
 pub record AreSeconds (text : List ℕ) (millis : ℕ) : Type 0 where
   pub seconds : ℕ
-  pub is : IsNumber 1 (2 ^ 32 - 1) text seconds
+  pub is : IsNumber 1 MOST_SECONDS text seconds
   pub same : millis ≡ seconds * 1000
 
 abbrev pub HasTime : Option (List ℕ) → Option ℕ → Type 0
@@ -157,9 +159,9 @@ HasTime word read = IsReadAs AreSeconds word read
 -- the counts that words spell, none of which is refused
 pub record AreCounts (t : Texts) (n : Counts) : Type 0 where
   pub accepted : RefusesCount t → ⊥
-  pub turns : HasNumber 1 (2 ^ 62) t.turns n.turns
-  pub events : HasNumberOr 0 10000000 100000 t.events n.events
-  pub number : HasNumberOr 0 (2 ^ 64 - 1) 1 t.number n.number
+  pub turns : HasNumber 1 MOST_TURNS t.turns n.turns
+  pub events : HasNumberOr 0 MOST_EVENTS EVENTS t.events n.events
+  pub number : HasNumberOr 0 (2 ^ 64 - 1) NUMBER t.number n.number
 
 -- the times that words spell, neither of which is refused
 pub record AreTimes (t : Texts) (n : Times) : Type 0 where
@@ -188,9 +190,9 @@ pub record IsRead (t : Texts) (r : Read) : Type 0 where
   pub options : r.options ≡ options_in t
   pub target : HasAddress t.target r.target
   pub site : HasAddress t.site r.site
-  pub turns : HasNumber 1 (2 ^ 62) t.turns r.turns
-  pub events : HasNumberOr 0 10000000 100000 t.events r.events
-  pub number : HasNumberOr 0 (2 ^ 64 - 1) 1 t.number r.number
+  pub turns : HasNumber 1 MOST_TURNS t.turns r.turns
+  pub events : HasNumberOr 0 MOST_EVENTS EVENTS t.events r.events
+  pub number : HasNumberOr 0 (2 ^ 64 - 1) NUMBER t.number r.number
   pub margin : HasTime t.margin r.margin
   pub kill : HasTime t.kill r.kill
   pub program : HasProgram t.program r.program

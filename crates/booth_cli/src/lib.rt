@@ -16,5 +16,5 @@ pub use asking::{
 };
 pub use command::{Verb, version};
 pub use program::Program;
-pub use reading::MOST_EVENTS;
+pub use reading::{MOST_EVENTS, MOST_TURNS};
 pub use word::Word;

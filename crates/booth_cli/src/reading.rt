@@ -3,6 +3,7 @@ ghost use Rattle.std.specs.Prelude.{◌≡◌, ◌<◌, ◌≤◌, ◌^◌, ◌=
 ghost use Rattle.std.specs.Prelude.{is_some, option_map, unwrap_or, MatchOption, MatchResult, codes, length};
 ghost use Rattle.std.specs.Prelude.{eqb, nat_lt};
 ghost use Rattle.std.specs.List.{list_any, ends_with};
+ghost use Rattle.booth_following.specs.declared.programs.TheConstants.{PATH_BYTES};
 ghost use Rattle.booth_cli.specs.Given.{texts_of};
 ghost use Rattle.booth_cli.specs.Reading.{completed, conf_path, default_lock, default_records, HasAddress, HasName, options_in};
 ghost use Rattle.booth_cli.specs.Reading.{AreAddresses, AreCounts, AreNumbers, AreTimes, HasNumber, HasNumberOr, HasProgram, HasTime};
@@ -13,7 +14,7 @@ use crate::Word;
 use crate::given::Given;
 use arrayvec::ArrayString;
 use booth_base::{Address, AttrValue, Name, PathText};
-use booth_following::Programs;
+use booth_following::{PATH_BYTES, Programs};
 use booth_talk::Options;
 use itoa::Buffer;
 
@@ -23,8 +24,8 @@ const LOCK: &str = "/var/run/booth.lock";
 /// The directory of the kept records, where none is named.
 const RECORDS: &str = "/var/lib/booth";
 
-/// The most turns that can be asked for.
-const MOST_TURNS: u64 = 1 << 62;
+/// The most turns of a daemon.
+pub const MOST_TURNS: u64 = 1 << 62;
 
 /// The most events of a simulation that words ask for.
 pub const MOST_EVENTS: u64 = 10_000_000;
@@ -291,7 +292,7 @@ fn numbers_in(given: &Given) -> Result<Numbers, Refused>
 
 // The path in a word, or this one where there is no word.
 fn path_in(word: Option<&str>, default: &str) -> Result<PathText, Refused>
-    requires { length default.now ≤ 255 }
+    requires { length default.now ≤ PATH_BYTES }
     ensures { MatchResult result
         (λ path. (path ≡ unwrap_or (option_map (λ t. t.now) word.entry) default.now)
         × (IsNoPath (option_map (λ t. t.now) word.entry) → ⊥))
@@ -372,12 +373,12 @@ fn has_ending(word: &str) -> bool
 
 // The path of a configuration that a word names.
 fn completed(word: &str) -> Option<PathText>
-    ensures { MatchOption result (255 < length (completed word.now)) (λ path. path ≡ completed word.now) }
+    ensures { MatchOption result (PATH_BYTES < length (completed word.now)) (λ path. path ≡ completed word.now) }
 {
     if has_slash(word) {
         return PathText::read(word).ok();
     }
-    if word.len() > 255 {
+    if word.len() > PATH_BYTES {
         return None;
     }
     let mut path = ArrayString::<300>::new();
@@ -390,7 +391,7 @@ fn completed(word: &str) -> Option<PathText>
 }
 
 fn conf_in(word: Option<&str>) -> Option<PathText>
-    ensures { MatchOption result (255 < length (conf_path (option_map (λ t. t.now) word.entry)))
+    ensures { MatchOption result (PATH_BYTES < length (conf_path (option_map (λ t. t.now) word.entry)))
         (λ path. path ≡ conf_path (option_map (λ t. t.now) word.entry)) }
 {
     completed(word.unwrap_or("booth"))

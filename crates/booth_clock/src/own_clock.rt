@@ -120,7 +120,8 @@ impl OwnClock {
     /// Reads the clock at this time since the boot. It never runs back.
     pub fn read(&mut self, boot: u64) -> u64
         ensures reading { result ≡ max self.old.last (reading_at self.old.offset boot) }
-        ensures clock { self.new ≡ (record { boot = self.old.boot; offset = self.old.offset; last = result; told = self.old.told }) }
+        ensures clock { self.new
+            ≡ (record { boot = self.old.boot; offset = self.old.offset; last = result; told = self.old.told }) }
     {
         self.last = self.last.max(reading_at(self.offset, boot));
         self.last

@@ -6,9 +6,9 @@ use Rattle.std.proofs.lemmas.Bool.{cases_eq}
 use Rattle.std.proofs.lemmas.List.Folds.{list_all_more}
 use Rattle.std.specs.List.{list_all}
 use Rattle.std.proofs.lemmas.Bool.Decides.{nat_tests}
-use Rattle.booth_conf.specs.Grammar.{is_blank, is_end, stays_bare, ends_bare, past, begins_note}
+use Rattle.booth_conf.specs.Grammar.{is_blank, is_end, stays_bare, ends_bare, beyond, begins_note}
 use Rattle.booth_conf.specs.LineReader.{bare_part}
-use Rattle.booth_conf.proofs.Cuts.{past_more, past_none}
+use Rattle.booth_conf.proofs.Cuts.{beyond_more, beyond_none}
 
 pub bare_of : (value tail : List ℕ) → stays_bare value tail ≡ true → ends_bare tail ≡ true →
     bare_part (value ++ tail) ≡ value
@@ -38,10 +38,10 @@ abbrev pub is_some_list : List ℕ → Bool
 is_some_list [] = false
 is_some_list (b ∷ bs) = true
 
-pub past_to : (gap : List ℕ) (b : ℕ) (rest : List ℕ) → list_all is_blank gap ≡ true →
-    is_blank b ≡ false → past is_blank (gap ++ b ∷ rest) ≡ b ∷ rest
-past_to gap b rest g n =
-    past_more is_blank gap (b ∷ rest) g ∙ past_none is_blank (b ∷ rest) (grind (arith, nat_tests))
+pub beyond_to : (gap : List ℕ) (b : ℕ) (rest : List ℕ) → list_all is_blank gap ≡ true →
+    is_blank b ≡ false → beyond is_blank (gap ++ b ∷ rest) ≡ b ∷ rest
+beyond_to gap b rest g n =
+    beyond_more is_blank gap (b ∷ rest) g ∙ beyond_none is_blank (b ∷ rest) (grind (arith, nat_tests))
 
 -- blanks and a byte that stays in the value
 pub bare_step : (gap : List ℕ) (b : ℕ) (rest : List ℕ) → list_all is_blank gap ≡ true →
@@ -50,7 +50,7 @@ pub bare_step : (gap : List ℕ) (b : ℕ) (rest : List ℕ) → list_all is_bla
 bare_step [] b rest g n s = grind (arith, nat_tests)
 bare_step (x ∷ xs) b rest g n s =
     let gs : list_all is_blank xs ≡ true = grind (arith, nat_tests) in
-    let e : is_end (xs ++ b ∷ rest) ≡ false = ap begins_note (past_to xs b rest gs n) ∙ s in
+    let e : is_end (xs ++ b ∷ rest) ≡ false = ap begins_note (beyond_to xs b rest gs n) ∙ s in
     let s' : (is_some_list xs && b == 0x23) ≡ false = grind (arith, nat_tests) in
     grind (arith, nat_tests, bare_step xs b rest gs n s', e)
 
@@ -59,7 +59,7 @@ pub bare_note : (x : ℕ) (xs rest : List ℕ) → list_all is_blank (x ∷ xs) 
     bare_part ((x ∷ xs) ++ 0x23 ∷ rest) ≡ []
 bare_note x xs rest g =
     let gs : list_all is_blank xs ≡ true = grind (arith, nat_tests) in
-    let e : is_end (xs ++ 0x23 ∷ rest) ≡ true = ap begins_note (past_to xs 0x23 rest gs refl) in
+    let e : is_end (xs ++ 0x23 ∷ rest) ≡ true = ap begins_note (beyond_to xs 0x23 rest gs refl) in
     grind (arith, nat_tests, e)
 
 -- blanks alone
@@ -67,8 +67,8 @@ pub bare_blanks : (xs : List ℕ) → list_all is_blank xs ≡ true → bare_par
 bare_blanks [] g = refl
 bare_blanks (x ∷ xs) g =
     let gs : list_all is_blank xs ≡ true = grind (arith, nat_tests) in
-    let p : past is_blank xs ≡ [] =
-    ap (past is_blank) (sym (append-nil xs)) ∙ past_more is_blank xs [] gs in
+    let p : beyond is_blank xs ≡ [] =
+    ap (beyond is_blank) (sym (append-nil xs)) ∙ beyond_more is_blank xs [] gs in
     let e : is_end xs ≡ true = ap begins_note p in
     grind (arith, nat_tests, e)
 
@@ -136,7 +136,7 @@ at_note bytes e i l lt g h v =
 pub at_end : (bytes : List ℕ) (e i : ℕ) → e ≤ i → length bytes ≤ i →
     list_all is_blank (gap_of bytes e i) ≡ true →
     bare_part bytes ≡ take e bytes ++ bare_part (drop e bytes) → take e bytes ≡ bare_part bytes
-at_end bytes e i le past g v =
+at_end bytes e i le beyond g v =
     let all : gap_of bytes e i ≡ drop e bytes =
     take_all (i - e) (drop e bytes) (simp length-drop (omega arith)) in
     let none : bare_part (drop e bytes) ≡ [] = bare_blanks (drop e bytes) (rw (← all) g) in

@@ -4,11 +4,11 @@ use Rattle.std.specs.List.{list_all, prefix_len, position}
 use Rattle.std.proofs.lemmas.List.{drop_at, take_at, drop_more, length_push}
 use Rattle.std.proofs.lemmas.List.Quantifiers.{position-Some}
 use Rattle.std.proofs.lemmas.Bool.Decides.{nat_tests}
-use Rattle.booth_conf.specs.Grammar.{is_blank, is_key_byte, is_value_byte, is_end, past, begins_note, stays_bare, ends_bare, begins_bare, is_other, IsQuoted, IsBare, IsWritten, IsPair, IsEmptyLine, is_key, Reads, OneReading}
+use Rattle.booth_conf.specs.Grammar.{is_blank, is_key_byte, is_value_byte, is_end, beyond, begins_note, stays_bare, ends_bare, begins_bare, is_other, IsQuoted, IsBare, IsWritten, IsPair, IsEmptyLine, is_key, Reads, OneReading}
 use Rattle.booth_conf.specs.LineReader.{Reading, Empty, Pair, Broken, front, bare, bare_part, quoted, quoted_to, value_in, valued, keyed, begun, line_read, Shows}
 use Rattle.booth_conf.specs.declared.grammar.Line.{Line}
 use Rattle.booth_conf.specs.declared.grammar.Line.TheVariants as lines
-use Rattle.booth_conf.proofs.Cuts.{past_more, front_more, front_past, front_is, front_all, past_none, front_none, past_stops, stops}
+use Rattle.booth_conf.proofs.Cuts.{beyond_more, front_more, front_beyond, front_is, front_all, beyond_none, front_none, beyond_stops, stops}
 use Rattle.booth_conf.proofs.Bare.{bare_of, bare_tail, bare_parts, bare_stays, bare_ends}
 
 key_no_blank : (b : ℕ) → is_key_byte b ≡ true → is_blank b ≡ false
@@ -196,7 +196,7 @@ written_stops rest value (inr (inr w)) =
     ap (stops is_blank) w.spelled ∙ bare_stops value w.tail w.begins
 
 keyed_some : (key rest : List ℕ) → is_key key ≡ true →
-    keyed key (0x3D ∷ rest) ≡ valued key (value_in (past is_blank rest))
+    keyed key (0x3D ∷ rest) ≡ valued key (value_in (beyond is_blank rest))
 keyed_some [] rest h = cc
 keyed_some (k ∷ ks) rest h = refl
 
@@ -204,22 +204,22 @@ keyed_some (k ∷ ks) rest h = refl
 pub pair_only : (line key value : List ℕ) → IsPair line key value → line_read line ≡ Pair key value
 pair_only line key value p =
     let tail : List ℕ = p.gap ++ 0x3D ∷ (p.pad ++ p.rest) in
-    let start : past is_blank line ≡ key ++ tail =
-    ap (past is_blank) p.spelled ∙ past_more is_blank p.lead (key ++ tail) p.lead_blank
-    ∙ past_none is_blank (key ++ tail) (key_stops_blank key tail p.named) in
+    let start : beyond is_blank line ≡ key ++ tail =
+    ap (beyond is_blank) p.spelled ∙ beyond_more is_blank p.lead (key ++ tail) p.lead_blank
+    ∙ beyond_none is_blank (key ++ tail) (key_stops_blank key tail p.named) in
     let all : list_all is_key_byte key ≡ true = key_all key p.named in
     let ends : stops is_key_byte tail ≡ true = gap_stops_key p.gap (p.pad ++ p.rest) p.gap_blank in
     let front_is_key : front is_key_byte (key ++ tail) ≡ key =
     front_more is_key_byte key tail all ∙ ap (λ xs. key ++ xs) (front_none is_key_byte tail ends)
     ∙ append-nil key in
-    let past_key : past is_key_byte (key ++ tail) ≡ tail =
-    past_more is_key_byte key tail all ∙ past_none is_key_byte tail ends in
-    let past_gap : past is_blank tail ≡ 0x3D ∷ (p.pad ++ p.rest) =
-    past_more is_blank p.gap (0x3D ∷ (p.pad ++ p.rest)) p.gap_blank in
-    let past_pad : past is_blank (p.pad ++ p.rest) ≡ p.rest =
-    past_more is_blank p.pad p.rest p.pad_blank
-    ∙ past_none is_blank p.rest (written_stops p.rest value p.written) in
-    rw (start, key_is_no_end key tail p.named, front_is_key, past_key, past_gap, keyed_some key (p.pad ++ p.rest) p.named, past_pad, written_only p.rest value p.written p.plain) refl
+    let beyond_key : beyond is_key_byte (key ++ tail) ≡ tail =
+    beyond_more is_key_byte key tail all ∙ beyond_none is_key_byte tail ends in
+    let beyond_gap : beyond is_blank tail ≡ 0x3D ∷ (p.pad ++ p.rest) =
+    beyond_more is_blank p.gap (0x3D ∷ (p.pad ++ p.rest)) p.gap_blank in
+    let beyond_pad : beyond is_blank (p.pad ++ p.rest) ≡ p.rest =
+    beyond_more is_blank p.pad p.rest p.pad_blank
+    ∙ beyond_none is_blank p.rest (written_stops p.rest value p.written) in
+    rw (start, key_is_no_end key tail p.named, front_is_key, beyond_key, beyond_gap, keyed_some key (p.pad ++ p.rest) p.named, beyond_pad, written_only p.rest value p.written p.plain) refl
 
 pair_of : (b : Bool) (read : Reading) (key value : List ℕ) → cond b Empty read ≡ Pair key value →
     (b ≡ false) × (read ≡ Pair key value)
@@ -227,9 +227,9 @@ pair_of true read key value e = cc
 pair_of false read key value e = (refl, e)
 
 begun_found : (start key value : List ℕ) → begun start ≡ Pair key value →
-    (is_end start ≡ false) × (keyed (front is_key_byte start) (past is_blank (past is_key_byte start)) ≡ Pair key value)
+    (is_end start ≡ false) × (keyed (front is_key_byte start) (beyond is_blank (beyond is_key_byte start)) ≡ Pair key value)
 begun_found start key value e =
-    pair_of (is_end start) (keyed (front is_key_byte start) (past is_blank (past is_key_byte start))) key value e
+    pair_of (is_end start) (keyed (front is_key_byte start) (beyond is_blank (beyond is_key_byte start))) key value e
 
 valued_found : (k key value : List ℕ) (o : Option (List ℕ)) → valued k o ≡ Pair key value →
     (k ≡ key) × (o ≡ Some value)
@@ -247,15 +247,15 @@ pub record Keyed (k rest key value : List ℕ) : Type 0 where
   pub same : k ≡ key
   pub some_key : (k ≡ []) → ⊥
   pub equals : rest ≡ 0x3D ∷ after
-  pub read : value_in (past is_blank after) ≡ Some value
+  pub read : value_in (beyond is_blank after) ≡ Some value
 
 keyed_found : (k rest key value : List ℕ) → keyed k rest ≡ Pair key value → Keyed k rest key value
 keyed_found [] rest key value e = cc
 keyed_found (k ∷ ks) [] key value e = cc
 keyed_found (k ∷ ks) (b ∷ rest) key value e =
     let q =
-    equals_found (b == 0x3D) (valued (k ∷ ks) (value_in (past is_blank rest))) key value e in
-    let v = valued_found (k ∷ ks) key value (value_in (past is_blank rest)) q.1 in
+    equals_found (b == 0x3D) (valued (k ∷ ks) (value_in (beyond is_blank rest))) key value e in
+    let v = valued_found (k ∷ ks) key value (value_in (beyond is_blank rest)) q.1 in
     record { after = rest; same = v.0; some_key = λ h. cc; equals = grind (arith, nat_tests, q.0); read = v.1 }
 
 key_is_some : (k : List ℕ) → ((k ≡ []) → ⊥) → list_all is_key_byte k ≡ true → is_key k ≡ true
@@ -265,19 +265,19 @@ key_is_some (k ∷ ks) n h = h
 -- what is read is in the grammar
 pub pair_found : (line key value : List ℕ) → line_read line ≡ Pair key value → IsPair line key value
 pair_found line key value e =
-    let start : List ℕ = past is_blank line in
+    let start : List ℕ = beyond is_blank line in
     let b = begun_found start key value e in
-    let rest : List ℕ = past is_key_byte start in
-    let k = keyed_found (front is_key_byte start) (past is_blank rest) key value b.1 in
-    let w = written_found (past is_blank k.after) value (past_stops is_blank k.after) k.read in
+    let rest : List ℕ = beyond is_key_byte start in
+    let k = keyed_found (front is_key_byte start) (beyond is_blank rest) key value b.1 in
+    let w = written_found (beyond is_blank k.after) value (beyond_stops is_blank k.after) k.read in
     record {
       lead = front is_blank line;
       gap = front is_blank rest;
       pad = front is_blank k.after;
-      rest = past is_blank k.after;
-      spelled = front_past is_blank line ∙ ap (λ xs. front is_blank line ++ xs)
-          (front_past is_key_byte start ∙ ap (λ xs. xs ++ rest) k.same ∙ ap (λ xs. key ++ xs)
-          (front_past is_blank rest ∙ ap (λ xs. front is_blank rest ++ xs) (k.equals ∙ ap (λ xs. 0x3D ∷ xs) (front_past is_blank k.after))));
+      rest = beyond is_blank k.after;
+      spelled = front_beyond is_blank line ∙ ap (λ xs. front is_blank line ++ xs)
+          (front_beyond is_key_byte start ∙ ap (λ xs. xs ++ rest) k.same ∙ ap (λ xs. key ++ xs)
+          (front_beyond is_blank rest ∙ ap (λ xs. front is_blank rest ++ xs) (k.equals ∙ ap (λ xs. 0x3D ∷ xs) (front_beyond is_blank k.after))));
       lead_blank = front_all is_blank line;
       gap_blank = front_all is_blank rest;
       pad_blank = front_all is_blank k.after;
@@ -288,8 +288,8 @@ pair_found line key value e =
 
 pub empty_read : (line : List ℕ) → is_end line ≡ true → line_read line ≡ Empty
 empty_read line e =
-    let start : is_end (past is_blank line) ≡ true =
-    ap begins_note (past_none is_blank (past is_blank line) (past_stops is_blank line)) ∙ e in
+    let start : is_end (beyond is_blank line) ≡ true =
+    ap begins_note (beyond_none is_blank (beyond is_blank line) (beyond_stops is_blank line)) ∙ e in
     rw start refl
 
 valued_not : (k : List ℕ) (o : Option (List ℕ)) → valued k o ≡ Empty → ⊥
@@ -304,7 +304,7 @@ keyed_not : (k rest : List ℕ) → keyed k rest ≡ Empty → ⊥
 keyed_not [] rest e = cc
 keyed_not (k ∷ ks) [] e = cc
 keyed_not (k ∷ ks) (b ∷ rest) e =
-    cond_not (b == 0x3D) (valued (k ∷ ks) (value_in (past is_blank rest))) (valued_not (k ∷ ks) (value_in (past is_blank rest))) e
+    cond_not (b == 0x3D) (valued (k ∷ ks) (value_in (beyond is_blank rest))) (valued_not (k ∷ ks) (value_in (beyond is_blank rest))) e
 
 empty_of : (b : Bool) (k rest : List ℕ) → cond b Empty (keyed k rest) ≡ Empty → b ≡ true
 empty_of true k rest e = refl
@@ -312,8 +312,8 @@ empty_of false k rest e = absurd (keyed_not k rest e)
 
 pub empty_found : (line : List ℕ) → line_read line ≡ Empty → is_end line ≡ true
 empty_found line e =
-    sym (ap begins_note (past_none is_blank (past is_blank line) (past_stops is_blank line)))
-    ∙ empty_of (is_end (past is_blank line)) (front is_key_byte (past is_blank line)) (past is_blank (past is_key_byte (past is_blank line))) e
+    sym (ap begins_note (beyond_none is_blank (beyond is_blank line) (beyond_stops is_blank line)))
+    ∙ empty_of (is_end (beyond is_blank line)) (front is_key_byte (beyond is_blank line)) (beyond is_blank (beyond is_key_byte (beyond is_blank line))) e
 
 pub reads_of : (line : List ℕ) (said : Line) → Shows said (line_read line) → Reads line said
 reads_of line lines.Empty e = empty_found line e

@@ -18,7 +18,8 @@ use Rattle.booth_conf.specs.declared.keys.ConfKey.TheVariants as keys
 use Rattle.booth_conf.specs.declared.keys.Form.TheVariants.{Number}
 use Rattle.booth_conf.specs.declared.sections.NamedSection.{NamedSection}
 use Rattle.booth_conf.specs.declared.settings.Entry.{Entry}
-use Rattle.booth_conf.specs.declared.limits.TheConstants.{SECONDS}
+use Rattle.booth_conf.specs.declared.limits.TheConstants.{LEAST_RETRIES, MOST_RETRIES, SECONDS}
+use Rattle.booth_conf.specs.declared.defaults.TheConstants.{EXPIRE, PORT, RETRIES, SKEW, TIMEOUT}
 use Rattle.booth_conf.proofs.KeyLemmas.{both_true}
 use Rattle.booth_conf.proofs.SectionLemmas.{all_entries, given_form, number_at, text_at, command_at, weights_at, are_some_weights, prereqs_sound, extras_sound}
 
@@ -75,10 +76,10 @@ times_sound : (defaults own : List Entry) → list_all is_entry defaults ≡ tru
     are_times (times_of defaults own) ≡ true
 times_sound defaults own d o =
     all_five _ _ _ _ _
-    (whole_seconds 1 (chosen_number keys.Expire defaults own 600) (chosen_within 1 SECONDS keys.Expire defaults own 600 refl d o refl))
+    (whole_seconds 1 (chosen_number keys.Expire defaults own EXPIRE) (chosen_within 1 SECONDS keys.Expire defaults own EXPIRE refl d o refl))
     (whole_seconds 0 (chosen_number keys.AcquireAfter defaults own 0) (chosen_within 0 SECONDS keys.AcquireAfter defaults own 0 refl d o refl))
-    (whole_seconds 1 (chosen_number keys.Timeout defaults own 5) (chosen_within 1 SECONDS keys.Timeout defaults own 5 refl d o refl))
-    (chosen_within 3 100 keys.Retries defaults own 10 refl d o refl)
+    (whole_seconds 1 (chosen_number keys.Timeout defaults own TIMEOUT) (chosen_within 1 SECONDS keys.Timeout defaults own TIMEOUT refl d o refl))
+    (chosen_within LEAST_RETRIES MOST_RETRIES keys.Retries defaults own RETRIES refl d o refl)
     (renewal_sound (option_or (number_given keys.RenewalFreq own) (number_given keys.RenewalFreq defaults)) (times_of defaults own) refl
     (each_or (is_within 1 SECONDS) (number_given keys.RenewalFreq own) (number_given keys.RenewalFreq defaults) (given_within 1 SECONDS keys.RenewalFreq own refl o) (given_within 1 SECONDS keys.RenewalFreq defaults refl d)))
 
@@ -134,9 +135,9 @@ config_sound d h none =
     let facts : list_all is_entry (defaults_of d) ≡ true = defaults_sound d h in
     let top : list_all is_entry d.top ≡ true = all_entries d.top h.top in
     record {
-      port = each_unwrap (is_within 1 65535) (number_given keys.Port d.top) 9929 (given_within 1 65535 keys.Port d.top refl top) refl;
+      port = each_unwrap (is_within 1 65535) (number_given keys.Port d.top) PORT (given_within 1 65535 keys.Port d.top refl top) refl;
       authfile = text_at 1 (given keys.Authfile d.top) (λ v. given_form d.top keys.Authfile v top);
-      skew = each_unwrap (is_within 1 SECONDS) (number_given keys.Maxtimeskew d.top) 600 (given_within 1 SECONDS keys.Maxtimeskew d.top refl top) refl;
+      skew = each_unwrap (is_within 1 SECONDS) (number_given keys.Maxtimeskew d.top) SKEW (given_within 1 SECONDS keys.Maxtimeskew d.top refl top) refl;
       authfile_old = text_at 1 (given keys.AuthfileOld d.top) (λ v. given_form d.top keys.AuthfileOld v top);
       extras = extras_sound d.top top;
       new_extras = h.new_extras;

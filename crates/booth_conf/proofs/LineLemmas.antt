@@ -49,6 +49,11 @@ lines_more f xs i x lt is =
     ap lines_text (map_more f xs i x lt ∙ ap (λ y. map f (take i xs) ++ f y ∷ []) (sym is))
     ∙ lines_append (map f (take i xs)) (f x ∷ [])
 
+-- one entry more, one line more
+pub ruleset more_entries = (entries_more, map_more, entries_append)
+
+pub ruleset more_lines = (lines_more, map_more, lines_append)
+
 -- one more ticket
 pub tickets_more : (xs : List TicketConf) (i : ℕ) (x : TicketConf) → i < length xs →
     x ≡ get_or xs i x →

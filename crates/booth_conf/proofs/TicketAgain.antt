@@ -12,7 +12,7 @@ use Rattle.booth_conf.specs.Sections.{has_key, given, as_number, as_text, as_wei
 use Rattle.booth_conf.specs.Config.{is_manual, renewal_of, ticket_of}
 use Rattle.booth_conf.specs.Print.{set, optional, renewal_said, weights_said, prereq_entry, word_of, key_entries}
 use Rattle.booth_conf.specs.Sound.{is_within, is_seconds, is_renewal, are_times, is_ticket, is_ticket_name, are_weights, each, is_command, are_prereqs, is_prereq}
-use Rattle.booth_conf.specs.declared.limits.TheConstants.{PREREQS, SECONDS}
+use Rattle.booth_conf.specs.declared.limits.TheConstants.{LEAST_RETRIES, MOST_RETRIES, PREREQS, SECONDS}
 use Rattle.booth_conf.specs.declared.keys.ConfKey.{ConfKey}
 use Rattle.booth_conf.specs.declared.keys.ConfKey.TheVariants as keys
 use Rattle.booth_conf.specs.declared.keys.Form.{Form}
@@ -131,7 +131,7 @@ pub record TimesFacts (times : Times) : Type 0 where
   pub expire : is_seconds 1 times.expire ≡ true
   pub after : is_seconds 0 times.after ≡ true
   pub timeout : is_seconds 1 times.timeout ≡ true
-  pub retries : is_within 3 100 times.retries ≡ true
+  pub retries : is_within LEAST_RETRIES MOST_RETRIES times.retries ≡ true
   pub renewal : is_renewal times ≡ true
 
 pub times_facts : (times : Times) → are_times times ≡ true → TimesFacts times

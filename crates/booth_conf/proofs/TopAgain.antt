@@ -16,6 +16,7 @@ use Rattle.booth_conf.specs.Sound.{is_within, is_text, is_extra, are_new, same_k
 use Rattle.booth_conf.specs.declared.keys.ConfKey.{ConfKey}
 use Rattle.booth_conf.specs.declared.keys.ConfKey.TheVariants as keys
 use Rattle.booth_conf.specs.declared.keys.Form.TheVariants as forms
+use Rattle.booth_conf.specs.declared.defaults.TheConstants.{PORT, SKEW}
 use Rattle.booth_conf.specs.declared.keys.KeyNo.{KeyNo}
 use Rattle.booth_conf.specs.declared.settings.Value.{Value}
 use Rattle.booth_conf.specs.declared.settings.Value.TheVariants.{Number, Text, Word}
@@ -175,9 +176,9 @@ late_no_extra (Some path) hash xs = refl
 
 -- what they say
 pub record TopSays (c : ConfigSays) : Type 0 where
-  pub port : unwrap_or (number_given keys.Port (top_of c)) 9929 ≡ c.port
+  pub port : unwrap_or (number_given keys.Port (top_of c)) PORT ≡ c.port
   pub authfile : text_given keys.Authfile (top_of c) ≡ c.authfile
-  pub skew : unwrap_or (number_given keys.Maxtimeskew (top_of c)) 600 ≡ c.skew
+  pub skew : unwrap_or (number_given keys.Maxtimeskew (top_of c)) SKEW ≡ c.skew
   pub authfile_old : text_given keys.AuthfileOld (top_of c) ≡ c.authfile_old
   pub auth_hash : hash_at (unwrap_or (word_given keys.Authhash (top_of c)) 0) ≡ c.auth_hash
   pub extras : filter_map extra_of (top_of c) ≡ c.extras
@@ -199,7 +200,7 @@ top_again c h =
     record {
       port = refl;
       authfile = ap (option_and_then as_text) file ∙ path_at c.authfile;
-      skew = ap (λ o. unwrap_or (option_and_then as_number o) 600) (skew_given c.port c.authfile c.skew late);
+      skew = ap (λ o. unwrap_or (option_and_then as_number o) SKEW) (skew_given c.port c.authfile c.skew late);
       authfile_old = ap (option_and_then as_text) old ∙ path_at c.authfile_old;
       auth_hash = ap (λ o. hash_at (unwrap_or (option_and_then as_word o) 0)) hash ∙ hash_again c.auth_hash;
       extras = early_no_extra c.port c.authfile c.skew late ∙ late_no_extra c.authfile_old c.auth_hash c.extras ∙ extras_again c.extras h;

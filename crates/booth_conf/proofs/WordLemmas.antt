@@ -4,11 +4,11 @@ use Rattle.std.specs.Prelude.{is_some}
 use Rattle.std.specs.List.{list_all}
 use Rattle.std.proofs.lemmas.Bool.Decides.{nat_tests}
 use Rattle.std.proofs.NetLemmas.Options.{cond_none}
-use Rattle.booth_conf.specs.Grammar.{past}
+use Rattle.booth_conf.specs.Grammar.{beyond}
 use Rattle.booth_conf.specs.LineReader.{front}
 use Rattle.booth_conf.specs.Values.{is_gap, is_word_byte, is_word, begins_gap, AreWords}
 use Rattle.booth_conf.specs.ValueReader.{word_of, word_in, then_word, last_word, one_word, four_words, Words}
-use Rattle.booth_conf.proofs.Cuts.{past_more, front_more, front_past, front_all, past_none, front_none, past_stops, stops}
+use Rattle.booth_conf.proofs.Cuts.{beyond_more, front_more, front_beyond, front_all, beyond_none, front_none, beyond_stops, stops}
 
 -- a text begins with this word, and goes on with the rest
 pub record IsFirst (text word rest : List ℕ) : Type 0 where
@@ -43,35 +43,35 @@ word_at (b ∷ bs) rest h e =
     front_more is_word_byte (b ∷ bs) rest all
     ∙ ap (λ xs. (b ∷ bs) ++ xs) (front_none is_word_byte rest (gap_stops rest e))
     ∙ append-nil (b ∷ bs) in
-    let p : past is_word_byte ((b ∷ bs) ++ rest) ≡ rest =
-    past_more is_word_byte (b ∷ bs) rest all ∙ past_none is_word_byte rest (gap_stops rest e) in
+    let p : beyond is_word_byte ((b ∷ bs) ++ rest) ≡ rest =
+    beyond_more is_word_byte (b ∷ bs) rest all ∙ beyond_none is_word_byte rest (gap_stops rest e) in
     rw (f, p) refl
 
 pub word_only : (text word rest : List ℕ) → IsFirst text word rest →
     word_in text ≡ Some (word, rest)
 word_only text word rest h =
-    let start : past is_gap text ≡ word ++ rest =
-    ap (past is_gap) h.spelled ∙ past_more is_gap h.gap (word ++ rest) h.gaps
-    ∙ past_none is_gap (word ++ rest) (word_stops word rest h.some) in
+    let start : beyond is_gap text ≡ word ++ rest =
+    ap (beyond is_gap) h.spelled ∙ beyond_more is_gap h.gap (word ++ rest) h.gaps
+    ∙ beyond_none is_gap (word ++ rest) (word_stops word rest h.some) in
     rw start (word_at word rest h.some h.ends)
 
-first_of : (text start : List ℕ) (w : List ℕ × List ℕ) → past is_gap text ≡ start →
+first_of : (text start : List ℕ) (w : List ℕ × List ℕ) → beyond is_gap text ≡ start →
     stops is_gap start ≡ true → word_of start ≡ Some w → IsFirst text w.0 w.1
 first_of text [] w p s e = cc
 first_of text (b ∷ bs) w p s e =
     let f : front is_word_byte (b ∷ bs) ≡ w.0 = cc in
-    let q : past is_word_byte (b ∷ bs) ≡ w.1 = cc in
+    let q : beyond is_word_byte (b ∷ bs) ≡ w.1 = cc in
     record {
       gap = front is_gap text;
-      spelled = front_past is_gap text ∙ ap (λ xs. front is_gap text ++ xs) (p ∙ front_past is_word_byte (b ∷ bs) ∙ ap (λ xs. xs ++ past is_word_byte (b ∷ bs)) f ∙ ap (λ xs. w.0 ++ xs) q);
+      spelled = front_beyond is_gap text ∙ ap (λ xs. front is_gap text ++ xs) (p ∙ front_beyond is_word_byte (b ∷ bs) ∙ ap (λ xs. xs ++ beyond is_word_byte (b ∷ bs)) f ∙ ap (λ xs. w.0 ++ xs) q);
       gaps = front_all is_gap text;
       some = subst (λ xs. is_word xs ≡ true) f (front_word b bs s);
-      ends = subst (λ xs. begins_gap xs ≡ true) q (stops_gap (past is_word_byte (b ∷ bs)) (past_stops is_word_byte (b ∷ bs)));
+      ends = subst (λ xs. begins_gap xs ≡ true) q (stops_gap (beyond is_word_byte (b ∷ bs)) (beyond_stops is_word_byte (b ∷ bs)));
     }
 
 pub word_found : (text : List ℕ) (w : List ℕ × List ℕ) → word_in text ≡ Some w →
     IsFirst text w.0 w.1
-word_found text w e = first_of text (past is_gap text) w refl (past_stops is_gap text) e
+word_found text w e = first_of text (beyond is_gap text) w refl (beyond_stops is_gap text) e
 
 -- gaps alone
 
@@ -81,16 +81,16 @@ no_word (b ∷ bs) h = cc
 
 gaps_found : (text : List ℕ) → is_some (word_in text) ≡ false → list_all is_gap text ≡ true
 gaps_found text h =
-    let none : past is_gap text ≡ [] = no_word (past is_gap text) h in
+    let none : beyond is_gap text ≡ [] = no_word (beyond is_gap text) h in
     let all : text ≡ front is_gap text =
-    front_past is_gap text ∙ ap (λ xs. front is_gap text ++ xs) none
+    front_beyond is_gap text ∙ ap (λ xs. front is_gap text ++ xs) none
     ∙ append-nil (front is_gap text) in
     subst (λ xs. list_all is_gap xs ≡ true) (sym all) (front_all is_gap text)
 
 gaps_only : (text : List ℕ) → list_all is_gap text ≡ true → is_some (word_in text) ≡ false
 gaps_only text h =
-    let none : past is_gap text ≡ [] =
-    ap (past is_gap) (sym (append-nil text)) ∙ past_more is_gap text [] h in
+    let none : beyond is_gap text ≡ [] =
+    ap (beyond is_gap) (sym (append-nil text)) ∙ beyond_more is_gap text [] h in
     rw none refl
 
 -- LISTS OF WORDS

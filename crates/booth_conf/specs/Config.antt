@@ -16,6 +16,7 @@ use Rattle.booth_conf.specs.declared.members.Member.{Member}
 use Rattle.booth_conf.specs.declared.tickets.TicketConf.{TicketConf}
 use Rattle.booth_conf.specs.declared.sections.NamedSection.{NamedSection}
 use Rattle.booth_conf.specs.declared.settings.Entry.{Entry}
+use Rattle.booth_conf.specs.declared.defaults.TheConstants.{EXPIRE, PORT, RETRIES, SKEW, TIMEOUT}
 use Rattle.booth_conf.specs.declared.faults.ConfFault.{ConfFault}
 use Rattle.booth_conf.specs.declared.faults.ConfFault.TheVariants.{NoSite, NoTicket, IdClash, Renewal, RetryTime, OutOfMemory}
 
@@ -48,12 +49,12 @@ chosen_number key defaults own table = chosen (number_given key own) (number_giv
 -- the times in milliseconds
 abbrev pub times_of : List Entry → List Entry → Times
 times_of defaults own =
-    let expire : ℕ = 1000 * chosen_number keys.Expire defaults own 600 in
+    let expire : ℕ = 1000 * chosen_number keys.Expire defaults own EXPIRE in
     record {
       expire = expire;
       after = 1000 * chosen_number keys.AcquireAfter defaults own 0;
-      timeout = 1000 * chosen_number keys.Timeout defaults own 5;
-      retries = chosen_number keys.Retries defaults own 10;
+      timeout = 1000 * chosen_number keys.Timeout defaults own TIMEOUT;
+      retries = chosen_number keys.Retries defaults own RETRIES;
       renewal = renewal_of
           (option_or (number_given keys.RenewalFreq own) (number_given keys.RenewalFreq defaults)) expire;
     }
@@ -82,9 +83,9 @@ hash_at place = if place == 1 then Sha256 else Sha1
 
 abbrev pub config_of : Summary → ConfigSays
 config_of d = record {
-  port = unwrap_or (number_given keys.Port d.top) 9929;
+  port = unwrap_or (number_given keys.Port d.top) PORT;
   authfile = text_given keys.Authfile d.top;
-  skew = unwrap_or (number_given keys.Maxtimeskew d.top) 600;
+  skew = unwrap_or (number_given keys.Maxtimeskew d.top) SKEW;
   authfile_old = text_given keys.AuthfileOld d.top;
   auth_hash = hash_at (unwrap_or (word_given keys.Authhash d.top) 0);
   extras = filter_map extra_of d.top;

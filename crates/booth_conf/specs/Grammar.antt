@@ -23,9 +23,9 @@ abbrev pub is_other : ℕ → ℕ → Bool
 is_other byte b = not (b == byte)
 
 -- what stands after the bytes in front that pass the test
-abbrev pub past : (ℕ → Bool) → List ℕ → List ℕ
-past p [] = []
-past p (b ∷ bs) = if p b then past p bs else b ∷ bs
+abbrev pub beyond : (ℕ → Bool) → List ℕ → List ℕ
+beyond p [] = []
+beyond p (b ∷ bs) = if p b then beyond p bs else b ∷ bs
 
 -- nothing, or a comment
 abbrev pub begins_note : List ℕ → Bool
@@ -34,7 +34,7 @@ begins_note (b ∷ bs) = b == 0x23
 
 -- blanks, or blanks and a comment
 abbrev pub is_end : List ℕ → Bool
-is_end bytes = begins_note (past is_blank bytes)
+is_end bytes = begins_note (beyond is_blank bytes)
 
 -- VALUES
 

@@ -4,7 +4,7 @@ use Rattle.std.specs.List.{find}
 use Rattle.std.specs.Borrow.{Bor}
 use Rattle.booth_conf.specs.declared.keys.KeyNo.{KeyNo}
 use Rattle.booth_conf.specs.declared.keys.Row.{Row}
-use Rattle.booth_conf.specs.declared.limits.TheConstants.{SECONDS}
+use Rattle.booth_conf.specs.declared.limits.TheConstants.{LEAST_RETRIES, MOST_RETRIES, SECONDS}
 use Rattle.booth_conf.specs.declared.keys.Choice.TheVariants as choices
 use Rattle.booth_conf.specs.declared.keys.Form.{Form}
 use Rattle.booth_conf.specs.declared.keys.Form.TheVariants.{Number, Text, Command, OneOf, Address, TicketName, Weights, Prereq}
@@ -40,7 +40,7 @@ row_of keys.Ticket = row 12 (codes "ticket") File TicketName
 row_of keys.Expire = row 13 (codes "expire") OfTicket (Number 1 SECONDS)
 row_of keys.AcquireAfter = row 14 (codes "acquire-after") OfTicket (Number 0 SECONDS)
 row_of keys.Timeout = row 15 (codes "timeout") OfTicket (Number 1 SECONDS)
-row_of keys.Retries = row 16 (codes "retries") OfTicket (Number 3 100)
+row_of keys.Retries = row 16 (codes "retries") OfTicket (Number LEAST_RETRIES MOST_RETRIES)
 row_of keys.RenewalFreq = row 17 (codes "renewal-freq") OfTicket (Number 1 SECONDS)
 row_of keys.Weights = row 18 (codes "weights") OfTicket Weights
 row_of keys.BeforeAcquireHandler = row 19 (codes "before-acquire-handler") OfTicket Command

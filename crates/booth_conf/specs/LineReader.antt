@@ -1,7 +1,7 @@
 -- What the functions that read a line compute. The proofs show that it is the grammar.
 use Rattle.std.specs.Prelude.{◌≡◌, ℕ, Bool, ◌&&◌, ◌||◌, not, ◌==◌, List, [], ◌∷◌, ◌+◌, take, drop, Option, Some, None, if◌then◌else◌}
 use Rattle.std.specs.List.{list_all, position}
-use Rattle.booth_conf.specs.Grammar.{is_blank, is_key_byte, is_value_byte, past, is_end}
+use Rattle.booth_conf.specs.Grammar.{is_blank, is_key_byte, is_value_byte, beyond, is_end}
 use Rattle.booth_conf.specs.declared.grammar.Line.{Line}
 use Rattle.booth_conf.specs.declared.grammar.Line.TheVariants as lines
 
@@ -51,15 +51,15 @@ abbrev pub keyed : List ℕ → List ℕ → Reading
 keyed [] rest = Broken
 keyed (k ∷ ks) [] = Broken
 keyed (k ∷ ks) (b ∷ rest) =
-    if b == 0x3D then valued (k ∷ ks) (value_in (past is_blank rest)) else Broken
+    if b == 0x3D then valued (k ∷ ks) (value_in (beyond is_blank rest)) else Broken
 
 abbrev pub begun : List ℕ → Reading
 begun start =
     if is_end start then Empty
-    else keyed (front is_key_byte start) (past is_blank (past is_key_byte start))
+    else keyed (front is_key_byte start) (beyond is_blank (beyond is_key_byte start))
 
 abbrev pub line_read : List ℕ → Reading
-line_read line = begun (past is_blank line)
+line_read line = begun (beyond is_blank line)
 
 -- what the code shows is what the definition reads
 abbrev pub Shows : Line → Reading → Type 0

@@ -11,7 +11,7 @@ use Rattle.booth_conf.specs.Values.{is_word_byte, is_word, default_name}
 use Rattle.booth_conf.specs.Rules.{is_at}
 use Rattle.booth_conf.specs.Config.{ConfigSays, file_fault}
 use Rattle.booth_conf.specs.Print.{prereq_text}
-use Rattle.booth_conf.specs.declared.limits.TheConstants.{PREREQS, SECONDS, TICKETS, WEIGHT}
+use Rattle.booth_conf.specs.declared.limits.TheConstants.{LEAST_RETRIES, MOST_RETRIES, PREREQS, SECONDS, TICKETS, WEIGHT}
 use Rattle.booth_base.specs.declared.limits.TheConstants.{MEMBERS}
 use Rattle.booth_conf.specs.declared.keys.KeyNo.{KeyNo}
 use Rattle.booth_conf.specs.declared.members.Member.{Member}
@@ -73,7 +73,7 @@ is_renewal times = times.renewal == times.expire / 2 || is_seconds 1 times.renew
 abbrev pub are_times : Times → Bool
 are_times times =
     is_seconds 1 times.expire && (is_seconds 0 times.after && (is_seconds 1 times.timeout
-    && (is_within 3 100 times.retries && is_renewal times)))
+    && (is_within LEAST_RETRIES MOST_RETRIES times.retries && is_renewal times)))
 
 abbrev pub is_ticket_name : List ℕ → Bool
 is_ticket_name name = is_name name && (not (bytes_eq name default_name) && is_sayable name)

@@ -7,7 +7,7 @@ use Rattle.std.specs.Net.Reader.{read_ipv4, read_ipv6, whole_value}
 use Rattle.booth_base.specs.Name.{is_name, is_value}
 use Rattle.booth_base.specs.declared.address.Address.{Address}
 use Rattle.booth_base.specs.declared.address.Address.TheVariants.{V4, V6}
-use Rattle.booth_conf.specs.Grammar.{past}
+use Rattle.booth_conf.specs.Grammar.{beyond}
 use Rattle.booth_conf.specs.LineReader.{front}
 use Rattle.booth_conf.specs.Keys.{row_of}
 use Rattle.booth_conf.specs.Values.{is_digit, worth, is_gap, is_word_byte, is_word_of, words_of, default_name, setting_of}
@@ -42,11 +42,11 @@ number_within least most text = option_and_then (when_within least most) (number
 
 abbrev pub word_of : List ℕ → Option (List ℕ × List ℕ)
 word_of [] = None
-word_of (b ∷ bs) = Some (front is_word_byte (b ∷ bs), past is_word_byte (b ∷ bs))
+word_of (b ∷ bs) = Some (front is_word_byte (b ∷ bs), beyond is_word_byte (b ∷ bs))
 
 -- the first word, and what stands after it
 abbrev pub word_in : List ℕ → Option (List ℕ × List ℕ)
-word_in text = word_of (past is_gap text)
+word_in text = word_of (beyond is_gap text)
 
 abbrev pub then_word : {A : Type 0} → Option (List ℕ × List ℕ) → (List ℕ → List ℕ → Option A) → Option A
 then_word None f = None

@@ -12,7 +12,7 @@ ghost use Rattle.booth_conf.specs.Sound.{HasTimes, IsSound};
 ghost use Rattle.booth_conf.specs.SoundDraft.{is_section, IsSoundDraft};
 
 use crate::checks::file_fault;
-use crate::defaults::tickets;
+use crate::defaults::{PORT, SKEW, tickets};
 use crate::drafts::{Draft, NamesAndSections};
 use crate::faults::ConfFault;
 use crate::keys::ConfKey;
@@ -88,11 +88,11 @@ fn defaults(alloc: Global, draft: Option<Section<'_>>) -> Section<'_>
 #[tactic(auto, using(crate::proofs::DefaultLemmas::port_fits))]
 fn port(top: &Section<'_>) -> u16
     requires { is_section top.now ≡ true }
-    ensures { result ≡ unwrap_or (number_given ConfKey.Port top.now) 9929 }
+    ensures { result ≡ unwrap_or (number_given ConfKey.Port top.now) PORT }
 {
     match top.number(ConfKey::Port) {
         Some(port) => port as u16,
-        None => 9929,
+        None => PORT,
     }
 }
 
@@ -134,7 +134,7 @@ fn complete(alloc: Global, draft: Draft<'_>) -> Result<Config, ConfFault>
         None => Ok(Config {
             port: port(&top),
             authfile: top.text(ConfKey::Authfile),
-            skew: u64::from(top.number(ConfKey::Maxtimeskew).unwrap_or(600)),
+            skew: u64::from(top.number(ConfKey::Maxtimeskew).unwrap_or(SKEW)),
             authfile_old: top.text(ConfKey::AuthfileOld),
             auth_hash: hash(top.word(ConfKey::Authhash)),
             extras,

@@ -10,6 +10,19 @@ use arrayvec::ArrayVec;
 use booth_base::Times;
 use std::alloc::{AllocError, Global};
 
+/// The port, where none is set.
+pub const PORT: u16 = 9_929;
+
+/// How far apart two clocks may be, in seconds, where nothing is set.
+pub const SKEW: u32 = 600;
+
+// The same of a ticket: the seconds of a lease and of a try, and how often is tried.
+const EXPIRE: u32 = 600;
+
+const TIMEOUT: u32 = 5;
+
+const RETRIES: u32 = 10;
+
 fn milliseconds(own: Option<u32>, default: Option<u32>, table: u32) -> u64
     ensures { result ≡ 1000 * chosen own default table }
 {
@@ -31,7 +44,7 @@ fn times(defaults: &Section<'_>, own: &Section<'_>) -> Times
     let expire = milliseconds(
         own.number(ConfKey::Expire),
         defaults.number(ConfKey::Expire),
-        600,
+        EXPIRE,
     );
     Times {
         expire,
@@ -43,12 +56,12 @@ fn times(defaults: &Section<'_>, own: &Section<'_>) -> Times
         timeout: milliseconds(
             own.number(ConfKey::Timeout),
             defaults.number(ConfKey::Timeout),
-            5,
+            TIMEOUT,
         ),
         retries: own
             .number(ConfKey::Retries)
             .or(defaults.number(ConfKey::Retries))
-            .unwrap_or(10),
+            .unwrap_or(RETRIES),
         renewal: renewal(
             own.number(ConfKey::RenewalFreq),
             defaults.number(ConfKey::RenewalFreq),

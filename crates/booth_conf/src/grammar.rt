@@ -1,7 +1,7 @@
 //! One line of a text, cut into its key and its value.
 ghost use Rattle.std.specs.Prelude.{◌≡◌, ◌<◌, ◌==◌, length, option_copied};
 ghost use Rattle.std.specs.List.{list_all, prefix_len, position};
-ghost use Rattle.booth_conf.specs.Grammar.{is_blank, is_key_byte, is_value_byte, past, is_end, Reads};
+ghost use Rattle.booth_conf.specs.Grammar.{is_blank, is_key_byte, is_value_byte, beyond, is_end, Reads};
 ghost use Rattle.booth_conf.specs.LineReader.{front, closed, quoted, bare_part, bare, value_in, line_read, Shows};
 
 /// What a line says, as bytes.
@@ -51,18 +51,18 @@ fn key_len(bytes: &[u8]) -> usize
     bytes.iter().take_while(|b| is_key_byte(**b)).count()
 }
 
-#[tactic(auto, using(crate::proofs::Cuts::past_is, crate::proofs::Cuts::prefix_within, std::proofs::lemmas::List::take_rest))]
+#[tactic(auto, using(crate::proofs::Cuts::beyond_front))]
 fn skip_blanks(bytes: &[u8]) -> &[u8]
-    ensures { result.now ≡ past is_blank bytes.now }
+    ensures { result.now ≡ beyond is_blank bytes.now }
 {
     &bytes[blanks_len(bytes)..]
 }
 
 // The key in front, and what stands after it.
-#[tactic(auto, using(crate::proofs::Cuts::past_is, crate::proofs::Cuts::front_is, crate::proofs::Cuts::prefix_within))]
+#[tactic(auto, using(crate::proofs::Cuts::both_sides))]
 fn split_key(bytes: &[u8]) -> (&[u8], &[u8])
     ensures front { result.0.now ≡ front is_key_byte bytes.now }
-    ensures past { result.1.now ≡ past is_key_byte bytes.now }
+    ensures beyond { result.1.now ≡ beyond is_key_byte bytes.now }
 {
     bytes.split_at(key_len(bytes))
 }

@@ -2,7 +2,7 @@
 ghost use Rattle.std.specs.Prelude.{◌≡◌, ◌≤◌, ◌==◌, bytes_eq, length, IfSome};
 ghost use Rattle.booth_conf.specs.Keys.{IsRow, are_one, has_number, row, is_named, key_named, key_numbered, name_at, number_of, row_of, Names};
 
-use crate::limits::SECONDS;
+use crate::limits::{LEAST_RETRIES, MOST_RETRIES, SECONDS};
 
 /// The number of a key: 1 to 23.
 #[derive(Clone, Copy, Debug, PartialEq, Eq)]
@@ -162,7 +162,7 @@ impl ConfKey {
             ConfKey::Expire => Row::ticket(13, "expire", number(1, SECONDS)),
             ConfKey::AcquireAfter => Row::ticket(14, "acquire-after", number(0, SECONDS)),
             ConfKey::Timeout => Row::ticket(15, "timeout", number(1, SECONDS)),
-            ConfKey::Retries => Row::ticket(16, "retries", number(3, 100)),
+            ConfKey::Retries => Row::ticket(16, "retries", number(LEAST_RETRIES, MOST_RETRIES)),
             ConfKey::RenewalFreq => Row::ticket(17, "renewal-freq", number(1, SECONDS)),
             ConfKey::Weights => Row::ticket(18, "weights", Form::Weights),
             ConfKey::BeforeAcquireHandler => Row::ticket(

@@ -12,5 +12,11 @@ pub const PREREQS: usize = 8;
 /// The most seconds of a time.
 pub const SECONDS: u32 = 10_000_000;
 
+/// The fewest tries of a ticket.
+pub const LEAST_RETRIES: u32 = 3;
+
+/// The most tries of a ticket.
+pub const MOST_RETRIES: u32 = 100;
+
 /// The greatest weight of a member.
 pub const WEIGHT: u32 = 1_000_000_000;

@@ -34,7 +34,7 @@ fn push_member(out: &mut Vec<u8>, member: &Member) -> Result<(), AllocError>
 }
 
 /// Prints the members.
-#[tactic(auto, using(crate::proofs::LineLemmas::lines_more, std::proofs::lemmas::List::map_more, crate::proofs::LineLemmas::lines_append))]
+#[tactic(auto, using(crate::proofs::LineLemmas::more_lines))]
 pub fn push_members(out: &mut Vec<u8>, members: &[Member]) -> Result<(), AllocError>
     ensures { Grows result out.old.items out.new.items (lines_text (map MemberSetting members.now)) }
 {
@@ -98,7 +98,7 @@ fn push_prereq(alloc: Global, out: &mut Vec<u8>, prereq: &Prereq) -> Result<(), 
     push_line(out, ConfKey::AttrPrereq.row().name, &text)
 }
 
-#[tactic(auto, using(crate::proofs::LineLemmas::entries_more, std::proofs::lemmas::List::map_more, crate::proofs::LineLemmas::entries_append))]
+#[tactic(auto, using(crate::proofs::LineLemmas::more_entries))]
 fn push_prereqs(alloc: Global, out: &mut Vec<u8>, prereqs: &[Prereq]) -> Result<(), AllocError>
     ensures { Grows result out.old.items out.new.items (entries_text (map prereq_entry prereqs.now)) }
 {

@@ -210,7 +210,7 @@ fn push_extra(out: &mut Vec<u8>, extra: &Extra) -> Result<(), AllocError>
     )
 }
 
-#[tactic(auto, using(crate::proofs::LineLemmas::entries_more, std::proofs::lemmas::List::map_more, crate::proofs::LineLemmas::entries_append))]
+#[tactic(auto, using(crate::proofs::LineLemmas::more_entries))]
 fn push_extras(out: &mut Vec<u8>, extras: &[Extra]) -> Result<(), AllocError>
     ensures { Grows result out.old.items out.new.items (entries_text (map extra_entry extras.now)) }
 {

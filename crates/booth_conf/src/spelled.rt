@@ -10,7 +10,7 @@ use std::marker::Model;
 // The most bytes of a text.
 const MOST_BYTES: usize = 255;
 
-/// A text of at most 255 bytes. Contracts see its bytes.
+/// A text of at most `PATH_BYTES` bytes. Contracts see its bytes.
 #[derive(Drop)]
 pub struct SpelledText<'a> {
     text: &'a str,
@@ -18,12 +18,13 @@ pub struct SpelledText<'a> {
 
 impl<'a> Model for SpelledText<'a> {
     ghost use Rattle.std.specs.Prelude.{List, ℕ, ◌≤◌, length};
+    ghost use Rattle.booth_base.specs.declared.text.TheConstants.{PATH_BYTES};
 
     ghost Value = { List ℕ };
 
     ghost view = { λ t. t.text.now };
 
-    ghost invariant = { λ t. length t.text.now ≤ 255 };
+    ghost invariant = { λ t. length t.text.now ≤ PATH_BYTES };
 }
 
 impl<'a> SpelledText<'a> {

@@ -9,7 +9,7 @@ use crate::spelled::SpelledText;
 use crate::words::is_gap;
 use booth_base::{Address, AttrValue, Name};
 
-/// A text of at most 255 bytes, and of at least so many.
+/// A text of at most `PATH_BYTES` bytes, and of at least so many.
 #[tactic(auto, using(crate::proofs::TextLemmas::plain_utf8))]
 pub fn text(bytes: &[u8], least: usize) -> Option<SpelledText<'_>>
     requires { list_all is_value_byte bytes.now ≡ true }

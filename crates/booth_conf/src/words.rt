@@ -1,7 +1,7 @@
 //! Words between blanks.
 ghost use Rattle.std.specs.Prelude.{◌≡◌, ◌||◌, codes, bytes_eq, option_copied};
 ghost use Rattle.std.specs.List.{prefix_len};
-ghost use Rattle.booth_conf.specs.Grammar.{past};
+ghost use Rattle.booth_conf.specs.Grammar.{beyond};
 ghost use Rattle.booth_conf.specs.LineReader.{front};
 ghost use Rattle.booth_conf.specs.Values.{is_gap, is_word_byte};
 ghost use Rattle.booth_conf.specs.ValueReader.{word_in, one_word, four_words, GivesWord, GivesFour};
@@ -25,17 +25,17 @@ fn word_len(bytes: &[u8]) -> usize
     bytes.iter().take_while(|b| !is_gap(**b)).count()
 }
 
-#[tactic(auto, using(crate::proofs::Cuts::past_is, crate::proofs::Cuts::prefix_within, std::proofs::lemmas::List::take_rest))]
+#[tactic(auto, using(crate::proofs::Cuts::beyond_front))]
 fn skip_gap(bytes: &[u8]) -> &[u8]
-    ensures { result.now ≡ past is_gap bytes.now }
+    ensures { result.now ≡ beyond is_gap bytes.now }
 {
     &bytes[gap_len(bytes)..]
 }
 
-#[tactic(auto, using(crate::proofs::Cuts::past_is, crate::proofs::Cuts::front_is, crate::proofs::Cuts::prefix_within))]
+#[tactic(auto, using(crate::proofs::Cuts::both_sides))]
 fn split_word(bytes: &[u8]) -> (&[u8], &[u8])
     ensures word { result.0.now ≡ front is_word_byte bytes.now }
-    ensures rest { result.1.now ≡ past is_word_byte bytes.now }
+    ensures rest { result.1.now ≡ beyond is_word_byte bytes.now }
 {
     bytes.split_at(word_len(bytes))
 }

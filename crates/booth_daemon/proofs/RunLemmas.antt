@@ -10,13 +10,14 @@ use Rattle.booth_outcomes.specs.declared.outcome.Outcome.{Outcome}
 use Rattle.booth_outcomes.specs.declared.outcome.Outcome.TheVariants.{Done, Usage, BadWord, LockFault, NotRunning}
 use Rattle.booth_outcomes.specs.declared.outcome.Outcome.TheVariants.{PrintFault, OutOfMemory, Report, Refused, NoReply}
 use Rattle.booth_outcomes.specs.declared.outcome.Outcome.TheVariants.{SendFault, ConfUnread, ConfBad, NotSite, NotFollowed, Stranded}
+use Rattle.booth_cli.specs.declared.command.Verb.TheVariants as verbs
 use Rattle.booth_cli.specs.declared.program.Program.TheVariants.{Boothd}
 use Rattle.booth_cli.specs.declared.asking.DaemonWords.{DaemonWords}
 use Rattle.booth_cli.specs.declared.asking.SimulationWords.{SimulationWords}
 use Rattle.booth_cli.specs.declared.asking.Asked.{Asked}
 use Rattle.booth_cli.specs.declared.asking.Asked.TheVariants.{Daemon, Status, Simulation}
 use Rattle.booth_cli.specs.Asking.{Asks, AsksDaemon, AsksSimulation, AsksStatus, IsUntaken, IsUntakenFor}
-use Rattle.booth_cli.proofs.AskingLemmas.{untaken_of}
+use Rattle.booth_cli.proofs.AskingLemmas.{taken_named, untaken_named, untaken_of}
 use Rattle.booth_outcomes.proofs.UsageLemmas.{no_memory, unasked_of}
 use Rattle.booth_outcomes.specs.Unasked.{IsTold, IsToldOutcome, IsUnasked}
 use Rattle.booth_daemon.specs.Serving.{IsServing}
@@ -25,6 +26,10 @@ use Rattle.booth_daemon.specs.Status.{IsStatus, IsStatusOutcome}
 use Rattle.booth_daemon.specs.Simulating.{IsSimulated}
 use Rattle.booth_outcomes.specs.Texts.{IsText}
 use Rattle.booth_daemon.specs.Run.{IsMade, Unasked, Served, Summed, Looked, IsRun, FitsWords}
+use Rattle.clap.specs.declared.error.Error.{Error}
+use Rattle.booth_cli.specs.declared.asking.Refusal.{Refusal}
+use Rattle.booth_cli.specs.declared.asking.Refusal.TheVariants.{Untaken}
+use Rattle.std.specs.Prelude.{Err}
 
 -- ---- words that ask for nothing
 
@@ -32,6 +37,13 @@ pub told_made : {a b : Option (List Entry)} (words : List (List ℕ)) (kind : Er
     IsUntakenFor Boothd words kind → IsToldOutcome kind outcome → GrewSome (IsTold Boothd kind outcome said) a b → GrewSome (IsMade words outcome said) a b
 told_made words kind outcome said un out told =
     some_weaker (IsTold Boothd kind outcome said) (IsMade words outcome said) (λ es is. Unasked (unasked_of Boothd words kind outcome said es un out is)) told
+
+-- the same of a refusal that is such an error
+pub told_asked : {a b : Option (List Entry)} (words : List (List ℕ)) (error : Error) (refusal : Refusal) (outcome : Outcome) (said : List ℕ) →
+    Asks Boothd words (Err refusal) → refusal ≡ Untaken error → IsToldOutcome error.kind outcome → GrewSome (IsTold Boothd error.kind outcome said) a b →
+    GrewSome (IsMade words outcome said) a b
+told_asked words error refusal outcome said asks same out told =
+    told_made words error.kind outcome said (subst (λ (x : Refusal). Asks Boothd words (Err x)) same asks) out told
 
 pub unasked_made : {a : Option (List Entry)} (words : List (List ℕ)) (outcome : Outcome) (said : List ℕ) → IsUnasked Boothd words outcome said [] →
     GrewSome (IsMade words outcome said) a a
@@ -41,7 +53,7 @@ pub fits_told : (words : List (List ℕ)) (kind : ErrorKind) (outcome : Outcome)
 fits_told words kind (Usage (Some told)) un out = subst (λ k. IsUntaken Boothd words k) (sym out.0) (untaken_of Boothd words kind out.1 un)
 fits_told words kind PrintFault un out =
     inr (inr (record { kind = kind; untaken = untaken_of Boothd words kind (no_memory kind out) un; is = out }))
-fits_told words kind OutOfMemory un out = tt
+fits_told words kind OutOfMemory un out = untaken_named Boothd words kind un
 fits_told words kind outcome un out = absurd out
 
 -- ---- words that ask for something
@@ -84,7 +96,7 @@ fits_served words asked (Stranded result) asks served = absurd served
 fits_served words asked (NotFollowed fault) asks served = absurd served
 fits_served words asked Done asks served = inl (record { asked = asked; asks = asks })
 fits_served words asked LockFault asks served = inl (record { asked = asked; asks = asks })
-fits_served words asked OutOfMemory asks served = tt
+fits_served words asked OutOfMemory asks served = taken_named Boothd words verbs.Daemon asks.all asks.asks
 fits_served words asked ConfUnread asks served = inl (record { asked = asked; asks = asks })
 fits_served words asked (ConfBad fault) asks served = inl (record { asked = asked; asks = asks })
 fits_served words asked outcome asks served = (served, record { asked = asked; asks = asks })

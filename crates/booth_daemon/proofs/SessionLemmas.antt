@@ -1,6 +1,6 @@
 -- What a daemon did behind its opening is a session of a member.
 use Rattle.std.specs.Prelude.{Option, Some, None}
-use Rattle.std.proofs.Common.{◌^◌, ℕ, List, inl, inr, subst}
+use Rattle.std.proofs.Common.{ℕ, List, inl, inr, subst}
 use Rattle.booth_base.specs.Tree.{Ends}
 use Rattle.booth_conf.specs.Config.{ConfigSays}
 use Rattle.booth_host.specs.declared.entry.Entry.{Entry}
@@ -21,6 +21,7 @@ use Rattle.booth_cli.specs.Asking.{AsksDaemon}
 use Rattle.booth_daemon.specs.Headline.{IsSafe, IsTurningEnd, DaemonsTurn, RunsAreSessions, CutRunsAreSessions}
 use Rattle.booth_daemon.specs.Opening.{member_config}
 use Rattle.booth_daemon.specs.Run.{IsRun, IsMade, Unasked, Served, Summed, Looked, AskForDaemon}
+use Rattle.booth_cli.specs.declared.reading.TheConstants.{MOST_TURNS}
 use Rattle.booth_daemon.specs.Serving.{IsNodeRun, IsServing, IsTurning, Unread, Refused, Unkeyed, Unlocked, Unopened, Turning}
 
 -- all turns that were asked for, fewer and one that stopped, or the most that there are
@@ -32,7 +33,7 @@ turns_are_a_session node None old new Done said entries (nothing, inr all) = abs
 turns_are_a_session node (Some count) old new Done said entries (nothing, inr all) =
     (logs_are_sessions node old new count entries all).0
 turns_are_a_session node turns old new TurnsSpent said entries run =
-    (logs_are_sessions node old new (2 ^ 62) entries run.2).0
+    (logs_are_sessions node old new MOST_TURNS entries run.2).0
 turns_are_a_session node turns old new outcome said entries run = absurd run
 
 pub runs_are_sessions : RunsAreSessions
@@ -98,6 +99,7 @@ daemons_turn words outcome entries run daemon ends =
       last = run.last;
       whole = run.whole;
       turning = turning_of asked outcome run.said run.body ends is;
+      told = run.told;
     }
 
 -- what a run is, and what the laws of all worlds say of it

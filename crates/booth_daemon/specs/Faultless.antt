@@ -1,5 +1,5 @@
 -- Runs in which the outside does not fail, and words and files are as they must be.
-use Rattle.std.specs.Prelude.{◌≡◌, ℕ, true, List, Contains, Option, Some, Ok, Err, false}
+use Rattle.std.specs.Prelude.{◌≡◌, ℕ, true, List, Contains, Option, Some, Ok, Err, false, Bool, T}
 use Rattle.booth_base.specs.declared.address.Address.{Address}
 use Rattle.booth_conf.specs.Config.{ConfigSays}
 use Rattle.booth_conf.specs.Says.{Says}
@@ -44,11 +44,14 @@ pub record IsFaultless (asked : DaemonWords) (entries : List Entry) : Type 0 whe
   pub kept : (ticket : List ℕ) (failed : Failed) → Contains entries (Kept ticket (Err failed)) → ⊥
 
 -- the outcomes that are no one's fault
+abbrev pub ends_well : Outcome → Bool
+ends_well Done = true
+ends_well TurnsSpent = true
+ends_well OutOfMemory = true
+ends_well outcome = false
+
 abbrev pub EndsWell : Outcome → Type 0
-EndsWell Done = Unit {0}
-EndsWell TurnsSpent = Unit {0}
-EndsWell OutOfMemory = Unit {0}
-EndsWell outcome = ⊥
+EndsWell outcome = T (ends_well outcome)
 
 -- the same of what the words ask for
 abbrev pub AreFaultless : List (List ℕ) → List Entry → Type 0
@@ -70,10 +73,13 @@ pub record IsFaultlessFor (asked : SimulationWords) (entries : List Entry) : Typ
       (config : ConfigSays) × Says text config
   pub printed : (text : List ℕ) (failed : Failed) → Contains entries (Out text (Err failed)) → ⊥
 
+abbrev pub is_summed_well : Outcome → Bool
+is_summed_well Done = true
+is_summed_well OutOfMemory = true
+is_summed_well outcome = false
+
 abbrev pub Sums : Outcome → Type 0
-Sums Done = Unit {0}
-Sums OutOfMemory = Unit {0}
-Sums outcome = ⊥
+Sums outcome = T (is_summed_well outcome)
 
 -- Valid words, a valid file and an outside that does not fail give Done or OutOfMemory.
 abbrev pub FaultlessSimulations : Type 0
@@ -88,11 +94,14 @@ pub record IsUnfailing (entries : List Entry) : Type 0 where
   pub locked : (lock : List ℕ) (failed : Failed) → Contains entries (Lock lock (Err failed)) → ⊥
   pub printed : (text : List ℕ) (failed : Failed) → Contains entries (Out text (Err failed)) → ⊥
 
+abbrev pub is_told_well : Outcome → Bool
+is_told_well Done = true
+is_told_well NotRunning = true
+is_told_well OutOfMemory = true
+is_told_well outcome = false
+
 abbrev pub Tells : Outcome → Type 0
-Tells Done = Unit {0}
-Tells NotRunning = Unit {0}
-Tells OutOfMemory = Unit {0}
-Tells outcome = ⊥
+Tells outcome = T (is_told_well outcome)
 
 -- Valid words and an outside that does not fail give Done, NotRunning or OutOfMemory.
 abbrev pub FaultlessLooks : Type 0

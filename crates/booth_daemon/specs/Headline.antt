@@ -1,6 +1,6 @@
 -- What a run of boothd is a part of: worlds, in which no automatic ticket is held at two sites and no kept term falls.
 -- Where all sessions of a world are of version 2, a later holder has a later term.
-use Rattle.std.specs.Prelude.{◌≡◌, ◌++◌, ℕ, List, ◌∷◌}
+use Rattle.std.specs.Prelude.{◌≡◌, ◌++◌, ℕ, List, ◌∷◌, Bool, true, false, T}
 use Rattle.booth_host.specs.declared.entry.Entry.{Entry}
 use Rattle.booth_node.specs.Session.{SessionEntry, Starts, Down, AreSessions}
 use Rattle.booth_node.specs.World.{World, IsNodeOf, IsWorld, IsSecondWorld, entries_of}
@@ -8,6 +8,8 @@ use Rattle.booth_world.specs.Tellers.{TellersAreApartIn, TellersHoldIn}
 use Rattle.booth_world.specs.Worlds.{HoldsOneIn, LaterTermsIn, TermsNeverFallIn, made}
 use Rattle.booth_outcomes.specs.declared.outcome.Outcome.{Outcome}
 use Rattle.booth_outcomes.specs.declared.outcome.Outcome.TheVariants.{Done, TurnsSpent}
+use Rattle.booth_outcomes.specs.Texts.{IsText}
+use Rattle.booth_cli.specs.declared.program.Program.TheVariants.{Boothd}
 use Rattle.booth_cli.specs.declared.asking.DaemonWords.{DaemonWords}
 use Rattle.booth_cli.specs.Asking.{AsksDaemon}
 use Rattle.booth_daemon.specs.Opening.{member_config}
@@ -16,7 +18,7 @@ use Rattle.booth_daemon.specs.Run.{IsRun, AskForDaemon}
 
 -- ---- the session of a run
 
--- a run of a daemon that made its whole opening, and then turns
+-- a run of a daemon that made its whole opening, and then turns; last it says how it ended
 pub record IsTurningRun (words : List (List ℕ)) (outcome : Outcome) (entries : List Entry) : Type 0 where
   pub asked : DaemonWords
   pub asks : AsksDaemon words asked
@@ -25,6 +27,7 @@ pub record IsTurningRun (words : List (List ℕ)) (outcome : Outcome) (entries :
   pub last : List Entry
   pub whole : entries ≡ body ++ last
   pub turning : IsTurning asked outcome said body
+  pub told : IsText Boothd said last
 
 -- what it did behind its opening, from its start on: the start has the reading and the records that the opening read,
 -- and the calls are those of its turns
@@ -45,10 +48,13 @@ pub record IsSessionIn (w : World) (words : List (List ℕ)) (outcome : Outcome)
   pub session : entries_of member w.entries ≡ before ++ (session_of run.turning ++ after)
 
 -- the outcomes of a daemon that made turns
+abbrev pub is_turning_end : Outcome → Bool
+is_turning_end Done = true
+is_turning_end TurnsSpent = true
+is_turning_end outcome = false
+
 abbrev pub IsTurningEnd : Outcome → Type 0
-IsTurningEnd Done = Unit {0}
-IsTurningEnd TurnsSpent = Unit {0}
-IsTurningEnd outcome = ⊥
+IsTurningEnd outcome = T (is_turning_end outcome)
 
 -- A daemon that ends so made its whole opening and then turns; these are a session of a member; and in every world in
 -- which this run is one, no automatic ticket is held at two members at one moment, and no member's kept term falls;

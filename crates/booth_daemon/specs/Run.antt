@@ -9,7 +9,7 @@ use Rattle.booth_cli.specs.declared.program.Program.TheVariants.{Boothd}
 use Rattle.booth_cli.specs.declared.asking.DaemonWords.{DaemonWords}
 use Rattle.booth_cli.specs.declared.asking.SimulationWords.{SimulationWords}
 use Rattle.booth_cli.specs.Commands.{verb_in}
-use Rattle.booth_cli.specs.Asking.{AsksDaemon, AsksSimulation, AsksStatus, IsUntaken, HasBadWord}
+use Rattle.booth_cli.specs.Asking.{AsksDaemon, AsksSimulation, AsksStatus, NamesCommand, IsUntaken, HasBadWord}
 use Rattle.booth_outcomes.specs.Texts.{IsText}
 use Rattle.booth_outcomes.specs.Unasked.{IsRequest, IsUnasked}
 use Rattle.booth_daemon.specs.Serving.{IsServing}
@@ -59,7 +59,8 @@ pub record AskForNamed (words : List (List ℕ)) : Type 0 where
   pub asks : AsksSimulation words asked
   pub named : IsSome asked.conf
 
--- Usage comes only for words that are not taken, and BadWord exactly where that word is the first refused
+-- Usage comes only for words that are not taken, and BadWord exactly where that word is the first refused; want of memory
+-- only where there is a command
 abbrev pub FitsWords : List (List ℕ) → Outcome → Type 0
 FitsWords words (Usage None) = verb_in Boothd words ≡ None
 FitsWords words (Usage (Some kind)) = IsUntaken Boothd words kind
@@ -68,7 +69,7 @@ FitsWords words Done = AskForDaemon words ⊎ (AskForStatus words ⊎ AskForSimu
 FitsWords words LockFault = AskForDaemon words ⊎ AskForStatus words
 FitsWords words NotRunning = AskForStatus words
 FitsWords words PrintFault = AskForStatus words ⊎ (AskForSimulation words ⊎ IsRequest Boothd words)
-FitsWords words OutOfMemory = Unit {0}
+FitsWords words OutOfMemory = NamesCommand Boothd words
 FitsWords words ConfUnread = AskForDaemon words ⊎ AskForNamed words
 FitsWords words (ConfBad fault) = AskForDaemon words ⊎ AskForNamed words
 FitsWords words outcome = T (is_served outcome) × AskForDaemon words

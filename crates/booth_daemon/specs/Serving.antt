@@ -1,6 +1,6 @@
 -- The calls of a daemon that was asked for, up to where its outcome is decided, and what it then says.
-use Rattle.std.specs.Prelude.{◌≡◌, ◌<◌, ◌^◌, ◌++◌, ◌⊎◌, ℕ, List, [], ◌∷◌}
-use Rattle.std.specs.Prelude.{Option, Some, None, unwrap_or, Result, Ok, Err, codes}
+use Rattle.std.specs.Prelude.{◌≡◌, ◌<◌, ◌++◌, ◌⊎◌, ℕ, List, [], ◌∷◌}
+use Rattle.std.specs.Prelude.{Option, Some, None, unwrap_or, Result, Ok, Err, codes, IsSomeAnd}
 use Rattle.booth_keys.specs.declared.ring.Ring.{Ring}
 use Rattle.booth_conf.specs.Config.{ConfigSays}
 use Rattle.booth_conf.specs.Says.{Says}
@@ -16,6 +16,7 @@ use Rattle.booth_outcomes.specs.declared.outcome.Outcome.{Outcome}
 use Rattle.booth_outcomes.specs.declared.outcome.Outcome.TheVariants.{Done}
 use Rattle.booth_outcomes.specs.declared.outcome.Outcome.TheVariants.{TurnsSpent}
 use Rattle.booth_outcomes.specs.declared.outcome.Ended.{Ended}
+use Rattle.booth_cli.specs.declared.reading.TheConstants.{MOST_TURNS}
 use Rattle.booth_cli.specs.declared.asking.DaemonWords.{DaemonWords}
 use Rattle.booth_daemon.specs.Fitness.{IsFit, IsUnserved}
 use Rattle.booth_daemon.specs.Records.{AreKept}
@@ -63,18 +64,17 @@ pub record IsStoppedWithin (node : NodeConfig) (old : State) (limit : ℕ) (new 
 
 -- as many turns as were asked for
 abbrev pub AreAllTurns : NodeConfig → State → Option ℕ → State → List Entry → Type 0
-AreAllTurns node old None new entries = ⊥
-AreAllTurns node old (Some count) new entries = IsNodeLog node old count new entries
+AreAllTurns node old turns new entries = IsSomeAnd turns (λ count. IsNodeLog node old count new entries)
 
 -- The turns of a node, from one state to another, by the outcome that they lead to. Where no count is
--- asked for, there are at most 2^62.
+-- asked for, there are at most `MOST_TURNS`.
 abbrev pub IsNodeRun : NodeConfig → Option ℕ → State → State → Outcome → List ℕ →
     List Entry → Type 0
 IsNodeRun node turns old new Done said entries = (said ≡ [])
-    × (IsStoppedWithin node old (unwrap_or turns (2 ^ 62)) new entries
+    × (IsStoppedWithin node old (unwrap_or turns MOST_TURNS) new entries
     ⊎ AreAllTurns node old turns new entries)
 IsNodeRun node turns old new TurnsSpent said entries = (turns ≡ None)
-    × (said ≡ codes "turns spent") × IsNodeLog node old (2 ^ 62) new entries
+    × (said ≡ codes "turns spent") × IsNodeLog node old MOST_TURNS new entries
 IsNodeRun node turns old new outcome said entries = ⊥
 
 -- in the code: how a daemon ends that made all its turns

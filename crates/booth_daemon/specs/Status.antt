@@ -1,5 +1,5 @@
 -- The calls of `boothd status`, and what it then says on standard error.
-use Rattle.std.specs.Prelude.{◌≡◌, ℕ, Bool, true, false, List, [], ◌∷◌, Ok, Err, codes}
+use Rattle.std.specs.Prelude.{◌≡◌, ℕ, Bool, true, false, List, [], ◌∷◌, Ok, Err, codes, T}
 use Rattle.booth_host.specs.declared.host.Failed.{Failed}
 use Rattle.booth_host.specs.declared.entry.Entry.{Entry}
 use Rattle.booth_host.specs.declared.entry.Entry.TheVariants.{Lock, Out}
@@ -26,12 +26,15 @@ IsStatus lock PrintFault said entries = (said ≡ unprinted_text) × (free : Boo
 IsStatus lock outcome said entries = ⊥
 
 -- the outcomes of a look at a lock
+abbrev pub is_status_outcome : Outcome → Bool
+is_status_outcome Done = true
+is_status_outcome NotRunning = true
+is_status_outcome LockFault = true
+is_status_outcome PrintFault = true
+is_status_outcome outcome = false
+
 abbrev pub IsStatusOutcome : Outcome → Type 0
-IsStatusOutcome Done = Unit {0}
-IsStatusOutcome NotRunning = Unit {0}
-IsStatusOutcome LockFault = Unit {0}
-IsStatusOutcome PrintFault = Unit {0}
-IsStatusOutcome outcome = ⊥
+IsStatusOutcome outcome = T (is_status_outcome outcome)
 
 -- ---- in the code
 

@@ -8,14 +8,11 @@ ghost use Rattle.booth_daemon.specs.Ending.{MatchEnding};
 ghost use Rattle.booth_daemon.specs.Serving.{AreSpent, IsNodeRun, IsServing, IsStoppedWithin};
 
 use crate::opening::open;
-use booth_cli::DaemonWords;
+use booth_cli::{DaemonWords, MOST_TURNS};
 use booth_host::Host;
 use booth_node::{Node, Turn};
 use booth_outcomes::{Ended, ErrorLine, Outcome, texts};
 use std::alloc::Global;
-
-/// How many turns a daemon makes at most, where none are asked for.
-const TURNS: u64 = 1 << 62;
 
 /// How a row of turns ended.
 enum Ending {
@@ -67,7 +64,7 @@ fn run_node<H: Host>(node: &mut Node, turns: Option<u64>, host: &mut H) -> Ended
     ensures blame { (before after : ℕ) → HasBlame result.outcome before after }
     ensures later { H.faults host.old ≤ H.faults host.new }
 {
-    match make_turns(node, turns.unwrap_or(TURNS), host) {
+    match make_turns(node, turns.unwrap_or(MOST_TURNS), host) {
         Ending::Stopped => Ended {
             outcome: Outcome::Done,
             said: ErrorLine::none(),

@@ -1,5 +1,6 @@
 //! `boothd sim`: a whole cluster in memory, through generated events.
 ghost use Rattle.std.specs.Prelude.{◌≤◌, ℕ, List, Option, IfErr, IfOk};
+ghost use Rattle.booth_cli.specs.declared.reading.TheConstants.{MOST_EVENTS};
 ghost use Rattle.booth_conf.specs.Says.{Says};
 ghost use Rattle.booth_host.specs.Past.{GrewSome};
 ghost use Rattle.booth_outcomes.specs.Outcomes.{HasBlame};
@@ -7,7 +8,7 @@ ghost use Rattle.booth_daemon.specs.Simulating.{HasNoMemory, IsConfigChosen, IsP
 
 use crate::summary_text::summary_text;
 use booth_base::PathText;
-use booth_cli::SimulationWords;
+use booth_cli::{MOST_EVENTS, SimulationWords};
 use booth_conf::Config;
 use booth_host::{Failed, Host};
 use booth_outcomes::{Ended, ErrorLine, Outcome, read_config, texts};
@@ -15,7 +16,7 @@ use booth_sim::{Summary, simulate as run_cluster};
 use std::alloc::Global;
 
 // What words may ask for is within what a simulation may have.
-const _: () = prove!(booth_cli::MOST_EVENTS <= booth_sim::MOST_EVENTS);
+const _: () = prove!(MOST_EVENTS <= booth_sim::MOST_EVENTS);
 
 /// The configuration of a simulation, where none is named.
 const EXAMPLE: &[u8] =
@@ -67,7 +68,7 @@ fn print<H: Host>(summary: &Summary, host: &mut H) -> Ended
 
 // Runs the cluster of this configuration, and prints what was counted.
 fn run<H: Host>(alloc: Global, config: Config, asked: &SimulationWords, host: &mut H) -> Ended
-    requires { asked.now.events ≤ 10000000 }
+    requires { asked.now.events ≤ MOST_EVENTS }
     ensures past { GrewSome (IsSummed config asked.now result.outcome result.said) (H.past host.old)
         (H.past host.new) }
     ensures outcome { IsSimulationEnd asked.now.conf result.outcome }
@@ -82,7 +83,7 @@ fn run<H: Host>(alloc: Global, config: Config, asked: &SimulationWords, host: &m
 
 /// The calls of the simulation that was asked for, up to where its outcome is decided.
 pub(crate) fn simulate<H: Host>(alloc: Global, asked: &SimulationWords, host: &mut H) -> Ended
-    requires { asked.now.events ≤ 10000000 }
+    requires { asked.now.events ≤ MOST_EVENTS }
     ensures past { GrewSome (IsSimulated asked.now result.outcome result.said) (H.past host.old)
         (H.past host.new) }
     ensures outcome { IsSimulationEnd asked.now.conf result.outcome }

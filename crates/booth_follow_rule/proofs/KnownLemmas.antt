@@ -18,7 +18,7 @@ use Rattle.booth_follow_rule.specs.declared.state.Word.TheVariants.{Start, Stop,
 use Rattle.booth_follow_rule.specs.declared.steps.Step.{Step}
 use Rattle.booth_follow_rule.specs.Known.{AllRows, Known, Row, Service, Unknown, Started, Over, done_at, rows_from, told, told_done}
 use Rattle.booth_follow_rule.specs.Laws.{DeedsAreLet, IsDue, IsHeld, IsLet, IsRowLet}
-use Rattle.booth_follow_rule.specs.Rule.{Moment, deeds_from, end_of, ends_service, follow_step, has_failed, hears, is_held, is_rested, leaves_more, opening, quiet, runs, stands, state_after, step_at}
+use Rattle.booth_follow_rule.specs.Rule.{Moment, deeds_from, end_of, ends_service, follow_step, has_failed, hears, is_held, is_rested, leaves_more, opening, no_deed, runs, stands, state_after, step_at}
 
 -- ---- tests
 
@@ -166,7 +166,7 @@ down_goes m reading how s e since =
     let now : Known = known_as h e in
     cond_both s.asked _ _ (λ (step : Step). Goes m reading how Over now h step)
     (λ asked. ((refl, refl, asked), (record e { over_at = since; seen = reading }, refl, tt)))
-    (λ not_asked. cond_both (is_held m reading h && is_rested m since reading) (runs h Start Up) (quiet (Down since)) (λ (step : Step). Goes m reading how Over now h step)
+    (λ not_asked. cond_both (is_held m reading h && is_rested m since reading) (runs h Start Up) (no_deed (Down since)) (λ (step : Step). Goes m reading how Over now h step)
     (λ test. let both = and_parts (is_held m reading h) (is_rested m since reading) test in (
       (
         refl,
@@ -222,7 +222,7 @@ up_goes : (m : Margins) (reading : ℕ) (how : Option RunEnd) (s : State) (e : E
 up_goes m reading how s e =
     let h : State = with_stage s Up in
     let now : Known = known_as h e in
-    cond_both (s.asked || (has_failed how || not (is_held m reading h))) (ends_service m reading h) (quiet Up) (λ (step : Step). Goes m reading how Started now h step)
+    cond_both (s.asked || (has_failed how || not (is_held m reading h))) (ends_service m reading h) (no_deed Up) (λ (step : Step). Goes m reading how Started now h step)
     (λ test. cond_both (leaves_more m.kill reading s.until) (runs h Stop (Stopping s.until)) (runs h Kill (Killing None)) (λ (step : Step). Goes m reading how Started now h step)
     (λ time. (
       (refl, refl, refl, (up_due m reading how s e test, less (reading + m.kill) s.until time)),
@@ -250,7 +250,7 @@ stop_killed m reading how s e by why =
 
 -- a service whose stop is awaited, and there is time
 stop_awaited : (m : Margins) (reading : ℕ) (s : State) (e : Extra) (by : ℕ) (started : Bool) → (started ≡ true → by ≡ s.until) → reading + m.kill < by →
-    Goes m reading None (begun started) (known_as (with_stage s (Stopping by)) (with_started e started)) (with_stage s (Stopping by)) (quiet (Stopping by))
+    Goes m reading None (begun started) (known_as (with_stage s (Stopping by)) (with_started e started)) (with_stage s (Stopping by)) (no_deed (Stopping by))
 stop_awaited m reading s e by true sound time =
     (λ is. subst (λ (n : ℕ). reading + m.kill < n) (sound refl) time, (record e { seen = reading; started = true }, refl, sound))
 stop_awaited m reading s e by false sound time = (λ is. absurd cc, (record e { seen = reading; started = false }, refl, sound))
@@ -263,26 +263,26 @@ stop_late m reading until by false sound late = inl refl
 stopping_goes : (m : Margins) (reading : ℕ) (s : State) (e : Extra) (by : ℕ) → (e.started ≡ true → by ≡ s.until) → GoesAt m reading None s e (Stopping by)
 stopping_goes m reading s e by sound =
     let h : State = with_stage s (Stopping by) in
-    cond_both (leaves_more m.kill reading by) (quiet (Stopping by)) (runs h Kill (Killing None)) (λ (step : Step). Goes m reading None (begun e.started) (known_as h e) h step)
+    cond_both (leaves_more m.kill reading by) (no_deed (Stopping by)) (runs h Kill (Killing None)) (λ (step : Step). Goes m reading None (begun e.started) (known_as h e) h step)
     (λ time. stop_awaited m reading s e by e.started sound (less (reading + m.kill) by time))
     (λ time. stop_killed m reading None s e by (inr (stop_late m reading s.until by e.started sound (not_less (reading + m.kill) by time))))
 
 -- a stop or a kill is done
 over_goes : (m : Margins) (reading : ℕ) (s : State) (e : Extra) (by : ℕ) (started : Bool) →
     Goes m reading (Some Done) (begun started) (told_done (known_as (with_stage s (Stopping by)) (with_started e started)) reading (begun started) (Some Stop))
-    (with_stage s (Stopping by)) (quiet (Down reading))
+    (with_stage s (Stopping by)) (no_deed (Down reading))
 over_goes m reading s e by true = (λ over. absurd cc, (record e { killed = false; seen = reading }, refl, tt))
 over_goes m reading s e by false = (λ over. absurd cc, (record e { killed = false; seen = reading }, refl, tt))
 
 killed_goes : (m : Margins) (reading : ℕ) (s : State) (e : Extra) (failed : Option ℕ) (started : Bool) →
     Goes m reading (Some Done) (begun started) (told_done (known_as (with_stage s (Killing failed)) (with_started e started)) reading (begun started) (Some Kill))
-    (with_stage s (Killing failed)) (quiet (Down reading))
+    (with_stage s (Killing failed)) (no_deed (Down reading))
 killed_goes m reading s e failed true = (λ over. absurd cc, (record e { killed = true; seen = reading }, refl, tt))
 killed_goes m reading s e failed false = (λ over. absurd cc, (record e { killed = true; seen = reading }, refl, tt))
 
 -- it is being killed, and nothing is done
 kill_awaited : (m : Margins) (reading : ℕ) (how : Option RunEnd) (s : State) (e : Extra) (failed next : Option ℕ) (started : Bool) →
-    Goes m reading how (begun started) (known_as (with_stage s (Killing failed)) (with_started e started)) (with_stage s (Killing failed)) (quiet (Killing next))
+    Goes m reading how (begun started) (known_as (with_stage s (Killing failed)) (with_started e started)) (with_stage s (Killing failed)) (no_deed (Killing next))
 kill_awaited m reading how s e failed next true = (tt, (record e { seen = reading; started = true }, refl, tt))
 kill_awaited m reading how s e failed next false = (tt, (record e { seen = reading; started = false }, refl, tt))
 
@@ -294,7 +294,7 @@ killing_goes : (m : Margins) (reading : ℕ) (s : State) (e : Extra) (failed : O
 killing_goes m reading s e None = kill_awaited m reading None s e None None e.started
 killing_goes m reading s e (Some since) =
     let h : State = with_stage s (Killing (Some since)) in
-    cond_both (is_rested m since reading) (runs h Kill (Killing None)) (quiet (Killing (Some since))) (λ (step : Step). Goes m reading None (begun e.started) (known_as h e) h step)
+    cond_both (is_rested m since reading) (runs h Kill (Killing None)) (no_deed (Killing (Some since))) (λ (step : Step). Goes m reading None (begun e.started) (known_as h e) h step)
     (λ test. kill_again m reading s e (Some since))
     (λ test. kill_awaited m reading None s e (Some since) (Some since) e.started)
 

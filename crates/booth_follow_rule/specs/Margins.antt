@@ -1,25 +1,14 @@
 -- Which times of a follower fit a ticket.
 use Rattle.std.specs.Prelude.{◌<◌, ◌≤◌, ◌+◌, ◌-◌, ◌/◌, ℕ, Option, unwrap_or}
+use Rattle.booth_follow_rule.specs.declared.margins.TheConstants.{SLACK, LEAST_KILL, PAUSE}
 use Rattle.booth_follow_rule.specs.declared.margins.MarginFault.{MarginFault}
 use Rattle.booth_follow_rule.specs.declared.margins.MarginFault.TheVariants.{MarginTooLong, KillTooLong, KillTooShort}
 use Rattle.booth_follow_rule.specs.declared.margins.Margins.{Margins}
 
--- how long a list and a renewal may take, in ms
-abbrev pub slack : ℕ
-slack = 2000
-
--- the shortest time of a kill, in ms
-abbrev pub least_kill : ℕ
-least_kill = 1000
-
--- how long a service that was stopped is left so, in ms
-abbrev pub rest : ℕ
-rest = 5000
-
 -- The times that are asked for. The default of the margin is half of what is left of a lease at its renewal, and that
 -- of the kill half of the margin.
 abbrev pub margins_with : ℕ → Option ℕ → Margins
-margins_with margin kill = record { margin = margin; kill = unwrap_or kill (margin / 2); pause = rest }
+margins_with margin kill = record { margin = margin; kill = unwrap_or kill (margin / 2); pause = PAUSE }
 
 abbrev pub margins_of : ℕ → ℕ → Option ℕ → Option ℕ → Margins
 margins_of expire renewal margin kill = margins_with (unwrap_or margin ((expire - renewal) / 2)) kill
@@ -27,13 +16,13 @@ margins_of expire renewal margin kill = margins_with (unwrap_or margin ((expire 
 -- A lease that is renewed has more than the margin left until the next renewal is over; a stop has time before the
 -- kill, and the kill has time.
 pub record Fits (expire renewal : ℕ) (m : Margins) : Type 0 where
-  pub renewed : m.margin + slack + renewal ≤ expire
+  pub renewed : m.margin + SLACK + renewal ≤ expire
   pub stop : m.kill < m.margin
-  pub kill : least_kill ≤ m.kill
+  pub kill : LEAST_KILL ≤ m.kill
 
 -- the first of these that is not so
 abbrev pub HasFault : ℕ → ℕ → Margins → MarginFault → Type 0
-HasFault expire renewal m MarginTooLong = expire < m.margin + slack + renewal
-HasFault expire renewal m KillTooLong = (m.margin + slack + renewal ≤ expire) × (m.margin ≤ m.kill)
+HasFault expire renewal m MarginTooLong = expire < m.margin + SLACK + renewal
+HasFault expire renewal m KillTooLong = (m.margin + SLACK + renewal ≤ expire) × (m.margin ≤ m.kill)
 HasFault expire renewal m KillTooShort =
-    (m.margin + slack + renewal ≤ expire) × (m.kill < m.margin) × (m.kill < least_kill)
+    (m.margin + SLACK + renewal ≤ expire) × (m.kill < m.margin) × (m.kill < LEAST_KILL)

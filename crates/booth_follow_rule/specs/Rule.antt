@@ -42,8 +42,8 @@ end_of number heard = None
 
 -- ---- what is done
 
-abbrev pub quiet : Stage → Step
-quiet stage = record { deed = deeds.Nothing; stage = stage }
+abbrev pub no_deed : Stage → Step
+no_deed stage = record { deed = deeds.Nothing; stage = stage }
 
 -- the number after this one, which is 0 after the last
 abbrev pub next_number : ℕ → ℕ
@@ -79,7 +79,7 @@ is_rested m since reading = nat_le (since + m.pause) reading
 abbrev pub while_down : Margins → ℕ → ℕ → State → Step
 while_down m reading since s =
     if s.asked then record { deed = deeds.Leave; stage = Ended }
-    else (if is_held m reading s && is_rested m since reading then runs s Start Up else quiet (Down since))
+    else (if is_held m reading s && is_rested m since reading then runs s Start Up else no_deed (Down since))
 
 -- the run that started the service ended so that there is none
 abbrev pub has_failed : Option RunEnd → Bool
@@ -88,22 +88,22 @@ has_failed how = false
 
 abbrev pub while_up : Margins → ℕ → Option RunEnd → State → Step
 while_up m reading how s =
-    if s.asked || (has_failed how || not (is_held m reading s)) then ends_service m reading s else quiet Up
+    if s.asked || (has_failed how || not (is_held m reading s)) then ends_service m reading s else no_deed Up
 
 abbrev pub while_stopping : Margins → ℕ → Option RunEnd → ℕ → State → Step
-while_stopping m reading (Some Done) by s = quiet (Down reading)
+while_stopping m reading (Some Done) by s = no_deed (Down reading)
 while_stopping m reading (Some Failed) by s = runs s Kill (Killing None)
 while_stopping m reading None by s =
-    if leaves_more m.kill reading by then quiet (Stopping by) else runs s Kill (Killing None)
+    if leaves_more m.kill reading by then no_deed (Stopping by) else runs s Kill (Killing None)
 
 abbrev pub kills_on : Margins → ℕ → Option ℕ → State → Step
-kills_on m reading None s = quiet (Killing None)
+kills_on m reading None s = no_deed (Killing None)
 kills_on m reading (Some since) s =
-    if is_rested m since reading then runs s Kill (Killing None) else quiet (Killing (Some since))
+    if is_rested m since reading then runs s Kill (Killing None) else no_deed (Killing (Some since))
 
 abbrev pub while_killing : Margins → ℕ → Option RunEnd → Option ℕ → State → Step
-while_killing m reading (Some Done) failed s = quiet (Down reading)
-while_killing m reading (Some Failed) failed s = quiet (Killing (Some reading))
+while_killing m reading (Some Done) failed s = no_deed (Down reading)
+while_killing m reading (Some Failed) failed s = no_deed (Killing (Some reading))
 while_killing m reading None failed s = kills_on m reading failed s
 
 -- What follows a reading, by the stage, once the news before it was heard. At first the service is stopped, since an
@@ -114,7 +114,7 @@ step_at m reading how s (Down since) = while_down m reading since s
 step_at m reading how s Up = while_up m reading how s
 step_at m reading how s (Stopping by) = while_stopping m reading how by s
 step_at m reading how s (Killing failed) = while_killing m reading how failed s
-step_at m reading how s Ended = quiet Ended
+step_at m reading how s Ended = no_deed Ended
 
 -- ---- one moment and all
 

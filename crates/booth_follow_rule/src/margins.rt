@@ -1,6 +1,6 @@
 //! The times of a follower, and which of them fit a ticket.
 ghost use Rattle.std.specs.Prelude.{◌≡◌, ◌+◌, ◌-◌, ◌≤◌, ◌<◌, MatchBool, MatchResult};
-ghost use Rattle.booth_follow_rule.specs.Margins.{Fits, HasFault, margins_of, slack};
+ghost use Rattle.booth_follow_rule.specs.Margins.{Fits, HasFault, margins_of};
 
 use thiserror::Error;
 
@@ -37,7 +37,7 @@ pub enum MarginFault {
 
 // Whether a lease that is renewed so often runs out a margin before the next renewal.
 fn is_too_long(expire: u64, renewal: u64, margin: u64) -> bool
-    ensures { MatchBool result (expire < margin + slack + renewal) (margin + slack + renewal ≤ expire) }
+    ensures { MatchBool result (expire < margin + SLACK + renewal) (margin + SLACK + renewal ≤ expire) }
 {
     let room = expire.saturating_sub(renewal);
     room < SLACK || room - SLACK < margin

@@ -1,6 +1,6 @@
 //! What follows a reading at each stage.
 ghost use Rattle.std.specs.Prelude.{◌≡◌, MatchBool, ◌<◌, ◌≤◌, ◌+◌};
-ghost use Rattle.booth_follow_rule.specs.Rule.{after, end_of, ends_service, has_failed, hears, is_held, is_rested, kills_on, leaves_more, moved, next_number, quiet, run_after, runs, step_at, while_down, while_killing, while_stopping, while_up};
+ghost use Rattle.booth_follow_rule.specs.Rule.{after, end_of, ends_service, has_failed, hears, is_held, is_rested, kills_on, leaves_more, moved, next_number, no_deed, run_after, runs, step_at, while_down, while_killing, while_stopping, while_up};
 
 use crate::margins::Margins;
 use crate::news::{News, RunEnd, Shown};
@@ -69,8 +69,8 @@ pub(crate) fn end_of(number: u64, news: News) -> Option<RunEnd>
 
 // ---- what is done
 
-fn quiet(stage: Stage) -> Step
-    ensures { result ≡ quiet stage }
+fn no_deed(stage: Stage) -> Step
+    ensures { result ≡ no_deed stage }
 {
     Step {
         deed: FollowDeed::Nothing,
@@ -166,7 +166,7 @@ fn while_down(margins: &Margins, reading: u64, since: u64, state: State) -> Step
     if is_held(margins, reading, state) && is_rested(margins, since, reading) {
         runs(state, Word::Start, Stage::Up)
     } else {
-        quiet(Stage::Down { since })
+        no_deed(Stage::Down { since })
     }
 }
 
@@ -186,7 +186,7 @@ fn while_up(margins: &Margins, reading: u64, how: Option<RunEnd>, state: State) 
     if state.asked || has_failed(how) || !is_held(margins, reading, state) {
         ends_service(margins, reading, state)
     } else {
-        quiet(Stage::Up)
+        no_deed(Stage::Up)
     }
 }
 
@@ -200,11 +200,11 @@ fn while_stopping(
     ensures { result ≡ while_stopping margins.now reading how by state }
 {
     match how {
-        Some(RunEnd::Done) => quiet(Stage::Down { since: reading }),
+        Some(RunEnd::Done) => no_deed(Stage::Down { since: reading }),
         Some(RunEnd::Failed) => runs(state, Word::Kill, Stage::Killing { failed: None }),
         None => {
             if leaves_more(margins.kill, reading, by) {
-                quiet(Stage::Stopping { by })
+                no_deed(Stage::Stopping { by })
             } else {
                 runs(state, Word::Kill, Stage::Killing { failed: None })
             }
@@ -220,10 +220,10 @@ fn kills_on(margins: &Margins, reading: u64, failed: Option<u64>, state: State) 
             if is_rested(margins, since, reading) {
                 runs(state, Word::Kill, Stage::Killing { failed: None })
             } else {
-                quiet(Stage::Killing { failed })
+                no_deed(Stage::Killing { failed })
             }
         }
-        None => quiet(Stage::Killing { failed }),
+        None => no_deed(Stage::Killing { failed }),
     }
 }
 
@@ -237,8 +237,8 @@ fn while_killing(
     ensures { result ≡ while_killing margins.now reading how failed state }
 {
     match how {
-        Some(RunEnd::Done) => quiet(Stage::Down { since: reading }),
-        Some(RunEnd::Failed) => quiet(Stage::Killing {
+        Some(RunEnd::Done) => no_deed(Stage::Down { since: reading }),
+        Some(RunEnd::Failed) => no_deed(Stage::Killing {
             failed: Some(reading),
         }),
         None => kills_on(margins, reading, failed, state),
@@ -258,6 +258,6 @@ pub(crate) fn step_at(margins: &Margins, reading: u64, how: Option<RunEnd>, stat
         Stage::Up => while_up(margins, reading, how, state),
         Stage::Stopping { by } => while_stopping(margins, reading, how, by, state),
         Stage::Killing { failed } => while_killing(margins, reading, how, failed, state),
-        Stage::Ended => quiet(Stage::Ended),
+        Stage::Ended => no_deed(Stage::Ended),
     }
 }

@@ -8,9 +8,10 @@ use Rattle.booth_host.proofs.PastLemmas.{no_entry, some_joined, some_of, some_we
 use Rattle.booth_cli.specs.declared.asking.Asked.{Asked}
 use Rattle.booth_cli.specs.declared.asking.Asked.TheVariants.{Follow}
 use Rattle.booth_cli.specs.declared.asking.FollowWords.{FollowWords}
+use Rattle.booth_cli.specs.declared.command.Verb.TheVariants as verbs
 use Rattle.booth_cli.specs.declared.program.Program.TheVariants.{BoothFollow}
 use Rattle.booth_cli.specs.Asking.{Asks, AsksFollow, IsUntaken, IsUntakenFor}
-use Rattle.booth_cli.proofs.AskingLemmas.{untaken_of}
+use Rattle.booth_cli.proofs.AskingLemmas.{taken_named, untaken_named, untaken_of}
 use Rattle.booth_outcomes.specs.declared.outcome.Outcome.{Outcome}
 use Rattle.booth_outcomes.specs.declared.outcome.Outcome.TheVariants as outs
 use Rattle.booth_outcomes.specs.Texts.{IsText}
@@ -18,6 +19,10 @@ use Rattle.booth_outcomes.specs.Unasked.{IsTold, IsToldOutcome, IsUnasked}
 use Rattle.booth_outcomes.proofs.UsageLemmas.{no_memory, unasked_of}
 use Rattle.booth_followers.specs.Run.{FitsFollowWords, IsFollowMade, IsFollowRun, Followed, Unasked}
 use Rattle.booth_followers.specs.Service.{IsFollowAnswered, IsFollowLog}
+use Rattle.clap.specs.declared.error.Error.{Error}
+use Rattle.booth_cli.specs.declared.asking.Refusal.{Refusal}
+use Rattle.booth_cli.specs.declared.asking.Refusal.TheVariants.{Untaken}
+use Rattle.std.specs.Prelude.{Err}
 
 pub followed_made : {a b : Option (List Entry)} (words : List (List ℕ)) (asked : FollowWords) (outcome : Outcome) (said : List ℕ) → AsksFollow words asked →
     GrewSome (IsFollowLog asked outcome said) a b → GrewSome (IsFollowMade words outcome said) a b
@@ -30,6 +35,13 @@ told_made words kind outcome said un out told =
     some_weaker (IsTold BoothFollow kind outcome said) (IsFollowMade words outcome said)
     (λ es is. Unasked (unasked_of BoothFollow words kind outcome said es un out is)) told
 
+-- the same of a refusal that is such an error
+pub told_asked : {a b : Option (List Entry)} (words : List (List ℕ)) (error : Error) (refusal : Refusal) (outcome : Outcome) (said : List ℕ) →
+    Asks BoothFollow words (Err refusal) → refusal ≡ Untaken error → IsToldOutcome error.kind outcome → GrewSome (IsTold BoothFollow error.kind outcome said) a b →
+    GrewSome (IsFollowMade words outcome said) a b
+told_asked words error refusal outcome said asks same out told =
+    told_made words error.kind outcome said (subst (λ (x : Refusal). Asks BoothFollow words (Err x)) same asks) out told
+
 pub unasked_made : {a : Option (List Entry)} (words : List (List ℕ)) (outcome : Outcome) (said : List ℕ) → IsUnasked BoothFollow words outcome said [] →
     GrewSome (IsFollowMade words outcome said) a a
 unasked_made words outcome said is = some_of (IsFollowMade words outcome said) no_entry (Unasked is)
@@ -39,7 +51,7 @@ pub fits_untaken : (words : List (List ℕ)) (kind : ErrorKind) (outcome : Outco
 fits_untaken words kind (outs.Usage (Some told)) un out = subst (λ k. IsUntaken BoothFollow words k) (sym out.0) (untaken_of BoothFollow words kind out.1 un)
 fits_untaken words kind outs.PrintFault un out =
     record { kind = kind; untaken = untaken_of BoothFollow words kind (no_memory kind out) un; is = out }
-fits_untaken words kind outs.OutOfMemory un out = tt
+fits_untaken words kind outs.OutOfMemory un out = untaken_named BoothFollow words kind un
 fits_untaken words kind outcome un out = absurd out
 
 pub asks_follow : (words : List (List ℕ)) (asked : FollowWords) (all : Asked) → Asks BoothFollow words (Ok all) → all ≡ Follow asked → AsksFollow words asked
@@ -50,7 +62,7 @@ pub fits_answered : (words : List (List ℕ)) (asked : FollowWords) (outcome : O
 fits_answered words asked (outs.Usage kind) asks is = absurd is
 fits_answered words asked (outs.BadWord word) asks is = absurd is
 fits_answered words asked outs.PrintFault asks is = absurd is
-fits_answered words asked outs.OutOfMemory asks is = tt
+fits_answered words asked outs.OutOfMemory asks is = taken_named BoothFollow words verbs.Follow asks.all asks.asks
 fits_answered words asked outcome asks is = (record { asked = asked; asks = asks }, is)
 
 -- the calls up to the outcome, and then what is said

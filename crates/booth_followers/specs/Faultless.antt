@@ -1,5 +1,5 @@
 -- What a run ends with where the outside does not fail.
-use Rattle.std.specs.Prelude.{Contains, ℕ, List, Option, Ok, Err}
+use Rattle.std.specs.Prelude.{Contains, ℕ, List, Option, Ok, Err, Bool, true, false, T}
 use Rattle.booth_base.specs.declared.address.Address.{Address}
 use Rattle.booth_conf.specs.Config.{ConfigSays}
 use Rattle.booth_conf.specs.Says.{Says}
@@ -34,11 +34,14 @@ pub record IsUnhindered (asked : FollowWords) (entries : List Entry) : Type 0 wh
       → Contains entries (Open local port records conf_path (Err failed)) → ⊥
 
 -- the outcomes that are no one's fault here
+abbrev pub is_followed_through : Outcome → Bool
+is_followed_through outs.Done = true
+is_followed_through outs.TurnsSpent = true
+is_followed_through outs.OutOfMemory = true
+is_followed_through outcome = false
+
 abbrev pub IsFollowedThrough : Outcome → Type 0
-IsFollowedThrough outs.Done = Unit {0}
-IsFollowedThrough outs.TurnsSpent = Unit {0}
-IsFollowedThrough outs.OutOfMemory = Unit {0}
-IsFollowedThrough outcome = ⊥
+IsFollowedThrough outcome = T (is_followed_through outcome)
 
 -- Valid words, a valid file and keys, a ticket that can be followed so, and an outside that does not fail before the
 -- turns give Done, TurnsSpent or OutOfMemory, and no other outcome.

@@ -4,7 +4,7 @@ use Rattle.booth_host.specs.declared.entry.Entry.{Entry}
 use Rattle.booth_cli.specs.declared.asking.FollowWords.{FollowWords}
 use Rattle.booth_cli.specs.declared.program.Program.TheVariants.{BoothFollow}
 use Rattle.booth_cli.specs.Commands.{verb_in}
-use Rattle.booth_cli.specs.Asking.{AsksFollow, IsUntaken, HasBadWord}
+use Rattle.booth_cli.specs.Asking.{AsksFollow, NamesCommand, IsUntaken, HasBadWord}
 use Rattle.booth_outcomes.specs.declared.outcome.Outcome.{Outcome}
 use Rattle.booth_outcomes.specs.declared.outcome.Outcome.TheVariants.{Usage, BadWord, PrintFault, OutOfMemory}
 use Rattle.booth_outcomes.specs.Texts.{IsText}
@@ -31,12 +31,12 @@ pub record AskToFollow (words : List (List ℕ)) : Type 0 where
   pub asked : FollowWords
   pub asks : AsksFollow words asked
 
--- Usage comes only for words that are not taken, BadWord exactly where that word is the first refused, and PrintFault
--- only where help or the version was asked for.
+-- Usage comes only for words that are not taken, BadWord exactly where that word is the first refused, PrintFault only
+-- where help or the version was asked for, and want of memory only where there is a word.
 abbrev pub FitsFollowWords : List (List ℕ) → Outcome → Type 0
 FitsFollowWords words (Usage None) = verb_in BoothFollow words ≡ None
 FitsFollowWords words (Usage (Some kind)) = IsUntaken BoothFollow words kind
 FitsFollowWords words (BadWord word) = HasBadWord BoothFollow words word
 FitsFollowWords words PrintFault = IsRequest BoothFollow words
-FitsFollowWords words OutOfMemory = Unit {0}
+FitsFollowWords words OutOfMemory = NamesCommand BoothFollow words
 FitsFollowWords words outcome = AskToFollow words × IsFollowAnswered outcome

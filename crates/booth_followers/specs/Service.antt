@@ -1,5 +1,5 @@
 -- The calls of a service that was asked for, up to where its outcome is decided, and what is then said.
-use Rattle.std.specs.Prelude.{◌≡◌, ◌++◌, ℕ, List, [], ◌∷◌, Option, None, Ok, Err, codes}
+use Rattle.std.specs.Prelude.{◌≡◌, ◌++◌, ℕ, List, [], ◌∷◌, Option, None, Ok, Err, codes, Bool, true, false, T}
 use Rattle.booth_keys.specs.declared.ring.Ring.{Ring}
 use Rattle.booth_base.specs.declared.address.Peer.{Peer}
 use Rattle.booth_conf.specs.Config.{ConfigSays}
@@ -137,14 +137,17 @@ pub data IsFollowLog (asked : FollowWords) (outcome : Outcome) (said : List ℕ)
 -- ---- over every host
 
 -- an outcome of a service that was asked for
+abbrev pub is_follow_answered : Outcome → Bool
+is_follow_answered outs.ConfUnread = true
+is_follow_answered (outs.ConfBad fault) = true
+is_follow_answered (outs.NotFollowed fault) = true
+is_follow_answered outs.KeyUnread = true
+is_follow_answered (outs.KeyBad fault) = true
+is_follow_answered outs.OpenFault = true
+is_follow_answered outs.Done = true
+is_follow_answered outs.TurnsSpent = true
+is_follow_answered outs.OutOfMemory = true
+is_follow_answered outcome = false
+
 abbrev pub IsFollowAnswered : Outcome → Type 0
-IsFollowAnswered outs.ConfUnread = Unit {0}
-IsFollowAnswered (outs.ConfBad fault) = Unit {0}
-IsFollowAnswered (outs.NotFollowed fault) = Unit {0}
-IsFollowAnswered outs.KeyUnread = Unit {0}
-IsFollowAnswered (outs.KeyBad fault) = Unit {0}
-IsFollowAnswered outs.OpenFault = Unit {0}
-IsFollowAnswered outs.Done = Unit {0}
-IsFollowAnswered outs.TurnsSpent = Unit {0}
-IsFollowAnswered outs.OutOfMemory = Unit {0}
-IsFollowAnswered outcome = ⊥
+IsFollowAnswered outcome = T (is_follow_answered outcome)

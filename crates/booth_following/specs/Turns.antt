@@ -1,5 +1,5 @@
 -- A following over a host: the calls of a turn, and all of them.
-use Rattle.std.specs.Prelude.{◌≡◌, ◌+◌, ◌/◌, ◌^◌, ◌++◌, ◌||◌, ℕ, Bool, true, false, nat_le, nat_lt, List, [], ◌∷◌, length, Option, Some, None, Result, Ok, Err}
+use Rattle.std.specs.Prelude.{◌≡◌, ◌+◌, ◌/◌, ◌++◌, ◌||◌, ℕ, Bool, true, false, nat_le, nat_lt, List, [], ◌∷◌, length, Option, Some, None, Result, Ok, Err}
 use Rattle.booth_host.specs.declared.host.Arrival.{Arrival}
 use Rattle.booth_host.specs.declared.host.Failed.{Failed}
 use Rattle.booth_host.specs.declared.entry.Entry.{Entry}
@@ -10,6 +10,7 @@ use Rattle.booth_follow_rule.specs.declared.state.FollowDeed.TheVariants as deed
 use Rattle.booth_follow_rule.specs.Rule.{Moment, follow_step, opening, state_after}
 use Rattle.booth_following.specs.declared.following.Following.{Following}
 use Rattle.booth_following.specs.declared.following.Seat.{Seat}
+use Rattle.booth_following.specs.declared.turns.TheConstants.{MOST_TURNS}
 use Rattle.booth_following.specs.declared.turns.FollowEnd.{FollowEnd}
 use Rattle.booth_following.specs.declared.turns.FollowEnd.TheVariants.{Left, Spent}
 use Rattle.booth_following.specs.Asking.{request_bytes}
@@ -125,10 +126,6 @@ pub record IsUnderway (f : Following) (seat : Seat) (count : ℕ) (entries : Lis
   pub stands : seat_from (first_seat f) turns ≡ seat
   pub whole : entries ≡ calls_from f (first_seat f) turns
 
--- the most turns of a following
-abbrev pub most : ℕ
-most = 2 ^ 62
-
 -- turns, and a last one in which the follower leaves
 pub record IsLeft (f : Following) (entries : List Entry) : Type 0 where
   pub turns : List Turn
@@ -141,4 +138,4 @@ pub record IsLeft (f : Following) (entries : List Entry) : Type 0 where
 -- All calls of a following, by how it ended.
 abbrev pub IsFollowed : Following → FollowEnd → List Entry → Type 0
 IsFollowed f Left entries = IsLeft f entries
-IsFollowed f Spent entries = (seat : Seat) × IsUnderway f seat most entries
+IsFollowed f Spent entries = (seat : Seat) × IsUnderway f seat MOST_TURNS entries

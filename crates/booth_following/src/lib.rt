@@ -13,5 +13,5 @@ mod turns;
 pub use choosing::{FollowFault, margins_for};
 pub use following::{Following, Room};
 pub use lines::TicketLine;
-pub use programs::Programs;
+pub use programs::{PATH_BYTES, PROGRAM_BYTES, Programs};
 pub use turns::{FollowEnd, follow};

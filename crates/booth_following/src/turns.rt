@@ -14,7 +14,7 @@ use booth_host::{Failed, Host, Job};
 const ASK_EVERY: u64 = 1_000;
 
 /// How many turns a following makes at most.
-const TURNS: u64 = 1 << 62;
+const MOST_TURNS: u64 = 1 << 62;
 
 // The program is run for a word, where that is to be done.
 fn run<H: Host>(f: &Following, deed: FollowDeed, host: &mut H) -> Result<(), Failed>
@@ -143,7 +143,7 @@ pub fn follow<H: Host>(f: &Following, room: &mut Room, host: &mut H) -> FollowEn
     ensures later { H.faults host.old ≤ H.faults host.new }
 {
     let mut seat = first_seat(f);
-    for _turn in 0..TURNS {
+    for _turn in 0..MOST_TURNS {
         match turn(f, &mut seat, room, host) {
             FollowDeed::Leave => return FollowEnd::Left,
             FollowDeed::Nothing | FollowDeed::Run { .. } => {}

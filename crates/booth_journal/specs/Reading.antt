@@ -1,5 +1,6 @@
 -- What a line of a journal says, and when a text is none.
 use Rattle.std.specs.Prelude.{◌≡◌, ◌<◌, ◌≤◌, ◌^◌, ℕ, ℤ, List, ◌++◌, codes, decimal, slice_index, length, true, FitsSigned, Option, None, Some, Result, Err, IfOk}
+use Rattle.std.specs.Prelude.{Bool, false, T}
 use Rattle.std.specs.Int.{w32}
 use Rattle.std.specs.Fmt.{signed_decimal}
 use Rattle.booth_base.specs.Address.{IsAddress, printed}
@@ -52,31 +53,43 @@ IsAnswer answer = Unit {0}
 
 -- ---- which answers a call may have
 
+abbrev pub is_reading : Answer → Bool
+is_reading (answers.Reading reading) = true
+is_reading answer = false
+
 abbrev pub IsReading : Answer → Type 0
-IsReading (answers.Reading reading) = Unit {0}
-IsReading answer = ⊥
+IsReading answer = T (is_reading answer)
 
 -- whether a call was done
+abbrev pub is_done : Answer → Bool
+is_done answers.Done = true
+is_done answers.Fails = true
+is_done answer = false
+
 abbrev pub IsDone : Answer → Type 0
-IsDone answers.Done = Unit {0}
-IsDone answers.Fails = Unit {0}
-IsDone answer = ⊥
+IsDone answer = T (is_done answer)
 
 -- what a wait brought
+abbrev pub is_arrival : Answer → Bool
+is_arrival answers.Fails = true
+is_arrival answers.Quiet = true
+is_arrival answers.Stop = true
+is_arrival (answers.Ended job status) = true
+is_arrival (answers.Data from bytes) = true
+is_arrival answer = false
+
 abbrev pub IsArrival : Answer → Type 0
-IsArrival answers.Fails = Unit {0}
-IsArrival answers.Quiet = Unit {0}
-IsArrival answers.Stop = Unit {0}
-IsArrival (answers.Ended job status) = Unit {0}
-IsArrival (answers.Data from bytes) = Unit {0}
-IsArrival answer = ⊥
+IsArrival answer = T (is_arrival answer)
 
 -- what is kept of a ticket
+abbrev pub is_found : Answer → Bool
+is_found answers.Fails = true
+is_found answers.Absent = true
+is_found (answers.Found kept) = true
+is_found answer = false
+
 abbrev pub IsFound : Answer → Type 0
-IsFound answers.Fails = Unit {0}
-IsFound answers.Absent = Unit {0}
-IsFound (answers.Found kept) = Unit {0}
-IsFound answer = ⊥
+IsFound answer = T (is_found answer)
 
 abbrev pub IsAnswerTo : Call → Answer → Type 0
 IsAnswerTo calls.Now answer = IsReading answer
@@ -89,7 +102,8 @@ IsAnswerTo (calls.Job number ticket expires) answer = IsDone answer
 
 -- ---- reading
 
--- What is read of a text: what it spells, and NoLine only where it spells nothing. For want of memory a read may always fail.
+-- What is read of a text: what it spells, and NoLine only where it spells nothing. For want of memory a read may
+-- always fail.
 pub record ReadsAs {A : Type 0} (Spells : A → Type 0) (result : Result A LineFault) : Type 0 where
   pub found : IfOk result Spells
   pub none : result ≡ Err NoLine → (value : A) → Spells value → ⊥

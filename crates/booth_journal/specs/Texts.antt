@@ -1,5 +1,5 @@
 -- Which texts are journals: lines, one behind the other, and behind the last one bytes that are no line.
-use Rattle.std.specs.Prelude.{◌≡◌, ◌+◌, ℕ, List, [], ◌∷◌, ◌++◌, codes, length, Option, None, Some}
+use Rattle.std.specs.Prelude.{◌≡◌, ◌+◌, ℕ, List, [], ◌∷◌, ◌++◌, codes, length, Option, None, Some, IsSomeAnd}
 use Rattle.std.specs.List.{All, flat_map}
 use Rattle.booth_journal.specs.Fields.{HasNo}
 use Rattle.booth_journal.specs.Lines.{line}
@@ -12,18 +12,19 @@ use Rattle.booth_journal.specs.declared.texts.TextFault.TheVariants as faults
 
 -- ---- one line behind others
 
--- A line behind a call that has no answer yet, or behind none: it says a call, or that one's answer. A call is cut where
--- it has none: the next line begins a start, and reads the clock. Last stands the call that has no answer after the line.
+-- A line behind a call that has no answer yet, or behind none: it says a call, or that one's answer. A call is cut
+-- where it has none: the next line begins a start, and reads the clock. Last stands the call that has no answer after
+-- the line.
 abbrev pub Follows : Option Call → List ℕ → Option Call → Type 0
-Follows None text (Some call) = SpellsCall text call
-Follows None text None = ⊥
+Follows None text next = IsSomeAnd next (SpellsCall text)
 Follows (Some call) text None = (answer : Answer) × SpellsAnswerTo call text answer
 Follows (Some call) text (Some next) = (next ≡ calls.Now) × (text ≡ codes "now")
 
 -- lines, one behind the other
 abbrev pub AreSaid : Option Call → List (List ℕ) → Option Call → Type 0
 AreSaid before [] after = before ≡ after
-AreSaid before (text ∷ texts) after = (between : Option Call) × Follows before text between × AreSaid between texts after
+AreSaid before (text ∷ texts) after =
+    (between : Option Call) × Follows before text between × AreSaid between texts after
 
 -- ---- a whole text
 

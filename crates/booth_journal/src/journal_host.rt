@@ -226,8 +226,8 @@ impl<H: Host, S: Sink> Host for JournalHost<H, S> {
         ensures past { GrewBy (H.past self.old.host) (H.past self.new.host)
             (Entry.Start job.now.number job.now.ticket job.now.handler job.now.local job.now.expires result ∷ []) }
         ensures cause { HasCause (H.faults self.old.host) (H.faults self.new.host) result }
-        ensures wrote { Wrote S.held S.faults self.old.journal self.new.journal
-            (lines_of (Entry.Start job.now.number job.now.ticket job.now.handler job.now.local job.now.expires result)) }
+        ensures wrote { Wrote S.held S.faults self.old.journal self.new.journal (lines_of
+            (Entry.Start job.now.number job.now.ticket job.now.handler job.now.local job.now.expires result)) }
     {
         job_line(job, &mut self.draft);
         self.write_draft();

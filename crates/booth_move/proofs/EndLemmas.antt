@@ -1,6 +1,6 @@
 -- Nothing comes after the end of a move, and every move comes to it.
 use Rattle.std.proofs.Common.{◌≡◌, ◌<◌, ◌≤◌, ◌+◌, ◌*◌, ℕ, Bool, true, false, List, [], ◌∷◌, length, Some, None, ap, ◌∙◌, inl, inr, arith}
-use Rattle.booth_talk.specs.Waiting.{most}
+use Rattle.booth_talk.specs.declared.wait.TheConstants.{MOST_PAIRS}
 use Rattle.booth_move.specs.declared.deeds.MoveDeed.{MoveDeed}
 use Rattle.booth_move.specs.declared.deeds.MoveDeed.TheVariants as deeds
 use Rattle.booth_move.specs.declared.stage.Request.{Request}
@@ -79,11 +79,11 @@ abbrev Leaves : Stage → MoveDeed → Stage → Type 0
 Leaves old (deeds.End end) new = Unit {0}
 Leaves old deed new = IsGoing old → IsGoing new × (pairs_left new + 1 ≤ pairs_left old)
 
-some_left : (begun : Bool) (pairs : ℕ) → pairs < most → 1 ≤ wait_left begun pairs
+some_left : (begun : Bool) (pairs : ℕ) → pairs < MOST_PAIRS → 1 ≤ wait_left begun pairs
 some_left true pairs below = omega (arith, below)
 some_left false pairs below = omega (arith, below)
 
-one_less : (begun : Bool) (pairs : ℕ) → pairs + 1 < most → wait_left begun (pairs + 1) + 1 ≤ wait_left begun pairs
+one_less : (begun : Bool) (pairs : ℕ) → pairs + 1 < MOST_PAIRS → wait_left begun (pairs + 1) + 1 ≤ wait_left begun pairs
 one_less true pairs below = omega (arith, below)
 one_less false pairs below = omega (arith, below)
 
@@ -91,7 +91,7 @@ one_less false pairs below = omega (arith, below)
 left_as : (next other : Request) → next ≡ other → request_left next ≡ request_left other
 left_as next other is = ap (λ (r : Request). request_left r) is
 
-goes_less : (wait : Bool) (last : Request) (p : Pair) (next : Request) → last.pairs < most → GoesOn wait last p next →
+goes_less : (wait : Bool) (last : Request) (p : Pair) (next : Request) → last.pairs < MOST_PAIRS → GoesOn wait last p next →
     request_left next + 1 ≤ request_left last
 goes_less wait last p next below (inl more) =
     let less : wait_left last.begun (last.pairs + 1) + 1 ≤ wait_left last.begun last.pairs = one_less last.begun last.pairs more.1 in
@@ -103,7 +103,7 @@ goes_less wait last p next below (inr begun) =
     omega (arith, is, was, below)
 
 -- a new request has all its pairs
-left_new : (next : Request) (number reading : ℕ) → next ≡ sent number reading → request_left next ≡ 2 * most
+left_new : (next : Request) (number reading : ℕ) → next ≡ sent number reading → request_left next ≡ 2 * MOST_PAIRS
 left_new next number reading is = left_as next (sent number reading) is ∙ omega arith
 
 -- so many pairs follow where there is one more before
@@ -115,10 +115,10 @@ leaves_row : (setup : MoveSetup) (stage : Stage) (p : Pair) (d : MoveDeed) (next
     Follows setup stage p d next → Leaves stage d next
 leaves_row setup (Opening start) p (deeds.Revoke None number) (Revoking next on) sound h = λ going. (tt, by_on on)
   where
-    new : request_left next ≡ 2 * most
+    new : request_left next ≡ 2 * MOST_PAIRS
     new = left_new next number start h.1
 
-    by_on : (on : Bool) → pairs_left (Revoking next on) + 1 ≤ 1 + 36 * most
+    by_on : (on : Bool) → pairs_left (Revoking next on) + 1 ≤ 1 + 36 * MOST_PAIRS
     by_on true = omega (arith, new)
     by_on false = omega (arith, new)
 leaves_row setup (Revoking last sent_on) p deeds.Nothing (Revoking next on) sound h =
@@ -126,13 +126,13 @@ leaves_row setup (Revoking last sent_on) p deeds.Nothing (Revoking next on) soun
     let same : on_left on ≡ on_left sent_on = ap (λ (b : Bool). on_left b) h.1 in
     λ going. (tt, omega (arith, less, same))
 leaves_row setup (Revoking last sent_on) p (deeds.Revoke (Some place) number) (Revoking next on) sound h =
-    let new : request_left next ≡ 2 * most = left_new next number p.reading h.2.is in
+    let new : request_left next ≡ 2 * MOST_PAIRS = left_new next number p.reading h.2.is in
     let now : on_left on ≡ 0 = ap (λ (b : Bool). on_left b) h.3 in
-    let was : on_left sent_on ≡ 2 * most = ap (λ (b : Bool). on_left b) h.1 in
+    let was : on_left sent_on ≡ 2 * MOST_PAIRS = ap (λ (b : Bool). on_left b) h.1 in
     let some : 1 ≤ request_left last = some_left last.begun last.pairs sound in
     λ going. (tt, omega (arith, new, now, was, some))
 leaves_row setup (Revoking last sent_on) p (deeds.Grant number) (Granting next again) sound h =
-    let new : request_left next ≡ 2 * most = left_new next number p.reading h.1.is in
+    let new : request_left next ≡ 2 * MOST_PAIRS = left_new next number p.reading h.1.is in
     let some : 1 ≤ request_left last = some_left last.begun last.pairs sound in
     let none : again ≡ 0 = h.2 in
     λ going. (tt, omega (arith, new, none, some))
@@ -148,7 +148,7 @@ leaves_row setup (Granting last repeats) p deeds.Nothing (Pausing next again) so
     let fewer : repeats < 10 = h.2 in
     λ going. (tt, omega (arith, none, some, same, fewer))
 leaves_row setup (Granting last repeats) p (deeds.Grant number) (Granting next again) sound h =
-    let new : request_left next ≡ 2 * most = left_new next number p.reading h.1.is in
+    let new : request_left next ≡ 2 * MOST_PAIRS = left_new next number p.reading h.1.is in
     let some : 1 ≤ request_left last = some_left last.begun last.pairs sound.0 in
     let more : again ≡ repeats + 1 = h.1.one_more in
     let fewer : repeats < 10 = h.1.fewer in
@@ -156,12 +156,12 @@ leaves_row setup (Granting last repeats) p (deeds.Grant number) (Granting next a
 leaves_row setup (Granting last repeats) p (deeds.End end) Ended sound h = tt
 leaves_row setup (Pausing last repeats) p deeds.Nothing (Pausing next again) sound h =
     let one : next.pairs ≡ last.pairs + 1 = ap (λ (r : Request). r.pairs) h.2 in
-    let below : last.pairs + 1 < most = h.1 in
+    let below : last.pairs + 1 < MOST_PAIRS = h.1 in
     let same : again ≡ repeats = h.3 in
     λ going. (tt, omega (arith, one, below, same))
 leaves_row setup (Pausing last repeats) p (deeds.Grant number) (Granting next again) sound h =
-    let new : request_left next ≡ 2 * most = left_new next number p.reading h.is in
-    let below : last.pairs < most = sound.0 in
+    let new : request_left next ≡ 2 * MOST_PAIRS = left_new next number p.reading h.is in
+    let below : last.pairs < MOST_PAIRS = sound.0 in
     let more : again ≡ repeats + 1 = h.one_more in
     let fewer : repeats < 10 = h.fewer in
     λ going. (tt, omega (arith, new, below, more, fewer))

@@ -7,7 +7,7 @@ use Rattle.booth_wire.specs.declared.codes.results.TheConstants.{SUCCESS, ASYN, 
 use Rattle.booth_wire.specs.PlainMessage.{PlainMessage}
 use Rattle.booth_talk.specs.declared.reply.Reply.{Reply}
 use Rattle.booth_talk.specs.Replies.{leader_in, reply_of}
-use Rattle.booth_talk.specs.Waiting.{most, patience}
+use Rattle.booth_talk.specs.declared.wait.TheConstants.{MOST_PAIRS, PATIENCE}
 use Rattle.booth_move.specs.declared.stage.Request.{Request}
 use Rattle.booth_move.specs.declared.stage.Stage.{Stage}
 use Rattle.booth_move.specs.declared.stage.Stage.TheVariants.{Opening, Revoking, Granting, Pausing, Ended}
@@ -15,7 +15,8 @@ use Rattle.booth_move.specs.declared.steps.Step.{Step}
 use Rattle.booth_move.specs.declared.waiting.Waits.{Waits}
 use Rattle.booth_move.specs.declared.waiting.Waits.TheVariants.{On, Over, Came}
 use Rattle.booth_move.specs.Move.{IsSoundStage, MoveSetup, Pair, place_of}
-use Rattle.booth_move.specs.Waiting.{is_late, is_rested, judged, one_more, passed_over, pause, sent, waits_on}
+use Rattle.booth_move.specs.Waiting.{is_late, is_rested, judged, one_more, passed_over, sent, waits_on}
+use Rattle.booth_move.specs.declared.waiting.TheConstants.{PAUSE}
 use Rattle.booth_move.specs.Deeds.{followed, grant_answered, move_step, next_number, pauses_on, rests, revoke_answered, sent_on_or_refused, while_granting, while_pausing, while_revoking}
 use Rattle.booth_move.specs.Rows.{Brings, Expires, Follows, GoesOn, HasNoAnswer, IsBegun, IsRepeat}
 
@@ -29,17 +30,17 @@ IsJudged wait last p (Came reply) =
     (m : PlainMessage) × (p.reply ≡ Some m) × (reply ≡ reply_of m) × (reply.result ≡ ASYN → wait ≡ false)
 
 -- the numbers are no more than what is said of them
-less : (n : ℕ) → n < most → (n + 1 == most) ≡ false → n + 1 < most
-less n lt differs = let apart : n + 1 ≡ most → ⊥ = eqb-false (n + 1) most differs in by_order (n + 1) most (omega arith) apart
+less : (n : ℕ) → n < MOST_PAIRS → (n + 1 == MOST_PAIRS) ≡ false → n + 1 < MOST_PAIRS
+less n lt differs = let apart : n + 1 ≡ MOST_PAIRS → ⊥ = eqb-false (n + 1) MOST_PAIRS differs in by_order (n + 1) MOST_PAIRS (omega arith) apart
   where
     by_order : (a b : ℕ) → a ≤ b → (a ≡ b → ⊥) → a < b
     by_order a b le apart = grind (arith, le, apart)
 
-one_more_judged : (wait : Bool) (last : Request) (p : Pair) → last.pairs < most → HasNoAnswer wait last p →
+one_more_judged : (wait : Bool) (last : Request) (p : Pair) → last.pairs < MOST_PAIRS → HasNoAnswer wait last p →
     IsJudged wait last p (waits_on (one_more last))
 one_more_judged wait last p below none =
-    cond_both (last.pairs + 1 == most) None (Some (record last { pairs = last.pairs + 1 })) (λ (o : Option Request). IsJudged wait last p (waits_on o))
-    (λ e. inr (none, eqb-true (last.pairs + 1) most e))
+    cond_both (last.pairs + 1 == MOST_PAIRS) None (Some (record last { pairs = last.pairs + 1 })) (λ (o : Option Request). IsJudged wait last p (waits_on o))
+    (λ e. inr (none, eqb-true (last.pairs + 1) MOST_PAIRS e))
     (λ e. inl (none, less last.pairs below e, refl))
 
 not_late : (begun : Bool) (bound reading : ℕ) → (not begun && nat_lt bound reading) ≡ false → begun ≡ false → reading ≤ bound
@@ -50,14 +51,14 @@ late : (begun : Bool) (bound reading : ℕ) → (not begun && nat_lt bound readi
 late true bound reading h = absurd cc
 late false bound reading h = (refl, grind (arith, nat_tests))
 
-none_judged : (wait : Bool) (last : Request) (p : Pair) → last.pairs < most → p.reply ≡ None →
+none_judged : (wait : Bool) (last : Request) (p : Pair) → last.pairs < MOST_PAIRS → p.reply ≡ None →
     IsJudged wait last p (judged wait last p.reading None)
 none_judged wait last p below none =
     cond_both (is_late last p.reading) Over (waits_on (one_more last)) (λ (w : Waits). IsJudged wait last p w)
-    (λ e. let is = late last.begun (last.start + patience) p.reading e in inl (record { none = none; first = is.0; late = is.1 }))
-    (λ e. one_more_judged wait last p below (inl (record { none = none; early = not_late last.begun (last.start + patience) p.reading e })))
+    (λ e. let is = late last.begun (last.start + PATIENCE) p.reading e in inl (record { none = none; first = is.0; late = is.1 }))
+    (λ e. one_more_judged wait last p below (inl (record { none = none; early = not_late last.begun (last.start + PATIENCE) p.reading e })))
 
-begun_judged : (wait : Bool) (last : Request) (p : Pair) → last.pairs < most → IsBegun wait p → IsJudged wait last p (passed_over last)
+begun_judged : (wait : Bool) (last : Request) (p : Pair) → last.pairs < MOST_PAIRS → IsBegun wait p → IsJudged wait last p (passed_over last)
 begun_judged wait last p below begun =
     cond_both last.begun (waits_on (one_more last)) (On (record last { pairs = 0; begun = true })) (λ (w : Waits). IsJudged wait last p w)
     (λ e. one_more_judged wait last p below (inr (e, begun)))
@@ -69,7 +70,7 @@ no_wait true true h e = h
 no_wait true false h e = absurd cc
 no_wait false asyn h e = refl
 
-some_judged : (wait : Bool) (last : Request) (p : Pair) (m : PlainMessage) → last.pairs < most → p.reply ≡ Some m →
+some_judged : (wait : Bool) (last : Request) (p : Pair) (m : PlainMessage) → last.pairs < MOST_PAIRS → p.reply ≡ Some m →
     IsJudged wait last p (judged wait last p.reading (Some m))
 some_judged wait last p m below some =
     cond_both (wait && m.head.result == ASYN) (passed_over last) (Came (reply_of m)) (λ (w : Waits). IsJudged wait last p w)
@@ -80,7 +81,7 @@ some_judged wait last p m below some =
     eq_yes : (a b : ℕ) → a ≡ b → (a == b) ≡ true
     eq_yes a b e = grind (arith, nat_tests)
 
-pub pair_judged : (wait : Bool) (last : Request) (p : Pair) → last.pairs < most → IsJudged wait last p (judged wait last p.reading p.reply)
+pub pair_judged : (wait : Bool) (last : Request) (p : Pair) → last.pairs < MOST_PAIRS → IsJudged wait last p (judged wait last p.reading p.reply)
 pair_judged wait last p below = by_reply p.reply refl
   where
     by_reply : (reply : Option PlainMessage) → p.reply ≡ reply → IsJudged wait last p (judged wait last p.reading reply)
@@ -145,10 +146,10 @@ revoke_row setup last sent_on p (Came reply) h =
     (λ asyn. h.3 (ap (λ (r : Reply). r.result) h.2 ∙ asyn))
     (followed setup.ids sent_on (reply_of h.0)) refl))
 
-rested : (start reading : ℕ) → nat_le (start + pause) reading ≡ true → start + pause ≤ reading
+rested : (start reading : ℕ) → nat_le (start + PAUSE) reading ≡ true → start + PAUSE ≤ reading
 rested start reading e = grind (arith, nat_tests)
 
-not_rested : (start reading : ℕ) → nat_le (start + pause) reading ≡ false → reading < start + pause
+not_rested : (start reading : ℕ) → nat_le (start + PAUSE) reading ≡ false → reading < start + PAUSE
 not_rested start reading e = grind (arith, nat_tests)
 
 repeated : (p : Pair) (last : Request) (repeats : ℕ) → is_rested last p.reading ≡ true → repeats < 10 →
@@ -205,15 +206,15 @@ grant_row setup last repeats p (Came reply) le h =
     subst (λ (r : Reply). IsRow setup (Granting last repeats) p (grant_answered last repeats p.reading r)) (sym h.2)
     (answered_row setup last repeats p h.0 le h.1 (λ asyn. h.3 (ap (λ (r : Reply). r.result) h.2 ∙ asyn)))
 
-pause_row : (setup : MoveSetup) (last : Request) (repeats : ℕ) (p : Pair) → last.pairs < most → repeats < 10 →
+pause_row : (setup : MoveSetup) (last : Request) (repeats : ℕ) (p : Pair) → last.pairs < MOST_PAIRS → repeats < 10 →
     IsRow setup (Pausing last repeats) p (while_pausing last repeats p.reading)
 pause_row setup last repeats p below fewer =
     cond_both (is_rested last p.reading) _ _ (λ (s : Step). IsRow setup (Pausing last repeats) p s)
     (λ e. repeated p last repeats e fewer)
-    (λ e. let early : p.reading < last.start + pause = not_rested last.start p.reading e in
-    cond_both (last.pairs + 1 == most) None (Some (record last { pairs = last.pairs + 1 }))
+    (λ e. let early : p.reading < last.start + PAUSE = not_rested last.start p.reading e in
+    cond_both (last.pairs + 1 == MOST_PAIRS) None (Some (record last { pairs = last.pairs + 1 }))
     (λ (o : Option Request). IsRow setup (Pausing last repeats) p (pauses_on o repeats))
-    (λ e. (early, eqb-true (last.pairs + 1) most e))
+    (λ e. (early, eqb-true (last.pairs + 1) MOST_PAIRS e))
     (λ e. (early, less last.pairs below e, refl, refl)))
 
 -- each step is a row of the table

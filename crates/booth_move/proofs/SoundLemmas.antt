@@ -1,7 +1,7 @@
 -- A step keeps to the bounds of waits and repeats.
 use Rattle.std.proofs.Common.{◌≡◌, ◌<◌, ◌≤◌, ◌+◌, Bool, sym, subst, inl, inr, arith}
 use Rattle.std.specs.Prelude.{Some, None}
-use Rattle.booth_talk.specs.Waiting.{most}
+use Rattle.booth_talk.specs.declared.wait.TheConstants.{MOST_PAIRS}
 use Rattle.booth_move.specs.declared.deeds.MoveDeed.{MoveDeed}
 use Rattle.booth_move.specs.declared.deeds.MoveDeed.TheVariants as deeds
 use Rattle.booth_move.specs.declared.stage.Request.{Request}
@@ -13,10 +13,10 @@ use Rattle.booth_move.specs.Rows.{Follows, GoesOn}
 use Rattle.booth_move.proofs.RowLemmas.{step_row}
 
 -- a request with these pairs
-with_pairs : (next other : Request) → next ≡ other → other.pairs < most → next.pairs < most
-with_pairs next other is below = subst (λ (r : Request). r.pairs < most) (sym is) below
+with_pairs : (next other : Request) → next ≡ other → other.pairs < MOST_PAIRS → next.pairs < MOST_PAIRS
+with_pairs next other is below = subst (λ (r : Request). r.pairs < MOST_PAIRS) (sym is) below
 
-goes_on_below : (wait : Bool) (last : Request) (p : Pair) (next : Request) → GoesOn wait last p next → next.pairs < most
+goes_on_below : (wait : Bool) (last : Request) (p : Pair) (next : Request) → GoesOn wait last p next → next.pairs < MOST_PAIRS
 goes_on_below wait last p next (inl more) = with_pairs next (record last { pairs = last.pairs + 1 }) more.2 more.1
 goes_on_below wait last p next (inr begun) = with_pairs next _ begun.2 (omega arith)
 

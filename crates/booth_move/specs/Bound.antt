@@ -1,6 +1,6 @@
 -- How many pairs there may be before a move ends.
 use Rattle.std.specs.Prelude.{◌≤◌, ◌+◌, ◌-◌, ◌*◌, ℕ, Bool, true, false}
-use Rattle.booth_talk.specs.Waiting.{most}
+use Rattle.booth_talk.specs.declared.wait.TheConstants.{MOST_PAIRS}
 use Rattle.booth_move.specs.declared.deeds.MoveDeed.{MoveDeed}
 use Rattle.booth_move.specs.declared.deeds.MoveDeed.TheVariants as deeds
 use Rattle.booth_move.specs.declared.stage.Request.{Request}
@@ -9,8 +9,8 @@ use Rattle.booth_move.specs.declared.stage.Stage.TheVariants.{Opening, Revoking,
 
 -- the waits for the answer to one request: that for the first answer, and that for its outcome
 abbrev pub wait_left : Bool → ℕ → ℕ
-wait_left true pairs = most - pairs
-wait_left false pairs = most + (most - pairs)
+wait_left true pairs = MOST_PAIRS - pairs
+wait_left false pairs = MOST_PAIRS + (MOST_PAIRS - pairs)
 
 abbrev pub request_left : Request → ℕ
 request_left last = wait_left last.begun last.pairs
@@ -18,13 +18,13 @@ request_left last = wait_left last.begun last.pairs
 -- the waits of a revoke that is sent on
 abbrev pub on_left : Bool → ℕ
 on_left true = 0
-on_left false = 2 * most
+on_left false = 2 * MOST_PAIRS
 
 abbrev pub pairs_left : Stage → ℕ
-pairs_left (Opening start) = 1 + 36 * most
-pairs_left (Revoking last sent_on) = request_left last + on_left sent_on + 32 * most
-pairs_left (Granting last repeats) = request_left last + (10 - repeats) * (3 * most)
-pairs_left (Pausing last repeats) = (most - last.pairs) + 2 * most + (9 - repeats) * (3 * most)
+pairs_left (Opening start) = 1 + 36 * MOST_PAIRS
+pairs_left (Revoking last sent_on) = request_left last + on_left sent_on + 32 * MOST_PAIRS
+pairs_left (Granting last repeats) = request_left last + (10 - repeats) * (3 * MOST_PAIRS)
+pairs_left (Pausing last repeats) = (MOST_PAIRS - last.pairs) + 2 * MOST_PAIRS + (9 - repeats) * (3 * MOST_PAIRS)
 pairs_left Ended = 0
 
 -- A step of a move that goes on ends it, or leaves it going on with fewer pairs left.

@@ -1,5 +1,5 @@
 -- What holds of the calls of every move.
-use Rattle.std.specs.Prelude.{◌≡◌, ◌<◌, ◌++◌, ℕ, true, List, [], ◌∷◌, length, None, is_some}
+use Rattle.std.specs.Prelude.{◌≡◌, ◌<◌, ◌++◌, ℕ, true, List, [], ◌∷◌, length, None, is_some, Bool, false, T}
 use Rattle.booth_host.specs.declared.entry.Entry.{Entry}
 use Rattle.booth_talk.specs.Waiting.{Pair as CallPair, calls_of}
 use Rattle.booth_move.specs.declared.carrying.Moving.{Moving}
@@ -43,10 +43,13 @@ pub record CarriesDeeds : Type 0 where
       AreAnswers (setup_of moving) (Opening start) (all_told moving start pairs)
 
 -- the deed is a request
+abbrev pub is_request : MoveDeed → Bool
+is_request (deeds.Revoke to number) = true
+is_request (deeds.Grant number) = true
+is_request deed = false
+
 abbrev pub IsRequest : MoveDeed → Type 0
-IsRequest (deeds.Revoke to number) = Unit {0}
-IsRequest (deeds.Grant number) = Unit {0}
-IsRequest deed = ⊥
+IsRequest deed = T (is_request deed)
 
 -- Each request of a move to a member's place is sent somewhere.
 abbrev pub RequestsAreSent : Type 0

@@ -11,14 +11,15 @@ use Rattle.booth_move.specs.declared.deeds.MoveEnd.TheVariants.{Moved, Asked, Re
 use Rattle.booth_move.specs.declared.stage.Request.{Request}
 use Rattle.booth_move.specs.declared.stage.Stage.{Stage}
 use Rattle.booth_move.specs.declared.stage.Stage.TheVariants.{Opening, Revoking, Granting, Pausing, Ended}
+use Rattle.booth_move.specs.declared.steps.TheConstants.{REPEATS}
 use Rattle.booth_move.specs.declared.steps.Step.{Step}
 use Rattle.booth_move.specs.declared.waiting.Waits.{Waits}
 use Rattle.booth_move.specs.declared.waiting.Waits.TheVariants.{On, Over, Came}
 use Rattle.booth_move.specs.Move.{MoveSetup, Pair, place_of}
 use Rattle.booth_move.specs.Waiting.{is_rested, judged, one_more, request_at, sent}
 
-abbrev pub quiet : Stage → Step
-quiet stage = record { deed = deeds.Nothing; stage = stage }
+abbrev pub no_deed : Stage → Step
+no_deed stage = record { deed = deeds.Nothing; stage = stage }
 
 abbrev pub ends : MoveEnd → Step
 ends end = record { deed = deeds.End end; stage = Ended }
@@ -55,7 +56,7 @@ revoke_answered ids sent_on reading reply =
     else sent_on_or_refused (followed ids sent_on reply) reading reply
 
 abbrev pub while_revoking : List ℕ → Bool → ℕ → Waits → Step
-while_revoking ids sent_on reading (On last) = quiet (Revoking last sent_on)
+while_revoking ids sent_on reading (On last) = no_deed (Revoking last sent_on)
 while_revoking ids sent_on reading Over = ends NoReply
 while_revoking ids sent_on reading (Came reply) = revoke_answered ids sent_on reading reply
 
@@ -65,10 +66,6 @@ while_revoking ids sent_on reading (Came reply) = revoke_answered ids sent_on re
 abbrev pub next_number : ℕ → ℕ
 next_number number = (number + 1) % 2 ^ 32
 
--- how often the grant is repeated at most
-abbrev pub most_repeats : ℕ
-most_repeats = 10
-
 -- the grant is sent again
 abbrev pub repeats_grant : Request → ℕ → ℕ → Step
 repeats_grant last repeats reading = grants (next_number last.number) reading (repeats + 1)
@@ -77,25 +74,25 @@ repeats_grant last repeats reading = grants (next_number last.number) reading (r
 abbrev pub rests : Request → ℕ → ℕ → Step
 rests last repeats reading =
     if is_rested last reading then repeats_grant last repeats reading
-    else quiet (Pausing (record last { pairs = 0 }) repeats)
+    else no_deed (Pausing (record last { pairs = 0 }) repeats)
 
 -- the grant is answered
 abbrev pub grant_answered : Request → ℕ → ℕ → Reply → Step
 grant_answered last repeats reading reply =
     if reply.result == SUCCESS then ends Moved
     else (if reply.result == ASYN then ends Asked
-    else (if (reply.result == BUSY) && nat_lt repeats most_repeats then rests last repeats reading
+    else (if (reply.result == BUSY) && nat_lt repeats REPEATS then rests last repeats reading
     else ends (Stranded reply.result)))
 
 abbrev pub while_granting : Request → ℕ → ℕ → Waits → Step
-while_granting last repeats reading (On next) = quiet (Granting next repeats)
+while_granting last repeats reading (On next) = no_deed (Granting next repeats)
 while_granting last repeats reading Over = ends NoReply
 while_granting last repeats reading (Came reply) = grant_answered last repeats reading reply
 
 -- ---- the pause
 
 abbrev pub pauses_on : Option Request → ℕ → Step
-pauses_on (Some last) repeats = quiet (Pausing last repeats)
+pauses_on (Some last) repeats = no_deed (Pausing last repeats)
 pauses_on None repeats = ends NoReply
 
 -- The target is left alone, and replies are passed over. At the first reading that is late enough the grant is
@@ -114,7 +111,7 @@ move_step setup (Revoking last sent_on) p =
 move_step setup (Granting last repeats) p =
     while_granting last repeats p.reading (judged setup.wait last p.reading p.reply)
 move_step setup (Pausing last repeats) p = while_pausing last repeats p.reading
-move_step setup Ended p = quiet Ended
+move_step setup Ended p = no_deed Ended
 
 -- the deeds that these pairs lead to from a stage, one for each pair
 unfoldable pub deeds_from : MoveSetup → Stage → List Pair → List MoveDeed

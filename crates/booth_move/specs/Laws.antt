@@ -1,5 +1,6 @@
 -- What holds of the deeds of every move.
 use Rattle.std.specs.Prelude.{◌≡◌, ◌≢◌, ◌≤◌, ◌+◌, ◌*◌, ◌++◌, ◌⊎◌, ℕ, true, false, List, [], ◌∷◌, length, map, position, Some, None, IfSome}
+use Rattle.std.specs.Prelude.{Bool, T}
 use Rattle.booth_base.specs.declared.address.MemberId.{MemberId}
 use Rattle.booth_conf.specs.Config.{has_id}
 use Rattle.booth_conf.specs.declared.members.Member.{Member}
@@ -8,7 +9,7 @@ use Rattle.booth_wire.specs.declared.command.Cmd.TheVariants.{CRvk}
 use Rattle.booth_wire.specs.PlainMessage.{PlainMessage}
 use Rattle.booth_talk.specs.Asking.{number_of}
 use Rattle.booth_talk.specs.Replies.{leader_in}
-use Rattle.booth_talk.specs.Waiting.{most}
+use Rattle.booth_talk.specs.declared.wait.TheConstants.{MOST_PAIRS}
 use Rattle.booth_move.specs.declared.deeds.MoveDeed.{MoveDeed}
 use Rattle.booth_move.specs.declared.deeds.MoveDeed.TheVariants as deeds
 use Rattle.booth_move.specs.declared.deeds.MoveEnd.{MoveEnd}
@@ -57,10 +58,13 @@ NumbersRise = (setup : MoveSetup) (start : ℕ) (pairs : List Pair) → IsRising
 
 -- ---- the end
 
+abbrev pub are_nothing : List MoveDeed → Bool
+are_nothing [] = true
+are_nothing (deeds.Nothing ∷ ds) = are_nothing ds
+are_nothing (d ∷ ds) = false
+
 abbrev pub AreNothing : List MoveDeed → Type 0
-AreNothing [] = Unit {0}
-AreNothing (deeds.Nothing ∷ ds) = AreNothing ds
-AreNothing (d ∷ ds) = ⊥
+AreNothing ds = T (are_nothing ds)
 
 -- nothing comes after an end
 abbrev pub EndsOnce : List MoveDeed → Type 0
@@ -71,15 +75,18 @@ EndsOnce (d ∷ ds) = EndsOnce ds
 abbrev pub NothingAfterTheEnd : Type 0
 NothingAfterTheEnd = (setup : MoveSetup) (start : ℕ) (pairs : List Pair) → EndsOnce (move_deeds setup start pairs)
 
+abbrev pub has_end : List MoveDeed → Bool
+has_end [] = false
+has_end (deeds.End end ∷ ds) = true
+has_end (d ∷ ds) = has_end ds
+
 abbrev pub HasEnd : List MoveDeed → Type 0
-HasEnd [] = ⊥
-HasEnd (deeds.End end ∷ ds) = Unit {0}
-HasEnd (d ∷ ds) = HasEnd ds
+HasEnd ds = T (has_end ds)
 
 -- The most pairs before the end. The first is that of the start. There are at most two revokes and eleven grants, and
 -- ten pauses; a request has two waits, since its outcome may be waited for after it was begun.
 abbrev pub most_pairs : ℕ
-most_pairs = 1 + (2 * 2 + 11 * 2 + 10) * most
+most_pairs = 1 + (2 * 2 + 11 * 2 + 10) * MOST_PAIRS
 
 -- So many pairs bring every move to its end.
 abbrev pub EveryMoveEnds : Type 0

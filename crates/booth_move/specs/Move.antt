@@ -8,7 +8,8 @@ use Rattle.booth_wire.specs.declared.command.Cmd.{Cmd}
 use Rattle.booth_wire.specs.declared.command.Cmd.TheVariants.{CGnt, CRvk}
 use Rattle.booth_wire.specs.Command.{answer_of, code_of}
 use Rattle.booth_wire.specs.PlainMessage.{PlainMessage}
-use Rattle.booth_talk.specs.Waiting.{most}
+use Rattle.booth_talk.specs.declared.wait.TheConstants.{MOST_PAIRS}
+use Rattle.booth_move.specs.declared.steps.TheConstants.{REPEATS}
 use Rattle.booth_move.specs.declared.stage.Stage.{Stage}
 use Rattle.booth_move.specs.declared.stage.Stage.TheVariants.{Opening, Revoking, Granting, Pausing, Ended}
 
@@ -65,7 +66,7 @@ pub record IsSoundSetup (setup : MoveSetup) : Type 0 where
 -- no wait has more pairs than it may have, and the grant was not repeated too often
 abbrev pub IsSoundStage : Stage → Type 0
 IsSoundStage (Opening start) = Unit {0}
-IsSoundStage (Revoking last sent_on) = last.pairs < most
-IsSoundStage (Granting last repeats) = (last.pairs < most) × (repeats ≤ 10)
-IsSoundStage (Pausing last repeats) = (last.pairs < most) × (repeats < 10)
+IsSoundStage (Revoking last sent_on) = last.pairs < MOST_PAIRS
+IsSoundStage (Granting last repeats) = (last.pairs < MOST_PAIRS) × (repeats ≤ REPEATS)
+IsSoundStage (Pausing last repeats) = (last.pairs < MOST_PAIRS) × (repeats < REPEATS)
 IsSoundStage Ended = Unit {0}

@@ -4,7 +4,7 @@ use Rattle.booth_wire.specs.declared.codes.results.TheConstants.{SUCCESS, ASYN, 
 use Rattle.booth_wire.specs.PlainMessage.{PlainMessage}
 use Rattle.booth_talk.specs.Asking.{number_of}
 use Rattle.booth_talk.specs.Replies.{leader_in}
-use Rattle.booth_talk.specs.Waiting.{most, patience}
+use Rattle.booth_talk.specs.declared.wait.TheConstants.{MOST_PAIRS, PATIENCE}
 use Rattle.booth_move.specs.declared.deeds.MoveDeed.{MoveDeed}
 use Rattle.booth_move.specs.declared.deeds.MoveDeed.TheVariants as deeds
 use Rattle.booth_move.specs.declared.deeds.MoveEnd.{MoveEnd}
@@ -12,9 +12,11 @@ use Rattle.booth_move.specs.declared.deeds.MoveEnd.TheVariants.{Moved, Asked, Re
 use Rattle.booth_move.specs.declared.stage.Request.{Request}
 use Rattle.booth_move.specs.declared.stage.Stage.{Stage}
 use Rattle.booth_move.specs.declared.stage.Stage.TheVariants.{Opening, Revoking, Granting, Pausing, Ended}
-use Rattle.booth_move.specs.Deeds.{most_repeats, next_number}
+use Rattle.booth_move.specs.Deeds.{next_number}
 use Rattle.booth_move.specs.Move.{MoveSetup, Pair, place_of}
-use Rattle.booth_move.specs.Waiting.{pause, sent}
+use Rattle.booth_move.specs.Waiting.{sent}
+use Rattle.booth_move.specs.declared.steps.TheConstants.{REPEATS}
+use Rattle.booth_move.specs.declared.waiting.TheConstants.{PAUSE}
 
 -- ---- what a pair brings
 
@@ -34,13 +36,13 @@ pub record Names (setup : MoveSetup) (place : ℕ) (p : Pair) : Type 0 where
 -- nothing, at a reading that is not too late
 pub record IsSilent (last : Request) (p : Pair) : Type 0 where
   pub none : p.reply ≡ None
-  pub early : last.begun ≡ false → p.reading ≤ last.start + patience
+  pub early : last.begun ≡ false → p.reading ≤ last.start + PATIENCE
 
 -- nothing, at a reading that is too late for a first answer
 pub record IsLate (last : Request) (p : Pair) : Type 0 where
   pub none : p.reply ≡ None
   pub first : last.begun ≡ false
-  pub late : last.start + patience < p.reading
+  pub late : last.start + PATIENCE < p.reading
 
 -- that the request was begun, to who waits for the outcome
 pub record IsBegun (wait : Bool) (p : Pair) : Type 0 where
@@ -56,12 +58,12 @@ HasNoAnswer wait last p = IsSilent last p ⊎ ((last.begun ≡ true) × IsBegun 
 -- The wait goes on: by one more pair, or, at the first answer that the request was begun, by further pairs.
 abbrev pub GoesOn : Bool → Request → Pair → Request → Type 0
 GoesOn wait last p next =
-    (HasNoAnswer wait last p × (last.pairs + 1 < most) × (next ≡ record last { pairs = last.pairs + 1 }))
+    (HasNoAnswer wait last p × (last.pairs + 1 < MOST_PAIRS) × (next ≡ record last { pairs = last.pairs + 1 }))
     ⊎ (IsBegun wait p × (last.begun ≡ false) × (next ≡ record last { pairs = 0; begun = true }))
 
 -- the wait ends without an answer
 abbrev pub Expires : Bool → Request → Pair → Type 0
-Expires wait last p = IsLate last p ⊎ (HasNoAnswer wait last p × (last.pairs + 1 ≡ most))
+Expires wait last p = IsLate last p ⊎ (HasNoAnswer wait last p × (last.pairs + 1 ≡ MOST_PAIRS))
 
 -- ---- requests
 
@@ -72,8 +74,8 @@ pub record IsNew (p : Pair) (number : ℕ) (next : Request) : Type 0 where
 
 -- the grant once more: with the next number, at a reading that is late enough
 pub record IsRepeat (p : Pair) (last : Request) (repeats number : ℕ) (next : Request) (again : ℕ) : Type 0 where
-  pub rested : last.start + pause ≤ p.reading
-  pub fewer : repeats < most_repeats
+  pub rested : last.start + PAUSE ≤ p.reading
+  pub fewer : repeats < REPEATS
   pub number_is : number ≡ next_number last.number
   pub is : next ≡ sent number p.reading
   pub one_more : again ≡ repeats + 1
@@ -95,7 +97,7 @@ pub record IsStranded (repeats : ℕ) (p : Pair) (result : ℕ) : Type 0 where
   pub brings : Brings result p
   pub not_done : result ≢ SUCCESS
   pub not_begun : result ≢ ASYN
-  pub not_repeated : result ≡ BUSY → repeats ≡ most_repeats
+  pub not_repeated : result ≡ BUSY → repeats ≡ REPEATS
 
 abbrev pub EndsRevoke : MoveSetup → Request → Bool → Pair → MoveEnd → Type 0
 EndsRevoke setup last sent_on p (Refused result) = IsRefused setup sent_on p result
@@ -110,7 +112,7 @@ EndsGrant setup last repeats p NoReply = Expires setup.wait last p
 EndsGrant setup last repeats p end = ⊥
 
 abbrev pub EndsPause : Request → Pair → MoveEnd → Type 0
-EndsPause last p NoReply = (p.reading < last.start + pause) × (last.pairs + 1 ≡ most)
+EndsPause last p NoReply = (p.reading < last.start + PAUSE) × (last.pairs + 1 ≡ MOST_PAIRS)
 EndsPause last p end = ⊥
 
 -- ---- the table
@@ -129,13 +131,13 @@ Follows setup (Revoking last sent_on) p (deeds.End end) Ended = EndsRevoke setup
 Follows setup (Granting last repeats) p deeds.Nothing (Granting next again) =
     GoesOn setup.wait last p next × (again ≡ repeats)
 Follows setup (Granting last repeats) p deeds.Nothing (Pausing next again) =
-    Brings BUSY p × (p.reading < last.start + pause) × (repeats < most_repeats)
+    Brings BUSY p × (p.reading < last.start + PAUSE) × (repeats < REPEATS)
     × (next ≡ record last { pairs = 0 }) × (again ≡ repeats)
 Follows setup (Granting last repeats) p (deeds.Grant number) (Granting next again) =
     Brings BUSY p × IsRepeat p last repeats number next again
 Follows setup (Granting last repeats) p (deeds.End end) Ended = EndsGrant setup last repeats p end
 Follows setup (Pausing last repeats) p deeds.Nothing (Pausing next again) =
-    (p.reading < last.start + pause) × (last.pairs + 1 < most)
+    (p.reading < last.start + PAUSE) × (last.pairs + 1 < MOST_PAIRS)
     × (next ≡ record last { pairs = last.pairs + 1 }) × (again ≡ repeats)
 Follows setup (Pausing last repeats) p (deeds.Grant number) (Granting next again) =
     IsRepeat p last repeats number next again

@@ -4,8 +4,9 @@ use Rattle.booth_wire.specs.declared.codes.results.TheConstants.{ASYN}
 use Rattle.booth_wire.specs.PlainMessage.{PlainMessage}
 use Rattle.booth_talk.specs.Asking.{number_of}
 use Rattle.booth_talk.specs.Replies.{reply_of}
-use Rattle.booth_talk.specs.Waiting.{most, patience}
+use Rattle.booth_talk.specs.declared.wait.TheConstants.{MOST_PAIRS, PATIENCE}
 use Rattle.booth_move.specs.declared.stage.Request.{Request}
+use Rattle.booth_move.specs.declared.waiting.TheConstants.{PAUSE}
 use Rattle.booth_move.specs.declared.waiting.Waits.{Waits}
 use Rattle.booth_move.specs.declared.waiting.Waits.TheVariants.{On, Over, Came}
 
@@ -23,7 +24,7 @@ request_at reading = sent (number_of reading) reading
 
 -- one more pair without an answer, or none where it was the last
 abbrev pub one_more : Request → Option Request
-one_more last = if last.pairs + 1 == most then None else Some (record last { pairs = last.pairs + 1 })
+one_more last = if last.pairs + 1 == MOST_PAIRS then None else Some (record last { pairs = last.pairs + 1 })
 
 abbrev pub waits_on : Option Request → Waits
 waits_on None = Over
@@ -36,7 +37,7 @@ passed_over last = if last.begun then waits_on (one_more last) else On (record l
 
 -- the reading is past the wait for the first answer
 abbrev pub is_late : Request → ℕ → Bool
-is_late last reading = not last.begun && nat_lt (last.start + patience) reading
+is_late last reading = not last.begun && nat_lt (last.start + PATIENCE) reading
 
 -- What a pair is to the wait for an answer. A reply counts also where the pair's reading is late. Who waits for the
 -- outcome passes over that it was begun.
@@ -47,10 +48,6 @@ judged wait last reading (Some m) =
 
 -- ---- pauses
 
--- how long a target that is busy is left alone, in ms
-abbrev pub pause : ℕ
-pause = 1000
-
 -- the reading is one at which the grant is repeated
 abbrev pub is_rested : Request → ℕ → Bool
-is_rested last reading = nat_le (last.start + pause) reading
+is_rested last reading = nat_le (last.start + PAUSE) reading

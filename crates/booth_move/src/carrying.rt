@@ -16,12 +16,13 @@ use booth_base::{MemberId, NO_ONE, Name, Peer};
 use booth_conf::Config;
 use booth_host::{Arrival, Datagram, Failed, Host};
 use booth_keys::Ring;
+use booth_talk::MOST_PAIRS;
 use booth_wire::{Body, Cmd, Frame, Head, Message, TicketPart, decode, options};
 use std::alloc::{AllocError, Global};
 
 /// The most pairs of a move, after its start: those of two revokes, eleven grants and ten pauses. A request has two
 /// waits.
-const MOST_PAIRS: u64 = 36 << 40;
+const MOVE_PAIRS: u64 = 36 * MOST_PAIRS;
 
 /// A move, and the cluster that it is made in.
 #[derive(Drop)]
@@ -288,7 +289,7 @@ pub fn carry_out<H: Host>(
         Ok(()) => {}
         Err(failed) => return Err(failed),
     }
-    for _pair in 0..MOST_PAIRS {
+    for _pair in 0..MOVE_PAIRS {
         match one_pair(moving, &mut mover, room, host) {
             Ok(None) => {}
             Ok(Some(end)) => return Ok(end),

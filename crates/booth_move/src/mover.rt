@@ -6,7 +6,7 @@ ghost use Rattle.booth_move.specs.Move.{answers, id_number, is_reply_to};
 
 use crate::deeds::MoveDeed;
 use crate::stage::Stage;
-use crate::steps::{Step, opens, place_of, quiet, while_granting, while_pausing, while_revoking};
+use crate::steps::{Step, no_deed, opens, place_of, while_granting, while_pausing, while_revoking};
 use crate::waiting::judged;
 use arrayvec::ArrayVec;
 use booth_base::{MEMBERS, Name};
@@ -137,7 +137,7 @@ impl Mover {
                 while_granting(last, repeats, now, waits)
             }
             Stage::Pausing { last, repeats } => while_pausing(last, repeats, now),
-            Stage::Ended => quiet(Stage::Ended),
+            Stage::Ended => no_deed(Stage::Ended),
         }
     }
 

@@ -1,9 +1,9 @@
 //! What follows a pair at each stage of a move.
 ghost use Rattle.std.specs.Prelude.{◌≡◌, ◌<◌, ◌≤◌, length, IfSome};
 ghost use Rattle.booth_base.specs.declared.limits.TheConstants.{MEMBERS};
-ghost use Rattle.booth_talk.specs.Waiting.{most};
+ghost use Rattle.booth_talk.specs.declared.wait.TheConstants.{MOST_PAIRS};
 ghost use Rattle.booth_move.specs.Move.{place_of};
-ghost use Rattle.booth_move.specs.Deeds.{ends, followed, grant_answered, grants, opens, repeats_grant, quiet, revoke_answered};
+ghost use Rattle.booth_move.specs.Deeds.{ends, followed, grant_answered, grants, opens, repeats_grant, no_deed, revoke_answered};
 ghost use Rattle.booth_move.specs.Deeds.{next_number, rests, sends_on, while_granting, while_pausing, while_revoking};
 
 use crate::deeds::{MoveDeed, MoveEnd};
@@ -24,8 +24,8 @@ pub(crate) struct Step {
 }
 
 /// Nothing is done.
-pub(crate) fn quiet(stage: Stage) -> Step
-    ensures { result ≡ quiet stage }
+pub(crate) fn no_deed(stage: Stage) -> Step
+    ensures { result ≡ no_deed stage }
 {
     Step {
         deed: MoveDeed::Nothing,
@@ -129,7 +129,7 @@ pub(crate) fn while_revoking(ids: &[u32], sent_on: bool, reading: u64, waits: Wa
     ensures { result ≡ while_revoking ids.now sent_on reading waits }
 {
     match waits {
-        Waits::On(last) => quiet(Stage::Revoking { last, sent_on }),
+        Waits::On(last) => no_deed(Stage::Revoking { last, sent_on }),
         Waits::Over => ends(MoveEnd::NoReply),
         Waits::Came(reply) => revoke_answered(ids, sent_on, reading, reply),
     }
@@ -147,7 +147,7 @@ fn next_number(number: u32) -> u32
 }
 
 fn repeats_grant(last: Request, repeats: u32, reading: u64) -> Step
-    requires { repeats < 10 }
+    requires { repeats < REPEATS }
     ensures { result ≡ repeats_grant last repeats reading }
 {
     grants(next_number(last.number), reading, repeats + 1)
@@ -155,13 +155,13 @@ fn repeats_grant(last: Request, repeats: u32, reading: u64) -> Step
 
 // The target is busy.
 fn rests(last: Request, repeats: u32, reading: u64) -> Step
-    requires { repeats < 10 }
+    requires { repeats < REPEATS }
     ensures { result ≡ rests last repeats reading }
 {
     if is_rested(last, reading) {
         repeats_grant(last, repeats, reading)
     } else {
-        quiet(Stage::Pausing {
+        no_deed(Stage::Pausing {
             last: Request { pairs: 0, ..last },
             repeats,
         })
@@ -188,7 +188,7 @@ pub(crate) fn while_granting(last: Request, repeats: u32, reading: u64, waits: W
     ensures { result ≡ while_granting last repeats reading waits }
 {
     match waits {
-        Waits::On(next) => quiet(Stage::Granting {
+        Waits::On(next) => no_deed(Stage::Granting {
             last: next,
             repeats,
         }),
@@ -199,15 +199,15 @@ pub(crate) fn while_granting(last: Request, repeats: u32, reading: u64, waits: W
 
 /// What a pair is followed by while the target is left alone.
 pub(crate) fn while_pausing(last: Request, repeats: u32, reading: u64) -> Step
-    requires pairs { last.pairs < most }
-    requires repeats { repeats < 10 }
+    requires pairs { last.pairs < MOST_PAIRS }
+    requires repeats { repeats < REPEATS }
     ensures { result ≡ while_pausing last repeats reading }
 {
     if is_rested(last, reading) {
         return repeats_grant(last, repeats, reading);
     }
     match one_more(last) {
-        Some(last) => quiet(Stage::Pausing { last, repeats }),
+        Some(last) => no_deed(Stage::Pausing { last, repeats }),
         None => ends(MoveEnd::NoReply),
     }
 }

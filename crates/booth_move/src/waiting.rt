@@ -2,19 +2,13 @@
 ghost use Rattle.std.specs.Prelude.{◌≡◌, ◌<◌, option_map};
 ghost use Rattle.booth_wire.specs.PlainMessage.{content_of, plain_of};
 ghost use Rattle.booth_talk.specs.Replies.{leader_in, reply_of};
-ghost use Rattle.booth_talk.specs.Waiting.{most};
+ghost use Rattle.booth_talk.specs.declared.wait.TheConstants.{MOST_PAIRS};
 ghost use Rattle.booth_move.specs.Waiting.{is_late, is_rested, judged, one_more, passed_over, request_at, waits_on};
 
 use crate::stage::Request;
 use booth_base::{MemberId, NO_ONE};
-use booth_talk::Reply;
+use booth_talk::{MOST_PAIRS, PATIENCE, Reply};
 use booth_wire::{Body, Message, results};
-
-/// The most pairs of a wait.
-const MOST: u64 = 1 << 40;
-
-/// How long the first answer is waited for, in ms.
-const PATIENCE: u64 = 5_000;
 
 /// How long a target that is busy is left alone, in ms.
 const PAUSE: u64 = 1_000;
@@ -50,11 +44,11 @@ pub(crate) fn request_of(number: u32, reading: u64) -> Request
 
 /// One more pair of a wait, or none where it was the last.
 pub(crate) fn one_more(last: Request) -> Option<Request>
-    requires { last.pairs < most }
+    requires { last.pairs < MOST_PAIRS }
     ensures { result ≡ one_more last }
 {
     let pairs = last.pairs + 1;
-    if pairs == MOST {
+    if pairs == MOST_PAIRS {
         None
     } else {
         Some(Request { pairs, ..last })
@@ -72,7 +66,7 @@ fn waits_on(next: Option<Request>) -> Waits
 
 // It was told that the request was begun, and its outcome is waited for.
 fn passed_over(last: Request) -> Waits
-    requires { last.pairs < most }
+    requires { last.pairs < MOST_PAIRS }
     ensures { result ≡ passed_over last }
 {
     if last.begun {
@@ -129,7 +123,7 @@ fn reply_of(message: &Message<'_>) -> Reply
 
 /// What a pair is to the wait for the answer to the last request.
 pub(crate) fn judged(wait: bool, last: Request, reading: u64, reply: Option<&Message<'_>>) -> Waits
-    requires { last.pairs < most }
+    requires { last.pairs < MOST_PAIRS }
     ensures { result ≡ judged wait last reading (option_map (λ m. plain_of m.now) reply.entry) }
 {
     match reply {

@@ -12,7 +12,7 @@ use Rattle.booth_cli.specs.declared.command.Verb.{Verb}
 use Rattle.booth_cli.specs.declared.program.Program.{Program}
 use Rattle.booth_cli.specs.Asking.{IsUntaken, IsUntakenFor}
 use Rattle.booth_cli.specs.Valid.{AreValid}
-use Rattle.booth_cli.proofs.AskingLemmas.{untaken_of}
+use Rattle.booth_cli.proofs.AskingLemmas.{untaken_named, untaken_of}
 use Rattle.booth_cli.proofs.ValidLemmas.{good_words, taken_words}
 use Rattle.booth_outcomes.specs.declared.outcome.Outcome.{Outcome}
 use Rattle.booth_outcomes.specs.declared.outcome.Outcome.TheVariants.{Usage, BadWord, PrintFault, OutOfMemory}
@@ -36,7 +36,7 @@ unasked_of program words kind (Usage (Some told)) said es un out is =
     (subst (λ k. IsUntaken program words k) (sym is.0) (untaken_of program words kind out.1 un), is.1, subst (λ k. IsShown program k (is_request k) es) (sym is.0) is.2)
 unasked_of program words kind PrintFault said es un out is =
     (kind, untaken_of program words kind (no_memory kind out) un, is.0, is.1, is.2, is.3, is.4, is.5)
-unasked_of program words kind OutOfMemory said es un out is = is
+unasked_of program words kind OutOfMemory said es un out is = (untaken_named program words kind un, is.0, is.1)
 unasked_of program words kind outcome said es un out is = absurd is
 
 -- the only outcome of valid words that ask for nothing is want of memory

@@ -1,5 +1,5 @@
 -- The configuration, read from its file, and how a run ends that gets none.
-use Rattle.std.specs.Prelude.{◌≡◌, ◌⊎◌, ℕ, List, [], ◌∷◌, Result, Ok, Err}
+use Rattle.std.specs.Prelude.{◌≡◌, ◌⊎◌, ℕ, List, [], ◌∷◌, Result, Ok, Err, Bool, true, false, T}
 use Rattle.booth_conf.specs.Config.{ConfigSays}
 use Rattle.booth_conf.specs.Says.{Says, IsFault}
 use Rattle.booth_conf.specs.declared.faults.ConfFault.{ConfFault}
@@ -25,11 +25,14 @@ IsUnread path OutOfMemory said entries = (said ≡ out_of_memory_text)
 IsUnread path outcome said entries = ⊥
 
 -- the outcomes of a configuration that did not come
+abbrev pub is_unread_outcome : Outcome → Bool
+is_unread_outcome ConfUnread = true
+is_unread_outcome (ConfBad fault) = true
+is_unread_outcome OutOfMemory = true
+is_unread_outcome outcome = false
+
 abbrev pub IsUnreadOutcome : Outcome → Type 0
-IsUnreadOutcome ConfUnread = Unit {0}
-IsUnreadOutcome (ConfBad fault) = Unit {0}
-IsUnreadOutcome OutOfMemory = Unit {0}
-IsUnreadOutcome outcome = ⊥
+IsUnreadOutcome outcome = T (is_unread_outcome outcome)
 
 -- the read of the file, and the configuration that its text says
 abbrev pub IsConfigRead : List ℕ → Result ConfigSays Ended → List Entry → Type 0

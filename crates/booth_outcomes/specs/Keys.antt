@@ -1,5 +1,5 @@
 -- The ring, whose keys are read from their files where they are set, and how a run ends that gets none.
-use Rattle.std.specs.Prelude.{◌≡◌, ◌⊎◌, ◌++◌, ℕ, List, [], ◌∷◌, Option, Some, None, Result, Ok, Err}
+use Rattle.std.specs.Prelude.{◌≡◌, ◌⊎◌, ◌++◌, ℕ, List, [], ◌∷◌, Option, Some, None, Result, Ok, Err, Bool, true, false, T, IsSomeAnd}
 use Rattle.booth_conf.specs.Config.{ConfigSays}
 use Rattle.booth_keys.specs.Key.{key_read}
 use Rattle.booth_keys.specs.declared.key.KeyFault.{KeyFault}
@@ -47,9 +47,8 @@ key_calls config texts =
 
 -- the key in a key file's text, or none where no file is set
 abbrev pub HasKey : Option (List ℕ) → List ℕ → Option (List ℕ) → Type 0
-HasKey None text None = Unit {0}
-HasKey (Some file) text (Some key) = key_read text ≡ Ok key
-HasKey file text key = ⊥
+HasKey None text key = key ≡ None
+HasKey (Some file) text key = IsSomeAnd key (λ bytes. key_read text ≡ Ok bytes)
 
 -- the keys of both files, with the configured hash
 pub record IsRing (config : ConfigSays) (texts : KeyTexts) (ring : Ring) : Type 0 where
@@ -104,11 +103,14 @@ pub data IsKeyless (config : ConfigSays) (outcome : Outcome) (said : List ℕ) (
   OldKeyless : IsOldKeyless config outcome said entries → IsKeyless config outcome said entries
 
 -- the outcomes of a key that did not come
+abbrev pub is_keyless_outcome : Outcome → Bool
+is_keyless_outcome KeyUnread = true
+is_keyless_outcome (KeyBad fault) = true
+is_keyless_outcome OutOfMemory = true
+is_keyless_outcome outcome = false
+
 abbrev pub IsKeylessOutcome : Outcome → Type 0
-IsKeylessOutcome KeyUnread = Unit {0}
-IsKeylessOutcome (KeyBad fault) = Unit {0}
-IsKeylessOutcome OutOfMemory = Unit {0}
-IsKeylessOutcome outcome = ⊥
+IsKeylessOutcome outcome = T (is_keyless_outcome outcome)
 
 -- the reads of the key files that are set, and the ring of the keys that they hold
 abbrev pub IsRingRead : ConfigSays → Result (Option Ring) Ended → List Entry → Type 0

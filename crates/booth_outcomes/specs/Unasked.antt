@@ -11,7 +11,7 @@ use Rattle.booth_outcomes.specs.declared.outcome.Outcome.{Outcome}
 use Rattle.booth_outcomes.specs.declared.outcome.Outcome.TheVariants.{Usage, BadWord, PrintFault, OutOfMemory}
 use Rattle.booth_cli.specs.declared.program.Program.{Program}
 use Rattle.booth_cli.specs.Commands.{verb_in}
-use Rattle.booth_cli.specs.Asking.{IsUntaken, HasBadWord}
+use Rattle.booth_cli.specs.Asking.{NamesCommand, IsUntaken, HasBadWord}
 use Rattle.booth_outcomes.specs.Texts.{usage_text, version_text, bad_word_text, unprinted_text, out_of_memory_text}
 
 -- the kind answers a request, and is no mistake
@@ -54,7 +54,8 @@ pub record IsRequest (program : Program) (words : List (List ℕ)) : Type 0 wher
   pub untaken : IsUntaken program words kind
   pub is : is_request kind ≡ true
 
--- the words ask this program for nothing, by the outcome that this has
+-- The words ask this program for nothing, by the outcome that this has. Want of memory may come in place of each thing
+-- that they ask for, but only where there is a command: to see that there is none takes no memory.
 abbrev pub IsUnasked : Program → List (List ℕ) → Outcome → List ℕ → List Entry → Type 0
 IsUnasked program words (Usage None) said entries = (verb_in program words ≡ None)
     × (said ≡ usage_text program) × (entries ≡ [])
@@ -66,5 +67,6 @@ IsUnasked program words PrintFault said entries = (kind : ErrorKind) × IsUntake
     × (is_request kind ≡ true) × (said ≡ unprinted_text)
     × (text : List ℕ) × IsShownText program kind text
     × (failed : Failed) × (entries ≡ calls.Out text (Err failed) ∷ [])
-IsUnasked program words OutOfMemory said entries = (said ≡ out_of_memory_text) × (entries ≡ [])
+IsUnasked program words OutOfMemory said entries = NamesCommand program words
+    × (said ≡ out_of_memory_text) × (entries ≡ [])
 IsUnasked program words outcome said entries = ⊥

@@ -29,7 +29,7 @@ use Rattle.booth_sim.specs.Counts.{is_some_entry, most_between, most_of}
 use Rattle.booth_sim.specs.Drawing.{draw_of, keeps_fail, kind_of, member_of, rise_of}
 use Rattle.booth_sim.specs.Frames.{chosen, kept_frames}
 use Rattle.booth_sim.specs.Happenings.{Happening, Turns, Restarts, arrives, happening, happens, reading_at}
-use Rattle.booth_sim.specs.Laws.{most_events}
+use Rattle.booth_sim.specs.declared.summary.TheConstants.{MOST_EVENTS}
 use Rattle.booth_sim.specs.Simulation.{IsEvent, IsHappening, IsSimulation, entry_at, made_at, node_in, start_at, turn_calls}
 use Rattle.booth_sim.specs.Standing.{AreDaemons, HasStarted, IsCounted, IsDaemon, KeepsAll}
 use Rattle.booth_sim.specs.Turning.{Grows, HasRoom, MadeTurn}
@@ -176,7 +176,7 @@ is_ready config before cluster sound same all are early room = record {
 }
 
 -- the counts of fewer events than the most have room
-few_have_room : (event : ℕ) (summary : Summary) → event ≤ most_events → IsFew event summary → HasRoom summary
+few_have_room : (event : ℕ) (summary : Summary) → event ≤ MOST_EVENTS → IsFew event summary → HasRoom summary
 few_have_room event summary below few = record {
   delivered = let n = few.delivered in omega (arith, n, below);
   restarts = let n = few.restarts in omega (arith, n, below);
@@ -197,7 +197,7 @@ early t a r e p le small few = omega (arith, p, le, small, few)
 
 -- a cluster that stands is ready once its time rose
 pub ready_to_go : (config : ConfigSays) (events number event : ℕ) (draw : Draw) (old new : Cluster) → Stands config events number event old
-    → event < most_events → new.config ≡ old.config → new.daemons ≡ old.daemons → new.summary ≡ old.summary
+    → event < MOST_EVENTS → new.config ≡ old.config → new.daemons ≡ old.daemons → new.summary ≡ old.summary
     → new.time ≡ old.time + rise_of draw → IsReady new
 ready_to_go config events number event draw old new stands below same daemons counted at =
     is_ready config stands.before new stands.sound (same ∙ stands.same)
@@ -299,7 +299,7 @@ module _ (events number event : ℕ) (draw : Draw) (said : HappeningOf) (old ris
       (happening old.config stands.before event draw) leaves.last (last_time 0 stands.before) leaves.is)
 
   -- what happened leaves a cluster that is ready
-  pub ready_again : event < most_events → IsReady new
+  pub ready_again : event < MOST_EVENTS → IsReady new
   ready_again below =
       is_ready old.config (stands.before ++ leaves.last) new stands.sound new_same all_there leaves.holds.each
       (early new.time old.time (rise_of draw) event (went.happened.at ∙ went.rose) (time_below old.config events number event old stands)

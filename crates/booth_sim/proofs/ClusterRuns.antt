@@ -9,7 +9,8 @@ use Rattle.booth_sim.specs.declared.summary.Summary.{Summary}
 use Rattle.booth_sim.specs.Clusters.{Stands}
 use Rattle.booth_sim.specs.Counts.{summary_of}
 use Rattle.booth_sim.specs.Drawing.{draw_of, drawn, generator_before}
-use Rattle.booth_sim.specs.Laws.{AtMostOneHolds, IsSummary, SimulationsAreWorlds, most_events}
+use Rattle.booth_sim.specs.Laws.{AtMostOneHolds, IsSummary, SimulationsAreWorlds}
+use Rattle.booth_sim.specs.declared.summary.TheConstants.{MOST_EVENTS}
 
 -- a cluster stands under its own names
 pub stands_own : (config : ConfigSays) (events number event : ℕ) (cluster : Cluster) → Stands config events number event cluster
@@ -56,7 +57,7 @@ summary_is config events number event cluster stands =
     same_summary cluster.summary _ _ _ _ _ _ _ _ stands.asked stands.drawn stands.holds.counted.delivered stands.holds.counted.restarts
     stands.holds.counted.gains stands.holds.counted.releases stands.holds.counted.greatest stands.most
 
-pub summed : SimulationsAreWorlds → (config : ConfigSays) (events number : ℕ) (cluster : Cluster) → IsSound config → events ≤ most_events
+pub summed : SimulationsAreWorlds → (config : ConfigSays) (events number : ℕ) (cluster : Cluster) → IsSound config → events ≤ MOST_EVENTS
     → Stands config events number events cluster → IsSummary config events number cluster.summary
 summed are_worlds config events number cluster sound few stands = record {
   entries = stands.before;
@@ -65,7 +66,7 @@ summed are_worlds config events number cluster sound few stands = record {
   world = are_worlds config sound number events few stands.before stands.simulation;
 }
 
-pub held_once : AtMostOneHolds → (config : ConfigSays) (events number : ℕ) (cluster : Cluster) → IsSound config → events ≤ most_events
+pub held_once : AtMostOneHolds → (config : ConfigSays) (events number : ℕ) (cluster : Cluster) → IsSound config → events ≤ MOST_EVENTS
     → Stands config events number events cluster → cluster.summary.most_holders ≤ 1
 held_once at_most_one config events number cluster sound few stands =
     subst (λ (s : Summary). s.most_holders ≤ 1) (sym (summary_is config events number events cluster stands))

@@ -24,7 +24,8 @@ use Rattle.booth_world.specs.Worlds.{WorldsHoldOne}
 use Rattle.booth_sim.specs.Counts.{begins, holders, is_holder, is_in_force, most_between, most_of}
 use Rattle.booth_sim.specs.Happenings.{reading_at}
 use Rattle.booth_sim.specs.Kept.{kept_by}
-use Rattle.booth_sim.specs.Laws.{AtMostOneHolds, SimulationsAreWorlds, most_events}
+use Rattle.booth_sim.specs.Laws.{AtMostOneHolds, SimulationsAreWorlds}
+use Rattle.booth_sim.specs.declared.summary.TheConstants.{MOST_EVENTS}
 use Rattle.booth_sim.specs.Simulation.{IsSimulation, world_of}
 use Rattle.booth_sim.proofs.Entries.{along_left}
 use Rattle.booth_sim.proofs.Follows.{Follows}
@@ -92,7 +93,7 @@ still_kept own may (IsCut (CutKeep name rec) ∷ entries) kept h = by_test (byte
     by_test false = h
 still_kept own may (entry ∷ entries) kept h = h
 
-module _ (holds_one : WorldsHoldOne) (config : ConfigSays) (sound : IsSound config) (number events : ℕ) (few : events ≤ most_events)
+module _ (holds_one : WorldsHoldOne) (config : ConfigSays) (sound : IsSound config) (number events : ℕ) (few : events ≤ MOST_EVENTS)
     (entries : List WorldEntry) (is : IsSimulation config number events entries) (world : IsWorld (world_of config entries)) where
   module _ (before after : List WorldEntry) (whole : entries ≡ before ++ after) where
     next_is_later : (es : List WorldEntry) → after ≡ es → IsBefore (last_time 0 before) es

@@ -22,7 +22,8 @@ use Rattle.booth_sim.specs.declared.drawing.Draw.{Draw}
 use Rattle.booth_sim.specs.Drawing.{draw_of, keeps_fail, rise_of}
 use Rattle.booth_sim.specs.Happenings.{Happening, Turns, Restarts, happening, reading_at}
 use Rattle.booth_sim.specs.Kept.{all_kept, kept_after, kept_by}
-use Rattle.booth_sim.specs.Laws.{SimulationsAreWorlds, most_events}
+use Rattle.booth_sim.specs.Laws.{SimulationsAreWorlds}
+use Rattle.booth_sim.specs.declared.summary.TheConstants.{MOST_EVENTS}
 use Rattle.booth_sim.specs.Simulation.{IsHappening, IsSimulation, entry_at, made_at, start_at, world_of}
 use Rattle.booth_sim.proofs.Clocks.{clock_drifts, reads_value}
 use Rattle.booth_sim.proofs.Entries.{along_events, along_left, along_right, along_weaker, entries_join, times_join, time_of_last}
@@ -157,7 +158,7 @@ before_within config number events entries before after e along =
     ap (λ (es : List WorldEntry). last_time 0 es) e ∙ times_join 0 before after in
     omega (arith, behind, at)
 
-module _ (config : ConfigSays) (sound : IsSound config) (number events : ℕ) (few : events ≤ most_events) (entries : List WorldEntry)
+module _ (config : ConfigSays) (sound : IsSound config) (number events : ℕ) (few : events ≤ MOST_EVENTS) (entries : List WorldEntry)
     (is : IsSimulation config number events entries) where
   abbrev pub TheWorld : World
   TheWorld = world_of config entries

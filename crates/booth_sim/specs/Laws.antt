@@ -3,18 +3,15 @@ use Rattle.std.specs.Prelude.{◌≡◌, ◌≤◌, ℕ, List}
 use Rattle.booth_conf.specs.Config.{ConfigSays}
 use Rattle.booth_conf.specs.Sound.{IsSound}
 use Rattle.booth_node.specs.World.{WorldEntry, IsWorld}
+use Rattle.booth_sim.specs.declared.summary.TheConstants.{MOST_EVENTS}
 use Rattle.booth_sim.specs.declared.summary.Summary.{Summary}
 use Rattle.booth_sim.specs.Counts.{summary_of}
 use Rattle.booth_sim.specs.Simulation.{IsSimulation, world_of}
 
--- so many events: more than a simulation is asked for would run out of clocks
-abbrev pub most_events : ℕ
-most_events = 10000000
-
 -- the entries of a simulation are a world
 abbrev pub SimulationsAreWorlds : Type 0
 SimulationsAreWorlds =
-    (config : ConfigSays) → IsSound config → (number events : ℕ) → events ≤ most_events
+    (config : ConfigSays) → IsSound config → (number events : ℕ) → events ≤ MOST_EVENTS
     → (entries : List WorldEntry) → IsSimulation config number events entries → IsWorld (world_of config entries)
 
 -- a configuration, a number and a count of events make one simulation
@@ -26,7 +23,7 @@ OneSimulation =
 -- after no event of a simulation is a ticket that is granted by votes held at two sites
 abbrev pub AtMostOneHolds : Type 0
 AtMostOneHolds =
-    (config : ConfigSays) → IsSound config → (number events : ℕ) → events ≤ most_events
+    (config : ConfigSays) → IsSound config → (number events : ℕ) → events ≤ MOST_EVENTS
     → (entries : List WorldEntry) → IsSimulation config number events entries
     → (summary_of config events number entries).most_holders ≤ 1
 

@@ -7,7 +7,7 @@ ghost use Rattle.booth_node.specs.World.{WorldEntry, last_time};
 ghost use Rattle.booth_sim.specs.Counts.{most_of};
 ghost use Rattle.booth_sim.specs.Drawing.{draw_of};
 ghost use Rattle.booth_sim.specs.Happenings.{Turns, Restarts, reading_at};
-ghost use Rattle.booth_sim.specs.Laws.{most_events};
+ghost use Rattle.booth_sim.specs.declared.summary.TheConstants.{MOST_EVENTS};
 ghost use Rattle.booth_sim.specs.Standing.{AreDaemons};
 ghost use Rattle.booth_sim.specs.Clusters.{CanHappen, Happened, HaveStarted, IsNothing, IsReady, IsWhatHappens, Stands, says};
 
@@ -160,7 +160,7 @@ impl Cluster {
     /// The event of this number.
     pub fn event(&mut self, event: u32, draw: &Draw) -> Result<(), AllocError>
         requires stands { Stands self.old.config self.old.summary.events self.old.summary.number event self.old }
-        requires few { event < most_events }
+        requires few { event < MOST_EVENTS }
         requires drawn { draw.now ≡ draw_of self.old.summary.number event }
         ensures { OnOk result (Stands self.old.config self.old.summary.events self.old.summary.number (event + 1)
             self.new) }

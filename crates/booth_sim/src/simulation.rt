@@ -1,7 +1,8 @@
 //! The events of a cluster, drawn by a number.
 ghost use Rattle.std.specs.Prelude.{◌≡◌, ◌≤◌, IfOk};
 ghost use Rattle.booth_sim.specs.Clusters.{IsNothing};
-ghost use Rattle.booth_sim.specs.Laws.{IsSummary, most_events};
+ghost use Rattle.booth_sim.specs.Laws.{IsSummary};
+ghost use Rattle.booth_sim.specs.declared.summary.TheConstants.{MOST_EVENTS};
 
 use crate::Summary;
 use crate::cluster::Cluster;
@@ -36,7 +37,7 @@ pub fn simulate(
     events: u64,
     number: u64,
 ) -> Result<Summary, AllocError>
-    requires { events ≤ most_events }
+    requires { events ≤ MOST_EVENTS }
     ensures counts { IfOk result (λ summary. IsSummary config events number summary) }
     ensures one_holder { IfOk result (λ summary. summary.most_holders ≤ 1) }
 {

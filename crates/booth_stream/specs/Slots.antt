@@ -18,7 +18,8 @@ GivesOne old (Some peer) bytes new = Gives (links_in old) peer bytes (links_in n
 -- closed, and all are at rest.
 abbrev pub GivesOrRests : List PlainSlot → Option Peer → List ℕ → List LinkCall → List PlainSlot → Type 0
 GivesOrRests old None bytes calls new =
-    NoneWhole (links_in old) × (calls ≡ closings (links_in old)) × (links_in new ≡ unbroken (links_in old)) × All IsAtRest new
+    NoneWhole (links_in old) × (calls ≡ closings (links_in old)) × (links_in new ≡ unbroken (links_in old))
+    × All IsAtRest new
 GivesOrRests old (Some peer) bytes calls new = Gives (links_in old) peer bytes (links_in new) × (calls ≡ [])
 
 -- whether a link of this peer is open, and its number

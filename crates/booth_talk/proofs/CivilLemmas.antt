@@ -9,6 +9,7 @@ use Rattle.jiff_core.proofs.CalendarLemmas.{day_count-day_of_year, day_count-epo
 use Rattle.jiff_core.specs.DateTime.{civil_nanos}
 use Rattle.jiff_core.specs.Time.{time_nanos}
 use Rattle.jiff_core.specs.declared.civil.datetime.DateTime.{DateTime}
+use Rattle.booth_talk.specs.declared.date.TheConstants.{LAST}
 use Rattle.std.specs.Prelude.{codes}
 use Rattle.std.proofs.Common.{◌++◌}
 use Rattle.jiff.proofs.Family.{civil_nanos-parts, epoch_day_injective, time_nanos_bound}
@@ -108,7 +109,7 @@ pub record IsTimeOf (seconds hour minute second : ℕ) : Type 0 where
   pub seconds_left : second ≡ seconds % 86400 % 60
 
 -- what a clock shows so many seconds after 1970 began
-pub shown : (at : DateTime) (seconds : ℕ) → seconds ≤ 250000000000 → civil_nanos at ≡ pos (seconds * 1000000000) →
+pub shown : (at : DateTime) (seconds : ℕ) → seconds ≤ LAST → civil_nanos at ≡ pos (seconds * 1000000000) →
     moment_text at ≡ day_text (civil_of (seconds / 86400)) ++ codes " " ++ time_text (seconds % 86400)
 shown at seconds early after =
     let parts = civil_nanos-parts at in

@@ -15,7 +15,8 @@ use Rattle.booth_talk.specs.declared.order.Asking.{Asking}
 use Rattle.booth_talk.specs.Asking.{request_bytes}
 use Rattle.booth_talk.specs.Listing.{Completes, EndsAwaited, IsAwaited, IsLateList, IsListRow, IsListTalk, IsListWait, IsPatient, IsRefused}
 use Rattle.booth_talk.specs.Parts.{AreNone, AreTaken, Part, first_part, is_whole, part_at, refusal_at, text_of}
-use Rattle.booth_talk.specs.Waiting.{Pair, calls_of, all_calls, most, patience}
+use Rattle.booth_talk.specs.Waiting.{Pair, calls_of, all_calls}
+use Rattle.booth_talk.specs.declared.wait.TheConstants.{MOST_PAIRS, PATIENCE}
 use Rattle.booth_talk.proofs.PartLemmas.{AreKept, none_first, none_whole, not_whole, taken_first, whole_of}
 use Rattle.booth_talk.proofs.WaitLemmas.{calls-push, pair_of}
 
@@ -71,14 +72,14 @@ module _ (asking : Asking) (start : ℕ) where
         row both
 
     -- a last pair
-    pub last_kept : (Q : List Pair → Pair → Type 0) → n < most →
+    pub last_kept : (Q : List Pair → Pair → Type 0) → n < MOST_PAIRS →
         ((pairs : List Pair) → AreKept (first_part asking start (pairs ++ pair_of answer bytes reading ∷ [])) new → Q pairs (pair_of answer bytes reading)) →
         GrewSome (EndsAwaited asking start Q) a d
     last_kept Q below holds =
         some_joined (IsKeptRow n old) these (EndsAwaited asking start Q)
         (λ xs ys r e. record {
           early = r.pairs;
-          below = subst (λ (k : ℕ). k < most) (sym r.number) below;
+          below = subst (λ (k : ℕ). k < MOST_PAIRS) (sym r.number) below;
           awaited = r.awaited;
           last = this;
           whole = ap (λ es. xs ++ es) e ∙ ap (λ es. es ++ calls_of this) r.whole;
@@ -86,19 +87,19 @@ module _ (asking : Asking) (start : ℕ) where
         })
         row both
 
-    pub listed_whole : n < most → is_whole new ≡ true → GrewSome (EndsAwaited asking start (Completes asking start (text_of new))) a d
+    pub listed_whole : n < MOST_PAIRS → is_whole new ≡ true → GrewSome (EndsAwaited asking start (Completes asking start (text_of new))) a d
     listed_whole below is =
         last_kept (Completes asking start (text_of new)) below
         (λ pairs first.
         let w = whole_of new (first_part asking start (pairs ++ this ∷ [])) first is in
         record { texts = w.0; whole = w.1; joined = w.2 })
 
-    pub listed_refused : (code : ℕ) → n < most → refusal_at asking start (pair_of answer bytes reading) ≡ Some code →
+    pub listed_refused : (code : ℕ) → n < MOST_PAIRS → refusal_at asking start (pair_of answer bytes reading) ≡ Some code →
         GrewSome (EndsAwaited asking start (IsRefused asking start code)) a d
     listed_refused code below is = last_kept (IsRefused asking start code) below (λ pairs first. is)
 
-    pub listed_late : n < most → refusal_at asking start (pair_of answer bytes reading) ≡ None → is_whole new ≡ false → start + patience < reading →
-        GrewSome (λ es. EndsAwaited asking start (IsLateList asking start) es ⊎ IsListRow asking start most es) a d
+    pub listed_late : n < MOST_PAIRS → refusal_at asking start (pair_of answer bytes reading) ≡ None → is_whole new ≡ false → start + PATIENCE < reading →
+        GrewSome (λ es. EndsAwaited asking start (IsLateList asking start) es ⊎ IsListRow asking start MOST_PAIRS es) a d
     listed_late below none unwhole late =
         some_weaker (EndsAwaited asking start (IsLateList asking start)) _ (λ xs h. inl h)
         (last_kept (IsLateList asking start) below
@@ -108,10 +109,10 @@ module _ (asking : Asking) (start : ℕ) where
           late = late;
         }))
 
-  pub listed_spent : (kept : List (Option Part)) {a b : Option (List Entry)} → GrewSome (IsKeptRow most kept) a b →
-      GrewSome (λ es. EndsAwaited asking start (IsLateList asking start) es ⊎ IsListRow asking start most es) a b
+  pub listed_spent : (kept : List (Option Part)) {a b : Option (List Entry)} → GrewSome (IsKeptRow MOST_PAIRS kept) a b →
+      GrewSome (λ es. EndsAwaited asking start (IsLateList asking start) es ⊎ IsListRow asking start MOST_PAIRS es) a b
   listed_spent kept row =
-      some_weaker (IsKeptRow most kept) _
+      some_weaker (IsKeptRow MOST_PAIRS kept) _
       (λ xs r. inr (record { pairs = r.pairs; number = r.number; whole = r.whole; awaited = r.awaited })) row
 
 -- a request that was sent, and its wait

@@ -9,7 +9,8 @@ use Rattle.booth_host.specs.declared.host.Arrival.{Arrival}
 use Rattle.booth_host.specs.declared.host.Failed.{Failed}
 use Rattle.booth_host.specs.Past.{GrewBy, GrewSome}
 use Rattle.booth_host.proofs.PastLemmas.{no_entry, one_more, some_of, some_joined, some_weaker}
-use Rattle.booth_talk.specs.Waiting.{Pair, calls_of, all_calls, IsRow, EndsBy, IsSilent, IsLate, most}
+use Rattle.booth_talk.specs.Waiting.{Pair, calls_of, all_calls, IsRow, EndsBy, IsSilent, IsLate}
+use Rattle.booth_talk.specs.declared.wait.TheConstants.{MOST_PAIRS}
 use Rattle.booth_talk.specs.declared.order.Asking.{Asking}
 
 pub calls-push : (ps : List Pair) (p : Pair) → all_calls (ps ++ p ∷ []) ≡ all_calls ps ++ calls_of p
@@ -54,10 +55,10 @@ last_pair P Q limit {n} {answer} {bytes} {reading} {a} {b} {c} {d} row next now 
     row (some_of these (one_more next now) refl)
 
 -- a wait that ended late, and one that ended after all its pairs
-pub over_late : (asking : Asking) (start : ℕ) {a b : Option (List Entry)} → GrewSome (EndsBy (IsSilent asking start) (IsLate asking start) most) a b →
-    GrewSome (λ es. EndsBy (IsSilent asking start) (IsLate asking start) most es ⊎ IsRow (IsSilent asking start) most es) a b
-over_late asking start ended = some_weaker (EndsBy (IsSilent asking start) (IsLate asking start) most) _ (λ xs h. inl h) ended
+pub over_late : (asking : Asking) (start : ℕ) {a b : Option (List Entry)} → GrewSome (EndsBy (IsSilent asking start) (IsLate asking start) MOST_PAIRS) a b →
+    GrewSome (λ es. EndsBy (IsSilent asking start) (IsLate asking start) MOST_PAIRS es ⊎ IsRow (IsSilent asking start) MOST_PAIRS es) a b
+over_late asking start ended = some_weaker (EndsBy (IsSilent asking start) (IsLate asking start) MOST_PAIRS) _ (λ xs h. inl h) ended
 
-pub over_spent : (asking : Asking) (start : ℕ) {a b : Option (List Entry)} → GrewSome (IsRow (IsSilent asking start) most) a b →
-    GrewSome (λ es. EndsBy (IsSilent asking start) (IsLate asking start) most es ⊎ IsRow (IsSilent asking start) most es) a b
-over_spent asking start spent = some_weaker (IsRow (IsSilent asking start) most) _ (λ xs h. inr h) spent
+pub over_spent : (asking : Asking) (start : ℕ) {a b : Option (List Entry)} → GrewSome (IsRow (IsSilent asking start) MOST_PAIRS) a b →
+    GrewSome (λ es. EndsBy (IsSilent asking start) (IsLate asking start) MOST_PAIRS es ⊎ IsRow (IsSilent asking start) MOST_PAIRS es) a b
+over_spent asking start spent = some_weaker (IsRow (IsSilent asking start) MOST_PAIRS) _ (λ xs h. inr h) spent

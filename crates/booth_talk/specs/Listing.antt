@@ -12,14 +12,15 @@ use Rattle.booth_talk.specs.declared.list_wait.ListHeard.TheVariants as heard
 use Rattle.booth_talk.specs.declared.order.Asking.{Asking}
 use Rattle.booth_talk.specs.Asking.{request_bytes}
 use Rattle.booth_talk.specs.Parts.{BringList, IsWhole, Part, first_part, is_whole, refusal_at}
-use Rattle.booth_talk.specs.Waiting.{Pair, all_calls, calls_of, most, patience}
+use Rattle.booth_talk.specs.Waiting.{Pair, all_calls, calls_of}
+use Rattle.booth_talk.specs.declared.wait.TheConstants.{MOST_PAIRS, PATIENCE}
 
 -- ---- rows of pairs
 
 -- no refusal came with the pair, and its reading is not late
 pub record IsPatient (asking : Asking) (start : ℕ) (p : Pair) : Type 0 where
   pub none : refusal_at asking start p ≡ None
-  pub early : p.reading ≤ start + patience
+  pub early : p.reading ≤ start + PATIENCE
 
 -- these pairs bring no whole list
 abbrev pub IsUnwhole : Asking → ℕ → List Pair → Type 0
@@ -41,7 +42,7 @@ pub record IsListRow (asking : Asking) (start count : ℕ) (entries : List Entry
 pub record EndsAwaited (asking : Asking) (start : ℕ) (Q : List Pair → Pair → Type 0) (entries : List Entry)
     : Type 0 where
   pub early : List Pair
-  pub below : length early < most
+  pub below : length early < MOST_PAIRS
   pub awaited : IsAwaited asking start early
   pub last : Pair
   pub whole : entries ≡ all_calls early ++ calls_of last
@@ -61,7 +62,7 @@ IsRefused asking start result early last = refusal_at asking start last ≡ Some
 pub record IsLateList (asking : Asking) (start : ℕ) (early : List Pair) (last : Pair) : Type 0 where
   pub none : refusal_at asking start last ≡ None
   pub unwhole : IsUnwhole asking start (early ++ last ∷ [])
-  pub late : start + patience < last.reading
+  pub late : start + PATIENCE < last.reading
 
 -- The wait for a list. It ends where its parts are whole, with their text; where an answer refuses it; at the first
 -- late reading before that; or with the last pair.
@@ -69,7 +70,7 @@ abbrev pub IsListWait : Asking → ℕ → Listed → List ℕ → List Entry �
 IsListWait asking start Whole text entries = EndsAwaited asking start (Completes asking start text) entries
 IsListWait asking start (Refused result) text entries = EndsAwaited asking start (IsRefused asking start result) entries
 IsListWait asking start Over text entries =
-    EndsAwaited asking start (IsLateList asking start) entries ⊎ IsListRow asking start most entries
+    EndsAwaited asking start (IsLateList asking start) entries ⊎ IsListRow asking start MOST_PAIRS entries
 
 -- the request for a list to a peer, and the wait for it
 abbrev pub IsListTalk : Asking → Peer → ℕ → Result Listed Failed → List ℕ → List Entry → Type 0
@@ -85,5 +86,5 @@ abbrev pub IsListHeard : Asking → ℕ → Pair → List (Option Part) → List
 IsListHeard asking start p kept heard.Whole = is_whole kept ≡ true
 IsListHeard asking start p kept (heard.Refusal result) = refusal_at asking start p ≡ Some result
 IsListHeard asking start p kept heard.Late =
-    (refusal_at asking start p ≡ None) × (is_whole kept ≡ false) × (start + patience < p.reading)
+    (refusal_at asking start p ≡ None) × (is_whole kept ≡ false) × (start + PATIENCE < p.reading)
 IsListHeard asking start p kept heard.Silent = IsPatient asking start p × (is_whole kept ≡ false)

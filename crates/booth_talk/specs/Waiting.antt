@@ -1,5 +1,5 @@
 -- The wait for a reply, as a row of pairs of one arrival and one reading.
-use Rattle.std.specs.Prelude.{◌≡◌, ◌<◌, ◌≤◌, ◌+◌, ◌^◌, ◌++◌, ◌⊎◌, ◌==◌, ℕ, Bool, List, [], ◌∷◌, length}
+use Rattle.std.specs.Prelude.{◌≡◌, ◌<◌, ◌≤◌, ◌+◌, ◌++◌, ◌⊎◌, ◌==◌, ℕ, Bool, List, [], ◌∷◌, length}
 use Rattle.std.specs.Prelude.{Option, Some, None, Result, Ok, if◌then◌else◌}
 use Rattle.std.specs.List.{All}
 use Rattle.booth_wire.specs.declared.codes.results.TheConstants.{ASYN}
@@ -11,6 +11,7 @@ use Rattle.booth_host.specs.declared.entry.Entry.{Entry}
 use Rattle.booth_host.specs.declared.entry.Entry.TheVariants.{Next, Now}
 use Rattle.booth_talk.specs.declared.order.Asking.{Asking}
 use Rattle.booth_talk.specs.declared.reply.Reply.{Reply}
+use Rattle.booth_talk.specs.declared.wait.TheConstants.{MOST_PAIRS, PATIENCE}
 use Rattle.booth_talk.specs.declared.wait.Heard.{Heard}
 use Rattle.booth_talk.specs.declared.wait.Heard.TheVariants as heard
 use Rattle.booth_talk.specs.declared.wait.Waited.{Waited}
@@ -67,23 +68,15 @@ message_at asking start p = message_brought asking start p.answer p.bytes
 abbrev pub reply_at : Asking → ℕ → Pair → Option Reply
 reply_at asking start p = brought asking start p.answer p.bytes
 
--- the most pairs of a wait
-abbrev pub most : ℕ
-most = 2 ^ 40
-
--- how long a client waits for the first reply, in ms
-abbrev pub patience : ℕ
-patience = 5000
-
 -- no reply came with the pair, and its reading is not late
 pub record IsSilent (asking : Asking) (start : ℕ) (p : Pair) : Type 0 where
   pub none : reply_at asking start p ≡ None
-  pub early : p.reading ≤ start + patience
+  pub early : p.reading ≤ start + PATIENCE
 
 -- no reply came with the pair, and its reading is late
 pub record IsLate (asking : Asking) (start : ℕ) (p : Pair) : Type 0 where
   pub none : reply_at asking start p ≡ None
-  pub late : start + patience < p.reading
+  pub late : start + PATIENCE < p.reading
 
 -- this reply came with the pair, at its reading and with its bytes; the reading may be late
 pub record Brings (asking : Asking) (start : ℕ) (reply : Reply) (reading : ℕ) (bytes : List ℕ)
@@ -95,10 +88,10 @@ pub record Brings (asking : Asking) (start : ℕ) (reply : Reply) (reading : ℕ
 -- The wait for the first reply. It is over at the first late reading before a reply, or with the last pair.
 abbrev pub IsFirstWait : Asking → ℕ → Waited → List ℕ → List Entry → Type 0
 IsFirstWait asking start (Came reply reading) bytes entries =
-    EndsBy (IsSilent asking start) (Brings asking start reply reading bytes) most entries
+    EndsBy (IsSilent asking start) (Brings asking start reply reading bytes) MOST_PAIRS entries
 IsFirstWait asking start Over bytes entries =
-    EndsBy (IsSilent asking start) (IsLate asking start) most entries
-    ⊎ IsRow (IsSilent asking start) most entries
+    EndsBy (IsSilent asking start) (IsLate asking start) MOST_PAIRS entries
+    ⊎ IsRow (IsSilent asking start) MOST_PAIRS entries
 
 -- ---- outcomes of what was begun
 
@@ -128,8 +121,8 @@ pub record BringsOutcome (asking : Asking) (start : ℕ) (reply : Reply) (readin
 -- the wait for the outcome, without a bound of time
 abbrev pub IsFinalWait : Asking → ℕ → Waited → List ℕ → List Entry → Type 0
 IsFinalWait asking start (Came reply reading) bytes entries =
-    EndsBy (IsUnsettled asking start) (BringsOutcome asking start reply reading bytes) most entries
-IsFinalWait asking start Over bytes entries = IsRow (IsUnsettled asking start) most entries
+    EndsBy (IsUnsettled asking start) (BringsOutcome asking start reply reading bytes) MOST_PAIRS entries
+IsFinalWait asking start Over bytes entries = IsRow (IsUnsettled asking start) MOST_PAIRS entries
 
 -- ---- in the code
 

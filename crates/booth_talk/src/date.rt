@@ -14,7 +14,7 @@ const LAST: u64 = 250_000_000_000;
 
 // What a clock of UTC shows so many seconds after 1970 began.
 fn moment(seconds: u64) -> DateTime
-    requires { seconds ≤ 250000000000 }
+    requires { seconds ≤ LAST }
     ensures { civil_nanos result ≡ pos (seconds * 1000000000) }
 {
     let Ok(at) = Timestamp::from_second(seconds as i64) else {

@@ -24,4 +24,4 @@ pub use parts::Parts;
 pub use reply::Reply;
 pub use reports::{report, report_of};
 pub use talking::{Room, talk};
-pub use wait::{Waited, is_begun};
+pub use wait::{MOST_PAIRS, PATIENCE, Waited, is_begun};

@@ -9,7 +9,7 @@ ghost use Rattle.booth_talk.specs.Waiting.{message_brought};
 use crate::Asking;
 use crate::parts::{Parts, is_of_list};
 use crate::reply::message_in;
-use crate::wait::{MOST, is_late};
+use crate::wait::{MOST_PAIRS, is_late};
 use booth_host::{Arrival, Datagram, Failed, Host};
 use booth_wire::Message;
 
@@ -126,7 +126,7 @@ pub(crate) fn wait_list<H: Host>(
         (H.past host.old) (H.past host.new) }
     ensures later { H.faults host.old ≤ H.faults host.new }
 {
-    for _pair in 0..MOST {
+    for _pair in 0..MOST_PAIRS {
         let answer = host.next(100, datagram);
         let reading = host.now();
         match judged(asking, start, &answer, datagram, reading, parts) {

@@ -10,10 +10,10 @@ use booth_host::{Arrival, Datagram, Failed, Host};
 use booth_wire::results;
 
 /// The most pairs of a wait.
-pub(crate) const MOST: u64 = 1 << 40;
+pub const MOST_PAIRS: u64 = 1 << 40;
 
 /// How long a client waits for the first reply, in ms.
-const PATIENCE: u64 = 5_000;
+pub const PATIENCE: u64 = 5_000;
 
 /// How a wait ended.
 #[derive(Clone, Copy, Debug, PartialEq, Eq)]
@@ -44,7 +44,7 @@ fn brought(
 
 /// Whether a reading is past the wait for the first reply.
 pub(crate) fn is_late(start: u64, reading: u64) -> bool
-    ensures { result ≡ nat_lt (start + 5000) reading }
+    ensures { result ≡ nat_lt (start + PATIENCE) reading }
 {
     match start.checked_add(PATIENCE) {
         Some(last) => last < reading,
@@ -115,7 +115,7 @@ pub(crate) fn wait_first<H: Host>(
     ensures held { IsHeld asking.now result datagram.new }
     ensures later { H.faults host.old ≤ H.faults host.new }
 {
-    for _pair in 0..MOST {
+    for _pair in 0..MOST_PAIRS {
         let answer = host.next(100, datagram);
         let reading = host.now();
         match judged(asking, start, &answer, datagram, reading) {
@@ -140,7 +140,7 @@ pub(crate) fn wait_final<H: Host>(
     ensures held { IsHeld asking.now result datagram.new }
     ensures later { H.faults host.old ≤ H.faults host.new }
 {
-    for _pair in 0..MOST {
+    for _pair in 0..MOST_PAIRS {
         let answer = host.next(100, datagram);
         let reading = host.now();
         match brought_outcome(asking, start, &answer, datagram) {

@@ -81,3 +81,6 @@ said_more did a b c places i d head part below before one =
     ∙ ap (λ (ps : List ℕ). said_to_each ps head part) (sym (take_more places i d below)))
     (chain_on did a b c (said_to_each (take i places) head part)
     (said (Member (get_or places i d)) head part ∷ []) before (c, one, refl))
+
+-- a call behind a call, and nothing left to do
+pub ruleset did_calls = (did_then, did_end)

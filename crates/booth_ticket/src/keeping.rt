@@ -34,7 +34,7 @@ fn keep_once<W: Hands>(core: &mut Core, now: u64, deed: Deed, hands: &mut W) -> 
 
 /// Does a step: its keeps, and then what it says, where the message of the member at the place
 /// `from` was heard or none was. The last deed says what clients are told.
-#[tactic(auto, using(crate::proofs::DidLemmas::did_then, crate::proofs::DidLemmas::did_end), unfolding(crate::specs::Keeping::carry_out))]
+#[tactic(auto, using(crate::proofs::DidLemmas::did_calls), unfolding(crate::specs::Keeping::carry_out))]
 pub(crate) fn carry_out<W: Hands>(
     core: &mut Core,
     from: Option<u32>,

@@ -108,7 +108,7 @@ pub(crate) struct Done {
 }
 
 // The ticket is acquired for a client.
-#[tactic(auto, using(crate::proofs::DidLemmas::did_then, crate::proofs::DidLemmas::did_end), unfolding(crate::specs::Requests::acquire_for))]
+#[tactic(auto, using(crate::proofs::DidLemmas::did_calls), unfolding(crate::specs::Requests::acquire_for))]
 fn acquire_for<W: Hands>(
     core: &mut Core,
     options: u32,
@@ -191,7 +191,7 @@ fn revoke_result(told: Told) -> u32
 }
 
 // The lease is given back for a client.
-#[tactic(auto, using(crate::proofs::DidLemmas::did_then, crate::proofs::DidLemmas::did_end), unfolding(crate::specs::Requests::release_for))]
+#[tactic(auto, using(crate::proofs::DidLemmas::did_calls), unfolding(crate::specs::Requests::release_for))]
 fn release_for<W: Hands>(core: &mut Core, now: u64, hands: &mut W) -> Done
     requires early { now < 2 ^ 62 }
     requires idle { core.old.view.waiting ≡ None }

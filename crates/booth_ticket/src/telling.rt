@@ -119,7 +119,7 @@ pub(crate) fn tell_each<W: Hands>(
 }
 
 /// Tells those that wait for an automatic ticket of its last deed.
-#[tactic(auto, using(crate::proofs::DidLemmas::did_then, crate::proofs::DidLemmas::did_end), unfolding(crate::specs::Waiting::tell))]
+#[tactic(auto, using(crate::proofs::DidLemmas::did_calls), unfolding(crate::specs::Waiting::tell))]
 pub(crate) fn tell<W: Hands>(
     core: &Core,
     last: &Deed,

@@ -36,7 +36,10 @@ use Rattle.booth_cli.specs.declared.program.Program.{Program}
 use Rattle.booth_cli.specs.declared.program.Program.TheVariants.{Boothd, BoothFollow}
 use Rattle.clap.specs.declared.error.kind.ErrorKind.{ErrorKind}
 use Rattle.booth_outcomes.proofs.UsageLemmas.{no_memory, unasked_of}
-use Rattle.booth_cli.proofs.AskingLemmas.{untaken_of}
+use Rattle.booth_cli.proofs.AskingLemmas.{taken_named, untaken_named, untaken_of}
+use Rattle.clap.specs.declared.error.Error.{Error}
+use Rattle.booth_cli.specs.declared.asking.Refusal.{Refusal}
+use Rattle.booth_cli.specs.declared.asking.Refusal.TheVariants.{Untaken}
 
 -- ---- outcomes
 
@@ -227,6 +230,13 @@ pub told_client : {a b : Option (List Entry)} (program : Program) (words : List 
 told_client program words kind outcome said un out told =
     some_weaker (IsTold_ program kind outcome said) (IsClientMade program words outcome said) (λ es is. Unasked (unasked_of program words kind outcome said es un out is)) told
 
+-- the same of a refusal that is such an error
+pub told_asked : {a b : Option (List Entry)} (program : Program) (words : List (List ℕ)) (error : Error) (refusal : Refusal) (outcome : Outcome) (said : List ℕ) →
+    Asks program words (Err refusal) → refusal ≡ Untaken error → IsToldOutcome error.kind outcome → GrewSome (IsTold_ program error.kind outcome said) a b →
+    GrewSome (IsClientMade program words outcome said) a b
+told_asked program words error refusal outcome said asks same out told =
+    told_client program words error.kind outcome said (subst (λ (x : Refusal). Asks program words (Err x)) same asks) out told
+
 pub unasked_client : {a : Option (List Entry)} (program : Program) (words : List (List ℕ)) (outcome : Outcome) (said : List ℕ) → IsUnasked program words outcome said [] →
     GrewSome (IsClientMade program words outcome said) a a
 unasked_client program words outcome said is = some_of (IsClientMade program words outcome said) no_entry (Unasked is)
@@ -236,7 +246,7 @@ pub fits_untaken : (program : Program) (words : List (List ℕ)) (kind : ErrorKi
 fits_untaken program words kind (outs.Usage (Some told)) un out = subst (λ k. IsUntaken program words k) (sym out.0) (untaken_of program words kind out.1 un)
 fits_untaken program words kind outs.PrintFault un out =
     inr (record { kind = kind; untaken = untaken_of program words kind (no_memory kind out) un; is = out })
-fits_untaken program words kind outs.OutOfMemory un out = tt
+fits_untaken program words kind outs.OutOfMemory un out = untaken_named program words kind un
 fits_untaken program words kind outcome un out = absurd out
 
 pub asks_client : (program : Program) (words : List (List ℕ)) (asked : ClientWords) (all : Rattle.booth_cli.specs.declared.asking.Asked.Asked) → Asks program words (Ok all) →
@@ -248,7 +258,7 @@ pub fits_answered : (program : Program) (words : List (List ℕ)) (asked : Clien
 fits_answered program words asked (outs.Usage kind) asks is = absurd is
 fits_answered program words asked (outs.BadWord word) asks is = absurd is
 fits_answered program words asked outs.PrintFault asks is = inl (inl (record { asked = asked; asks = asks }))
-fits_answered program words asked outs.OutOfMemory asks is = tt
+fits_answered program words asked outs.OutOfMemory asks is = taken_named program words asks.verb asks.all asks.asks
 fits_answered program words asked outs.NotSite asks is = absurd is
 fits_answered program words asked (outs.Stranded result) asks is = absurd is
 fits_answered program words asked outcome asks is = (inl (record { asked = asked; asks = asks }), is)

@@ -20,9 +20,11 @@ use Rattle.booth_move.specs.Carrying.{IsCarried}
 use Rattle.booth_cli.specs.declared.asking.Asked.{Asked}
 use Rattle.booth_cli.specs.declared.asking.Asked.TheVariants.{Move}
 use Rattle.booth_cli.specs.declared.asking.MoveWords.{MoveWords}
+use Rattle.booth_cli.specs.declared.command.Verb.TheVariants as verbs
 use Rattle.booth_cli.specs.declared.program.Program.{Program}
 use Rattle.booth_cli.specs.declared.program.Program.TheVariants.{Booth}
-use Rattle.booth_cli.specs.Asking.{Asks, AsksMove}
+use Rattle.booth_cli.specs.Asking.{Asks, AsksMove, NamesCommand}
+use Rattle.booth_cli.proofs.AskingLemmas.{taken_named}
 use Rattle.booth_outcomes.specs.declared.outcome.Ended.{Ended}
 use Rattle.booth_outcomes.specs.declared.outcome.Outcome.{Outcome}
 use Rattle.booth_outcomes.specs.declared.outcome.Outcome.TheVariants as outs
@@ -186,7 +188,8 @@ pub fits_moved : (program : Program) (words : List (List ℕ)) (asked : MoveWord
 fits_moved program words asked (outs.Usage kind) asks is = absurd is
 fits_moved program words asked (outs.BadWord word) asks is = absurd is
 fits_moved program words asked outs.PrintFault asks is = inl (inr (record { asked = asked; own = asks.0; asks = asks.1 }))
-fits_moved program words asked outs.OutOfMemory asks is = tt
+fits_moved program words asked outs.OutOfMemory asks is =
+    subst (λ (p : Program). NamesCommand p words) (sym asks.0) (taken_named Booth words verbs.Move asks.1.all asks.1.asks)
 fits_moved program words asked outs.NotSite asks is = record { asked = asked; own = asks.0; asks = asks.1 }
 fits_moved program words asked (outs.Stranded result) asks is = record { asked = asked; own = asks.0; asks = asks.1 }
 fits_moved program words asked outcome asks is = (inr (record { asked = asked; own = asks.0; asks = asks.1 }), is)

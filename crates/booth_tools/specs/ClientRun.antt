@@ -1,5 +1,5 @@
 -- The calls of a whole run of booth or geostore.
-use Rattle.std.specs.Prelude.{◌≡◌, ◌⊎◌, ◌++◌, ℕ, List, [], ◌∷◌, Option, Some, None, Ok, Err, Contains, codes, if◌then◌else◌}
+use Rattle.std.specs.Prelude.{◌≡◌, ◌⊎◌, ◌++◌, ℕ, List, [], ◌∷◌, Option, Some, None, Ok, Err, Contains, codes, if◌then◌else◌, Bool, true, false, T}
 use Rattle.std.specs.Str.{bytes_eq}
 use Rattle.booth_host.specs.declared.entry.Entry.{Entry}
 use Rattle.booth_cli.specs.declared.program.Program.{Program}
@@ -11,7 +11,7 @@ use Rattle.booth_outcomes.specs.declared.outcome.Outcome.TheVariants.{NotSite, S
 use Rattle.booth_cli.specs.declared.asking.ClientWords.{ClientWords}
 use Rattle.booth_cli.specs.declared.asking.MoveWords.{MoveWords}
 use Rattle.booth_cli.specs.Commands.{verb_in}
-use Rattle.booth_cli.specs.Asking.{AsksClient, AsksMove, IsUntaken, HasBadWord}
+use Rattle.booth_cli.specs.Asking.{AsksClient, AsksMove, NamesCommand, IsUntaken, HasBadWord}
 use Rattle.booth_outcomes.specs.Unasked.{IsRequest, IsUnasked}
 use Rattle.booth_tools.specs.Client.{IsClientLog}
 use Rattle.booth_tools.specs.MoveRun.{IsMoveLog}
@@ -55,19 +55,22 @@ pub record IsClientRun (program : Program) (words : List (List ℕ)) (outcome : 
 -- ---- over every host
 
 -- an outcome of a client that was asked for
+abbrev pub is_answered : Outcome → Bool
+is_answered ConfUnread = true
+is_answered (ConfBad fault) = true
+is_answered KeyUnread = true
+is_answered (KeyBad fault) = true
+is_answered OpenFault = true
+is_answered SendFault = true
+is_answered NoReply = true
+is_answered Report = true
+is_answered (Refused result) = true
+is_answered PrintFault = true
+is_answered OutOfMemory = true
+is_answered outcome = false
+
 abbrev pub IsAnswered : Outcome → Type 0
-IsAnswered ConfUnread = Unit {0}
-IsAnswered (ConfBad fault) = Unit {0}
-IsAnswered KeyUnread = Unit {0}
-IsAnswered (KeyBad fault) = Unit {0}
-IsAnswered OpenFault = Unit {0}
-IsAnswered SendFault = Unit {0}
-IsAnswered NoReply = Unit {0}
-IsAnswered Report = Unit {0}
-IsAnswered (Refused result) = Unit {0}
-IsAnswered PrintFault = Unit {0}
-IsAnswered OutOfMemory = Unit {0}
-IsAnswered outcome = ⊥
+IsAnswered outcome = T (is_answered outcome)
 
 -- an outcome of a move that was asked for
 abbrev pub IsMoveAnswered : Outcome → Type 0
@@ -87,15 +90,15 @@ pub record AskForMove (program : Program) (words : List (List ℕ)) : Type 0 whe
   pub asks : AsksMove words asked
 
 -- Usage comes only for words that are not taken, and BadWord exactly where that word is the first refused; NotSite and
--- Stranded only where the words ask for a move, and all else that a client may come to only where they ask for one or
--- for a move
+-- Stranded only where the words ask for a move, want of memory only where there is a command, and all else that a client
+-- may come to only where they ask for one or for a move
 abbrev pub FitsClientWords : Program → List (List ℕ) → Outcome → Type 0
 FitsClientWords program words (Usage None) = verb_in program words ≡ None
 FitsClientWords program words (Usage (Some kind)) = IsUntaken program words kind
 FitsClientWords program words (BadWord word) = HasBadWord program words word
 FitsClientWords program words PrintFault =
     (AskForClient program words ⊎ AskForMove program words) ⊎ IsRequest program words
-FitsClientWords program words OutOfMemory = Unit {0}
+FitsClientWords program words OutOfMemory = NamesCommand program words
 FitsClientWords program words NotSite = AskForMove program words
 FitsClientWords program words (Stranded result) = AskForMove program words
 FitsClientWords program words outcome =
@@ -118,14 +121,17 @@ pub record IsUnhindered (conf : List ℕ) (entries : List Entry) : Type 0 where
   pub printed : (text : List ℕ) (failed : Failed) → Contains entries (Out text (Err failed)) → ⊥
 
 -- the outcomes that are no one's fault here, by the command
+abbrev pub is_talked : Verb → Outcome → Bool
+is_talked verb Report = true
+is_talked verb (Refused result) = true
+is_talked verb NoReply = true
+is_talked verb OutOfMemory = true
+is_talked verbs.Move NotSite = true
+is_talked verbs.Move (Stranded result) = true
+is_talked verb outcome = false
+
 abbrev pub IsTalked : Verb → Outcome → Type 0
-IsTalked verb Report = Unit {0}
-IsTalked verb (Refused result) = Unit {0}
-IsTalked verb NoReply = Unit {0}
-IsTalked verb OutOfMemory = Unit {0}
-IsTalked verbs.Move NotSite = Unit {0}
-IsTalked verbs.Move (Stranded result) = Unit {0}
-IsTalked verb outcome = ⊥
+IsTalked verb outcome = T (is_talked verb outcome)
 
 -- Valid words, a valid file and key and an outside that does not fail give Report, Refused, NoReply or OutOfMemory;
 -- those of a move give NotSite or Stranded too, and no others.

@@ -119,13 +119,14 @@ fn a_directory_without_programs_refuses_nothing(rt: HostRuntime) {
 // (the words of a handler are separated by blanks and tabs)
 #[test]
 fn a_program_knows_what_it_is_run_for(rt: HostRuntime) {
-    let script =
-        "env | grep '^BOOTH_' | sort > booth-seen; echo $# $1 $2 >> booth-seen; cat; ls /proc/self/fd | wc -l >> booth-seen";
+    let script = "env | grep '^BOOTH_' | sort > booth-seen; echo $# $1 $2 >> booth-seen; cat; \
+        ls /proc/self/fd | wc -l >> booth-seen";
     write_script(&rt, rt.alloc(), "booth-sees", script);
     assert!(rt; status(&rt, &rt, "booth-sees\tone   two ") == 0);
     let seen = written(&rt, &rt, "booth-seen");
     let expected =
-        "BOOTH_CONF_NAME=cluster-a\nBOOTH_CONF_PATH=/etc/booth/cluster-a.conf\nBOOTH_LOCAL=192.168.201.100\nBOOTH_TICKET=ticket-db8\nBOOTH_TICKET_EXPIRES=1700000600\n2 one two\n4\n";
+        "BOOTH_CONF_NAME=cluster-a\nBOOTH_CONF_PATH=/etc/booth/cluster-a.conf\nBOOTH_LOCAL=192.168.201.100\n\
+        BOOTH_TICKET=ticket-db8\nBOOTH_TICKET_EXPIRES=1700000600\n2 one two\n4\n";
     assert!(rt; seen.as_str() == expected, "{}", seen.as_str());
     remove(&rt, "booth-sees");
     remove(&rt, "booth-seen");

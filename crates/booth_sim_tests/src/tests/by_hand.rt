@@ -7,7 +7,7 @@
 ghost use Rattle.std.specs.Prelude.{◌≡◌, ◌+◌, ◌<◌, ◌≤◌};
 ghost use Rattle.booth_sim.specs.Clusters.{Stands};
 ghost use Rattle.booth_sim.specs.Drawing.{draw_of};
-ghost use Rattle.booth_sim.specs.Laws.{most_events};
+ghost use Rattle.booth_sim.specs.declared.summary.TheConstants.{MOST_EVENTS};
 
 use booth_base::{MemberId, NO_ONE, Peer};
 use booth_conf::Config;
@@ -291,7 +291,7 @@ fn put_event(
 )
     requires stands { Stands cluster.old.config cluster.old.summary.events cluster.old.summary.number event
         cluster.old }
-    requires few { event < most_events }
+    requires few { event < MOST_EVENTS }
     requires drawn { draw.now ≡ draw_of cluster.old.summary.number event }
     ensures { Stands cluster.old.config cluster.old.summary.events cluster.old.summary.number (event + 1) cluster.new }
 {
@@ -364,7 +364,7 @@ fn cluster_of(rt: &impl Abort, alloc: Global, file: &str, events: u64, number: u
 
 // The events of a number are these, and so is what is counted of them.
 fn check(rt: &impl Abort, alloc: Global, file: &str, events: &str, summary: Summary)
-    requires { summary.events ≤ most_events }
+    requires { summary.events ≤ MOST_EVENTS }
 {
     let mut generator = generator_of(summary.number);
     let mut cluster = cluster_of(rt, alloc, file, summary.events, summary.number);

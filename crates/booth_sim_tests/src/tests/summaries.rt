@@ -1,6 +1,6 @@
 //! Simulations of other clusters: their counts, as far as the rules say them.
 ghost use Rattle.std.specs.Prelude.{◌≤◌};
-ghost use Rattle.booth_sim.specs.Laws.{most_events};
+ghost use Rattle.booth_sim.specs.declared.summary.TheConstants.{MOST_EVENTS};
 
 use booth_conf::Config;
 use booth_sim::{Summary, simulate};
@@ -20,7 +20,7 @@ const MANY_RULES: &str = "site=\"10.0.0.1\"\nsite=\"10.0.0.2\"\narbitrator=\"10.
     ticket=\"hand\"\nmode=\"manual\"\n";
 
 fn summary_of(rt: &impl Abort, alloc: Global, file: &str, events: u64, number: u64) -> Summary
-    requires { events ≤ most_events }
+    requires { events ≤ MOST_EVENTS }
 {
     let config = Config::parse(alloc, file.as_bytes()).expect(rt, "a configuration");
     simulate(alloc, config, events, number).expect(rt, "memory")

@@ -1,5 +1,5 @@
 use Rattle.std.proofs.Common.{map, rules, string_bytes}
-use Rattle.booth_daemon.proofs.RunLemmas.{asks_daemon, asks_simulation, asks_status, looked_made, served_made, summed_made}
+use Rattle.booth_daemon.proofs.RunLemmas.{asks_daemon, asks_simulation, asks_status, looked_made, served_made, summed_made, told_asked}
 use Rattle.booth_daemon.proofs.run.run_words.Goals as goal
 
 pub returns-in-Ok-Daemon-clause-past : goal.returns-in-Ok-Daemon-clause-past
@@ -16,3 +16,8 @@ pub returns-in-Ok-Simulation-clause-past : goal.returns-in-Ok-Simulation-clause-
 returns-in-Ok-Simulation-clause-past g c =
     summed_made (map string_bytes c.args.words.now) c.in-Ok-Simulation.asked c.simulate.result.outcome c.simulate.result.said
     (asks_simulation (map string_bytes c.args.words.now) c.in-Ok-Simulation.asked c.in-Ok-Simulation.field-0 c.in-Ok-Simulation.ensures (search rules)) c.simulate.ensures.past
+
+pub returns-in-Err-Untaken-clause-past : goal.returns-in-Err-Untaken-clause-past
+returns-in-Err-Untaken-clause-past g c =
+    told_asked (map string_bytes c.args.words.now) c.in-Err-Untaken.error c.in-Err-Untaken.field-0 c.tell_error.result.outcome c.tell_error.result.said
+    c.in-Err-Untaken.ensures (search rules) c.tell_error.ensures.outcome c.tell_error.ensures.past

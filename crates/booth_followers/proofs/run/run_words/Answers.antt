@@ -2,7 +2,7 @@ use Rattle.std.proofs.Common.{map, rules, string_bytes, subst}
 use Rattle.booth_host.specs.Past.{GrewSome}
 use Rattle.booth_cli.specs.declared.asking.FollowWords.{FollowWords}
 use Rattle.booth_followers.specs.Service.{IsFollowLog}
-use Rattle.booth_followers.proofs.RunLemmas.{asks_follow, followed_made}
+use Rattle.booth_followers.proofs.RunLemmas.{asks_follow, followed_made, told_asked}
 use Rattle.booth_followers.proofs.run.run_words.Goals as goal
 
 pub returns-in-Ok-Follow-clause-past : goal.returns-in-Ok-Follow-clause-past
@@ -11,3 +11,8 @@ returns-in-Ok-Follow-clause-past g c =
     (asks_follow (map string_bytes c.args.words.now) c.in-Ok-Follow.asked c.in-Ok-Follow.field-0 c.in-Ok-Follow.ensures (search rules))
     (subst (λ (a : FollowWords). GrewSome (IsFollowLog a c.follow_ticket.result.outcome c.follow_ticket.result.said) (g.H.Host.past c.args.host.now) (g.H.Host.past c.follow_ticket.new.host))
     (search rules) c.follow_ticket.ensures.past)
+
+pub returns-in-Err-Untaken-clause-past : goal.returns-in-Err-Untaken-clause-past
+returns-in-Err-Untaken-clause-past g c =
+    told_asked (map string_bytes c.args.words.now) c.in-Err-Untaken.error c.in-Err-Untaken.field-0 c.tell_error.result.outcome c.tell_error.result.said
+    c.in-Err-Untaken.ensures (search rules) c.tell_error.ensures.outcome c.tell_error.ensures.past

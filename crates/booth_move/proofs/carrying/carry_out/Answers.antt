@@ -1,5 +1,5 @@
 use Rattle.std.proofs.Common.{◌≡◌, ◌≤◌, ◌+◌, ◌*◌, ℕ, List, Option, None, Ok, ap, subst, ◌∙◌, arith}
-use Rattle.booth_talk.specs.Waiting.{most}
+use Rattle.booth_talk.specs.declared.wait.TheConstants.{MOST_PAIRS}
 use Rattle.booth_host.specs.Past.{GrewSome}
 use Rattle.booth_move.specs.declared.deeds.MoveEnd.{MoveEnd}
 use Rattle.booth_move.specs.declared.stage.Stage.{Stage}
@@ -18,7 +18,7 @@ loop-pair-init g c =
     c.step-first.ensures.deed ∙ ap (λ (s : Stage). (move_step setup s first).deed) c.start-mover.ensures.stage in
     let stage : c.step-first.new.self.stage ≡ (opens c.args.start).stage =
     c.step-first.ensures.stage ∙ ap (λ (s : Stage). (move_step setup s first).stage) c.start-mover.ensures.stage in
-    let left : pairs_left c.step-first.new.self.stage ≡ 36 * most = ap (λ (s : Stage). pairs_left s) stage ∙ omega arith in
+    let left : pairs_left c.step-first.new.self.stage ≡ 36 * MOST_PAIRS = ap (λ (s : Stage). pairs_left s) stage ∙ omega arith in
     record {
       past = begun c.args.moving.now c.args.start c.step-first.result c.step-first.new.self.stage deed stage c.in-Ok.ensures.past;
       setup = c.step-first.ensures.setup ∙ c.start-mover.ensures.setup

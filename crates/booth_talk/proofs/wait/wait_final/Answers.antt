@@ -1,5 +1,6 @@
 use Rattle.std.proofs.Common.{arith, refl, sym}
-use Rattle.booth_talk.specs.Waiting.{IsUnsettled, BringsOutcome, most}
+use Rattle.booth_talk.specs.Waiting.{IsUnsettled, BringsOutcome}
+use Rattle.booth_talk.specs.declared.wait.TheConstants.{MOST_PAIRS}
 use Rattle.booth_talk.proofs.WaitLemmas.{no_pair, one_pair, last_pair}
 use Rattle.booth_talk.proofs.wait.wait_final.Goals as goal
 
@@ -19,6 +20,6 @@ loop-pair-preserved g c = record {
 pub returns-in-Some-clause-past : goal.returns-in-Some-clause-past
 returns-in-Some-clause-past g c =
     last_pair (IsUnsettled c.args.asking.now c.args.start)
-    (BringsOutcome c.args.asking.now c.args.start c.in-Some.reply c.now-reading.result c.next-answer.new.into) most
+    (BringsOutcome c.args.asking.now c.args.start c.in-Some.reply c.now-reading.result c.next-answer.new.into) MOST_PAIRS
     c.loop-pair.invariant.past c.next-answer.ensures.past c.now-reading.ensures.past (omega (arith, c.loop-pair-test.true))
     (record { is = sym c.in-Some.ensures; at = refl; with = refl })

@@ -1,5 +1,6 @@
 use Rattle.std.proofs.Common.{arith, refl}
-use Rattle.booth_talk.specs.Waiting.{IsSilent, IsLate, Brings, most}
+use Rattle.booth_talk.specs.Waiting.{IsSilent, IsLate, Brings}
+use Rattle.booth_talk.specs.declared.wait.TheConstants.{MOST_PAIRS}
 use Rattle.booth_talk.proofs.WaitLemmas.{no_pair, one_pair, last_pair, over_late}
 use Rattle.booth_talk.proofs.wait.wait_first.Goals as goal
 
@@ -19,12 +20,12 @@ loop-pair-preserved g c = record {
 pub returns-in-Answer-clause-past : goal.returns-in-Answer-clause-past
 returns-in-Answer-clause-past g c =
     last_pair (IsSilent c.args.asking.now c.args.start)
-    (Brings c.args.asking.now c.args.start c.in-Answer.reply c.now-reading.result c.next-answer.new.into) most
+    (Brings c.args.asking.now c.args.start c.in-Answer.reply c.now-reading.result c.next-answer.new.into) MOST_PAIRS
     c.loop-pair.invariant.past c.next-answer.ensures.past c.now-reading.ensures.past (omega (arith, c.loop-pair-test.true))
     (record { is = c.in-Answer.ensures; at = refl; with = refl })
 
 pub returns-in-Late-clause-past : goal.returns-in-Late-clause-past
 returns-in-Late-clause-past g c =
     over_late c.args.asking.now c.args.start
-    (last_pair (IsSilent c.args.asking.now c.args.start) (IsLate c.args.asking.now c.args.start) most
+    (last_pair (IsSilent c.args.asking.now c.args.start) (IsLate c.args.asking.now c.args.start) MOST_PAIRS
     c.loop-pair.invariant.past c.next-answer.ensures.past c.now-reading.ensures.past (omega (arith, c.loop-pair-test.true)) c.in-Late.ensures)

@@ -4,7 +4,7 @@ use Rattle.booth_tools.specs.Client.{IsClientLog}
 use Rattle.booth_cli.specs.declared.asking.ClientWords.{ClientWords}
 use Rattle.booth_cli.specs.declared.asking.MoveWords.{MoveWords}
 use Rattle.booth_tools.specs.MoveRun.{IsMoveLog}
-use Rattle.booth_tools.proofs.ClientLemmas.{asks_client, fits_answered, talked_made}
+use Rattle.booth_tools.proofs.ClientLemmas.{asks_client, fits_answered, talked_made, told_asked}
 use Rattle.booth_tools.proofs.MoveLemmas.{asks_move, fits_moved, moved_made}
 use Rattle.booth_tools.proofs.client_run.run_words.Goals as goal
 
@@ -31,3 +31,8 @@ pub returns-in-Ok-Move-clause-words : goal.returns-in-Ok-Move-clause-words
 returns-in-Ok-Move-clause-words g c =
     fits_moved c.args.program (map string_bytes c.args.words.now) c.in-Ok-Move.asked c.move_ticket.result.outcome
     (asks_move c.args.program (map string_bytes c.args.words.now) c.in-Ok-Move.asked c.in-Ok-Move.field-0 c.in-Ok-Move.ensures (search rules)) c.move_ticket.ensures.served
+
+pub returns-in-Err-Untaken-clause-past : goal.returns-in-Err-Untaken-clause-past
+returns-in-Err-Untaken-clause-past g c =
+    told_asked c.args.program (map string_bytes c.args.words.now) c.in-Err-Untaken.error c.in-Err-Untaken.field-0 c.tell_error.result.outcome c.tell_error.result.said
+    c.in-Err-Untaken.ensures (search rules) c.tell_error.ensures.outcome c.tell_error.ensures.past
