@@ -26,7 +26,7 @@ use Rattle.booth_audit.specs.Replay.{Event, deeds_of}
 same_is : (k : ℕ) → (k == k) ≡ true
 same_is k = (Decides-eqb k k).1 refl
 
-other_is : (j k : ℕ) → (j ≡ k → ⊥) → (j == k) ≡ false
+pub other_is : (j k : ℕ) → (j ≡ k → ⊥) → (j == k) ≡ false
 other_is j k other = by (j == k) refl
   where
     by : (b : Bool) → (j == k) ≡ b → b ≡ false

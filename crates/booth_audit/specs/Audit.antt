@@ -14,6 +14,8 @@ use Rattle.booth_node.specs.Session.{AreSessions, Down}
 use Rattle.booth_audit.specs.declared.audit_fault.AuditFault.{AuditFault}
 use Rattle.booth_audit.specs.declared.audit_fault.AuditFault.TheVariants as faults
 use Rattle.booth_audit.specs.declared.holding.Holding.{Holding}
+use Rattle.booth_audit.specs.declared.journal_fault.JournalFault.{JournalFault}
+use Rattle.booth_audit.specs.declared.journal_fault.JournalFault.TheVariants as wrongs
 use Rattle.booth_audit.specs.Faults.{AllHearSent, AllReadKept, FirstNotKept, FirstUnsent, Heard, IsOf}
 use Rattle.booth_audit.specs.Holdings.{Covers, Deeds, holdings_from}
 use Rattle.booth_audit.specs.Replay.{Event, deeds_of, replay}
@@ -37,8 +39,8 @@ pub record IsMembers (config : ConfigSays) (earlier : List (Option ℕ)) (text :
   pub whose : IsOf config.members all at
   pub other : (place : ℕ) → at ≡ Some place → Has earlier at → ⊥
 
--- A text is a journal of the member at a place: each call was demanded, each start read what its member may have kept, and
--- this is what the member did.
+-- A text is a journal of the member at a place: each call was demanded, each start read what its member may have
+-- kept, and this is what the member did.
 pub record IsTrue (config : ConfigSays) (ring : Option Ring) (earlier : List (Option ℕ)) (text : List ℕ) (heard : Heard)
     : Type 0 where
   pub said : List Said
@@ -64,58 +66,65 @@ abbrev pub deeds_by : Heard → Deeds
 deeds_by heard = record { member = heard.member; entries = deeds_of heard.events }
 
 -- What an audit that finds no fault says.
-pub record IsAudited (config : ConfigSays) (ring : Option Ring) (texts : List (List ℕ)) (holdings : List Holding) : Type 0
-  where
-    pub heard : List Heard
-    pub each : AreTrue config ring [] texts heard
-    pub sent : All (λ (one : Heard). AllHearSent heard [] (deeds_of one.events)) heard
-    pub held : holdings ≡ holdings_from (map deeds_by heard) 0 config.tickets
-    pub covers : Covers config.tickets (map deeds_by heard) holdings
+pub record IsAudited (config : ConfigSays) (ring : Option Ring) (texts : List (List ℕ)) (holdings : List Holding)
+    : Type 0 where
+  pub heard : List Heard
+  pub each : AreTrue config ring [] texts heard
+  pub sent : All (λ (one : Heard). AllHearSent heard [] (deeds_of one.events)) heard
+  pub held : holdings ≡ holdings_from (map deeds_by heard) 0 config.tickets
+  pub covers : Covers config.tickets (map deeds_by heard) holdings
+
+-- ---- one journal that is no member's, or that says what its member did not do
+
+-- a journal of a member, and what it did before the first call that was not demanded
+pub record Replays (config : ConfigSays) (ring : Option Ring) (earlier : List (Option ℕ)) (text : List ℕ)
+    (events : List Event) (strays : Option ℕ) : Type 0 where
+  pub said : List Said
+  pub at : Option ℕ
+  pub members : IsMembers config earlier text at said
+  pub replayed : replay (node_of config ring at) said ≡ record { events = events; strays = strays }
+
+-- It says calls, which are not those of one more member.
+pub record IsNoMembers (config : ConfigSays) (earlier : List (Option ℕ)) (text : List ℕ) : Type 0 where
+  pub said : List Said
+  pub says : Says text said
+  pub wrong : (member : Option ℕ) → IsMembers config earlier text member said → ⊥
+
+-- the call at this line was not demanded, and each start before it read what its member may have kept
+pub record DiffersAt (config : ConfigSays) (ring : Option Ring) (earlier : List (Option ℕ)) (text : List ℕ) (line : ℕ)
+    : Type 0 where
+  pub events : List Event
+  pub replays : Replays config ring earlier text events (Some line)
+  pub kept : AllReadKept [] (deeds_of events)
+
+-- this line is the first that says a record which its member may not have kept
+pub record IsNotKeptAt (config : ConfigSays) (ring : Option Ring) (earlier : List (Option ℕ)) (text : List ℕ) (line : ℕ)
+    : Type 0 where
+  pub events : List Event
+  pub strays : Option ℕ
+  pub replays : Replays config ring earlier text events strays
+  pub wrong : FirstNotKept events line
+
+-- what is wrong with one journal, where those before it are of these members
+abbrev pub IsWrong : ConfigSays → Option Ring → List (Option ℕ) → List ℕ → JournalFault → Type 0
+IsWrong config ring earlier text (wrongs.Line line) = IsFirstFault text line
+IsWrong config ring earlier text wrongs.Member = IsNoMembers config earlier text
+IsWrong config ring earlier text (wrongs.Differs line) = DiffersAt config ring earlier text line
+IsWrong config ring earlier text (wrongs.Kept line) = IsNotKeptAt config ring earlier text line
+IsWrong config ring earlier text wrongs.OutOfMemory = Unit {0}
 
 -- ---- faults
 
--- the journal at this place, behind others that are true
-pub record Behind (config : ConfigSays) (ring : Option Ring) (texts : List (List ℕ)) (place : ℕ) (text : List ℕ)
-    (earlier : List Heard) : Type 0 where
+-- the first journal of which something is wrong
+pub record HasWrong (config : ConfigSays) (ring : Option Ring) (texts : List (List ℕ)) (place : ℕ)
+    (fault : JournalFault) : Type 0 where
+  pub text : List ℕ
   pub is : slice_get texts place ≡ Some text
+  pub earlier : List Heard
   pub before : AreTrue config ring [] (take place texts) earlier
+  pub wrong : IsWrong config ring (member_places earlier) text fault
 
-pub record HasLine (config : ConfigSays) (ring : Option Ring) (texts : List (List ℕ)) (place line : ℕ) : Type 0 where
-  pub text : List ℕ
-  pub earlier : List Heard
-  pub behind : Behind config ring texts place text earlier
-  pub wrong : IsFirstFault text line
-
-pub record HasMember (config : ConfigSays) (ring : Option Ring) (texts : List (List ℕ)) (place : ℕ) : Type 0 where
-  pub text : List ℕ
-  pub earlier : List Heard
-  pub behind : Behind config ring texts place text earlier
-  pub said : List Said
-  pub says : Says text said
-  pub wrong : (member : Option ℕ) → IsMembers config (member_places earlier) text member said → ⊥
-
--- a journal of a member, and what it did before the first call that was not demanded
-pub record Replays (config : ConfigSays) (ring : Option Ring) (texts : List (List ℕ)) (place : ℕ) (events : List Event)
-    (strays : Option ℕ) : Type 0 where
-  pub text : List ℕ
-  pub earlier : List Heard
-  pub behind : Behind config ring texts place text earlier
-  pub said : List Said
-  pub at : Option ℕ
-  pub members : IsMembers config (member_places earlier) text at said
-  pub replayed : replay (node_of config ring at) said ≡ record { events = events; strays = strays }
-
-pub record HasDiffers (config : ConfigSays) (ring : Option Ring) (texts : List (List ℕ)) (place line : ℕ) : Type 0 where
-  pub events : List Event
-  pub replays : Replays config ring texts place events (Some line)
-  pub kept : AllReadKept [] (deeds_of events)
-
-pub record HasNotKept (config : ConfigSays) (ring : Option Ring) (texts : List (List ℕ)) (place line : ℕ) : Type 0 where
-  pub events : List Event
-  pub strays : Option ℕ
-  pub replays : Replays config ring texts place events strays
-  pub wrong : FirstNotKept events line
-
+-- No journal is wrong, and this line of one is the first that says a message which no journal has as its send.
 pub record HasUnsent (config : ConfigSays) (ring : Option Ring) (texts : List (List ℕ)) (place line : ℕ) : Type 0 where
   pub heard : List Heard
   pub each : AreTrue config ring [] texts heard
@@ -126,9 +135,9 @@ pub record HasUnsent (config : ConfigSays) (ring : Option Ring) (texts : List (L
 
 -- what a fault says; want of memory may come in place of any answer
 abbrev pub HasFault : ConfigSays → Option Ring → List (List ℕ) → AuditFault → Type 0
-HasFault config ring texts (faults.Line place line) = HasLine config ring texts place line
-HasFault config ring texts (faults.Member place) = HasMember config ring texts place
-HasFault config ring texts (faults.Differs place line) = HasDiffers config ring texts place line
-HasFault config ring texts (faults.Kept place line) = HasNotKept config ring texts place line
+HasFault config ring texts (faults.Line place line) = HasWrong config ring texts place (wrongs.Line line)
+HasFault config ring texts (faults.Member place) = HasWrong config ring texts place wrongs.Member
+HasFault config ring texts (faults.Differs place line) = HasWrong config ring texts place (wrongs.Differs line)
+HasFault config ring texts (faults.Kept place line) = HasWrong config ring texts place (wrongs.Kept line)
 HasFault config ring texts (faults.Unsent place line) = HasUnsent config ring texts place line
 HasFault config ring texts faults.OutOfMemory = Unit {0}

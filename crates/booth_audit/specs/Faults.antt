@@ -1,9 +1,9 @@
 -- What may be wrong with journals, each by itself.
-use Rattle.std.specs.Prelude.{◌≡◌, ◌<◌, ◌+◌, ◌-◌, ◌*◌, ◌++◌, ℕ, Bool, List, [], ◌∷◌, length, position, slice_get, Option, None, Some, Ok}
+use Rattle.std.specs.Prelude.{◌≡◌, ◌<◌, ◌+◌, ◌-◌, ◌*◌, ◌++◌, ℕ, List, [], ◌∷◌, length, position, slice_get, Option, None, Some, Ok}
 use Rattle.std.specs.List.{All, flat_map}
 use Rattle.booth_base.specs.declared.address.Address.{Address}
-use Rattle.booth_base.specs.contracts.address.AddressPartialEq.TheImpl as addresses
 use Rattle.booth_base.specs.declared.address.MemberId.{MemberId}
+use Rattle.booth_conf.specs.Rules.{is_at}
 use Rattle.booth_conf.specs.declared.members.Member.{Member}
 use Rattle.booth_conf.specs.declared.tickets.TicketConf.{TicketConf}
 use Rattle.booth_host.specs.declared.host.Arrival.TheVariants as arrivals
@@ -34,19 +34,20 @@ opened_by call = []
 abbrev pub opened_in : List Said → List (Option Address)
 opened_in all = flat_map (λ (said : Said). opened_by said.call) all
 
-abbrev pub is_member_at : Address → Member → Bool
-is_member_at address member = addresses.eq-value.it address member.address
-
 -- the member that listens there; no member listens at any address
 abbrev pub place_of : List Member → Option Address → Option ℕ
 place_of members None = None
-place_of members (Some address) = position (is_member_at address) members
+place_of members (Some address) = position (is_at address) members
 
--- All its starts are those of the member at a place. A journal in which none came to listen is nobody's.
+-- The starts that listen at these addresses are those of the member at a place. Where there is none they are nobody's.
+abbrev pub AreOf : List Member → List (Option Address) → Option ℕ → Type 0
+AreOf members locals None = locals ≡ []
+AreOf members locals (Some place) =
+    (locals ≡ [] → ⊥) × All (λ (local : Option Address). place_of members local ≡ Some place) locals
+
+-- All starts of a journal are. One in which none came to listen is nobody's.
 abbrev pub IsOf : List Member → List Said → Option ℕ → Type 0
-IsOf members all None = opened_in all ≡ []
-IsOf members all (Some place) =
-    (opened_in all ≡ [] → ⊥) × All (λ (local : Option Address). place_of members local ≡ Some place) (opened_in all)
+IsOf members all owner = AreOf members (opened_in all) owner
 
 -- ---- records
 

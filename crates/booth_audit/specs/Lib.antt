@@ -10,5 +10,16 @@ pub mod Holdings
 pub mod Noted
 pub mod Own
 pub mod Kept
+pub mod Tally
+pub mod Course
 pub mod Faults
+pub mod Order
+pub mod Owners
+pub mod ReadLines
+pub mod Watched
+pub mod Hearings
+pub mod Sends
+pub mod Exchanges
 pub mod Audit
+pub mod Judging
+pub mod Sole

@@ -6,7 +6,6 @@ use Rattle.booth_conf.specs.Config.{ConfigSays}
 use Rattle.booth_conf.specs.Lookups.{is_called}
 use Rattle.booth_conf.specs.declared.members.Member.{Member}
 use Rattle.booth_conf.specs.declared.tickets.TicketConf.{TicketConf}
-use Rattle.booth_host.specs.declared.entry.Entry.{Entry}
 use Rattle.booth_host.specs.declared.entry.Entry.TheVariants as entries
 use Rattle.booth_keys.specs.declared.ring.Ring.{Ring}
 use Rattle.booth_node.specs.declared.node_config.NodeConfig.{NodeConfig}
@@ -78,11 +77,6 @@ noted member notes (Makes (entries.Keep name kept answer)) = with_kept member no
 noted member notes (IsCut (CutSend to bytes)) = with_sent notes bytes
 noted member notes (IsCut (CutKeep name kept)) = with_kept member notes name kept
 noted member notes what = notes
-
--- calls that were answered
-abbrev pub noted_calls : MemberSays → Noted → List Entry → Noted
-noted_calls member notes [] = notes
-noted_calls member notes (entry ∷ more) = noted_calls member (noted member notes (Makes entry)) more
 
 abbrev pub noted_all : MemberSays → Noted → List Event → Noted
 noted_all member notes [] = notes

@@ -29,7 +29,8 @@ impl<'a> Model for Lines<'a> {
     ghost view = { λ l. record { rest = l.rest.now; line = l.line; end = l.end } };
 }
 
-fn is_now(text: &[u8]) -> bool
+// Whether this is the line of a reading of the clock.
+pub(crate) fn is_now(text: &[u8]) -> bool
     ensures { result ≡ is_now_text text.now }
 {
     b"now".as_slice() == text

@@ -1,0 +1,30 @@
+-- What an audit that finds no fault says.
+use Rattle.std.specs.Prelude.{length, map, Option, Ok}
+use Rattle.std.specs.List.{All}
+use Rattle.std.proofs.Common.{◌≡◌, ◌<◌, ℕ, List, [], sym, ◌∙◌, subst}
+use Rattle.booth_conf.specs.Config.{ConfigSays}
+use Rattle.booth_keys.specs.declared.ring.Ring.{Ring}
+use Rattle.booth_audit.specs.declared.holding.Holding.{Holding}
+use Rattle.booth_audit.specs.Audit.{IsAudited, deeds_by}
+use Rattle.booth_audit.specs.Holdings.{Covers}
+use Rattle.booth_audit.specs.Judging.{AreTrueSo, HasSent, JudgedSays, held_by}
+use Rattle.booth_audit.specs.Order.{by_tickets}
+use Rattle.booth_audit.specs.Watched.{AreFound}
+use Rattle.booth_audit.proofs.HeardLemmas.{all_hear_sent}
+use Rattle.booth_audit.proofs.HeldLemmas.{covers_so, held_below, held_so}
+
+pub audited_so : {config : ConfigSays} {ring : Option Ring} {texts : List (List ℕ)} {all : List JudgedSays} {holdings : List Holding}
+    → AreFound config.tickets → AreTrueSo config ring texts all → HasSent config.members all (Ok tt)
+    → ((count : ℕ) → All (λ (holding : Holding). holding.ticket < count) (held_by all) → holdings ≡ by_tickets (held_by all) 0 count)
+    → IsAudited config ring texts holdings
+audited_so {config} {ring} {texts} {all} {holdings} found so sent sorted =
+    let held = sorted (length config.tickets) (held_below config ring [] texts so.heard all so.each so.tallied)
+    ∙ held_so config ring found so.heard all so.tallied in
+    record {
+      heard = so.heard;
+      each = so.each;
+      sent = all_hear_sent so sent;
+      held = held;
+      covers = subst (Covers config.tickets (map deeds_by so.heard)) (sym held)
+          (covers_so config ring found texts so.heard all so.each so.tallied);
+    }

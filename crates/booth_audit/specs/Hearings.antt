@@ -1,0 +1,121 @@
+-- What was heard of other members: the datagrams by which a member's turns let a message between members in.
+use Rattle.std.specs.Prelude.{◌≡◌, ◌↔◌, ◌≤◌, ◌-◌, ◌++◌, ℕ, Bool, true, false, List, [], ◌∷◌, Option, None, Some, Result, Ok, Err, IfOk, if◌then◌else◌}
+use Rattle.std.specs.List.{All}
+use Rattle.booth_auth.specs.declared.admission.DropFault.{DropFault}
+use Rattle.booth_auth.specs.Verdict.{verdict}
+use Rattle.booth_host.specs.declared.host.Arrival.{Arrival}
+use Rattle.booth_host.specs.declared.host.Arrival.TheVariants as arrivals
+use Rattle.booth_host.specs.declared.host.Failed.{Failed}
+use Rattle.booth_host.specs.declared.entry.Entry.TheVariants as entries
+use Rattle.booth_journal.specs.Says.{Said}
+use Rattle.booth_node.specs.declared.node_config.NodeConfig.{NodeConfig}
+use Rattle.booth_node.specs.Reaction.{used}
+use Rattle.booth_node.specs.Session.{AreSessions, CutCall, Down, IsCut, Makes, SessionEntry, Starts}
+use Rattle.booth_rec.specs.declared.record.Record.{Record}
+use Rattle.booth_wire.specs.declared.command.Direction.{Direction}
+use Rattle.booth_wire.specs.declared.command.Direction.TheVariants.{BetweenMembers}
+use Rattle.booth_wire.specs.Command.{direction_of}
+use Rattle.booth_wire.specs.PlainMessage.{PlainMessage}
+use Rattle.booth_wire.specs.Reading.{decoded}
+use Rattle.booth_audit.specs.declared.hearings.Hears.{Hears}
+use Rattle.booth_audit.specs.Faults.{AllHearSent, FirstUnsent, Heard, WasSent}
+use Rattle.booth_audit.specs.Holdings.{used_after}
+use Rattle.booth_audit.specs.Noted.{MemberSays}
+use Rattle.booth_audit.specs.Own.{AllOwn}
+use Rattle.booth_audit.specs.Replay.{Event, deeds_of, replay}
+
+-- The bytes of a datagram that came with the last call and is not judged yet, and what was let in, in the order of the
+-- lines.
+pub record Hearings : Type 0 where
+  pub waiting : Option (List ℕ)
+  pub all : List Hears
+
+abbrev pub nothing_heard : Hearings
+nothing_heard = record { waiting = None; all = [] }
+
+-- ---- one event
+
+abbrev pub is_between : Direction → Bool
+is_between BetweenMembers = true
+is_between direction = false
+
+abbrev pub is_members : Result PlainMessage DropFault → Bool
+is_members (Ok message) = is_between (direction_of message.head.cmd)
+is_members (Err fault) = false
+
+-- at this reading the gate lets a message between members in
+abbrev pub lets_in : NodeConfig → ℕ → List ℕ → Bool
+lets_in node now bytes = is_members (verdict node.config node.ring node.me now bytes)
+
+-- What a reading of the clock, whose call stands at this line, lets in of the datagram that waits: the answer that
+-- brought this one stands a line before.
+abbrev pub let_in : NodeConfig → ℕ → ℕ → Option (List ℕ) → List Hears
+let_in node now line None = []
+let_in node now line (Some bytes) =
+    if lets_in node now bytes then record { bytes = bytes; line = line - 1 } ∷ [] else []
+
+-- the bytes of a datagram that came
+abbrev pub brought : Result Arrival Failed → List ℕ → Option (List ℕ)
+brought (Ok (arrivals.Datagram from)) bytes = Some bytes
+brought answer bytes = None
+
+-- a datagram waits for the very next event
+abbrev pub waits_after : SessionEntry → Option (List ℕ)
+waits_after (Makes (entries.Next wait answer bytes)) = brought answer bytes
+waits_after what = None
+
+-- what an event at this line lets in, where this reading is in use before it
+abbrev pub heard_by : NodeConfig → ℕ → ℕ → SessionEntry → Option (List ℕ) → List Hears
+heard_by node last line (Makes (entries.Now reading)) waiting = let_in node (used last reading) line waiting
+heard_by node last line what waiting = []
+
+abbrev pub hearings_noted : MemberSays → ℕ → Hearings → Event → Hearings
+hearings_noted member last hearings event = record {
+  waiting = waits_after event.what;
+  all = hearings.all ++ heard_by member.node last event.line event.what hearings.waiting;
+}
+
+-- a start, and a call that was not answered, leave nothing waiting
+abbrev pub IsPassed : Hearings → Hearings → Type 0
+IsPassed old new =
+    ((member : MemberSays) (last line : ℕ) (node : NodeConfig) (reading : ℕ) (records : List (Option Record))
+    → new ≡ hearings_noted member last old (record { what = Starts node reading records; line = line }))
+    × ((member : MemberSays) (last line : ℕ) (call : CutCall)
+    → new ≡ hearings_noted member last old (record { what = IsCut call; line = line }))
+
+-- ---- all events
+
+-- where this reading is in use before them
+abbrev pub hearings_all : MemberSays → ℕ → Hearings → List Event → Hearings
+hearings_all member last hearings [] = hearings
+hearings_all member last hearings (event ∷ events) =
+    hearings_all member (used_after last event.what) (hearings_noted member last hearings event) events
+
+-- what a member heard by all that it did
+abbrev pub heard_in : MemberSays → List Event → List Hears
+heard_in member events = (hearings_all member 0 nothing_heard events).all
+
+-- ---- what is noted, against what was sent
+
+-- the member whose id the message bears sent it
+abbrev pub IsSent : List Heard → Hears → Type 0
+IsSent all hears = IfOk (decoded hears.bytes) (WasSent all)
+
+-- By sessions of one member: each turn hears what was sent exactly where each message that is noted was sent; and the
+-- first that is noted and was not sent is the first that a turn hears so.
+pub record TellsUnsent (member : MemberSays) (events : List Event) (all : List Heard) : Type 0 where
+  pub sent : AllHearSent all [] (deeds_of events) ↔ All (IsSent all) (heard_in member events)
+  pub first : (before after : List Hears) (one : Hears) → heard_in member events ≡ before ++ one ∷ after
+      → All (IsSent all) before → (IsSent all one → ⊥) → FirstUnsent all events one.line
+
+-- the lines of a journal are counted from 1 on
+abbrev pub AreCounted : List Event → Type 0
+AreCounted events = All (λ (event : Event). 1 ≤ event.line) events
+
+abbrev pub HearingsAreDeeds : Type 0
+HearingsAreDeeds =
+    (member : MemberSays) (events : List Event) (all : List Heard) → AreSessions Down (deeds_of events)
+    → AllOwn member.node (deeds_of events) → AreCounted events → TellsUnsent member events all
+
+abbrev pub ReplaysAreCounted : Type 0
+ReplaysAreCounted = (node : NodeConfig) (all : List Said) → AreCounted (replay node all).events

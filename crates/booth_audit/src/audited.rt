@@ -1,0 +1,35 @@
+//! What an audit says.
+ghost use Rattle.std.specs.Prelude.{◌≡◌};
+
+use crate::Holding;
+use std::marker::Model;
+
+/// What the journals of a cluster say: who held which ticket when.
+#[derive(Drop)]
+pub struct Audit {
+    holdings: Vec<Holding>,
+}
+
+impl Model for Audit {
+    ghost use Rattle.std.specs.Prelude.{List};
+    ghost use Rattle.booth_audit.specs.declared.holding.Holding.{Holding};
+
+    ghost Value = { List Holding };
+
+    ghost view = { λ a. a.holdings.items };
+}
+
+impl Audit {
+    pub(crate) fn new(holdings: Vec<Holding>) -> Audit
+        ensures { result ≡ holdings.items }
+    {
+        Audit { holdings }
+    }
+
+    /// The holdings, by tickets, then by journals, then by lines.
+    pub fn holdings(&self) -> &[Holding]
+        ensures { result.now ≡ self.now }
+    {
+        &self.holdings
+    }
+}

@@ -1,0 +1,132 @@
+//! The audit of the journals of a cluster.
+ghost use Rattle.std.specs.Prelude.{◌≡◌, ◌<◌, ◌^◌, ℕ, IfErr, IfOk, MatchResult, length};
+ghost use Rattle.std.specs.List.{All};
+ghost use Rattle.std.specs.Option.{option_copied};
+ghost use Rattle.booth_audit.specs.Audit.{HasFault, IsAudited, id_of};
+ghost use Rattle.booth_audit.specs.Judging.{AreExchanges, AreTrueSo, HasSent, held_by};
+ghost use Rattle.booth_audit.specs.Order.{by_tickets};
+
+use crate::exchanges::{Exchange, check_exchanges};
+use crate::judging::{Judged, judge};
+use crate::order::sort_by_ticket;
+use crate::{Audit, AuditFault, Holding};
+use booth_base::{ByteText, MemberId, NO_ONE};
+use booth_conf::Config;
+use booth_keys::Ring;
+use std::alloc::{AllocError, Global};
+
+/// Journals are fewer: a fault names one by its place.
+const JOURNALS_END: u64 = 1 << 32;
+
+// Judges each journal, up to the first that is wrong.
+fn judge_all(
+    alloc: Global,
+    config: &Config,
+    ring: Option<&Ring>,
+    journals: &[ByteText],
+) -> Result<Vec<Judged>, AuditFault>
+    requires few { length journals.now < 2 ^ 32 }
+    ensures { MatchResult result (λ all. AreTrueSo config.now (option_copied ring.entry) journals.now all.items)
+        (HasFault config.now (option_copied ring.entry) journals.now) }
+{
+    let mut all = Vec::new(alloc);
+    for (journal, text) in journals.iter().enumerate() {
+        let judged = match judge(alloc, config, ring, &all, text.bytes()) {
+            Ok(judged) => judged,
+            Err(fault) => return Err(fault.at(journal as u32)),
+        };
+        match all.push(judged) {
+            Ok(()) => {}
+            Err(_) => return Err(AuditFault::OutOfMemory),
+        }
+    }
+    Ok(all)
+}
+
+// The id of the member at a place, or nobody's.
+fn id_of(config: &Config, owner: Option<u32>) -> MemberId
+    ensures { result ≡ id_of config.now.members owner }
+{
+    let Some(place) = owner else {
+        return NO_ONE;
+    };
+    match config.members().get(place as usize) {
+        Some(member) => member.id,
+        None => NO_ONE,
+    }
+}
+
+// What all members sent and heard, by their journals.
+fn exchanges_of<'a>(
+    alloc: Global,
+    config: &Config,
+    all: &'a [Judged],
+) -> Result<Vec<Exchange<'a>>, AllocError>
+    ensures { IfOk result (λ exchanges. AreExchanges config.now.members all.now exchanges.items) }
+{
+    let mut exchanges = Vec::with_capacity(alloc, all.len())?;
+    for judged in all {
+        exchanges.push_reserved(Exchange {
+            id: id_of(config, judged.owner),
+            sent: judged.tally.sent(),
+            heard: judged.tally.heard(),
+        });
+    }
+    Ok(exchanges)
+}
+
+// Whether all that was heard was sent.
+fn find_unsent(alloc: Global, config: &Config, all: &[Judged]) -> Result<(), AuditFault>
+    requires few { length all.now < 2 ^ 32 }
+    ensures { HasSent config.now.members all.now result }
+{
+    match exchanges_of(alloc, config, all) {
+        Ok(exchanges) => check_exchanges(alloc, &exchanges),
+        Err(_) => Err(AuditFault::OutOfMemory),
+    }
+}
+
+// The holdings of all journals, in the order of tickets.
+fn holdings_of(alloc: Global, all: &[Judged]) -> Result<Vec<Holding>, AllocError>
+    ensures { IfOk result (λ holdings. (count : ℕ) → All (λ holding. holding.ticket < count) (held_by all.now)
+        → holdings.items ≡ by_tickets (held_by all.now) 0 count) }
+{
+    let mut held = Vec::new(alloc);
+    for judged in all {
+        held.extend_from_slice(judged.tally.held())?;
+    }
+    sort_by_ticket(&mut held)?;
+    Ok(held)
+}
+
+/// Audits the journals of a cluster, whose members have this configuration and share this ring.
+///
+/// # Errors
+/// The first fault of the first journal that is wrong; else the first message that was heard and not sent; or
+/// `OutOfMemory`, which may come in place of any answer.
+pub fn audit(
+    alloc: Global,
+    config: &Config,
+    ring: Option<&Ring>,
+    journals: &[ByteText],
+) -> Result<Audit, AuditFault>
+    ensures audited { IfOk result (IsAudited config.now (option_copied ring.entry) journals.now) }
+    ensures fault { IfErr result (HasFault config.now (option_copied ring.entry) journals.now) }
+{
+    if journals.len() as u64 >= JOURNALS_END {
+        return Err(AuditFault::OutOfMemory);
+    }
+    config.sound();
+    let all = match judge_all(alloc, config, ring, journals) {
+        Ok(all) => all,
+        Err(fault) => return Err(fault),
+    };
+    match find_unsent(alloc, config, &all) {
+        Ok(()) => {}
+        Err(fault) => return Err(fault),
+    }
+    match holdings_of(alloc, &all) {
+        Ok(holdings) => Ok(Audit::new(holdings)),
+        Err(_) => Err(AuditFault::OutOfMemory),
+    }
+}

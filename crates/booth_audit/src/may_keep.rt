@@ -1,0 +1,151 @@
+//! The records that may be kept of each ticket, and which record of a start is none of them.
+ghost use Rattle.std.specs.Prelude.{◌≡◌, ◌≤◌, ◌^◌, [], ◌∷◌, IfOk, OnOk, is_ok};
+ghost use Rattle.booth_node.specs.Records.{may_after_keep};
+ghost use Rattle.booth_rec.specs.Record.{record_or_none};
+ghost use Rattle.booth_audit.specs.Faults.{answer_line};
+ghost use Rattle.booth_audit.specs.Kept.{change_at, first_may, read_may};
+ghost use Rattle.booth_audit.specs.Watched.{first_wrong, is_among, is_wrong, wrong_line};
+
+use booth_conf::TicketConf;
+use booth_host::Failed;
+use booth_rec::Record;
+use std::alloc::{AllocError, Global};
+use std::marker::Model;
+
+/// The records that may be kept of a ticket, the latest first: the last one that was read or kept, and those of which a
+/// keep failed or was cut since.
+#[derive(Drop)]
+pub struct MayKeep {
+    kept: Record,
+    tried: Vec<Record>,
+}
+
+impl Model for MayKeep {
+    ghost use Rattle.std.specs.Prelude.{List, [], ◌∷◌, ◌++◌, reverse};
+    ghost use Rattle.booth_rec.specs.declared.record.Record.{Record};
+
+    ghost Value = { List Record };
+
+    ghost view = { λ m. reverse m.tried.items ++ m.kept ∷ [] };
+}
+
+impl MayKeep {
+    /// This record alone.
+    pub(crate) fn one(alloc: Global, kept: Record) -> MayKeep
+        ensures { result ≡ kept ∷ [] }
+    {
+        MayKeep {
+            kept,
+            tried: Vec::new(alloc),
+        }
+    }
+
+    /// After a keep with this answer. A keep that was cut has the answer of one that failed.
+    #[tactic(auto, using(crate::proofs::MayLemmas::with_tried))]
+    pub(crate) fn keep(
+        &mut self,
+        tried: Record,
+        answer: Result<(), Failed>,
+    ) -> Result<(), AllocError>
+        ensures { OnOk result (self.new ≡ may_after_keep (is_ok answer) tried self.old) }
+    {
+        match answer {
+            Ok(()) => {
+                self.kept = tried;
+                self.tried.clear();
+            }
+            Err(Failed) => self.tried.push(tried)?,
+        }
+        Ok(())
+    }
+
+    /// Whether one of them is this record.
+    #[tactic(auto, using(crate::proofs::MayLemmas::among_both))]
+    fn has(&self, kept: &Record) -> bool
+        ensures { result ≡ is_among self.now kept.now }
+    {
+        self.tried.contains(kept) || self.kept == *kept
+    }
+}
+
+// The record that was kept, or the one that stands for none.
+fn record_or_none(found: &Option<Record>) -> Record
+    ensures { result ≡ record_or_none found.now }
+{
+    match found {
+        Some(kept) => *kept,
+        None => Record::first(0, None),
+    }
+}
+
+/// The records that may be kept of each of these tickets before any start.
+pub(crate) fn first_may(alloc: Global, tickets: &[TicketConf]) -> Result<Vec<MayKeep>, AllocError>
+    ensures { IfOk result (λ all. all.items ≡ first_may tickets.now) }
+{
+    tickets
+        .iter()
+        .map(|_conf| MayKeep::one(alloc, Record::first(0, None)))
+        .collect(alloc)
+}
+
+/// The records that may be kept behind a start that read these.
+pub(crate) fn read_may(
+    alloc: Global,
+    records: &[Option<Record>],
+) -> Result<Vec<MayKeep>, AllocError>
+    ensures { IfOk result (λ all. all.items ≡ read_may records.now) }
+{
+    records
+        .iter()
+        .map(|found| MayKeep::one(alloc, record_or_none(found)))
+        .collect(alloc)
+}
+
+/// The same after a keep of the ticket at a place, where there is one.
+#[tactic(auto, using(crate::proofs::MayLemmas::changed_there, crate::proofs::MayLemmas::changed_past))]
+pub(crate) fn keep_at(
+    all: &mut Vec<MayKeep>,
+    place: usize,
+    tried: Record,
+    answer: Result<(), Failed>,
+) -> Result<(), AllocError>
+    ensures { OnOk result (all.new.items
+        ≡ change_at place (may_after_keep (is_ok answer) tried) all.old.items) }
+{
+    match all.get_mut(place) {
+        Some(may) => may.keep(tried, answer),
+        None => Ok(()),
+    }
+}
+
+fn is_wrong(may: &MayKeep, found: &Option<Record>) -> bool
+    ensures { result ≡ is_wrong (may.now, found.now) }
+{
+    !may.has(&record_or_none(found))
+}
+
+fn first_wrong(all: &[MayKeep], records: &[Option<Record>]) -> Option<usize>
+    ensures { result ≡ first_wrong all.now records.now }
+{
+    all.iter()
+        .zip(records)
+        .position(|(may, found)| is_wrong(may, found))
+}
+
+// The line of the answer that says the record of the ticket at a place, in a start of so many tickets with this line.
+fn answer_line(count: u64, place: u64, last: u64) -> u64
+    requires { last ≤ 2 ^ 63 }
+    ensures { result ≡ answer_line count place last }
+{
+    let later = count.saturating_sub(1).saturating_sub(place);
+    (last + 1).saturating_sub(later.saturating_mul(2))
+}
+
+/// The line of the first record of a start, which has this line, that may not have been kept.
+pub(crate) fn wrong_line(all: &[MayKeep], records: &[Option<Record>], last: u64) -> Option<u64>
+    requires { last ≤ 2 ^ 63 }
+    ensures { result ≡ wrong_line all.now records.now last }
+{
+    let place = first_wrong(all, records)?;
+    Some(answer_line(records.len() as u64, place as u64, last))
+}

@@ -1,0 +1,234 @@
+//! The replay of a start and of the session that it begins.
+ghost use Rattle.std.specs.Prelude.{◌≡◌, ◌≤◌, ◌+◌, ◌-◌, ◌/◌, ◌^◌, [], ◌∷◌, List, IfOk, IfSome, MatchOption, OnOk, length};
+ghost use Rattle.booth_host.specs.Told.{told_past};
+ghost use Rattle.booth_journal.specs.Says.{Said, Says};
+ghost use Rattle.booth_node.specs.View.{node_config, state_of};
+ghost use Rattle.booth_audit.specs.Course.{ArePartsOf, IsBehind, IsNext, IsRun, IsSession, IsTurnTallied, cut_tallied, started_at};
+
+use crate::lines::{Lines, is_now};
+use crate::starting::read_start;
+use crate::tally::Tally;
+use crate::{End, Turned, Whose, replay_turn};
+use booth_host::Entry;
+use booth_journal::{Answer, Draft, look, read_reading};
+use booth_node::Node;
+use std::alloc::{AllocError, Global};
+
+/// What is left of a journal.
+#[derive(Drop)]
+pub(crate) struct Left<'a> {
+    pub rest: &'a [u8],
+    /// The number of the first line that is left.
+    pub line: u64,
+    /// It may hold anything.
+    pub draft: Draft,
+}
+
+/// What is left of a journal where no session goes on, or where a call was not demanded.
+#[derive(Drop)]
+pub(crate) struct Behind<'a> {
+    pub left: Left<'a>,
+    /// Whether the first call that is left was not demanded.
+    pub strays: bool,
+}
+
+// What stands behind a call that has no answer.
+fn skip(text: &[u8]) -> &[u8]
+    ensures { (said : Said) (more : List Said) → Says text.now (said ∷ more)
+        → Says result.now more × (length result.now + 1 ≤ length text.now) }
+{
+    match look(text) {
+        Some(first) => first.behind,
+        None => text,
+    }
+}
+
+// What is left where lines ended so, or where a call of a start failed.
+fn left_behind<'a>(from: Left<'a>, end: Option<End>) -> Behind<'a>
+    requires { from.line + length from.rest.now ≤ 2 ^ 63 }
+    ensures { IsBehind end from.entry.rest.now from.entry.line result.strays result.left.rest.now result.left.line }
+{
+    match end {
+        Some(End::Cut) => Behind {
+            left: Left {
+                rest: skip(from.rest),
+                line: from.line + 1,
+                draft: from.draft,
+            },
+            strays: false,
+        },
+        Some(End::Differs) => Behind {
+            left: from,
+            strays: true,
+        },
+        Some(End::Over) => Behind {
+            left: from,
+            strays: false,
+        },
+        None => Behind {
+            left: from,
+            strays: false,
+        },
+    }
+}
+
+// The calls of a turn that were read, from this line on, and those that were not.
+fn parts<'t>(turned: &'t Turned<'_>, line: u64) -> Option<(&'t [Entry], &'t [Entry])>
+    ensures { IfSome result (λ parts. ArePartsOf (told_past turned.now.told) ((turned.now.line - line) / 2)
+        parts.0.now parts.1.now) }
+{
+    let entries = turned.told.entries()?;
+    let read = turned.line.saturating_sub(line) / 2;
+    entries.split_at_checked(read as usize)
+}
+
+// Notes the first of these calls, which was cut at this line.
+fn note_first(
+    whose: &Whose<'_>,
+    unread: &[Entry],
+    line: u64,
+    notes: &mut Tally,
+) -> Result<(), AllocError>
+    ensures { OnOk result (notes.new ≡ cut_tallied whose.now (Some End.Cut) line unread.now notes.old) }
+{
+    match unread {
+        [] => Ok(()),
+        [first, ..] => notes.cut(whose, first, line),
+    }
+}
+
+// Notes the call that was cut where the lines ended at this one, if one was.
+fn note_cut(
+    whose: &Whose<'_>,
+    end: Option<End>,
+    unread: &[Entry],
+    line: u64,
+    notes: &mut Tally,
+) -> Result<(), AllocError>
+    ensures { OnOk result (notes.new ≡ cut_tallied whose.now end line unread.now notes.old) }
+{
+    match end {
+        Some(End::Cut) => note_first(whose, unread, line, notes),
+        Some(End::Over) => Ok(()),
+        Some(End::Differs) => Ok(()),
+        None => Ok(()),
+    }
+}
+
+// Notes the calls of a turn, the first of which has this line.
+fn note_turn(
+    whose: &Whose<'_>,
+    turned: &Turned<'_>,
+    line: u64,
+    notes: &mut Tally,
+) -> Result<(), AllocError>
+    ensures { OnOk result (IsTurnTallied whose.now turned.now.end line turned.now.line
+        (told_past turned.now.told) notes.old notes.new) }
+{
+    let at = turned.line;
+    let Some((read, unread)) = parts(turned, line) else {
+        return Err(AllocError);
+    };
+    notes.calls(whose, read, line)?;
+    note_cut(whose, turned.end, unread, at, notes)
+}
+
+// The turns of a session, to where it is over.
+fn replay_turns<'a>(
+    alloc: Global,
+    whose: &Whose<'_>,
+    node: Node,
+    from: Left<'a>,
+    notes: &mut Tally,
+) -> Result<Behind<'a>, AllocError>
+    requires member { node_config node ≡ whose.now.node }
+    requires short { from.line + length from.rest.now ≤ 2 ^ 63 }
+    requires says { (left : List Said) × Says from.rest.now left }
+    ensures { (left : List Said) → Says from.entry.rest.now left → IfOk result (λ found. IsSession whose.now
+        (state_of node) from.entry.rest.now from.entry.line left notes.old notes.new
+        found.strays found.left.rest.now found.left.line) }
+{
+    let mut node = node;
+    let mut left = from;
+    'turns: loop {
+        let Left { rest, line, draft } = left;
+        let turned = replay_turn(alloc, &mut node, rest, line, draft)?;
+        note_turn(whose, &turned, line, notes)?;
+        let end = turned.end;
+        left = Left {
+            rest: turned.rest,
+            line: turned.line,
+            draft: turned.draft,
+        };
+        match end {
+            Some(how) => return Ok(left_behind(left, Some(how))),
+            None => {}
+        }
+    }
+}
+
+// A start that read its clock so, and the session that it begins if all its calls are answered.
+fn replay_start<'a>(
+    alloc: Global,
+    whose: &Whose<'_>,
+    reading: u64,
+    from: Left<'a>,
+    notes: &mut Tally,
+) -> Result<Behind<'a>, AllocError>
+    requires short { from.line + length from.rest.now ≤ 2 ^ 63 }
+    requires says { (left : List Said) × Says from.rest.now left }
+    ensures { (left : List Said) → Says from.entry.rest.now left → IfOk result (λ found. IsRun whose.now
+        (started_at whose.now.node reading from.entry.line left) from.entry.rest.now from.entry.line notes.old notes.new
+        found.strays found.left.rest.now found.left.line) }
+{
+    let mut lines = Lines::new(from.rest, from.line);
+    let mut draft = from.draft;
+    let started = read_start(alloc, whose, &mut lines, &mut draft)?;
+    let then_left = Left {
+        rest: lines.rest(),
+        line: lines.line(),
+        draft,
+    };
+    let Some(records) = started else {
+        return Ok(left_behind(then_left, lines.end()));
+    };
+    let read = records.as_slice();
+    notes.start(whose, reading, read, then_left.line.saturating_sub(2))?;
+    let node = whose.open(alloc, read, reading)?;
+    let found = replay_turns(alloc, whose, node, then_left, notes)?;
+    Ok(found)
+}
+
+/// The next start, and its session, where no session goes on. None where no call is left.
+pub(crate) fn replay_next<'a>(
+    alloc: Global,
+    whose: &Whose<'_>,
+    from: Left<'a>,
+    notes: &mut Tally,
+) -> Result<Option<Behind<'a>>, AllocError>
+    requires short { from.line + length from.rest.now ≤ 2 ^ 63 }
+    requires says { (left : List Said) × Says from.rest.now left }
+    ensures { (left : List Said) → Says from.entry.rest.now left → IfOk result (λ found. MatchOption found
+        ((left ≡ []) × (notes.new ≡ notes.old)) (λ found. IsNext whose.now from.entry.rest.now from.entry.line left
+        notes.old notes.new found.strays found.left.rest.now found.left.line)) }
+{
+    let Some(first) = look(from.rest) else {
+        return Ok(None);
+    };
+    if !is_now(first.call) {
+        return Ok(Some(left_behind(from, Some(End::Differs))));
+    }
+    let Some(bytes) = first.answer else {
+        return Ok(Some(left_behind(from, Some(End::Cut))));
+    };
+    let Ok(Answer::Reading(reading)) = read_reading(bytes) else {
+        return Err(AllocError);
+    };
+    let behind = Left {
+        rest: first.behind,
+        line: from.line + 2,
+        draft: from.draft,
+    };
+    let found = replay_start(alloc, whose, reading, behind, notes)?;
+    Ok(Some(found))
+}

@@ -1,0 +1,9 @@
+//! Journals by hand, and what is noted of them; and what an audit says of them, and of those of three members.
+mod audits;
+mod edited;
+mod faults;
+mod parts;
+mod played;
+mod rings;
+mod rows;
+mod told;
