@@ -1,3 +1,4 @@
 pub mod Key
 pub mod Mac
 pub mod Ring
+pub mod Pads

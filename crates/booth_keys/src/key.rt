@@ -1,9 +1,10 @@
 //! The key that the members and their clients share.
-ghost use Rattle.std.specs.Prelude.{◌≡◌, ◌≤◌, ◌-◌, ◌++◌, length, replicate};
+ghost use Rattle.std.specs.Prelude.{◌≡◌, ◌≤◌, length};
 ghost use Rattle.std.specs.List.{list_all, prefix_len, suffix_len};
 ghost use Rattle.booth_keys.specs.Key.{is_blank, is_plain, begun, ended, kept, key_read};
-ghost use Rattle.booth_keys.specs.Mac.{block};
+ghost use Rattle.booth_keys.specs.Pads.{ArePads};
 
+use crate::pads::Pads;
 use arrayvec::ArrayVec;
 use std::marker::Model;
 use thiserror::Error;
@@ -14,21 +15,24 @@ pub const LEAST_BYTES: usize = 8;
 /// The most bytes of a key, which are those of a block of the hash.
 pub const BLOCK_BYTES: usize = 64;
 
-/// A key of 8 to 64 bytes. Contracts see its bytes.
+/// A key of 8 to 64 bytes, and the hashes behind its pads. Contracts see its bytes.
 #[derive(Drop)]
 pub struct Key {
     bytes: ArrayVec<u8, BLOCK_BYTES>,
+    pads: Pads,
 }
 
 impl Model for Key {
     ghost use Rattle.std.specs.Prelude.{List, ℕ, ◌≤◌, length};
     ghost use Rattle.booth_keys.specs.declared.key.TheConstants.{LEAST_BYTES, BLOCK_BYTES};
+    ghost use Rattle.booth_keys.specs.Pads.{ArePads};
 
     ghost Value = { List ℕ };
 
     ghost view = { λ k. k.bytes.items };
 
-    ghost invariant = { λ k. (LEAST_BYTES ≤ length k.bytes.items) × (length k.bytes.items ≤ BLOCK_BYTES) };
+    ghost invariant = { λ k. (LEAST_BYTES ≤ length k.bytes.items) × (length k.bytes.items ≤ BLOCK_BYTES)
+        × ArePads k.bytes.items k.pads };
 }
 
 /// Why bytes are no key. It speaks of what is left of them without the blanks at both ends.
@@ -91,15 +95,6 @@ fn kept(bytes: &[u8]) -> &[u8]
     }
 }
 
-fn filled(bytes: &[u8]) -> [u8; BLOCK_BYTES]
-    requires { length bytes.now ≤ BLOCK_BYTES }
-    ensures { result ≡ bytes.now ++ replicate (BLOCK_BYTES - length bytes.now) 0 }
-{
-    let mut block = [0; BLOCK_BYTES];
-    block[..bytes.len()].copy_from_slice(bytes);
-    block
-}
-
 impl Key {
     /// The key of a key file's bytes. Where each byte is from 0x09 to 0x0D or from 0x20 to 0x7E, the
     /// blanks at both ends, 0x09 to 0x0D and 0x20, are no part of the key.
@@ -124,7 +119,10 @@ impl Key {
     {
         let mut key = ArrayVec::new();
         key.try_extend_from_slice(bytes).unwrap();
-        Key { bytes: key }
+        Key {
+            bytes: key,
+            pads: Pads::new(bytes),
+        }
     }
 
     /// An equal key.
@@ -134,11 +132,10 @@ impl Key {
         Key::of(&self.bytes)
     }
 
-    /// The key's block: its bytes, then zeros.
-    #[tactic(auto, unfolding(crate::specs::Mac::block))]
-    pub(crate) fn block(&self) -> [u8; BLOCK_BYTES]
-        ensures { result ≡ block self.now }
+    /// The hashes behind its pads.
+    pub(crate) fn pads(&self) -> &Pads
+        ensures { ArePads self.now result.now }
     {
-        filled(&self.bytes)
+        &self.pads
     }
 }

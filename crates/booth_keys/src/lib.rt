@@ -4,6 +4,7 @@
 mod key;
 pub mod laws;
 mod mac;
+mod pads;
 mod ring;
 
 pub use key::{Key, KeyFault};

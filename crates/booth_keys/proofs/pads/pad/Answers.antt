@@ -1,7 +1,7 @@
 use Rattle.std.proofs.Common.{◌≡◌, ◌+◌, ◌++◌, ℕ, set, get_or, map, take, drop, bit_xor, subst, sym}
 use Rattle.booth_keys.specs.Mac.{block}
 use Rattle.booth_keys.proofs.MacLemmas.{mapped_more}
-use Rattle.booth_keys.proofs.mac.pad.Goals as goal
+use Rattle.booth_keys.proofs.pads.pad.Goals as goal
 
 pub loop-byte-preserved : goal.loop-byte-preserved
 loop-byte-preserved c =

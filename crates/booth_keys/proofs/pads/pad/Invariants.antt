@@ -1,6 +1,6 @@
 use Rattle.std.proofs.Common.{◌≡◌, ◌++◌, map, take, drop, bit_xor}
 use Rattle.booth_keys.specs.Mac.{block}
-use Rattle.booth_keys.proofs.mac.pad.Given as goal
+use Rattle.booth_keys.proofs.pads.pad.Given as goal
 
 -- the bytes up to here are xored, the others are the block's
 abbrev pub invariant-loop-byte : goal.invariant-loop-byte

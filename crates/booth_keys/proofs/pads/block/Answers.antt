@@ -1,0 +1,8 @@
+use Rattle.std.proofs.Common.{◌++◌, length, ap}
+use Rattle.std.proofs.lemmas.List.{drop-replicate}
+use Rattle.booth_keys.specs.Mac.{block}
+use Rattle.booth_keys.proofs.pads.block.Goals as goal
+
+pub returns : goal.returns
+unfolding block
+returns c = rw c.copy_from_slice.ensures.after (ap (λ zeros. c.args.key.now ++ zeros) (drop-replicate (length c.args.key.now) 64 0))
