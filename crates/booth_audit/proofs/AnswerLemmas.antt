@@ -7,8 +7,8 @@ use Rattle.booth_conf.specs.Config.{ConfigSays}
 use Rattle.booth_journal.specs.Says.{Said}
 use Rattle.booth_journal.proofs.OnceLemmas.{one_fault, one_list_said}
 use Rattle.booth_keys.specs.declared.ring.Ring.{Ring}
-use Rattle.booth_audit.specs.declared.audit_fault.AuditFault.{AuditFault}
-use Rattle.booth_audit.specs.declared.audit_fault.AuditFault.TheVariants as faults
+use Rattle.booth_journal.specs.declared.audit_fault.AuditFault.{AuditFault}
+use Rattle.booth_journal.specs.declared.audit_fault.AuditFault.TheVariants as faults
 use Rattle.booth_audit.specs.declared.holding.Holding.{Holding}
 use Rattle.booth_audit.specs.declared.journal_fault.JournalFault.{JournalFault}
 use Rattle.booth_audit.specs.declared.journal_fault.JournalFault.TheVariants as wrongs

@@ -7,14 +7,14 @@ use Rattle.booth_keys.specs.declared.ring.Ring.{Ring}
 use Rattle.booth_audit.specs.declared.holding.Holding.{Holding}
 use Rattle.booth_audit.specs.Audit.{IsAudited, deeds_by}
 use Rattle.booth_audit.specs.Holdings.{Covers}
-use Rattle.booth_audit.specs.Judging.{AreTrueSo, HasSent, JudgedSays, held_by}
+use Rattle.booth_audit.specs.Judging.{AreTrueSo, IsToldOf, JudgedSays, held_by}
 use Rattle.booth_audit.specs.Order.{by_tickets}
 use Rattle.booth_audit.specs.Watched.{AreFound}
 use Rattle.booth_audit.proofs.HeardLemmas.{all_hear_sent}
 use Rattle.booth_audit.proofs.HeldLemmas.{covers_so, held_below, held_so}
 
 pub audited_so : {config : ConfigSays} {ring : Option Ring} {texts : List (List ℕ)} {all : List JudgedSays} {holdings : List Holding}
-    → AreFound config.tickets → AreTrueSo config ring texts all → HasSent config.members all (Ok tt)
+    → AreFound config.tickets → AreTrueSo config ring texts all → IsToldOf config.members all (Ok tt)
     → ((count : ℕ) → All (λ (holding : Holding). holding.ticket < count) (held_by all) → holdings ≡ by_tickets (held_by all) 0 count)
     → IsAudited config ring texts holdings
 audited_so {config} {ring} {texts} {all} {holdings} found so sent sorted =

@@ -6,14 +6,14 @@ use Rattle.std.proofs.lemmas.List.{take_more}
 use Rattle.booth_conf.specs.Config.{ConfigSays}
 use Rattle.booth_conf.specs.declared.members.Member.{Member}
 use Rattle.booth_keys.specs.declared.ring.Ring.{Ring}
-use Rattle.booth_audit.specs.declared.audit_fault.AuditFault.{AuditFault}
-use Rattle.booth_audit.specs.declared.audit_fault.AuditFault.TheVariants as faults
+use Rattle.booth_journal.specs.declared.audit_fault.AuditFault.{AuditFault}
+use Rattle.booth_journal.specs.declared.audit_fault.AuditFault.TheVariants as faults
 use Rattle.booth_audit.specs.declared.exchanges.Exchange.{Exchange}
 use Rattle.booth_audit.specs.Audit.{AreTrue, HasFault, IsTrue, id_of, node_of}
 use Rattle.booth_audit.specs.Exchanges.{AllTell, HearsAll, IsToldSo, IsUnsentFault, Tells, senders_in}
 use Rattle.booth_audit.specs.Faults.{Heard}
 use Rattle.booth_audit.specs.Hearings.{AreCounted, Hearings}
-use Rattle.booth_audit.specs.Judging.{AreExchanges, AreTallied, AreTrueSo, HasSent, IsTallied, IsToldOf, JudgedSays, member_at}
+use Rattle.booth_audit.specs.Judging.{AreExchanges, AreTallied, AreTrueSo, IsTallied, IsToldOf, JudgedSays, member_at}
 use Rattle.booth_audit.specs.Noted.{Noted}
 use Rattle.booth_audit.specs.Replay.{Replayed}
 use Rattle.booth_audit.specs.Tally.{Tally, nothing_tallied}
@@ -60,31 +60,33 @@ all_tell config ring earlier (text ∷ texts) (one ∷ heard) (judged ∷ all) (
 )
 
 told_so : {config : ConfigSays} {ring : Option Ring} {texts : List (List ℕ)} {all : List JudgedSays}
-    (so : AreTrueSo config ring texts all) (result : Result (Unit {0}) AuditFault) → IsToldOf config.members all result
+    (so : AreTrueSo config ring texts all) (exchanges : List Exchange) (result : Result (Unit {0}) AuditFault)
+    → AreExchanges config.members all exchanges → IsToldSo (senders_in exchanges) exchanges result
     → IsUnsentFault so.heard result
-told_so {config} {ring} {texts} {all} so result told =
-    exchanges_tell so.heard told.0 result (all_tell config ring [] texts so.heard all told.0 so.each so.tallied told.1) told.2
+told_so {config} {ring} {texts} {all} so exchanges result are told =
+    exchanges_tell so.heard exchanges result (all_tell config ring [] texts so.heard all exchanges so.each so.tallied are)
+    told
 
 pub all_hear_sent : {config : ConfigSays} {ring : Option Ring} {texts : List (List ℕ)} {all : List JudgedSays}
-    (so : AreTrueSo config ring texts all) → HasSent config.members all (Ok tt) → All (HearsAll so.heard) so.heard
-all_hear_sent so sent = told_so so (Ok tt) sent
+    (so : AreTrueSo config ring texts all) → IsToldOf config.members all (Ok tt) → All (HearsAll so.heard) so.heard
+all_hear_sent so sent = told_so so sent.0 (Ok tt) sent.1 sent.2
 
 pub unsent_so : {config : ConfigSays} {ring : Option Ring} {texts : List (List ℕ)} {all : List JudgedSays}
-    (so : AreTrueSo config ring texts all) (fault : AuditFault) → HasSent config.members all (Err fault)
+    (so : AreTrueSo config ring texts all) (fault : AuditFault) → IsToldOf config.members all (Err fault)
     → HasFault config ring texts fault
 unsent_so so faults.OutOfMemory has = tt
 unsent_so so (faults.Unsent place line) has =
-    let is = told_so so (Err (faults.Unsent place line)) has in
+    let is = told_so so has.0 (Err (faults.Unsent place line)) has.1 has.2 in
     record { heard = so.heard; each = so.each; one = is.one; is = is.is; before = is.before; wrong = is.wrong }
-unsent_so so (faults.Line place line) has = absurd (told_so so (Err (faults.Line place line)) has)
-unsent_so so (faults.Member place) has = absurd (told_so so (Err (faults.Member place)) has)
-unsent_so so (faults.Differs place line) has = absurd (told_so so (Err (faults.Differs place line)) has)
-unsent_so so (faults.Kept place line) has = absurd (told_so so (Err (faults.Kept place line)) has)
+unsent_so so (faults.Line place line) has = absurd (told_so so has.0 (Err (faults.Line place line)) has.1 has.2)
+unsent_so so (faults.Member place) has = absurd (told_so so has.0 (Err (faults.Member place)) has.1 has.2)
+unsent_so so (faults.Differs place line) has = absurd (told_so so has.0 (Err (faults.Differs place line)) has.1 has.2)
+unsent_so so (faults.Kept place line) has = absurd (told_so so has.0 (Err (faults.Kept place line)) has.1 has.2)
 
 -- ---- what is told of them
 
 pub sent_by_told : (members : List Member) (all : List JudgedSays) (exchanges : List Exchange) (result : Result (Unit {0}) AuditFault)
-    → AreExchanges members all exchanges → IsToldSo (senders_in exchanges) exchanges result → HasSent members all result
+    → AreExchanges members all exchanges → IsToldSo (senders_in exchanges) exchanges result → IsToldOf members all result
 sent_by_told members all exchanges (Ok done) are told = (exchanges, are, told)
 sent_by_told members all exchanges (Err faults.OutOfMemory) are told = tt
 sent_by_told members all exchanges (Err (faults.Unsent place line)) are told = (exchanges, are, told)

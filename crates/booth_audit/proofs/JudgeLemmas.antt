@@ -51,6 +51,8 @@ starts_asked text call left result holds also opens =
     ∙ ap (λ (b : Bool). not (b && not (begins_with_open left))) also
     ∙ ap (λ (b : Bool). b && not (is_now_text text && not (begins_with_open left))) holds
 
+pub ruleset starts_here = (starts_not, starts_unasked, starts_asked)
+
 pub over_none : (text : List ℕ) (left : List Said) → left ≡ [] → judged text left ≡ Err Over
 over_none text left none = ap (judged text) none
 
@@ -135,6 +137,8 @@ pub read_here : {left : List Said} {text bytes : List ℕ} (rest behind : List �
     → IsReadHere left text (record { rest = rest; line = line; end = None })
     (record { rest = behind; line = lines_on line; end = None }) bytes
 read_here rest behind line taken = record { running = refl; taken = taken; line = refl; end = refl }
+
+pub ruleset left_here = (behind_here, ends_here, read_here)
 
 -- ---- its answer
 

@@ -1,5 +1,6 @@
 -- What an audit answers.
-use Rattle.std.specs.Prelude.{◌≡◌, ◌++◌, ℕ, true, List, [], ◌∷◌, map, take, slice_get, Option, None, Some}
+use Rattle.std.specs.Prelude.{◌≡◌, ◌++◌, ℕ, true, List, [], ◌∷◌, map, take, slice_get}
+use Rattle.std.specs.Prelude.{Option, None, Some}
 use Rattle.std.specs.List.{All}
 use Rattle.std.specs.Option.{option_map_or}
 use Rattle.booth_base.specs.declared.address.MemberId.{MemberId}
@@ -11,8 +12,8 @@ use Rattle.booth_keys.specs.declared.ring.Ring.{Ring}
 use Rattle.booth_node.specs.declared.node_config.NodeConfig.{NodeConfig}
 use Rattle.booth_node.specs.Records.{Has}
 use Rattle.booth_node.specs.Session.{AreSessions, Down}
-use Rattle.booth_audit.specs.declared.audit_fault.AuditFault.{AuditFault}
-use Rattle.booth_audit.specs.declared.audit_fault.AuditFault.TheVariants as faults
+use Rattle.booth_journal.specs.declared.audit_fault.AuditFault.{AuditFault}
+use Rattle.booth_journal.specs.declared.audit_fault.AuditFault.TheVariants as faults
 use Rattle.booth_audit.specs.declared.holding.Holding.{Holding}
 use Rattle.booth_audit.specs.declared.journal_fault.JournalFault.{JournalFault}
 use Rattle.booth_audit.specs.declared.journal_fault.JournalFault.TheVariants as wrongs
@@ -33,16 +34,16 @@ node_of config ring at = record { config = config; ring = ring; me = id_of confi
 -- ---- one journal
 
 -- A text says calls, and all its starts are those of one member, of which no earlier journal is.
-pub record IsMembers (config : ConfigSays) (earlier : List (Option ℕ)) (text : List ℕ) (at : Option ℕ) (all : List Said)
-    : Type 0 where
+pub record IsMembers (config : ConfigSays) (earlier : List (Option ℕ)) (text : List ℕ) (at : Option ℕ)
+    (all : List Said) : Type 0 where
   pub says : Says text all
   pub whose : IsOf config.members all at
   pub other : (place : ℕ) → at ≡ Some place → Has earlier at → ⊥
 
 -- A text is a journal of the member at a place: each call was demanded, each start read what its member may have
 -- kept, and this is what the member did.
-pub record IsTrue (config : ConfigSays) (ring : Option Ring) (earlier : List (Option ℕ)) (text : List ℕ) (heard : Heard)
-    : Type 0 where
+pub record IsTrue (config : ConfigSays) (ring : Option Ring) (earlier : List (Option ℕ)) (text : List ℕ)
+    (heard : Heard) : Type 0 where
   pub said : List Said
   pub members : IsMembers config earlier text heard.member said
   pub id : heard.id ≡ id_of config.members heard.member
@@ -91,15 +92,15 @@ pub record IsNoMembers (config : ConfigSays) (earlier : List (Option ℕ)) (text
   pub wrong : (member : Option ℕ) → IsMembers config earlier text member said → ⊥
 
 -- the call at this line was not demanded, and each start before it read what its member may have kept
-pub record DiffersAt (config : ConfigSays) (ring : Option Ring) (earlier : List (Option ℕ)) (text : List ℕ) (line : ℕ)
-    : Type 0 where
+pub record DiffersAt (config : ConfigSays) (ring : Option Ring) (earlier : List (Option ℕ)) (text : List ℕ)
+    (line : ℕ) : Type 0 where
   pub events : List Event
   pub replays : Replays config ring earlier text events (Some line)
   pub kept : AllReadKept [] (deeds_of events)
 
 -- this line is the first that says a record which its member may not have kept
-pub record IsNotKeptAt (config : ConfigSays) (ring : Option Ring) (earlier : List (Option ℕ)) (text : List ℕ) (line : ℕ)
-    : Type 0 where
+pub record IsNotKeptAt (config : ConfigSays) (ring : Option Ring) (earlier : List (Option ℕ)) (text : List ℕ)
+    (line : ℕ) : Type 0 where
   pub events : List Event
   pub strays : Option ℕ
   pub replays : Replays config ring earlier text events strays
@@ -125,7 +126,8 @@ pub record HasWrong (config : ConfigSays) (ring : Option Ring) (texts : List (Li
   pub wrong : IsWrong config ring (member_places earlier) text fault
 
 -- No journal is wrong, and this line of one is the first that says a message which no journal has as its send.
-pub record HasUnsent (config : ConfigSays) (ring : Option Ring) (texts : List (List ℕ)) (place line : ℕ) : Type 0 where
+pub record HasUnsent (config : ConfigSays) (ring : Option Ring) (texts : List (List ℕ)) (place line : ℕ)
+    : Type 0 where
   pub heard : List Heard
   pub each : AreTrue config ring [] texts heard
   pub one : Heard

@@ -1,5 +1,6 @@
 -- How the replay of a journal goes on, start by start and session by session.
-use Rattle.std.specs.Prelude.{◌≡◌, ◌<◌, ◌≤◌, ◌+◌, ◌-◌, ◌/◌, ◌++◌, ℕ, Bool, true, false, List, [], ◌∷◌, length, map, Option, None, Some}
+use Rattle.std.specs.Prelude.{◌≡◌, ◌<◌, ◌≤◌, ◌+◌, ◌-◌, ◌/◌, ◌++◌, ℕ, Bool, true, false, List, [], ◌∷◌}
+use Rattle.std.specs.Prelude.{length, map, Option, None, Some}
 use Rattle.booth_base.specs.Tree.{Ends}
 use Rattle.booth_conf.specs.declared.tickets.TicketConf.{TicketConf}
 use Rattle.booth_host.specs.declared.entry.Entry.{Entry}
@@ -15,7 +16,8 @@ use Rattle.booth_audit.specs.declared.end.End.{End}
 use Rattle.booth_audit.specs.declared.end.End.TheVariants.{Over, Cut, Differs}
 use Rattle.booth_audit.specs.Left.{LinesLeft}
 use Rattle.booth_audit.specs.Noted.{MemberSays}
-use Rattle.booth_audit.specs.Replay.{Event, Going, Idle, Replayed, Starting, deeds_of, replayed, start_calls, with_event}
+use Rattle.booth_audit.specs.Replay.{Event, Going, Idle, Replayed, Starting}
+use Rattle.booth_audit.specs.Replay.{deeds_of, replayed, start_calls, with_event}
 use Rattle.booth_audit.specs.Tally.{Tally, nothing_tallied, tallied, tallied_all}
 use Rattle.booth_audit.specs.Turns.{cut_of, events_from, with_events}
 
@@ -50,7 +52,8 @@ abbrev pub start_on : NodeConfig → ℕ → List (Option Record) → List Call 
 start_on node reading records [] line left =
     with_event (record { what = Starts node reading records; line = line - 2 })
     (replayed node (Going (Doing node (Ends (opened node records reading)))) line left)
-start_on node reading records (call ∷ more) line left = replayed node (Starting reading records (call ∷ more)) line left
+start_on node reading records (call ∷ more) line left =
+    replayed node (Starting reading records (call ∷ more)) line left
 
 -- A start is no session: its lines ended so, or one of its calls failed.
 abbrev pub IsNone : NodeConfig → Option End → ℕ → List Said → Replayed → Type 0
@@ -61,7 +64,8 @@ IsNone node (Some Cut) line left whole =
 IsNone node (Some Differs) line left whole = whole ≡ record { events = []; strays = Some line }
 
 -- all records of a start were read, or it is no session
-abbrev pub IsStarted : NodeConfig → ℕ → Option (List (Option Record)) → LinesLeft → List Said → Replayed → Type 0
+abbrev pub IsStarted : NodeConfig → ℕ → Option (List (Option Record)) → LinesLeft → List Said → Replayed
+    → Type 0
 IsStarted node reading None place left whole = IsNone node place.end place.line left whole
 IsStarted node reading (Some records) place left whole =
     (length records ≡ length node.config.tickets)
@@ -129,8 +133,8 @@ pub record IsGoing (member : MemberSays) (first state : State) (text : List ℕ)
   pub tallied : new ≡ tallied_all member old events
 
 -- The calls of a member from some place on where it is down, or starts, to where no session goes on.
-pub record IsRun (member : MemberSays) (whole : Replayed) (text : List ℕ) (line : ℕ) (old new : Tally) (strays : Bool)
-    (rest : List ℕ) (at : ℕ) : Type 0 where
+pub record IsRun (member : MemberSays) (whole : Replayed) (text : List ℕ) (line : ℕ) (old new : Tally)
+    (strays : Bool) (rest : List ℕ) (at : ℕ) : Type 0 where
   pub events : List Event
   pub over : IsOver member.node whole events text line strays rest at
   pub sessions : (stand : Stand) → AreSessions stand (deeds_of events)
@@ -141,8 +145,8 @@ abbrev pub started_at : NodeConfig → ℕ → ℕ → List Said → Replayed
 started_at node reading line left = replayed node (Starting reading [] (start_calls node)) line left
 
 -- The next start with its session, where no session goes on: it reads a line, or its call was not demanded.
-pub record IsNext (member : MemberSays) (text : List ℕ) (line : ℕ) (left : List Said) (old new : Tally) (strays : Bool)
-    (rest : List ℕ) (at : ℕ) : Type 0 where
+pub record IsNext (member : MemberSays) (text : List ℕ) (line : ℕ) (left : List Said) (old new : Tally)
+    (strays : Bool) (rest : List ℕ) (at : ℕ) : Type 0 where
   pub run : IsRun member (replayed member.node Idle line left) text line old new strays rest at
   pub shorter : strays ≡ false → length rest < length text
 

@@ -2,8 +2,8 @@
 use Rattle.std.specs.Prelude.{◌≡◌, ℕ, List, [], ◌∷◌, map, slice_get, take, Some, Result, Ok, Err}
 use Rattle.std.specs.List.{All}
 use Rattle.booth_node.specs.Session.{AreSessions, Down}
-use Rattle.booth_audit.specs.declared.audit_fault.AuditFault.{AuditFault}
-use Rattle.booth_audit.specs.declared.audit_fault.AuditFault.TheVariants as faults
+use Rattle.booth_journal.specs.declared.audit_fault.AuditFault.{AuditFault}
+use Rattle.booth_journal.specs.declared.audit_fault.AuditFault.TheVariants as faults
 use Rattle.booth_audit.specs.declared.exchanges.Exchange.{Exchange}
 use Rattle.booth_audit.specs.declared.hearings.Hears.{Hears}
 use Rattle.booth_audit.specs.Faults.{AllHearSent, FirstUnsent, Heard}

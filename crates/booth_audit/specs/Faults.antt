@@ -1,5 +1,6 @@
 -- What may be wrong with journals, each by itself.
-use Rattle.std.specs.Prelude.{◌≡◌, ◌<◌, ◌+◌, ◌-◌, ◌*◌, ◌++◌, ℕ, List, [], ◌∷◌, length, position, slice_get, Option, None, Some, Ok}
+use Rattle.std.specs.Prelude.{◌≡◌, ◌<◌, ◌+◌, ◌-◌, ◌*◌, ◌++◌, ℕ, List, [], ◌∷◌, length, position}
+use Rattle.std.specs.Prelude.{slice_get, Option, None, Some, Ok}
 use Rattle.std.specs.List.{All, flat_map}
 use Rattle.booth_base.specs.declared.address.Address.{Address}
 use Rattle.booth_base.specs.declared.address.MemberId.{MemberId}
@@ -64,8 +65,8 @@ AllReadKept before [] = Unit {0}
 AllReadKept before (what ∷ more) = ReadsKept before what × AllReadKept (before ++ what ∷ []) more
 
 -- the record of the ticket at this place may not have been kept, and those of the tickets before it may
-pub record MayNotRead (before : List SessionEntry) (tickets : List TicketConf) (records : List (Option Record)) (place : ℕ)
-    : Type 0 where
+pub record MayNotRead (before : List SessionEntry) (tickets : List TicketConf) (records : List (Option Record))
+    (place : ℕ) : Type 0 where
   pub conf : TicketConf
   pub is : slice_get tickets place ≡ Some conf
   pub wrong : Has (may_after_all conf.name (no_record ∷ []) before) (record_at records place) → ⊥
@@ -113,7 +114,8 @@ pub record WasSent (all : List Heard) (message : PlainMessage) : Type 0 where
 -- where the reading of a turn lets a member's message in, it was sent
 abbrev pub HearsSent : List Heard → Stand → SessionEntry → Type 0
 HearsSent all (Hearing node old (Ok (arrivals.Datagram from)) bytes) (Makes (entries.Now reading)) =
-    (message : PlainMessage) → verdict node.config node.ring node.me (used old.last_reading reading) bytes ≡ Ok message
+    (message : PlainMessage)
+    → verdict node.config node.ring node.me (used old.last_reading reading) bytes ≡ Ok message
     → direction_of message.head.cmd ≡ BetweenMembers → WasSent all message
 HearsSent all stand what = Unit {0}
 
@@ -123,8 +125,8 @@ AllHearSent all before [] = Unit {0}
 AllHearSent all before (what ∷ more) =
     HearsSent all (after_entries Down before) what × AllHearSent all (before ++ what ∷ []) more
 
--- The line of the first datagram with a member's message that no journal has as a send of that member: it is the answer of
--- the wait before the reading that lets it in.
+-- The line of the first datagram with a member's message that no journal has as a send of that member: it is the answer
+-- of the wait before the reading that lets it in.
 pub record FirstUnsent (all : List Heard) (events : List Event) (line : ℕ) : Type 0 where
   pub before : List Event
   pub event : Event

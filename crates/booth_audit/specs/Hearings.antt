@@ -1,5 +1,6 @@
 -- What was heard of other members: the datagrams by which a member's turns let a message between members in.
-use Rattle.std.specs.Prelude.{◌≡◌, ◌↔◌, ◌≤◌, ◌-◌, ◌++◌, ℕ, Bool, true, false, List, [], ◌∷◌, Option, None, Some, Result, Ok, Err, IfOk, if◌then◌else◌}
+use Rattle.std.specs.Prelude.{◌≡◌, ◌↔◌, ◌≤◌, ◌-◌, ◌++◌, ℕ, Bool, true, false, List, [], ◌∷◌}
+use Rattle.std.specs.Prelude.{Option, None, Some, Result, Ok, Err, IfOk, if◌then◌else◌}
 use Rattle.std.specs.List.{All}
 use Rattle.booth_auth.specs.declared.admission.DropFault.{DropFault}
 use Rattle.booth_auth.specs.Verdict.{verdict}

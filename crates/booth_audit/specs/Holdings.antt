@@ -1,5 +1,6 @@
 -- Who held which ticket when, by what the members did.
-use Rattle.std.specs.Prelude.{◌≡◌, ◌≤◌, ◌+◌, ◌++◌, ℕ, List, [], ◌∷◌, bytes_eq, position, slice_get, Option, None, Some, if◌then◌else◌}
+use Rattle.std.specs.Prelude.{◌≡◌, ◌≤◌, ◌+◌, ◌++◌, ℕ, List, [], ◌∷◌, bytes_eq, position, slice_get}
+use Rattle.std.specs.Prelude.{Option, None, Some, if◌then◌else◌}
 use Rattle.std.specs.List.{flat_map}
 use Rattle.std.specs.Option.{option_map_or}
 use Rattle.booth_conf.specs.Lookups.{is_called}
@@ -69,15 +70,16 @@ holdings_from all ticket (conf ∷ more) = holdings_of all ticket conf ++ holdin
 
 -- ---- what holdings are good for
 
--- Whatever a member did up to some entry: each record of a ticket that it may have kept then, and that is in force at the
--- reading in use, has a holding with its end, which began no later.
+-- Whatever a member did up to some entry: each record of a ticket that it may have kept then, and that is in force at
+-- the reading in use, has a holding with its end, which began no later.
 abbrev pub Covers : List TicketConf → List Deeds → List Holding → Type 0
 Covers tickets all holdings =
-    (one : Deeds) → Has all one → (before after : List SessionEntry) → one.entries ≡ before ++ after → (place : ℕ)
-    → (conf : TicketConf) → slice_get tickets place ≡ Some conf → (kept : Record)
+    (one : Deeds) → Has all one → (before after : List SessionEntry) → one.entries ≡ before ++ after
+    → (place : ℕ) (conf : TicketConf) → slice_get tickets place ≡ Some conf → (kept : Record)
     → Has (may_after_all conf.name (no_record ∷ []) before) kept → IsInForce kept (used_after_all 0 before)
-    → (holding : Holding) × Has holdings holding × (holding.ticket ≡ place) × (Some holding.member ≡ one.member)
-    × (holding.until ≡ lease_end kept.lease) × (holding.from ≤ used_after_all 0 before)
+    → (holding : Holding) × Has holdings holding × (holding.ticket ≡ place)
+    × (Some holding.member ≡ one.member) × (holding.until ≡ lease_end kept.lease)
+    × (holding.from ≤ used_after_all 0 before)
 
 -- a start finds the ticket of this name at this place
 abbrev pub FindsAt : List ℕ → ℕ → SessionEntry → Type 0
@@ -107,7 +109,8 @@ MembersAreCovered =
 abbrev pub IsOfTickets : List TicketConf → Deeds → Type 0
 IsOfTickets tickets one =
     (one.member ≡ None → one.entries ≡ [])
-    × ((place : ℕ) (conf : TicketConf) → slice_get tickets place ≡ Some conf → AllFindAt conf.name place one.entries)
+    × ((place : ℕ) (conf : TicketConf) → slice_get tickets place ≡ Some conf
+    → AllFindAt conf.name place one.entries)
 
 -- the holdings of such members tell of each lease that may have been kept
 abbrev pub HoldingsCover : Type 0

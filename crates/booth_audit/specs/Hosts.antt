@@ -19,7 +19,8 @@ pub record Seen : Type 0 where
   pub past : Option (List Entry)
 
 -- it has read so far
-pub record HasRead (text : List ℕ) (line : ℕ) (left : List Said) (place : LinesLeft) (entries : List Entry) : Type 0 where
+pub record HasRead (text : List ℕ) (line : ℕ) (left : List Said) (place : LinesLeft) (entries : List Entry)
+    : Type 0 where
   pub then_left : List Said
   pub says : Says place.rest then_left
   pub within : place.line + length place.rest ≤ line + length text
@@ -34,10 +35,10 @@ IsReplay text line seen =
 
 -- ---- a turn
 
--- A turn from one state to another was replayed over a text that says these calls, the first at this line. Behind it these
--- bytes are left, from this line on; the lines ended so, or have not ended; and it told all that was asked of it.
-pub record IsTurned (node : NodeConfig) (old new : State) (text : List ℕ) (line : ℕ) (left : List Said) (rest : List ℕ)
-    (at : ℕ) (end : Option End) (past : Option (List Entry)) : Type 0 where
+-- A turn from one state to another was replayed over a text that says these calls, the first at this line. Behind it
+-- these bytes are left, from this line on; the lines ended so, or have not ended; and it told all that was asked of it.
+pub record IsTurned (node : NodeConfig) (old new : State) (text : List ℕ) (line : ℕ) (left : List Said)
+    (rest : List ℕ) (at : ℕ) (end : Option End) (past : Option (List Entry)) : Type 0 where
   pub entries : List Entry
   pub then_left : List Said
   pub turn : Turn

@@ -1,5 +1,6 @@
 -- What the first call that is left of a journal is, where a call is asked for.
-use Rattle.std.specs.Prelude.{◌≡◌, ◌&&◌, not, ℕ, Bool, List, [], ◌∷◌, bytes_eq, codes, Option, None, Some, Result, Ok, Err, if◌then◌else◌}
+use Rattle.std.specs.Prelude.{◌≡◌, ◌&&◌, not, ℕ, Bool, List, [], ◌∷◌, bytes_eq, codes, if◌then◌else◌}
+use Rattle.std.specs.Prelude.{Option, None, Some, Result, Ok, Err}
 use Rattle.booth_host.specs.declared.host.Arrival.{Arrival}
 use Rattle.booth_host.specs.declared.host.Arrival.TheVariants as arrivals
 use Rattle.booth_host.specs.declared.host.Failed.{Failed}
@@ -15,7 +16,8 @@ use Rattle.booth_audit.specs.declared.end.End.TheVariants.{Over, Cut, Differs}
 abbrev pub is_now_text : List ℕ → Bool
 is_now_text text = bytes_eq (codes "now") text
 
--- A reading of the clock is the one that is asked for where the next call opens no socket. Each other one begins a start.
+-- A reading of the clock is the one that is asked for where the next call opens no socket. Each other one begins a
+-- start.
 abbrev pub begins_start : List ℕ → List ℕ → List Said → Bool
 begins_start text call more = is_now_text call && not (is_now_text text && not (begins_with_open more))
 

@@ -1,12 +1,13 @@
 -- How journals are judged, one by one and then all together.
-use Rattle.std.specs.Prelude.{◌≡◌, ◌==◌, ℕ, Bool, false, List, [], ◌∷◌, map, Option, None, Some, Result, Ok, Err}
+use Rattle.std.specs.Prelude.{◌≡◌, ◌==◌, ℕ, Bool, false, List, [], ◌∷◌, map}
+use Rattle.std.specs.Prelude.{Option, None, Some, Result, Ok, Err}
 use Rattle.std.specs.List.{flat_map}
 use Rattle.std.specs.Option.{option_map_or}
 use Rattle.booth_conf.specs.Config.{ConfigSays}
 use Rattle.booth_conf.specs.declared.members.Member.{Member}
 use Rattle.booth_keys.specs.declared.ring.Ring.{Ring}
-use Rattle.booth_audit.specs.declared.audit_fault.AuditFault.{AuditFault}
-use Rattle.booth_audit.specs.declared.audit_fault.AuditFault.TheVariants as faults
+use Rattle.booth_journal.specs.declared.audit_fault.AuditFault.{AuditFault}
+use Rattle.booth_journal.specs.declared.audit_fault.AuditFault.TheVariants as faults
 use Rattle.booth_audit.specs.declared.exchanges.Exchange.{Exchange}
 use Rattle.booth_audit.specs.declared.holding.Holding.{Holding}
 use Rattle.booth_audit.specs.declared.journal_fault.JournalFault.{JournalFault}
@@ -58,7 +59,8 @@ pub record IsTrueSo (config : ConfigSays) (ring : Option Ring) (earlier : List (
   pub tallied : IsTallied config ring heard judged
 
 -- what comes of one journal, where those before it are of these members
-abbrev pub IsJudged : ConfigSays → Option Ring → List (Option ℕ) → List ℕ → Result JudgedSays JournalFault → Type 0
+abbrev pub IsJudged : ConfigSays → Option Ring → List (Option ℕ) → List ℕ → Result JudgedSays JournalFault
+    → Type 0
 IsJudged config ring earlier text (Ok judged) = IsTrueSo config ring earlier text judged
 IsJudged config ring earlier text (Err fault) = IsWrong config ring earlier text fault
 
@@ -95,16 +97,13 @@ AreExchanges members (judged ∷ all) (exchange ∷ exchanges) =
     × (exchange.heard.now ≡ judged.tally.hearings.all) × AreExchanges members all exchanges
 AreExchanges members all exchanges = ⊥
 
--- this is told of what they sent and heard
+-- All that was heard was sent, or this is the fault of the first message that was not; want of memory may come in place
+-- of both.
 abbrev pub IsToldOf : List Member → List JudgedSays → Result (Unit {0}) AuditFault → Type 0
+IsToldOf members all (Err faults.OutOfMemory) = Unit {0}
 IsToldOf members all result =
-    (exchanges : List Exchange) × AreExchanges members all exchanges × IsToldSo (senders_in exchanges) exchanges result
-
--- all that was heard was sent, or this is the fault of the first message that was not
-abbrev pub HasSent : List Member → List JudgedSays → Result (Unit {0}) AuditFault → Type 0
-HasSent members all (Ok done) = IsToldOf members all (Ok done)
-HasSent members all (Err faults.OutOfMemory) = Unit {0}
-HasSent members all (Err fault) = IsToldOf members all (Err fault)
+    (exchanges : List Exchange) × AreExchanges members all exchanges
+    × IsToldSo (senders_in exchanges) exchanges result
 
 -- the holdings of all journals, one behind the other
 abbrev pub held_by : List JudgedSays → List Holding

@@ -46,7 +46,7 @@ all_may_noted tickets all (what ∷ more) = all_may_noted tickets (may_noted tic
 abbrev pub MayIsNoted : Type 0
 MayIsNoted =
     (node : NodeConfig) (place : ℕ) (conf : TicketConf) → slice_get node.config.tickets place ≡ Some conf
-    → position (is_called conf.name) node.config.tickets ≡ Some place → (deeds : List SessionEntry) → AreSessions Down deeds
-    → AllOwn node deeds
+    → position (is_called conf.name) node.config.tickets ≡ Some place → (deeds : List SessionEntry)
+    → AreSessions Down deeds → AllOwn node deeds
     → slice_get (all_may_noted node.config.tickets (first_may node.config.tickets) deeds) place
     ≡ Some (may_after_all conf.name (no_record ∷ []) deeds)

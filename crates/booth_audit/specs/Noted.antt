@@ -1,5 +1,6 @@
 -- What is noted of the events of a member: who held which ticket, and what was sent.
-use Rattle.std.specs.Prelude.{◌≡◌, ◌+◌, ◌++◌, ◌==◌, ℕ, Bool, true, List, [], ◌∷◌, position, slice_get, Option, Some}
+use Rattle.std.specs.Prelude.{◌≡◌, ◌+◌, ◌++◌, ◌==◌, ℕ, Bool, true, List, [], ◌∷◌, position, slice_get}
+use Rattle.std.specs.Prelude.{Option, Some}
 use Rattle.std.specs.List.{filter}
 use Rattle.std.specs.Option.{option_map_or}
 use Rattle.booth_conf.specs.Config.{ConfigSays}
@@ -64,8 +65,8 @@ with_sent notes bytes = record notes { sent = notes.sent ++ bytes ∷ [] }
 
 -- ---- all events
 
--- A start that read leases and each keep of a lease, done, failed or cut, makes holdings; each send counts, done, failed
--- or cut.
+-- A start that read leases and each keep of a lease, done, failed or cut, makes holdings; each send counts, done,
+-- failed or cut.
 abbrev pub noted : MemberSays → Noted → SessionEntry → Noted
 noted member notes (Starts node reading records) = record notes {
   last = start_reading reading;
@@ -90,7 +91,8 @@ is_of ticket holding = holding.ticket == ticket
 -- The reading in use is the one that the deeds leave, and the holdings of a ticket are those that the deeds make.
 abbrev pub NotesAreDeeds : Type 0
 NotesAreDeeds =
-    (member : MemberSays) (ticket : ℕ) (conf : TicketConf) → slice_get member.node.config.tickets ticket ≡ Some conf
+    (member : MemberSays) (ticket : ℕ) (conf : TicketConf)
+    → slice_get member.node.config.tickets ticket ≡ Some conf
     → position (is_called conf.name) member.node.config.tickets ≡ Some ticket → (events : List Event)
     → ((noted_all member nothing_noted events).last ≡ used_after_all 0 (deeds_of events))
     × (filter (is_of ticket) (noted_all member nothing_noted events).held

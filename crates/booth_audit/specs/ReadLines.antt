@@ -1,5 +1,6 @@
 -- Which lines of a journal say what a start read.
-use Rattle.std.specs.Prelude.{◌≡◌, ◌+◌, ◌-◌, ◌*◌, ℕ, true, List, [], ◌∷◌, length, slice_get, Option, Some, Ok}
+use Rattle.std.specs.Prelude.{◌≡◌, ◌+◌, ◌-◌, ◌*◌, ℕ, true, List, [], ◌∷◌, length, slice_get}
+use Rattle.std.specs.Prelude.{Option, Some, Ok}
 use Rattle.std.specs.List.{flat_map}
 use Rattle.booth_base.specs.Tree.{Ends}
 use Rattle.booth_conf.specs.declared.tickets.TicketConf.{TicketConf}

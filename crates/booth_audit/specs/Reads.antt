@@ -1,5 +1,5 @@
--- Calls that are asked for where a journal says these calls: those that its lines answer, and those behind the first that they
--- do not.
+-- Calls that are asked for where a journal says these calls: those that its lines answer, and those behind the first
+-- that they do not.
 use Rattle.std.specs.Prelude.{◌≡◌, ◌+◌, ◌⊎◌, ℕ, List, [], ◌∷◌, Option, None, Some, Ok, Err}
 use Rattle.booth_host.specs.declared.entry.Entry.{Entry}
 use Rattle.booth_host.specs.declared.entry.Entry.TheVariants as entries

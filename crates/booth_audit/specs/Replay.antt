@@ -1,5 +1,6 @@
 -- What a member did by the calls that its journal says, up to the first that was not demanded.
-use Rattle.std.specs.Prelude.{◌+◌, ◌&&◌, not, ℕ, Bool, false, List, [], ◌∷◌, ◌++◌, length, map, Option, None, Some, if◌then◌else◌}
+use Rattle.std.specs.Prelude.{◌+◌, ◌&&◌, not, ℕ, Bool, false, List, [], ◌∷◌, ◌++◌, length, map, if◌then◌else◌}
+use Rattle.std.specs.Prelude.{Option, None, Some}
 use Rattle.booth_base.specs.Tree.{Ends}
 use Rattle.booth_conf.specs.declared.tickets.TicketConf.{TicketConf}
 use Rattle.booth_host.specs.declared.entry.Entry.{Entry}
@@ -85,8 +86,8 @@ abbrev pub is_read_by : Place → List Said → Bool
 is_read_by (Going (Hearing node old answer bytes)) more = not (begins_with_open more)
 is_read_by place more = false
 
--- A reading of the clock is a turn's exactly where one is demanded there and the next call opens no socket. Each other one
--- begins a start.
+-- A reading of the clock is a turn's exactly where one is demanded there and the next call opens no socket. Each other
+-- one begins a start.
 abbrev pub begins_start : Place → Said → List Said → Bool
 begins_start place said more = is_now said.call && not (is_read_by place more)
 

@@ -1,5 +1,6 @@
 -- What members sent, against the messages that others heard.
-use Rattle.std.specs.Prelude.{◌≡◌, ◌⊎◌, ◌↔◌, ◌++◌, ℕ, List, [], ◌∷◌, map, MatchOption, Option, None, Some, Ok, IfOk}
+use Rattle.std.specs.Prelude.{◌≡◌, ◌⊎◌, ◌↔◌, ◌++◌, ℕ, List, [], ◌∷◌, map}
+use Rattle.std.specs.Prelude.{MatchOption, Option, None, Some, Ok, IfOk}
 use Rattle.std.specs.List.{All, flat_map}
 use Rattle.booth_base.specs.declared.address.MemberId.{MemberId}
 use Rattle.booth_host.specs.declared.entry.Entry.TheVariants as entries

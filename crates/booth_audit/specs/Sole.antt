@@ -2,13 +2,13 @@
 use Rattle.std.specs.Prelude.{◌≡◌, ◌⊎◌, List, ℕ, Option}
 use Rattle.booth_conf.specs.Config.{ConfigSays}
 use Rattle.booth_keys.specs.declared.ring.Ring.{Ring}
-use Rattle.booth_audit.specs.declared.audit_fault.AuditFault.{AuditFault}
-use Rattle.booth_audit.specs.declared.audit_fault.AuditFault.TheVariants.{OutOfMemory}
+use Rattle.booth_journal.specs.declared.audit_fault.AuditFault.{AuditFault}
+use Rattle.booth_journal.specs.declared.audit_fault.AuditFault.TheVariants.{OutOfMemory}
 use Rattle.booth_audit.specs.declared.holding.Holding.{Holding}
 use Rattle.booth_audit.specs.Audit.{HasFault, IsAudited}
 
--- Journals that are without a fault have none but want of memory, and one list of holdings. Two faults of journals are one,
--- or one of them is want of memory.
+-- Journals that are without a fault have none but want of memory, and one list of holdings. Two faults of journals are
+-- one, or one of them is want of memory.
 pub record HasOneAnswer (config : ConfigSays) (ring : Option Ring) (texts : List (List ℕ)) : Type 0 where
   pub none : (holdings : List Holding) (fault : AuditFault) → IsAudited config ring texts holdings
       → HasFault config ring texts fault → fault ≡ OutOfMemory
@@ -18,4 +18,5 @@ pub record HasOneAnswer (config : ConfigSays) (ring : Option Ring) (texts : List
       → (one ≡ other) ⊎ ((one ≡ OutOfMemory) ⊎ (other ≡ OutOfMemory))
 
 abbrev pub AuditsHaveOneAnswer : Type 0
-AuditsHaveOneAnswer = (config : ConfigSays) (ring : Option Ring) (texts : List (List ℕ)) → HasOneAnswer config ring texts
+AuditsHaveOneAnswer =
+    (config : ConfigSays) (ring : Option Ring) (texts : List (List ℕ)) → HasOneAnswer config ring texts

@@ -11,10 +11,10 @@ use Rattle.booth_audit.specs.declared.end.End.TheVariants.{Over, Cut, Differs}
 use Rattle.booth_audit.specs.Judged.{is_now_text, judged}
 use Rattle.booth_audit.specs.Replay.{Idle, Replayed, Starting, answered, by_step, replayed}
 
--- The replay of a start, whose next call is asked for and which has these others to make, by what the lines have to that
--- call. Where these end the start is no session.
-abbrev pub StartGoesOn : NodeConfig → ℕ → List (Option Record) → List Call → ℕ → List Said → Replayed → Result Answer End
-    → Type 0
+-- The replay of a start, whose next call is asked for and which has these others to make, by what the lines have to
+-- that call. Where these end the start is no session.
+abbrev pub StartGoesOn : NodeConfig → ℕ → List (Option Record) → List Call → ℕ → List Said → Replayed
+    → Result Answer End → Type 0
 StartGoesOn node reading records more line left whole (Ok answer) =
     (said : Said) × (rest : List Said) × (left ≡ said ∷ rest)
     × (whole
@@ -30,5 +30,6 @@ abbrev pub StartsAreReplayed : Type 0
 StartsAreReplayed =
     (node : NodeConfig) (reading : ℕ) (records : List (Option Record)) (call : Call) (more : List Call) (line : ℕ)
     (left : List Said) → is_now_text (call_text call) ≡ false
-    → StartGoesOn node reading records more line left (replayed node (Starting reading records (call ∷ more)) line left)
+    → StartGoesOn node reading records more line left
+    (replayed node (Starting reading records (call ∷ more)) line left)
     (judged (call_text call) left)

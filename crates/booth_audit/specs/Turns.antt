@@ -1,5 +1,6 @@
 -- What a turn that was replayed is in the replay of its journal.
-use Rattle.std.specs.Prelude.{◌≡◌, ◌+◌, ◌*◌, ℕ, List, [], ◌∷◌, ◌++◌, length, map, Option, None, Some}
+use Rattle.std.specs.Prelude.{◌≡◌, ◌+◌, ◌*◌, ℕ, List, [], ◌∷◌, ◌++◌, length, map}
+use Rattle.std.specs.Prelude.{Option, None, Some}
 use Rattle.booth_base.specs.Tree.{Ends}
 use Rattle.booth_host.specs.declared.entry.Entry.{Entry}
 use Rattle.booth_host.specs.declared.entry.Entry.TheVariants as entries
@@ -7,7 +8,8 @@ use Rattle.booth_journal.specs.Says.{Said}
 use Rattle.booth_node.specs.declared.node.Turn.{Turn}
 use Rattle.booth_node.specs.declared.node_config.NodeConfig.{NodeConfig}
 use Rattle.booth_node.specs.Reaction.{IsTurn}
-use Rattle.booth_node.specs.Session.{AreSessions, CutCall, CutKeep, CutNext, CutNow, CutSend, CutStart, Doing, IsCut, Makes, MayBeCut, SessionEntry, Stand, after_entries}
+use Rattle.booth_node.specs.Session.{AreSessions, CutCall, CutKeep, CutNext, CutNow, CutSend, CutStart, Doing, IsCut}
+use Rattle.booth_node.specs.Session.{Makes, MayBeCut, SessionEntry, Stand, after_entries}
 use Rattle.booth_node.specs.State.{State}
 use Rattle.booth_audit.specs.declared.end.End.{End}
 use Rattle.booth_audit.specs.declared.end.End.TheVariants.{Over, Cut, Differs}
@@ -41,8 +43,8 @@ cut_of entry = CutNext
 -- ---- how a replay goes on
 
 -- A call without its answer is next, and its session's last: that of the first of these entries.
-pub record IsCutHere (node : NodeConfig) (stand : Stand) (at : ℕ) (left : List Said) (unread : List Entry) (rest : Replayed)
-    : Type 0 where
+pub record IsCutHere (node : NodeConfig) (stand : Stand) (at : ℕ) (left : List Said) (unread : List Entry)
+    (rest : Replayed) : Type 0 where
   pub said : Said
   pub more : List Said
   pub first : Entry

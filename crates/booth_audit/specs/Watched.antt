@@ -1,5 +1,6 @@
 -- Which records the starts of a member may read, and the line of the first that may not have been kept.
-use Rattle.std.specs.Prelude.{◌≡◌, ◌↔◌, ℕ, Bool, not, List, [], ◌∷◌, length, position, slice_get, Option, None, Some, option_map}
+use Rattle.std.specs.Prelude.{◌≡◌, ◌↔◌, ℕ, Bool, not, List, [], ◌∷◌, length, position, slice_get}
+use Rattle.std.specs.Prelude.{Option, None, Some, option_map}
 use Rattle.std.specs.List.{list_any, zip}
 use Rattle.std.specs.Option.{option_or}
 use Rattle.booth_conf.specs.Config.{ConfigSays}

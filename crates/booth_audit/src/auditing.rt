@@ -3,15 +3,16 @@ ghost use Rattle.std.specs.Prelude.{◌≡◌, ◌<◌, ◌^◌, ℕ, IfErr, IfO
 ghost use Rattle.std.specs.List.{All};
 ghost use Rattle.std.specs.Option.{option_copied};
 ghost use Rattle.booth_audit.specs.Audit.{HasFault, IsAudited, id_of};
-ghost use Rattle.booth_audit.specs.Judging.{AreExchanges, AreTrueSo, HasSent, held_by};
+ghost use Rattle.booth_audit.specs.Judging.{AreExchanges, AreTrueSo, IsToldOf, held_by};
 ghost use Rattle.booth_audit.specs.Order.{by_tickets};
 
 use crate::exchanges::{Exchange, check_exchanges};
 use crate::judging::{Judged, judge};
 use crate::order::sort_by_ticket;
-use crate::{Audit, AuditFault, Holding};
+use crate::{Audit, Holding};
 use booth_base::{ByteText, MemberId, NO_ONE};
 use booth_conf::Config;
+use booth_journal::AuditFault;
 use booth_keys::Ring;
 use std::alloc::{AllocError, Global};
 
@@ -78,7 +79,7 @@ fn exchanges_of<'a>(
 // Whether all that was heard was sent.
 fn find_unsent(alloc: Global, config: &Config, all: &[Judged]) -> Result<(), AuditFault>
     requires few { length all.now < 2 ^ 32 }
-    ensures { HasSent config.now.members all.now result }
+    ensures { IsToldOf config.now.members all.now result }
 {
     match exchanges_of(alloc, config, all) {
         Ok(exchanges) => check_exchanges(alloc, &exchanges),

@@ -2,7 +2,7 @@
 
 /// How the lines of a session end.
 #[derive(Clone, Copy, Debug, PartialEq, Eq)]
-pub enum End {
+pub(crate) enum End {
     /// No call is left, or another start begins.
     Over,
     /// The call that was asked for stands here without an answer.

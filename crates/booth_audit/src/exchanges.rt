@@ -3,13 +3,15 @@ ghost use Rattle.std.specs.Prelude.{◌<◌, ◌^◌, IfOk, List, length};
 ghost use Rattle.booth_audit.specs.Exchanges.{IsToldSo, senders_in};
 ghost use Rattle.booth_audit.specs.Sends.{KnowsAll, Sender};
 
-use crate::{AuditFault, Hears, Sends};
+use crate::hearings::Hears;
+use crate::sends::Sends;
 use booth_base::{ByteText, MemberId};
+use booth_journal::AuditFault;
 use std::alloc::{AllocError, Global};
 
 /// What the member of this id sent and heard, by its journal.
 #[derive(Clone, Copy)]
-pub struct Exchange<'a> {
+pub(crate) struct Exchange<'a> {
     pub id: MemberId,
     pub sent: &'a [ByteText],
     pub heard: &'a [Hears],
@@ -42,7 +44,7 @@ fn first_unsent(sends: &mut Sends, exchanges: &[Exchange<'_>]) -> Result<(), Aud
 
 /// Whether each message that a member heard was sent by the member whose id it bears: the fault of the first journal
 /// with a message that was not, or want of memory.
-pub fn check_exchanges(alloc: Global, exchanges: &[Exchange<'_>]) -> Result<(), AuditFault>
+pub(crate) fn check_exchanges(alloc: Global, exchanges: &[Exchange<'_>]) -> Result<(), AuditFault>
     requires { length exchanges.now < 2 ^ 32 }
     ensures { IsToldSo (senders_in exchanges.now) exchanges.now result }
 {

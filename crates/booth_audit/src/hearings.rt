@@ -3,7 +3,8 @@ ghost use Rattle.std.specs.Prelude.{◌≡◌, ◌++◌, None, OnOk, Some};
 ghost use Rattle.std.specs.Option.{option_copied};
 ghost use Rattle.booth_node.specs.Session.{Makes};
 ghost use Rattle.booth_wire.specs.Command.{direction_of};
-ghost use Rattle.booth_audit.specs.Hearings.{IsPassed, brought, hearings_noted, is_between, let_in, lets_in, nothing_heard};
+ghost use Rattle.booth_audit.specs.Hearings.{IsPassed, brought, hearings_noted, nothing_heard};
+ghost use Rattle.booth_audit.specs.Hearings.{is_between, let_in, lets_in};
 
 use crate::Whose;
 use crate::notes::READINGS_END;
@@ -16,14 +17,14 @@ use std::marker::Model;
 
 /// A datagram by which a turn let a message between members in, and the line of the answer that brought it.
 #[derive(Drop)]
-pub struct Hears {
+pub(crate) struct Hears {
     pub bytes: ByteText,
     pub line: u64,
 }
 
 /// What a member heard so far, and the datagram that is not judged yet.
 #[derive(Drop)]
-pub struct HearingNotes {
+pub(crate) struct HearingNotes {
     alloc: Global,
     waiting: Option<ByteText>,
     all: Vec<Hears>,
@@ -69,7 +70,7 @@ impl HearingNotes {
     }
 
     /// What was heard, in the order of the lines.
-    pub fn all(&self) -> &[Hears]
+    pub(crate) fn all(&self) -> &[Hears]
         ensures { result.now ≡ self.now.all }
     {
         &self.all

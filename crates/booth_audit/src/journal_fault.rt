@@ -2,25 +2,20 @@
 ghost use Rattle.std.specs.Prelude.{◌≡◌};
 ghost use Rattle.booth_audit.specs.Judging.{fault_at};
 
-use crate::AuditFault;
-use thiserror::Error;
+use booth_journal::AuditFault;
 
 /// The first fault of one journal. Lines are counted from 1.
-#[derive(Clone, Copy, Debug, PartialEq, Eq, Drop, Error)]
-pub enum JournalFault {
+#[derive(Clone, Copy, Debug, PartialEq, Eq, Drop)]
+pub(crate) enum JournalFault {
     /// This line is none of a journal.
-    #[error("line {0} is none of a journal")]
     Line(u64),
     /// The journal is not one member's, or is that of a member that has an earlier one.
-    #[error("it is not that of one more member")]
     Member,
     /// This line says another call than the one that was demanded.
-    #[error("line {0} says another call than the one that was demanded")]
     Differs(u64),
     /// This line says that a start read a record which the member may not have kept.
-    #[error("line {0} says a record that was not kept")]
     Kept(u64),
-    #[error("there is no memory for the journal")]
+    /// There is no memory for the journal.
     OutOfMemory,
 }
 

@@ -3,17 +3,16 @@ ghost use Rattle.std.specs.Prelude.{◌<◌, ◌^◌, List, IfOk, length};
 ghost use Rattle.booth_journal.specs.Says.{Said, Says};
 ghost use Rattle.booth_audit.specs.Course.{IsReplayed};
 
-use crate::Whose;
 use crate::sessions::{Left, replay_next};
-use crate::tally::Tally;
+use crate::{Tally, Whose};
 use booth_journal::Draft;
 use std::alloc::{AllocError, Global};
 
 /// What a journal says of its member.
 #[derive(Drop)]
 pub struct Journal {
-    pub notes: Tally,
-    /// The line of the first call that was not demanded. What stands behind it is not noted.
+    pub tally: Tally,
+    /// The line of the first call that was not demanded. What stands behind it is not tallied.
     pub strays: Option<u64>,
 }
 
@@ -24,25 +23,25 @@ pub fn replay_journal(alloc: Global, whose: &Whose<'_>, text: &[u8]) -> Result<J
     requires short { length text.now < 2 ^ 63 }
     requires says { (all : List Said) × Says text.now all }
     ensures { (all : List Said) → Says text.now all → IfOk result (λ journal.
-        IsReplayed whose.now all journal.strays journal.notes) }
+        IsReplayed whose.now all journal.strays journal.tally) }
 {
-    let mut notes = Tally::new(alloc, whose.config().tickets())?;
+    let mut tally = Tally::new(alloc, whose.config().tickets())?;
     let mut left = Left {
         rest: text,
         line: 1,
         draft: Draft::new(alloc)?,
     };
     'runs: loop {
-        let Some(behind) = replay_next(alloc, whose, left, &mut notes)? else {
+        let Some(behind) = replay_next(alloc, whose, left, &mut tally)? else {
             return Ok(Journal {
-                notes,
+                tally,
                 strays: None,
             });
         };
         left = behind.left;
         if behind.strays {
             return Ok(Journal {
-                notes,
+                tally,
                 strays: Some(left.line),
             });
         }

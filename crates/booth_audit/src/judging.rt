@@ -7,8 +7,9 @@ ghost use Rattle.booth_keys.specs.declared.ring.Ring.{Ring};
 ghost use Rattle.booth_audit.specs.Audit.{IsMembers};
 ghost use Rattle.booth_audit.specs.Judging.{IsJudged, concluded, is_of_place, owners_of};
 
+use crate::journal_fault::JournalFault;
 use crate::owners::{OwnerFault, nobody_strays, owner};
-use crate::{Journal, JournalFault, Tally, Whose, replay_journal};
+use crate::{Journal, Tally, Whose, replay_journal};
 use booth_conf::Config;
 use booth_journal::{TextFault, read_lines};
 use booth_keys::Ring;
@@ -51,9 +52,9 @@ fn judge_nobodys(alloc: Global, config: &Config, text: &[u8]) -> Result<Judged, 
 
 // What comes of the replay of a member's journal.
 fn conclude(place: u32, journal: Journal) -> Result<Judged, JournalFault>
-    ensures { result ≡ concluded place journal.notes journal.notes.watched.wrong journal.strays }
+    ensures { result ≡ concluded place journal.tally journal.tally.watched.wrong journal.strays }
 {
-    if let Some(line) = journal.notes.wrong() {
+    if let Some(line) = journal.tally.wrong() {
         return Err(JournalFault::Kept(line));
     }
     if let Some(line) = journal.strays {
@@ -61,7 +62,7 @@ fn conclude(place: u32, journal: Journal) -> Result<Judged, JournalFault>
     }
     Ok(Judged {
         owner: Some(place),
-        tally: journal.notes,
+        tally: journal.tally,
     })
 }
 

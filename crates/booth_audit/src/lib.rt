@@ -1,7 +1,7 @@
-//! What journals say of their members: a replay of their turns, and who held which ticket when.
+//! The audit of the journals of a cluster: each is replayed by the rules, its starts are watched, and what was heard
+//! is looked for among what was sent; and who held which ticket when.
 #![tactic(auto)]
 
-mod audit_fault;
 mod audited;
 mod auditing;
 mod end;
@@ -26,17 +26,9 @@ mod tally;
 mod watched;
 mod whose;
 
-pub use audit_fault::AuditFault;
 pub use audited::Audit;
 pub use auditing::audit;
-pub use end::End;
-pub use exchanges::{Exchange, check_exchanges};
-pub use hearings::{HearingNotes, Hears};
 pub use holding::Holding;
-pub use journal_fault::JournalFault;
 pub use journals::{Journal, replay_journal};
-pub use replay_host::{ReplayHost, ReplayedText};
-pub use replaying::{Turned, replay_turn};
-pub use sends::Sends;
 pub use tally::Tally;
 pub use whose::Whose;

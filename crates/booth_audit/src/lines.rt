@@ -4,9 +4,10 @@ ghost use Rattle.booth_journal.specs.Looking.{begins_with_open};
 ghost use Rattle.booth_journal.specs.Reading.{IsAnswer};
 ghost use Rattle.booth_journal.specs.Says.{Said, Says};
 ghost use Rattle.booth_audit.specs.Judged.{begins_start, is_now_text, judged};
-ghost use Rattle.booth_audit.specs.Left.{Comes, IsArrivalBy, IsDoneBy, IsFoundBy, IsReadHere, IsReadingBy, IsTaken, IsUnread};
+ghost use Rattle.booth_audit.specs.Left.{Comes, IsArrivalBy, IsDoneBy, IsFoundBy, IsReadHere, IsReadingBy};
+ghost use Rattle.booth_audit.specs.Left.{IsTaken, IsUnread};
 
-use crate::End;
+use crate::end::End;
 use booth_host::{Arrival, Datagram, Failed};
 use booth_journal::{Answer, is_open, look, read_arrival, read_done, read_found, read_reading};
 use booth_rec::Record;
@@ -47,7 +48,7 @@ fn is_open_next(rest: &[u8]) -> bool
 }
 
 // Whether another start begins at this call, where the call of a text is asked for.
-#[tactic(auto, using(crate::proofs::JudgeLemmas::starts_not, crate::proofs::JudgeLemmas::starts_unasked, crate::proofs::JudgeLemmas::starts_asked))]
+#[tactic(auto, using(crate::proofs::JudgeLemmas::starts_here))]
 fn begins_start(text: &[u8], call: &[u8], behind: &[u8]) -> bool
     ensures { (left : List Said) → Says behind.now left → result ≡ begins_start text.now call.now left }
 {
@@ -115,7 +116,7 @@ impl<'a> Lines<'a> {
     }
 
     // The line of the answer to the call of this text. Where there is none, the lines have ended.
-    #[tactic(auto, using(crate::proofs::JudgeLemmas::behind_here, crate::proofs::JudgeLemmas::ends_here, crate::proofs::JudgeLemmas::read_here))]
+    #[tactic(auto, using(crate::proofs::JudgeLemmas::left_here))]
     fn take(&mut self, text: &[u8]) -> Option<&'a [u8]>
         ensures { (left : List Said) → Says self.old.rest left → MatchOption result
             (IsUnread left text.now self.old self.new)

@@ -15,7 +15,7 @@ use std::marker::Model;
 /// The records that may be kept of a ticket, the latest first: the last one that was read or kept, and those of which a
 /// keep failed or was cut since.
 #[derive(Drop)]
-pub struct MayKeep {
+pub(crate) struct MayKeep {
     kept: Record,
     tried: Vec<Record>,
 }

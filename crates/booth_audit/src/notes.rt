@@ -18,7 +18,7 @@ pub(crate) const READINGS_END: u64 = 1 << 62;
 
 /// The reading in use, who held which ticket when, and what was sent.
 #[derive(Drop)]
-pub struct Notes {
+pub(crate) struct Notes {
     alloc: Global,
     last: u64,
     held: Vec<Holding>,
@@ -106,21 +106,21 @@ impl Notes {
     }
 
     /// The reading in use.
-    pub fn last(&self) -> u64
+    pub(crate) fn last(&self) -> u64
         ensures { result ≡ self.now.last }
     {
         self.last
     }
 
     /// The holdings, in the order of the lines.
-    pub fn held(&self) -> &[Holding]
+    pub(crate) fn held(&self) -> &[Holding]
         ensures { result.now ≡ self.now.held }
     {
         &self.held
     }
 
     /// What was sent, in the order of the lines.
-    pub fn sent(&self) -> &[ByteText]
+    pub(crate) fn sent(&self) -> &[ByteText]
         ensures { result.now ≡ self.now.sent }
     {
         &self.sent

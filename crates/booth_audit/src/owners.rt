@@ -13,14 +13,13 @@ use booth_base::Address;
 use booth_conf::{Config, Member};
 use booth_journal::{Call, is_open, look, read_call};
 use std::alloc::Global;
-use thiserror::Error;
 
 /// Why the owner of a journal is not known.
-#[derive(Clone, Copy, Debug, PartialEq, Eq, Drop, Error)]
+#[derive(Clone, Copy, Debug, PartialEq, Eq, Drop)]
 pub(crate) enum OwnerFault {
-    #[error("its starts are not those of one member")]
+    /// Its starts are not those of one member.
     NotOne,
-    #[error("there is no memory for a call")]
+    /// There is no memory for a call.
     OutOfMemory,
 }
 

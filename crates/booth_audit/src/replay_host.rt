@@ -3,7 +3,7 @@ ghost use Rattle.std.specs.Prelude.{◌≡◌, ◌≤◌, ◌+◌, ◌-◌, ◌^
 ghost use Rattle.booth_host.specs.Told.{told_past};
 ghost use Rattle.booth_audit.specs.Hosts.{IsReplay};
 
-use crate::End;
+use crate::end::End;
 use crate::lines::Lines;
 use booth_base::{ByteText, Name, Peer};
 use booth_host::{Arrival, DATAGRAM_BYTES, Datagram, Failed, Host, Job, Place, ReadFault, Told};
@@ -14,7 +14,7 @@ use std::marker::{Brand, Model, PhantomData};
 
 /// The text that is replayed and the number of its first line, as part of a type: then a turn, whose contract speaks of
 /// every host, cannot leave a host of another text.
-pub trait ReplayedText {
+pub(crate) trait ReplayedText {
     ghost text: { List ℕ };
 
     ghost line: { ℕ };
@@ -30,7 +30,7 @@ impl ReplayedText for Brand {
 /// there is memory for them. Of a turn it is asked for waits, readings, sends, keeps and starts; where it is asked for
 /// another call it tells nothing from then on.
 #[derive(Drop)]
-pub struct ReplayHost<'a, J: ReplayedText> {
+pub(crate) struct ReplayHost<'a, J: ReplayedText> {
     alloc: Global,
     lines: Lines<'a>,
     told: Told,
@@ -52,7 +52,7 @@ impl<'a, J: ReplayedText> Model for ReplayHost<'a, J> {
 
 impl<'a, J: ReplayedText> ReplayHost<'a, J> {
     /// Begins at the first line of the text. The draft may hold anything.
-    pub fn new(alloc: Global, text: &'a [u8], line: u64, draft: Draft) -> ReplayHost<'a, J>
+    pub(crate) fn new(alloc: Global, text: &'a [u8], line: u64, draft: Draft) -> ReplayHost<'a, J>
         requires text { text.now ≡ J.text }
         requires line { line ≡ J.line }
         requires short { line + length text.now ≤ 2 ^ 63 }
@@ -69,7 +69,7 @@ impl<'a, J: ReplayedText> ReplayHost<'a, J> {
     }
 
     /// How the lines ended, once they have.
-    pub fn end(&self) -> Option<End>
+    pub(crate) fn end(&self) -> Option<End>
         ensures end { result ≡ self.now.place.end }
         ensures sound { IsReplay J.text J.line self.now }
     {
@@ -77,28 +77,28 @@ impl<'a, J: ReplayedText> ReplayHost<'a, J> {
     }
 
     /// Whether it tells its calls: there was memory for all of them.
-    pub fn tells(&self) -> bool
+    pub(crate) fn tells(&self) -> bool
         ensures { MatchBool result (IsSome self.now.past) (self.now.past ≡ None) }
     {
         self.told.entries().is_some()
     }
 
     /// The number of the first line that is left.
-    pub fn line(&self) -> u64
+    pub(crate) fn line(&self) -> u64
         ensures { result ≡ self.now.place.line }
     {
         self.lines.line()
     }
 
     /// The bytes that are left.
-    pub fn rest(&self) -> &'a [u8]
+    pub(crate) fn rest(&self) -> &'a [u8]
         ensures { result.now ≡ self.now.place.rest }
     {
         self.lines.rest()
     }
 
     /// What it tells, and the draft again.
-    pub fn into_parts(self) -> (Told, Draft)
+    pub(crate) fn into_parts(self) -> (Told, Draft)
         ensures { told_past result.0 ≡ self.entry.past }
     {
         (self.told, self.draft)

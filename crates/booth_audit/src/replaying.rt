@@ -5,7 +5,8 @@ ghost use Rattle.booth_journal.specs.Says.{Said, Says};
 ghost use Rattle.booth_node.specs.View.{node_config, state_of};
 ghost use Rattle.booth_audit.specs.Hosts.{IsTurned};
 
-use crate::{End, ReplayHost, ReplayedText};
+use crate::end::End;
+use crate::replay_host::{ReplayHost, ReplayedText};
 use booth_host::Told;
 use booth_journal::Draft;
 use booth_node::Node;
@@ -14,7 +15,7 @@ use std::marker::Brand;
 
 /// What is left of a journal behind a turn, how its lines ended if they did, and all that the turn asked for.
 #[derive(Drop)]
-pub struct Turned<'a> {
+pub(crate) struct Turned<'a> {
     pub rest: &'a [u8],
     /// The number of the first line that is left.
     pub line: u64,
@@ -58,7 +59,7 @@ fn turn_over<'a, J: ReplayedText>(
 }
 
 /// Replays one turn of a node over the text, whose first line has this number. The draft may hold anything.
-pub fn replay_turn<'a>(
+pub(crate) fn replay_turn<'a>(
     alloc: Global,
     node: &mut Node,
     text: &'a [u8],

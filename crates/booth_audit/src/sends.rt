@@ -5,7 +5,7 @@ ghost use Rattle.booth_wire.specs.PlainMessage.{plain_of};
 ghost use Rattle.booth_wire.specs.Spelling.{Fits, spelling};
 ghost use Rattle.booth_audit.specs.Sends.{HasOneMore, IsFound, IsHeardOf, KnowsAll, KnowsMore, Sender};
 
-use crate::Hears;
+use crate::hearings::Hears;
 use booth_base::{ByteText, MemberId};
 use booth_wire::{Frame, Message, decode, encode};
 use std::alloc::{AllocError, Global};
@@ -14,7 +14,7 @@ use std::marker::Model;
 
 /// What members sent. Contracts see the frames of the messages, each in its one spelling without a signature.
 #[derive(Drop)]
-pub struct Sends {
+pub(crate) struct Sends {
     alloc: Global,
     frames: HashSet<Vec<u8>>,
     frame: Frame,
@@ -30,7 +30,7 @@ impl Model for Sends {
 
 impl Sends {
     /// Nothing was sent.
-    pub fn new(alloc: Global) -> Result<Sends, AllocError>
+    pub(crate) fn new(alloc: Global) -> Result<Sends, AllocError>
         ensures { IfOk result (λ sends. KnowsAll sends []) }
     {
         let frame = Frame::new(alloc)?;
@@ -75,7 +75,7 @@ impl Sends {
     }
 
     /// Adds all that the member of this id sent.
-    pub fn add(&mut self, id: MemberId, sent: &[ByteText]) -> Result<(), AllocError>
+    pub(crate) fn add(&mut self, id: MemberId, sent: &[ByteText]) -> Result<(), AllocError>
         ensures { OnOk result ((senders : List Sender) → KnowsAll self.old senders
             → KnowsAll self.new (senders ++ record { id = id; sent = sent.now } ∷ [])) }
     {
@@ -92,7 +92,7 @@ impl Sends {
     }
 
     /// Whether the message of a datagram was sent by the member whose id it bears.
-    pub fn was_sent(&mut self, bytes: &[u8]) -> bool
+    pub(crate) fn was_sent(&mut self, bytes: &[u8]) -> bool
         ensures same { self.new ≡ self.old }
         ensures sent { (senders : List Sender) → KnowsAll self.old senders
             → IsTrue result ↔ IsHeardOf senders bytes.now }
@@ -104,7 +104,7 @@ impl Sends {
     }
 
     /// The line of the first that was heard and not sent.
-    pub fn first_unsent(&mut self, heard: &[Hears]) -> Option<u64>
+    pub(crate) fn first_unsent(&mut self, heard: &[Hears]) -> Option<u64>
         ensures same { self.new ≡ self.old }
         ensures first { (senders : List Sender) → KnowsAll self.old senders → IsFound senders heard.now result }
     {

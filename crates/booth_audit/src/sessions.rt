@@ -1,14 +1,17 @@
 //! The replay of a start and of the session that it begins.
-ghost use Rattle.std.specs.Prelude.{◌≡◌, ◌≤◌, ◌+◌, ◌-◌, ◌/◌, ◌^◌, [], ◌∷◌, List, IfOk, IfSome, MatchOption, OnOk, length};
+ghost use Rattle.std.specs.Prelude.{◌≡◌, ◌≤◌, ◌+◌, ◌-◌, ◌/◌, ◌^◌, [], ◌∷◌, List, length};
+ghost use Rattle.std.specs.Prelude.{IfOk, IfSome, MatchOption, OnOk};
 ghost use Rattle.booth_host.specs.Told.{told_past};
 ghost use Rattle.booth_journal.specs.Says.{Said, Says};
 ghost use Rattle.booth_node.specs.View.{node_config, state_of};
-ghost use Rattle.booth_audit.specs.Course.{ArePartsOf, IsBehind, IsNext, IsRun, IsSession, IsTurnTallied, cut_tallied, started_at};
+ghost use Rattle.booth_audit.specs.Course.{ArePartsOf, IsBehind, IsNext, IsRun, IsSession, IsTurnTallied};
+ghost use Rattle.booth_audit.specs.Course.{cut_tallied, started_at};
 
+use crate::end::End;
 use crate::lines::{Lines, is_now};
+use crate::replaying::{Turned, replay_turn};
 use crate::starting::read_start;
-use crate::tally::Tally;
-use crate::{End, Turned, Whose, replay_turn};
+use crate::{Tally, Whose};
 use booth_host::Entry;
 use booth_journal::{Answer, Draft, look, read_reading};
 use booth_node::Node;
@@ -82,55 +85,55 @@ fn parts<'t>(turned: &'t Turned<'_>, line: u64) -> Option<(&'t [Entry], &'t [Ent
     entries.split_at_checked(read as usize)
 }
 
-// Notes the first of these calls, which was cut at this line.
-fn note_first(
+// Tallies the first of these calls, which was cut at this line.
+fn tally_first(
     whose: &Whose<'_>,
     unread: &[Entry],
     line: u64,
-    notes: &mut Tally,
+    tally: &mut Tally,
 ) -> Result<(), AllocError>
-    ensures { OnOk result (notes.new ≡ cut_tallied whose.now (Some End.Cut) line unread.now notes.old) }
+    ensures { OnOk result (tally.new ≡ cut_tallied whose.now (Some End.Cut) line unread.now tally.old) }
 {
     match unread {
         [] => Ok(()),
-        [first, ..] => notes.cut(whose, first, line),
+        [first, ..] => tally.cut(whose, first, line),
     }
 }
 
-// Notes the call that was cut where the lines ended at this one, if one was.
-fn note_cut(
+// Tallies the call that was cut where the lines ended at this one, if one was.
+fn tally_cut(
     whose: &Whose<'_>,
     end: Option<End>,
     unread: &[Entry],
     line: u64,
-    notes: &mut Tally,
+    tally: &mut Tally,
 ) -> Result<(), AllocError>
-    ensures { OnOk result (notes.new ≡ cut_tallied whose.now end line unread.now notes.old) }
+    ensures { OnOk result (tally.new ≡ cut_tallied whose.now end line unread.now tally.old) }
 {
     match end {
-        Some(End::Cut) => note_first(whose, unread, line, notes),
+        Some(End::Cut) => tally_first(whose, unread, line, tally),
         Some(End::Over) => Ok(()),
         Some(End::Differs) => Ok(()),
         None => Ok(()),
     }
 }
 
-// Notes the calls of a turn, the first of which has this line.
-fn note_turn(
+// Tallies the calls of a turn, the first of which has this line.
+fn tally_turn(
     whose: &Whose<'_>,
     turned: &Turned<'_>,
     line: u64,
-    notes: &mut Tally,
+    tally: &mut Tally,
 ) -> Result<(), AllocError>
     ensures { OnOk result (IsTurnTallied whose.now turned.now.end line turned.now.line
-        (told_past turned.now.told) notes.old notes.new) }
+        (told_past turned.now.told) tally.old tally.new) }
 {
     let at = turned.line;
     let Some((read, unread)) = parts(turned, line) else {
         return Err(AllocError);
     };
-    notes.calls(whose, read, line)?;
-    note_cut(whose, turned.end, unread, at, notes)
+    tally.calls(whose, read, line)?;
+    tally_cut(whose, turned.end, unread, at, tally)
 }
 
 // The turns of a session, to where it is over.
@@ -139,13 +142,13 @@ fn replay_turns<'a>(
     whose: &Whose<'_>,
     node: Node,
     from: Left<'a>,
-    notes: &mut Tally,
+    tally: &mut Tally,
 ) -> Result<Behind<'a>, AllocError>
     requires member { node_config node ≡ whose.now.node }
     requires short { from.line + length from.rest.now ≤ 2 ^ 63 }
     requires says { (left : List Said) × Says from.rest.now left }
     ensures { (left : List Said) → Says from.entry.rest.now left → IfOk result (λ found. IsSession whose.now
-        (state_of node) from.entry.rest.now from.entry.line left notes.old notes.new
+        (state_of node) from.entry.rest.now from.entry.line left tally.old tally.new
         found.strays found.left.rest.now found.left.line) }
 {
     let mut node = node;
@@ -153,7 +156,7 @@ fn replay_turns<'a>(
     'turns: loop {
         let Left { rest, line, draft } = left;
         let turned = replay_turn(alloc, &mut node, rest, line, draft)?;
-        note_turn(whose, &turned, line, notes)?;
+        tally_turn(whose, &turned, line, tally)?;
         let end = turned.end;
         left = Left {
             rest: turned.rest,
@@ -173,12 +176,12 @@ fn replay_start<'a>(
     whose: &Whose<'_>,
     reading: u64,
     from: Left<'a>,
-    notes: &mut Tally,
+    tally: &mut Tally,
 ) -> Result<Behind<'a>, AllocError>
     requires short { from.line + length from.rest.now ≤ 2 ^ 63 }
     requires says { (left : List Said) × Says from.rest.now left }
     ensures { (left : List Said) → Says from.entry.rest.now left → IfOk result (λ found. IsRun whose.now
-        (started_at whose.now.node reading from.entry.line left) from.entry.rest.now from.entry.line notes.old notes.new
+        (started_at whose.now.node reading from.entry.line left) from.entry.rest.now from.entry.line tally.old tally.new
         found.strays found.left.rest.now found.left.line) }
 {
     let mut lines = Lines::new(from.rest, from.line);
@@ -193,9 +196,9 @@ fn replay_start<'a>(
         return Ok(left_behind(then_left, lines.end()));
     };
     let read = records.as_slice();
-    notes.start(whose, reading, read, then_left.line.saturating_sub(2))?;
+    tally.start(whose, reading, read, then_left.line.saturating_sub(2))?;
     let node = whose.open(alloc, read, reading)?;
-    let found = replay_turns(alloc, whose, node, then_left, notes)?;
+    let found = replay_turns(alloc, whose, node, then_left, tally)?;
     Ok(found)
 }
 
@@ -204,13 +207,13 @@ pub(crate) fn replay_next<'a>(
     alloc: Global,
     whose: &Whose<'_>,
     from: Left<'a>,
-    notes: &mut Tally,
+    tally: &mut Tally,
 ) -> Result<Option<Behind<'a>>, AllocError>
     requires short { from.line + length from.rest.now ≤ 2 ^ 63 }
     requires says { (left : List Said) × Says from.rest.now left }
     ensures { (left : List Said) → Says from.entry.rest.now left → IfOk result (λ found. MatchOption found
-        ((left ≡ []) × (notes.new ≡ notes.old)) (λ found. IsNext whose.now from.entry.rest.now from.entry.line left
-        notes.old notes.new found.strays found.left.rest.now found.left.line)) }
+        ((left ≡ []) × (tally.new ≡ tally.old)) (λ found. IsNext whose.now from.entry.rest.now from.entry.line left
+        tally.old tally.new found.strays found.left.rest.now found.left.line)) }
 {
     let Some(first) = look(from.rest) else {
         return Ok(None);
@@ -229,6 +232,6 @@ pub(crate) fn replay_next<'a>(
         line: from.line + 2,
         draft: from.draft,
     };
-    let found = replay_start(alloc, whose, reading, behind, notes)?;
+    let found = replay_start(alloc, whose, reading, behind, tally)?;
     Ok(Some(found))
 }

@@ -51,7 +51,7 @@ impl Tally {
     }
 
     /// The line of the first record that a start read and that may not have been kept, if one did.
-    pub fn wrong(&self) -> Option<u64>
+    pub(crate) fn wrong(&self) -> Option<u64>
         ensures { result ≡ self.now.watched.wrong }
     {
         self.watch.wrong()
@@ -72,7 +72,7 @@ impl Tally {
     }
 
     /// What was heard, in the order of the lines.
-    pub fn heard(&self) -> &[Hears]
+    pub(crate) fn heard(&self) -> &[Hears]
         ensures { result.now ≡ self.now.hearings.all }
     {
         self.hearings.all()

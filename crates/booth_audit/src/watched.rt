@@ -20,7 +20,7 @@ use std::marker::Model;
 /// The records that may be kept of each ticket, and the line of the first one that a start read and that was none of
 /// them.
 #[derive(Drop)]
-pub struct Watch {
+pub(crate) struct Watch {
     alloc: Global,
     may: Vec<MayKeep>,
     wrong: Option<u64>,

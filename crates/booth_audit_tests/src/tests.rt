@@ -1,4 +1,4 @@
-//! Journals by hand, and what is noted of them; and what an audit says of them, and of those of three members.
+//! Journals by hand, and what is tallied of them; and what an audit says of them, and of those of three members.
 mod audits;
 mod edited;
 mod faults;

@@ -1,6 +1,7 @@
 //! The journal of a host: the lines that its calls are said by, and a host over any host that writes them.
 #![tactic(auto)]
 
+mod audit_fault;
 mod cutting;
 mod draft;
 mod fields;
@@ -15,6 +16,7 @@ mod sink;
 mod spelling;
 mod texts;
 
+pub use audit_fault::AuditFault;
 pub use draft::Draft;
 pub use fields::LineFault;
 pub use journal_host::JournalHost;

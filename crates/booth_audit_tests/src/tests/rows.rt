@@ -1,6 +1,6 @@
-//! What the replay of a journal notes of its member, worked out by hand from the definitions.
+//! What the replay of a journal tallies of its member, worked out by hand from the definitions.
 //!
-//! A row has the member's place and its configuration, the parts of the journal, and what is noted: the reading in
+//! A row has the member's place and its configuration, the parts of the journal, and what is tallied: the reading in
 //! use; of each holding the ticket, the member, from when and until when; of each send how many bytes it has; and the
 //! line of the first call that was not demanded.
 use super::parts::PARTS;
@@ -98,7 +98,7 @@ pub(super) fn config_of(rt: &impl Abort, alloc: Global, name: &str) -> Config {
     Config::parse(alloc, text.as_bytes()).expect(rt, name)
 }
 
-// What is noted of a journal. Its text says calls, since each line of it is read.
+// What is tallied of a journal. Its text says calls, since each line of it is read.
 fn replayed(rt: &impl Abort, alloc: Global, whose: &Whose<'_>, text: &[u8]) -> Journal {
     match read_lines(alloc, text) {
         Ok(()) => {
@@ -120,13 +120,13 @@ pub(super) fn holding_text(rt: &impl Abort, alloc: Global, holding: Holding) -> 
     text.expect(rt, "memory")
 }
 
-fn notes_text(rt: &impl Abort, alloc: Global, journal: &Journal) -> String {
-    let last = journal.notes.last();
+fn tally_text(rt: &impl Abort, alloc: Global, journal: &Journal) -> String {
+    let last = journal.tally.last();
     let mut text = format!(in alloc; "last {last}").expect(rt, "memory");
-    for holding in journal.notes.held() {
+    for holding in journal.tally.held() {
         put(rt, &mut text, holding_text(rt, alloc, *holding).as_str());
     }
-    for bytes in journal.notes.sent() {
+    for bytes in journal.tally.sent() {
         let len = bytes.bytes().len();
         let sent = format!(in alloc; ", sent {len}").expect(rt, "memory");
         put(rt, &mut text, sent.as_str());
@@ -142,25 +142,25 @@ fn place_of(rt: &impl Abort, word: &str) -> u32 {
     word.parse::<u32>().expect(rt, word)
 }
 
-// What is noted where this member has a journal of these parts.
-fn notes_of(rt: &impl Abort, alloc: Global, member: &str, parts: &str) -> String {
+// What is tallied where this member has a journal of these parts.
+fn tally_of(rt: &impl Abort, alloc: Global, member: &str, parts: &str) -> String {
     let (place, file) = member.split_once(" of ").expect(rt, member);
     let config = config_of(rt, alloc, file);
     let whose = Whose::new(&config, None, place_of(rt, place)).expect(rt, "a member");
     let text = journal_of(rt, alloc, parts);
     let journal = replayed(rt, alloc, &whose, text.as_bytes());
-    notes_text(rt, alloc, &journal)
+    tally_text(rt, alloc, &journal)
 }
 
 fn check_row(rt: &impl Abort, alloc: Global, row: &str) {
     let (member, rest) = row.split_once(": ").expect(rt, row);
     let (parts, wanted) = rest.split_once(": ").expect(rt, row);
-    let notes = notes_of(rt, alloc, member, parts);
-    assert!(rt; notes.as_str() == wanted, "{row} and not {notes}");
+    let tally = tally_of(rt, alloc, member, parts);
+    assert!(rt; tally.as_str() == wanted, "{row} and not {tally}");
 }
 
 #[test]
-fn a_journal_is_noted_up_to_what_was_not_demanded(rt: HostRuntime) {
+fn a_journal_is_tallied_up_to_what_was_not_demanded(rt: HostRuntime) {
     for row in ROWS.lines() {
         check_row(&rt, rt.alloc(), row);
     }

@@ -1,8 +1,9 @@
 //! What an audit answers, as text: `good` and each holding (the ticket, the member, from when and until when), or the
 //! fault, its journal and its line.
 use super::rows::{config_of, holding_text, put};
-use booth_audit::{Audit, AuditFault, audit};
+use booth_audit::{Audit, audit};
 use booth_base::ByteText;
+use booth_journal::AuditFault;
 use booth_keys::Ring;
 use std::alloc::Global;
 use std::process::Abort;

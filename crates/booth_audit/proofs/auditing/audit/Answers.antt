@@ -4,7 +4,7 @@ use Rattle.std.proofs.Common.{◌≡◌, ◌<◌, ℕ, List, arith, ap, length, 
 use Rattle.std.specs.Option.{option_copied}
 use Rattle.booth_audit.specs.declared.holding.Holding.{Holding}
 use Rattle.booth_audit.specs.Audit.{IsAudited}
-use Rattle.booth_audit.specs.Judging.{HasSent, JudgedSays, held_by}
+use Rattle.booth_audit.specs.Judging.{IsToldOf, JudgedSays, held_by}
 use Rattle.booth_audit.specs.Order.{by_tickets}
 use Rattle.booth_audit.proofs.AuditLemmas.{audited_so}
 use Rattle.booth_audit.proofs.FoundLemmas.{tickets_are_found}
@@ -21,14 +21,14 @@ find_unsent-requires c =
 pub returns-in-Err-find_unsent-clause-fault : goal.returns-in-Err-find_unsent-clause-fault
 returns-in-Err-find_unsent-clause-fault c =
     unsent_so c.in-Ok.ensures c.in-Err-find_unsent.fault
-    (subst (λ (l : List JudgedSays). HasSent c.args.config.now.members l (Err c.in-Err-find_unsent.fault)) c.deref.ensures.value
+    (subst (λ (l : List JudgedSays). IsToldOf c.args.config.now.members l (Err c.in-Err-find_unsent.fault)) c.deref.ensures.value
     c.in-Err-find_unsent.ensures)
 
 pub returns-in-Ok-holdings_of-clause-audited : goal.returns-in-Ok-holdings_of-clause-audited
 returns-in-Ok-holdings_of-clause-audited c =
     subst (λ (l : List Holding). IsAudited c.args.config.now (option_copied c.args.ring) c.args.journals.now l) (sym c.new.ensures)
     (audited_so (tickets_are_found c.args.config.now c.sound.ensures) c.in-Ok.ensures
-    (subst (λ (l : List JudgedSays). HasSent c.args.config.now.members l (Ok tt)) c.deref.ensures.value c.in-Ok-find_unsent.ensures)
+    (subst (λ (l : List JudgedSays). IsToldOf c.args.config.now.members l (Ok tt)) c.deref.ensures.value c.in-Ok-find_unsent.ensures)
     (subst
     (λ (l : List JudgedSays). (count : ℕ) → All (λ (holding : Holding). holding.ticket < count) (held_by l) → c.in-Ok-holdings_of.holdings.items ≡ by_tickets (held_by l) 0 count)
     c.deref-2.ensures.value c.in-Ok-holdings_of.ensures))

@@ -1,7 +1,7 @@
 use Rattle.std.specs.Prelude.{Err, Ok}
 use Rattle.std.specs.Option.{option_copied}
 use Rattle.std.proofs.Common.{◌+◌, List, ℕ, subst, sym, take}
-use Rattle.booth_audit.specs.declared.audit_fault.AuditFault.{AuditFault}
+use Rattle.booth_journal.specs.declared.audit_fault.AuditFault.{AuditFault}
 use Rattle.booth_audit.specs.Audit.{HasFault}
 use Rattle.booth_audit.specs.Judging.{AreTrueSo, IsJudged, JudgedSays, owners_of}
 use Rattle.booth_audit.proofs.TogetherLemmas.{so_more, so_wrong}

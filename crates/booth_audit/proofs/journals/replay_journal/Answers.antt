@@ -6,8 +6,8 @@ use Rattle.booth_audit.proofs.journals.replay_journal.Goals as goal
 
 pub runs-init : goal.runs-init
 runs-init c = record {
-  idle = λ all says. idle_none c.args.whose.now c.args.text.now all c.in_ok-notes.notes
-      (c.in_ok-notes.ensures ∙ ap nothing_tallied (c.tickets.ensures.value ∙ ap (λ (k : ConfigSays). k.tickets) c.config.ensures)) says;
+  idle = λ all says. idle_none c.args.whose.now c.args.text.now all c.in_ok-tally.tally
+      (c.in_ok-tally.ensures ∙ ap nothing_tallied (c.tickets.ensures.value ∙ ap (λ (k : ConfigSays). k.tickets) c.config.ensures)) says;
 }
 
 pub replay_next-requires : goal.replay_next-requires

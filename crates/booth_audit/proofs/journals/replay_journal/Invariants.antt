@@ -6,7 +6,7 @@ use Rattle.booth_audit.proofs.journals.replay_journal.Given as goal
 abbrev pub invariant-runs : goal.invariant-runs
 invariant-runs l = record {
   idle : (all : List Said) → Says l.fn.text all
-      → IsIdle l.whose l.fn.text all l.notes l.left.rest.now l.left.line;
+      → IsIdle l.whose l.fn.text all l.tally l.left.rest.now l.left.line;
 }
 
 abbrev pub decreases-runs : goal.decreases-runs

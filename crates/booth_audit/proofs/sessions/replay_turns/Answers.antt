@@ -7,7 +7,7 @@ pub turns-init : goal.turns-init
 turns-init c = record {
   member = c.requires.member;
   going = λ left says.
-      going_none c.args.whose.now (state_of c.args.node) c.args.from.rest.now c.args.from.line left c.args.notes.now says;
+      going_none c.args.whose.now (state_of c.args.node) c.args.from.rest.now c.args.from.line left c.args.tally.now says;
 }
 
 pub replay_turn-requires : goal.replay_turn-requires
@@ -23,7 +23,7 @@ turns-preserved c = record {
       let going = c.turns.invariant.going left says in
       going_more going
       (of_member c.turns.invariant.member (c.in_ok-turned.ensures.turned going.then_left going.still.says))
-      c.in_ok-note_turn.ensures c.in-None.is;
+      c.in_ok-tally_turn.ensures c.in-None.is;
 }
 
 pub turns-smaller : goal.turns-smaller
@@ -45,4 +45,4 @@ returns-in-Some c left says =
     let going = c.turns.invariant.going left says in
     session_over going
     (of_member c.turns.invariant.member (c.in_ok-turned.ensures.turned going.then_left going.still.says))
-    c.in_ok-note_turn.ensures c.in-Some.how c.in-Some.is c.left_behind.ensures
+    c.in_ok-tally_turn.ensures c.in-Some.how c.in-Some.is c.left_behind.ensures

@@ -9,7 +9,7 @@ invariant-turns l = record {
   member : node_config l.node ≡ l.whose.node;
   going : (left : List Said) → Says l.fn.from.rest.now left
       → IsGoing l.whose (state_of l.fn.node) (state_of l.node) l.fn.from.rest.now l.fn.from.line left
-      l.fn.notes l.notes l.left.rest.now l.left.line;
+      l.fn.tally l.tally l.left.rest.now l.left.line;
 }
 
 abbrev pub decreases-turns : goal.decreases-turns
