@@ -12,7 +12,7 @@ use Rattle.booth_cli.specs.declared.command.Verb.{Verb}
 use Rattle.booth_cli.specs.declared.command.Verb.TheVariants as verbs
 use Rattle.booth_cli.specs.declared.reading.Read.{Read}
 use Rattle.booth_cli.specs.declared.asking.Asked.{Asked}
-use Rattle.booth_cli.specs.declared.asking.Asked.TheVariants.{Daemon, Status, Simulation, Client, Move, Follow}
+use Rattle.booth_cli.specs.declared.asking.Asked.TheVariants.{Daemon, Status, Simulation, Audit, Client, Move, Follow}
 use Rattle.booth_cli.specs.declared.asking.ClientWords.{ClientWords}
 use Rattle.booth_cli.specs.declared.program.Program.{Program}
 use Rattle.booth_cli.specs.declared.program.Program.TheVariants.{Boothd, Booth, Geostore, BoothFollow}
@@ -60,6 +60,7 @@ has_words verbs.ListAttributes t read needed is = has_name t.ticket read.ticket 
 has_words verbs.Follow t read needed is = has_service t read needed is
 has_words verbs.Status t read needed is = tt
 has_words verbs.Simulate t read needed is = tt
+has_words verbs.Audit t read needed is = tt
 has_words verbs.List t read needed is = tt
 has_words verbs.Peers t read needed is = tt
 
@@ -69,6 +70,7 @@ abbrev owner : Verb → Program
 owner verbs.Daemon = Boothd
 owner verbs.Status = Boothd
 owner verbs.Simulate = Boothd
+owner verbs.Audit = Boothd
 owner verbs.List = Booth
 owner verbs.Peers = Booth
 owner verbs.Grant = Booth
@@ -83,11 +85,13 @@ owner verbs.Follow = BoothFollow
 same_owner : (one verb : Verb) → Some one ≡ Some verb → owner one ≡ owner verb
 same_owner one verb same = let e : one ≡ verb = cc in ap owner e
 
-daemons : (a b c : Bool) (verb : Verb) → cond a (Some verbs.Daemon) (cond b (Some verbs.Status) (cond c (Some verbs.Simulate) None)) ≡ Some verb → Boothd ≡ owner verb
-daemons true b c verb h = same_owner verbs.Daemon verb h
-daemons false true c verb h = same_owner verbs.Status verb h
-daemons false false true verb h = same_owner verbs.Simulate verb h
-daemons false false false verb h = absurd cc
+daemons : (a b c d : Bool) (verb : Verb) →
+    cond a (Some verbs.Daemon) (cond b (Some verbs.Status) (cond c (Some verbs.Simulate) (cond d (Some verbs.Audit) None))) ≡ Some verb → Boothd ≡ owner verb
+daemons true b c d verb h = same_owner verbs.Daemon verb h
+daemons false true c d verb h = same_owner verbs.Status verb h
+daemons false false true d verb h = same_owner verbs.Simulate verb h
+daemons false false false true verb h = same_owner verbs.Audit verb h
+daemons false false false false verb h = absurd cc
 
 clients : (a b c d e : Bool) (verb : Verb) →
     cond a (Some verbs.List) (cond b (Some verbs.Peers) (cond c (Some verbs.Grant) (cond d (Some verbs.Revoke) (cond e (Some verbs.Move) None)))) ≡ Some verb → Booth ≡ owner verb
@@ -110,7 +114,7 @@ attributes false false false false verb h = absurd cc
 -- the program is the one that has the command
 owned : (program : Program) (words : List (List ℕ)) (verb : Verb) → verb_in program words ≡ Some verb → program ≡ owner verb
 owned program [] verb named = absurd cc
-owned Boothd (word ∷ words) verb named = daemons _ _ _ verb named
+owned Boothd (word ∷ words) verb named = daemons _ _ _ _ verb named
 owned Booth (word ∷ words) verb named = clients _ _ _ _ _ verb named
 owned Geostore (word ∷ words) verb named = attributes _ _ _ _ verb named
 owned BoothFollow (word ∷ words) verb named = same_owner verbs.Follow verb named
@@ -120,6 +124,7 @@ owns_client : (verb : Verb) (read : Read) (asked : ClientWords) → IsClientOf v
 owns_client verbs.Daemon read asked is = is.order
 owns_client verbs.Status read asked is = is.order
 owns_client verbs.Simulate read asked is = is.order
+owns_client verbs.Audit read asked is = is.order
 owns_client verbs.List read asked is = tt
 owns_client verbs.Peers read asked is = tt
 owns_client verbs.Grant read asked is = tt
@@ -141,6 +146,7 @@ asked_by : (program : Program) (words : List (List ℕ)) (verb : Verb) (read : R
 asked_by program words verbs.Daemon read (Client asked) taken is = client_asked program words verbs.Daemon read asked taken is
 asked_by program words verbs.Status read (Client asked) taken is = client_asked program words verbs.Status read asked taken is
 asked_by program words verbs.Simulate read (Client asked) taken is = client_asked program words verbs.Simulate read asked taken is
+asked_by program words verbs.Audit read (Client asked) taken is = client_asked program words verbs.Audit read asked taken is
 asked_by program words verbs.List read (Client asked) taken is = client_asked program words verbs.List read asked taken is
 asked_by program words verbs.Peers read (Client asked) taken is = client_asked program words verbs.Peers read asked taken is
 asked_by program words verbs.Grant read (Client asked) taken is = client_asked program words verbs.Grant read asked taken is
@@ -160,6 +166,9 @@ asked_by program words verbs.Status read (Status lock) taken is =
 asked_by program words verbs.Simulate read (Simulation asked) taken is =
     let own : program ≡ Boothd = owned program words verbs.Simulate taken.named in
     (own, record { all = read; asks = subst (λ p. AreTaken p words verbs.Simulate read) own taken; same = is })
+asked_by program words verbs.Audit read (Audit asked) taken is =
+    let own : program ≡ Boothd = owned program words verbs.Audit taken.named in
+    (own, record { all = read; asks = subst (λ p. AreTaken p words verbs.Audit read) own taken; same = is })
 asked_by program words verbs.Move read (Move asked) taken is =
     let own : program ≡ Booth = owned program words verbs.Move taken.named in
     (own, record { all = read; asks = subst (λ p. AreTaken p words verbs.Move read) own taken; same = is })
@@ -209,6 +218,7 @@ is_client : (verb : Verb) (read : Read) (asked : ClientWords) → IsClientOf ver
 is_client verbs.Daemon read asked is = is
 is_client verbs.Status read asked is = is
 is_client verbs.Simulate read asked is = is
+is_client verbs.Audit read asked is = is
 is_client verbs.List read asked is = is
 is_client verbs.Peers read asked is = is
 is_client verbs.Grant read asked is = is

@@ -6,13 +6,13 @@ use Rattle.std.specs.Borrow.{Bor}
 use Rattle.std.proofs.Common.{◌≡◌, ◌∙◌, ap, ℕ, true, false, List, is_some, refl, sym, subst}
 use Rattle.std.proofs.Common.{arith}
 use Rattle.clap.specs.Built.{IsParsedFrom}
-use Rattle.clap.specs.Matches.{found_of, first_value}
-use Rattle.clap.specs.Walk.{Row, first_of, rows_of}
+use Rattle.clap.specs.Matches.{found_of, first_value, matched_of, raw_values}
+use Rattle.clap.specs.Walk.{Row, all_of, first_of, rows_of}
 use Rattle.clap.specs.Simple.{App, app_of, is_simple}
 use Rattle.clap.specs.Faults.{is_simple_and_free}
 use Rattle.clap.specs.declared.builder.command.Command.{Command}
 use Rattle.clap.specs.declared.parser.matches.ArgMatches.{ArgMatches}
-use Rattle.clap.proofs.WalkLemmas.{first_value-rows}
+use Rattle.clap.proofs.WalkLemmas.{first_value-rows, raw_values-rows}
 use Rattle.booth_cli.specs.declared.command.Verb.{Verb}
 use Rattle.booth_cli.specs.declared.command.Verb.TheVariants as verbs
 use Rattle.booth_cli.specs.declared.given.Given.{Given}
@@ -24,6 +24,7 @@ pub simple : (verb : Verb) → is_simple (app_for verb) ≡ true
 simple verbs.Daemon = refl
 simple verbs.Status = refl
 simple verbs.Simulate = refl
+simple verbs.Audit = refl
 simple verbs.List = refl
 simple verbs.Peers = refl
 simple verbs.Grant = refl
@@ -39,6 +40,7 @@ pub simple_and_free : (verb : Verb) → is_simple_and_free (app_for verb) ≡ tr
 simple_and_free verbs.Daemon = refl
 simple_and_free verbs.Status = refl
 simple_and_free verbs.Simulate = refl
+simple_and_free verbs.Audit = refl
 simple_and_free verbs.List = refl
 simple_and_free verbs.Peers = refl
 simple_and_free verbs.Grant = refl
@@ -53,6 +55,11 @@ simple_and_free verbs.Follow = refl
 -- a getter's value, by the rows
 value_is : (m : ArgMatches) (rows : List Row) (id : List ℕ) → rows_of (found_of m) ≡ rows → first_value (found_of m) id ≡ first_of id rows
 value_is m rows id same = first_value-rows (found_of m) id ∙ ap (first_of id) same
+
+-- all values of an id, by the rows
+values_are : (m : ArgMatches) (rows : List Row) (id : List ℕ) → rows_of (found_of m) ≡ rows →
+    option_map raw_values (matched_of (found_of m) id) ≡ all_of id rows
+values_are m rows id same = raw_values-rows (found_of m) id ∙ ap (all_of id) same
 
 -- all getters' values, by the rows
 pub texts_are : (m : ArgMatches) (rows : List Row) (g : Given) → rows_of (found_of m) ≡ rows →
@@ -71,8 +78,8 @@ pub texts_are : (m : ArgMatches) (rows : List Row) (g : Given) → rows_of (foun
     option_map (λ (t : Bor (List ℕ)). t.now) g.margin ≡ first_value (found_of m) (codes "margin") →
     option_map (λ (t : Bor (List ℕ)). t.now) g.kill ≡ first_value (found_of m) (codes "kill") →
     g.wait ≡ is_set (first_value (found_of m) (codes "wait")) → g.commit ≡ is_set (first_value (found_of m) (codes "commit")) →
-    g.immediate ≡ is_set (first_value (found_of m) (codes "immediate")) → texts_of g ≡ texts_in rows
-texts_are m rows g same ticket name value site turns events number lock records conf target program margin kill wait commit immediate =
+    g.immediate ≡ is_set (first_value (found_of m) (codes "immediate")) → g.matches ≡ m → texts_of g ≡ texts_in rows
+texts_are m rows g same ticket name value site turns events number lock records conf target program margin kill wait commit immediate matches =
     rw (
       ticket,
       name,
@@ -91,6 +98,8 @@ texts_are m rows g same ticket name value site turns events number lock records 
       wait,
       commit,
       immediate,
+      matches,
+      values_are m rows (codes "journal") same,
       value_is m rows (codes "ticket") same,
       value_is m rows (codes "name") same,
       value_is m rows (codes "value") same,
@@ -334,6 +343,7 @@ module _ (cmd : Command) (m : ArgMatches) (parsed : IsParsedFrom cmd m) where
   has_needed verbs.ListAttributes g is ticket name value site target program = ap is_some ticket ∙ list_ticket is
   has_needed verbs.Status g is ticket name value site target program = tt
   has_needed verbs.Simulate g is ticket name value site target program = tt
+  has_needed verbs.Audit g is ticket name value site target program = tt
   has_needed verbs.List g is ticket name value site target program = tt
   has_needed verbs.Peers g is ticket name value site target program = tt
   has_needed verbs.Follow g is ticket name value site target program =

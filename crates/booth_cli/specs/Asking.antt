@@ -9,8 +9,9 @@ use Rattle.booth_cli.specs.declared.word.Word.{Word}
 use Rattle.booth_cli.specs.declared.reading.Read.{Read}
 use Rattle.booth_cli.specs.declared.asking.DaemonWords.{DaemonWords}
 use Rattle.booth_cli.specs.declared.asking.SimulationWords.{SimulationWords}
+use Rattle.booth_cli.specs.declared.asking.AuditWords.{AuditWords}
 use Rattle.booth_cli.specs.declared.asking.Asked.{Asked}
-use Rattle.booth_cli.specs.declared.asking.Asked.TheVariants.{Daemon, Status, Simulation, Client, Move, Follow}
+use Rattle.booth_cli.specs.declared.asking.Asked.TheVariants.{Daemon, Status, Simulation, Audit, Client, Move, Follow}
 use Rattle.booth_cli.specs.declared.asking.ClientWords.{ClientWords}
 use Rattle.booth_cli.specs.declared.asking.MoveWords.{MoveWords}
 use Rattle.booth_cli.specs.declared.asking.FollowWords.{FollowWords}
@@ -59,6 +60,17 @@ pub record AsksSimulation (words : List (List ℕ)) (asked : SimulationWords) : 
   pub all : Read
   pub asks : AreTaken Boothd words verbs.Simulate all
   pub same : IsSimulationOf all asked
+
+-- what was read says this of an audit
+pub record IsAuditOf (read : Read) (asked : AuditWords) : Type 0 where
+  pub conf : asked.conf ≡ read.conf
+  pub journals : asked.journals.items ≡ read.journals.items
+
+-- the words ask for this audit
+pub record AsksAudit (words : List (List ℕ)) (asked : AuditWords) : Type 0 where
+  pub all : Read
+  pub asks : AreTaken Boothd words verbs.Audit all
+  pub same : IsAuditOf all asked
 
 -- the words ask whether the daemon of this lock runs
 pub record AsksStatus (words : List (List ℕ)) (lock : List ℕ) : Type 0 where
@@ -195,6 +207,7 @@ abbrev pub IsAskedBy : Verb → Read → Asked → Type 0
 IsAskedBy verbs.Daemon read (Daemon asked) = IsDaemonOf read asked
 IsAskedBy verbs.Status read (Status lock) = lock ≡ read.lock
 IsAskedBy verbs.Simulate read (Simulation asked) = IsSimulationOf read asked
+IsAskedBy verbs.Audit read (Audit asked) = IsAuditOf read asked
 IsAskedBy verb read (Client asked) = IsClientOf verb read asked
 IsAskedBy verbs.Move read (Move asked) = IsMoveOf read asked
 IsAskedBy verbs.Follow read (Follow asked) = IsFollowOf read asked
@@ -205,6 +218,7 @@ abbrev pub Asks : Program → List (List ℕ) → Result Asked Refusal → Type 
 Asks program words (Ok (Daemon asked)) = (program ≡ Boothd) × AsksDaemon words asked
 Asks program words (Ok (Status lock)) = (program ≡ Boothd) × AsksStatus words lock
 Asks program words (Ok (Simulation asked)) = (program ≡ Boothd) × AsksSimulation words asked
+Asks program words (Ok (Audit asked)) = (program ≡ Boothd) × AsksAudit words asked
 Asks program words (Ok (Client asked)) = IsClient program × AsksClient program words asked
 Asks program words (Ok (Move asked)) = (program ≡ Booth) × AsksMove words asked
 Asks program words (Ok (Follow asked)) = (program ≡ BoothFollow) × AsksFollow words asked

@@ -3,6 +3,7 @@ use Rattle.std.specs.Prelude.{ℕ, true, List, [], ◌∷◌, Option, Some, None
 use Rattle.std.specs.Str.{bytes_eq}
 use Rattle.clap.specs.Words.{App, Rule, new_app, new_rule, with_rule}
 use Rattle.clap.specs.declared.builder.action.ArgAction.TheVariants.{Set, SetTrue}
+use Rattle.booth_cli.specs.declared.command.TheConstants.{MOST_JOURNALS}
 use Rattle.booth_cli.specs.declared.command.Verb.{Verb}
 use Rattle.booth_cli.specs.declared.command.Verb.TheVariants as verbs
 use Rattle.booth_cli.specs.declared.program.Program.{Program}
@@ -23,6 +24,12 @@ flag id letter = record (new_rule id) { short = Some letter; action = Some SetTr
 -- a word by its place, which has to be there
 abbrev pub word : List ℕ → Rule
 word id = needed (record (new_rule id) { action = Some Set; value_names = 1 })
+
+-- the journals of an audit: words by their places, 1 at least
+abbrev pub journals : Rule
+journals = record (word (codes "journal")) {
+  range = Some (record { start_inclusive = 1; end_inclusive = MOST_JOURNALS });
+}
 
 -- the ticket as an option, which has to be there
 abbrev pub ticket_option : Rule
@@ -53,6 +60,7 @@ app_for verbs.Simulate =
     with_rule
     (with_rule (with_rule (command_app (codes "sim")) (option (codes "conf") 99)) (option (codes "events") 101))
     (option (codes "number") 114)
+app_for verbs.Audit = with_rule (with_rule (command_app (codes "audit")) (option (codes "conf") 99)) journals
 app_for verbs.List = client_app (codes "list")
 app_for verbs.Peers = client_app (codes "peers")
 app_for verbs.Grant =
@@ -88,7 +96,8 @@ abbrev pub daemon_verb : List ℕ → Option Verb
 daemon_verb word =
     if bytes_eq word (codes "daemon") then Some verbs.Daemon else
     if bytes_eq word (codes "status") then Some verbs.Status else
-    if bytes_eq word (codes "sim") then Some verbs.Simulate else None
+    if bytes_eq word (codes "sim") then Some verbs.Simulate else
+    if bytes_eq word (codes "audit") then Some verbs.Audit else None
 
 abbrev pub client_verb : List ℕ → Option Verb
 client_verb word =

@@ -1,8 +1,8 @@
 -- What `clap` gives of the words: the text of each option and word, and the flags.
-use Rattle.std.specs.Prelude.{◌≡◌, ℕ, Bool, true, false, List, Option, option_map, codes, is_some}
+use Rattle.std.specs.Prelude.{◌≡◌, ℕ, Bool, true, false, List, [], Option, option_map, codes, is_some, unwrap_or}
 use Rattle.std.specs.Option.{option_map_or}
 use Rattle.std.specs.Str.{bytes_eq}
-use Rattle.clap.specs.Words.{Row, first_of, matches_of}
+use Rattle.clap.specs.Words.{Row, all_of, first_of, found_of, matched_of, matches_of, raw_values}
 use Rattle.booth_cli.specs.declared.command.Verb.{Verb}
 use Rattle.booth_cli.specs.declared.command.Verb.TheVariants as verbs
 use Rattle.booth_cli.specs.declared.given.Given.{Given}
@@ -24,6 +24,7 @@ pub record Texts : Type 0 where
   pub program : Option (List ℕ)
   pub margin : Option (List ℕ)
   pub kill : Option (List ℕ)
+  pub journals : List (List ℕ)
   pub wait : Bool
   pub commit : Bool
   pub immediate : Bool
@@ -49,6 +50,7 @@ texts_in rows = record {
   program = first_of (codes "program") rows;
   margin = first_of (codes "margin") rows;
   kill = first_of (codes "kill") rows;
+  journals = unwrap_or (all_of (codes "journal") rows) [];
   wait = is_set (first_of (codes "wait") rows);
   commit = is_set (first_of (codes "commit") rows);
   immediate = is_set (first_of (codes "immediate") rows);
@@ -74,6 +76,7 @@ texts_of g = record {
   program = option_map (λ t. t.now) g.program;
   margin = option_map (λ t. t.now) g.margin;
   kill = option_map (λ t. t.now) g.kill;
+  journals = unwrap_or (option_map raw_values (matched_of (found_of g.matches) (codes "journal"))) [];
   wait = g.wait;
   commit = g.commit;
   immediate = g.immediate;

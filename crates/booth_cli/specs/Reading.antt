@@ -3,7 +3,7 @@ use Rattle.std.specs.Prelude.{◌≡◌, ◌<◌, ◌≤◌, ◌^◌, ◌==◌, 
 use Rattle.std.specs.Prelude.{◌*◌, nat_le, nat_lt, decimal, ℕ, Bool, false, List, Option, Some, None, Result, Ok, Err}
 use Rattle.std.specs.Prelude.{◌-◌, codes, is_some, IsSomeAnd, length, unwrap_or, if◌then◌else◌}
 use Rattle.std.specs.Prelude.{eqb}
-use Rattle.std.specs.List.{list_any, ends_with}
+use Rattle.std.specs.List.{list_all, list_any, ends_with}
 use Rattle.booth_base.specs.declared.address.Address.{Address}
 use Rattle.booth_base.specs.Address.{Spells}
 use Rattle.booth_base.specs.Name.{is_name, is_value}
@@ -20,6 +20,11 @@ use Rattle.booth_cli.specs.declared.reading.Times.{Times}
 use Rattle.booth_cli.specs.declared.reading.Named.{Named}
 use Rattle.booth_cli.specs.declared.reading.Numbers.{Numbers}
 use Rattle.booth_cli.specs.declared.reading.Read.{Read}
+use Rattle.booth_cli.specs.declared.reading.Unread.{Unread}
+use Rattle.booth_cli.specs.declared.reading.Unread.TheVariants.{Bad, NoMemory}
+use Rattle.booth_cli.specs.declared.paths.Paths.{Paths}
+use Rattle.booth_cli.specs.declared.paths.PathsFault.{PathsFault}
+use Rattle.booth_cli.specs.declared.paths.PathsFault.TheVariants as paths
 use Rattle.booth_cli.specs.Given.{Texts}
 
 -- ---- the path of the configuration
@@ -59,6 +64,10 @@ is_path text = nat_le 1 (length text) && nat_le (length text) PATH_BYTES
 abbrev pub IsNoPath : Option (List ℕ) → Type 0
 IsNoPath word = IsSomeAnd word (λ text. is_path text ≡ false)
 
+-- one of these is no path
+abbrev pub AreNoPaths : List (List ℕ) → Type 0
+AreNoPaths texts = list_all is_path texts ≡ false
+
 -- a number in this range, in decimal digits without a sign or a leading zero
 pub record IsNumber (low high : ℕ) (text : List ℕ) (n : ℕ) : Type 0 where
   pub spelled : text ≡ decimal n
@@ -90,6 +99,10 @@ RefusesCount t = IsNoNumber 1 MOST_TURNS t.turns
 abbrev pub RefusesTime : Texts → Type 0
 RefusesTime t = IsNoTime t.margin ⊎ IsNoTime t.kill
 
+-- the lock, the directory of records, or a journal
+abbrev pub RefusesPath : Texts → Type 0
+RefusesPath t = IsNoPath t.lock ⊎ (IsNoPath t.records ⊎ AreNoPaths t.journals)
+
 -- The reader of this kind of word refuses.
 abbrev pub Refuses : Texts → Word → Type 0
 Refuses t words.Ticket = IsNoName t.ticket
@@ -97,7 +110,7 @@ Refuses t words.Name = IsNoName t.name
 Refuses t words.Value = IsNoValue t.value
 Refuses t words.Site = IsNoAddress t.target ⊎ IsNoAddress t.site
 Refuses t words.Number = RefusesCount t ⊎ RefusesTime t
-Refuses t words.Path = IsNoPath t.lock ⊎ IsNoPath t.records
+Refuses t words.Path = RefusesPath t
 Refuses t words.Program = IsNoProgram t.program
 Refuses t words.Configuration = PATH_BYTES < length (conf_path t.conf)
 
@@ -181,6 +194,18 @@ pub record AreAddresses (t : Texts) (a : Addresses) : Type 0 where
   pub target : HasAddress t.target a.target
   pub site : HasAddress t.site a.site
 
+-- one of some paths is refused, or there was no memory for them
+abbrev pub IsPathsFault : Type 0 → PathsFault → Type 0
+IsPathsFault Refuses paths.Refused = Refuses
+IsPathsFault Refuses paths.NoMemory = Unit {0}
+
+-- the paths in words, none of which is refused
+pub record ArePaths (t : Texts) (p : Paths) : Type 0 where
+  pub accepted : Refuses t words.Path → ⊥
+  pub lock : p.lock ≡ unwrap_or t.lock default_lock
+  pub records : p.records ≡ unwrap_or t.records default_records
+  pub journals : p.journals.items ≡ t.journals
+
 -- no word is refused, and this is what they say
 pub record IsRead (t : Texts) (r : Read) : Type 0 where
   pub accepted : (word : Word) → Refuses t word → ⊥
@@ -196,6 +221,7 @@ pub record IsRead (t : Texts) (r : Read) : Type 0 where
   pub margin : HasTime t.margin r.margin
   pub kill : HasTime t.kill r.kill
   pub program : HasProgram t.program r.program
+  pub journals : r.journals.items ≡ t.journals
   pub names_conf : r.names_conf ≡ is_some t.conf
   pub lock : r.lock ≡ unwrap_or t.lock default_lock
   pub records : r.records ≡ unwrap_or t.records default_records
@@ -214,6 +240,11 @@ abbrev pub Names : Texts → Result Named Word → Type 0
 Names t (Ok n) = AreNamed t n
 Names t (Err word) = IsFirstRefused t word
 
-abbrev pub Reads : Texts → Result Read Word → Type 0
+-- the first word that is refused, or want of memory, which may come at any words
+abbrev pub IsUnread : Texts → Unread → Type 0
+IsUnread t (Bad word) = IsFirstRefused t word
+IsUnread t NoMemory = Unit {0}
+
+abbrev pub Reads : Texts → Result Read Unread → Type 0
 Reads t (Ok r) = IsRead t r
-Reads t (Err word) = IsFirstRefused t word
+Reads t (Err unread) = IsUnread t unread

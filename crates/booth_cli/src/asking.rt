@@ -1,17 +1,18 @@
 //! What the words ask for, or why they ask for nothing.
 ghost use Rattle.std.specs.Prelude.{◌≡◌, true, Some, is_some, map, string_bytes};
-ghost use Rattle.booth_cli.specs.Asking.{Asks, HasOrder, HasWords, IsAskedBy, IsDaemonOf, IsFollowOf, IsMoveOf, IsSimulationOf, client_of};
+ghost use Rattle.booth_cli.specs.Asking.{Asks, HasOrder, HasWords, IsAskedBy, IsAuditOf, IsDaemonOf, IsFollowOf};
+ghost use Rattle.booth_cli.specs.Asking.{IsMoveOf, IsSimulationOf, client_of};
 
 use crate::Word;
 use crate::command::{Verb, verb_in};
 use crate::given::given_words;
 use crate::program::Program;
-use crate::reading::{Read, read_words};
+use crate::reading::{Read, Unread, read_words};
 use booth_base::{Address, AttrValue, Name, PathText};
 use booth_following::Programs;
 use booth_talk::Order;
 use clap::Error;
-use std::alloc::Global;
+use std::alloc::{AllocError, Global};
 
 /// What the words of a daemon say.
 #[derive(Drop)]
@@ -37,6 +38,15 @@ pub struct SimulationWords {
     pub events: u64,
     /// The number that they are drawn by.
     pub number: u64,
+}
+
+/// What the words of an audit say.
+#[derive(Drop)]
+pub struct AuditWords {
+    /// The file of the configuration.
+    pub conf: PathText,
+    /// The files of the journals, in the order of the words.
+    pub journals: Vec<PathText>,
 }
 
 /// What the words of a client say.
@@ -89,6 +99,8 @@ pub enum Asked {
     Status(PathText),
     /// What becomes of a whole cluster in generated events.
     Simulation(SimulationWords),
+    /// What journals say of their members.
+    Audit(AuditWords),
     /// Something that a daemon is asked.
     Client(ClientWords),
     /// That a ticket is moved to another site.
@@ -133,6 +145,16 @@ fn simulation_of(read: Read) -> SimulationWords
         conf: read.names_conf.then_some(read.conf),
         events: read.events,
         number: read.number,
+    }
+}
+
+// The audit that these options and words ask for.
+fn audit_of(read: Read) -> AuditWords
+    ensures { IsAuditOf read result }
+{
+    AuditWords {
+        conf: read.conf,
+        journals: read.journals,
     }
 }
 
@@ -270,6 +292,7 @@ fn asked_of(verb: Verb, read: Read) -> Asked
         Verb::Daemon => Asked::Daemon(daemon_of(read)),
         Verb::Status => Asked::Status(read.lock),
         Verb::Simulate => Asked::Simulation(simulation_of(read)),
+        Verb::Audit => Asked::Audit(audit_of(read)),
         Verb::List => Asked::Client(client_of(Order::List, read)),
         Verb::Peers => Asked::Client(client_of(Order::Peers, read)),
         Verb::Grant => {
@@ -303,8 +326,9 @@ pub fn ask(alloc: Global, program: Program, words: &[String]) -> Result<Asked, R
         Ok(given) => given,
         Err(error) => return Err(Refusal::Untaken(error)),
     };
-    match read_words(&given) {
+    match read_words(alloc, &given) {
         Ok(read) => Ok(asked_of(verb, read)),
-        Err(word) => Err(Refusal::Bad(word)),
+        Err(Unread::Bad(word)) => Err(Refusal::Bad(word)),
+        Err(Unread::NoMemory) => Err(Refusal::Untaken(Error::from(AllocError))),
     }
 }

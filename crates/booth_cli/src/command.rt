@@ -4,10 +4,10 @@ ghost use Rattle.std.specs.Prelude.{◌≡◌, ◌≤◌, false, length, IfOk, c
 ghost use Rattle.clap.specs.Words.{app_of, rule_of};
 ghost use Rattle.booth_cli.specs.declared.command.Verb.{Verb};
 ghost use Rattle.booth_cli.specs.Commands.{option, needed, command_app, member_app, app_for, client_verb};
-ghost use Rattle.booth_cli.specs.Commands.{attribute_verb, daemon_verb, verb_in, version};
+ghost use Rattle.booth_cli.specs.Commands.{attribute_verb, daemon_verb, journals, verb_in, version};
 
 use crate::attribute_command::{delete, get, list_attributes, set};
-use crate::client_command::{grant, list, move_ticket, peers, revoke};
+use crate::client_command::{grant, list, move_ticket, peers, revoke, word};
 use crate::follow_command::follow;
 use crate::program::Program;
 use clap::{Arg, ArgAction, Command};
@@ -24,6 +24,9 @@ pub fn version() -> &'static str
     VERSION
 }
 
+/// The most journals of one audit.
+const MOST_JOURNALS: usize = 16;
+
 /// Where more is said of the daemon.
 const MORE: &str = "See boothd(8) for more.";
 
@@ -36,6 +39,8 @@ pub enum Verb {
     Status,
     /// Runs a whole cluster through generated events.
     Simulate,
+    /// Audits the journals of members.
+    Audit,
     /// Lists tickets.
     List,
     /// Lists members.
@@ -69,6 +74,9 @@ fn daemon_verb(word: &str) -> Option<Verb>
     }
     if word == "sim" {
         return Some(Verb::Simulate);
+    }
+    if word == "audit" {
+        return Some(Verb::Audit);
     }
     None
 }
@@ -272,6 +280,24 @@ fn simulate<'a>(alloc: Global) -> Result<Command<'a>, AllocError>
         .arg(number(alloc))
 }
 
+fn journals<'a>(alloc: Global) -> Arg<'a>
+    ensures rule { rule_of result ≡ journals }
+    ensures local { result.global ≡ false }
+{
+    let help = "Journals of members, 1 to 16, all behind one another";
+    word(alloc, "journal", "JOURNAL", help).num_args(1..=MOST_JOURNALS)
+}
+
+fn audit<'a>(alloc: Global) -> Result<Command<'a>, AllocError>
+    ensures { IfOk result (λ c. app_of c ≡ app_for Verb.Audit) }
+{
+    let about =
+        "Says who held which ticket when, by the journals of members, or where they are not true.";
+    plain(alloc, "audit", "boothd audit", about, MORE)?
+        .arg(conf(alloc))?
+        .arg(journals(alloc))
+}
+
 /// What `clap` is to know of a command.
 pub(crate) fn command<'a>(alloc: Global, verb: Verb) -> Result<Command<'a>, AllocError>
     ensures { IfOk result (λ c. app_of c ≡ app_for verb) }
@@ -280,6 +306,7 @@ pub(crate) fn command<'a>(alloc: Global, verb: Verb) -> Result<Command<'a>, Allo
         Verb::Daemon => daemon(alloc),
         Verb::Status => status(alloc),
         Verb::Simulate => simulate(alloc),
+        Verb::Audit => audit(alloc),
         Verb::List => list(alloc),
         Verb::Peers => peers(alloc),
         Verb::Grant => grant(alloc),

@@ -30,6 +30,8 @@ pub(crate) struct Given<'a> {
     pub wait: bool,
     pub commit: bool,
     pub immediate: bool,
+    /// The rest of what `clap` found: the journals.
+    pub matches: ArgMatches<'a>,
 }
 
 // Whether this flag was given.
@@ -80,5 +82,6 @@ pub(crate) fn given_words<'a>(
         wait: has_flag(&matches, "wait"),
         commit: has_flag(&matches, "commit"),
         immediate: has_flag(&matches, "immediate"),
+        matches,
     })
 }

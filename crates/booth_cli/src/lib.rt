@@ -7,12 +7,14 @@ mod client_command;
 mod command;
 mod follow_command;
 mod given;
+mod paths;
 mod program;
 mod reading;
 mod word;
 
 pub use asking::{
-    Asked, ClientWords, DaemonWords, FollowWords, MoveWords, Refusal, SimulationWords, ask,
+    Asked, AuditWords, ClientWords, DaemonWords, FollowWords, MoveWords, Refusal, SimulationWords,
+    ask,
 };
 pub use command::{Verb, version};
 pub use program::Program;

@@ -1,28 +1,24 @@
 //! The readers of the options, in the order in which a refusal is told.
-ghost use Rattle.std.specs.Prelude.{◌≡◌, ◌<◌, ◌≤◌, ◌^◌, ◌==◌, decimal, ℕ};
-ghost use Rattle.std.specs.Prelude.{is_some, option_map, unwrap_or, MatchOption, MatchResult, codes, length};
+ghost use Rattle.std.specs.Prelude.{◌≡◌, ◌<◌, ◌^◌, ◌==◌, decimal, ℕ};
+ghost use Rattle.std.specs.Prelude.{is_some, option_map, MatchOption, MatchResult, codes, length};
 ghost use Rattle.std.specs.Prelude.{eqb, nat_lt};
 ghost use Rattle.std.specs.List.{list_any, ends_with};
 ghost use Rattle.booth_following.specs.declared.programs.TheConstants.{PATH_BYTES};
 ghost use Rattle.booth_cli.specs.Given.{texts_of};
-ghost use Rattle.booth_cli.specs.Reading.{completed, conf_path, default_lock, default_records, HasAddress, HasName, options_in};
+ghost use Rattle.booth_cli.specs.Reading.{completed, conf_path, HasAddress, HasName, options_in};
 ghost use Rattle.booth_cli.specs.Reading.{AreAddresses, AreCounts, AreNumbers, AreTimes, HasNumber, HasNumberOr, HasProgram, HasTime};
-ghost use Rattle.booth_cli.specs.Reading.{IsNoAddress, IsNoName, IsNoNumber, IsNoPath, IsNoProgram, IsNoTime, IsNoValue, Names, Reads};
-ghost use Rattle.booth_cli.specs.Reading.{Refuses, RefusesCount, RefusesTime};
+ghost use Rattle.booth_cli.specs.Reading.{IsNoAddress, IsNoName, IsNoNumber, IsNoProgram, IsNoTime, IsNoValue};
+ghost use Rattle.booth_cli.specs.Reading.{Names, Reads, Refuses, RefusesCount, RefusesTime};
 
 use crate::Word;
 use crate::given::Given;
+use crate::paths::{PathsFault, paths_in};
 use arrayvec::ArrayString;
 use booth_base::{Address, AttrValue, Name, PathText};
 use booth_following::{PATH_BYTES, Programs};
 use booth_talk::Options;
 use itoa::Buffer;
-
-/// The file that is locked while a daemon runs, where none is named.
-const LOCK: &str = "/var/run/booth.lock";
-
-/// The directory of the kept records, where none is named.
-const RECORDS: &str = "/var/lib/booth";
+use std::alloc::Global;
 
 /// The most turns of a daemon.
 pub const MOST_TURNS: u64 = 1 << 62;
@@ -56,6 +52,7 @@ pub(crate) struct Read {
     /// In milliseconds.
     pub kill: Option<u64>,
     pub program: Option<Programs>,
+    pub journals: Vec<PathText>,
     pub lock: PathText,
     pub records: PathText,
     /// Whether a configuration is named.
@@ -63,9 +60,18 @@ pub(crate) struct Read {
     pub conf: PathText,
 }
 
+/// Why words are not read.
+#[derive(Drop)]
+pub(crate) enum Unread {
+    /// This is the first that its reader refuses.
+    Bad(Word),
+    /// There was no memory for what they say.
+    NoMemory,
+}
+
 /// A word that its reader refuses.
 #[derive(Drop)]
-struct Refused;
+pub(crate) struct Refused;
 
 // The name in a word.
 fn name_in(word: Option<&str>) -> Result<Option<Name>, Refused>
@@ -290,50 +296,6 @@ fn numbers_in(given: &Given) -> Result<Numbers, Refused>
     }
 }
 
-// The path in a word, or this one where there is no word.
-fn path_in(word: Option<&str>, default: &str) -> Result<PathText, Refused>
-    requires { length default.now ≤ PATH_BYTES }
-    ensures { MatchResult result
-        (λ path. (path ≡ unwrap_or (option_map (λ t. t.now) word.entry) default.now)
-        × (IsNoPath (option_map (λ t. t.now) word.entry) → ⊥))
-        (λ _. IsNoPath (option_map (λ t. t.now) word.entry)) }
-{
-    let Some(word) = word else {
-        return match PathText::read(default) {
-            Ok(path) => Ok(path),
-            Err(_) => unreachable!(),
-        };
-    };
-    if word.is_empty() {
-        return Err(Refused);
-    }
-    match PathText::read(word) {
-        Ok(path) => Ok(path),
-        Err(_) => Err(Refused),
-    }
-}
-
-// The two paths beside that of the configuration.
-#[derive(Drop)]
-struct Paths {
-    lock: PathText,
-    records: PathText,
-}
-
-fn paths_in(given: &Given) -> Result<Paths, Refused>
-    ensures { MatchResult result (λ p. (p.lock ≡ unwrap_or (texts_of given.now).lock default_lock)
-        × (p.records ≡ unwrap_or (texts_of given.now).records default_records)
-        × (Refuses (texts_of given.now) Word.Path → ⊥)) (λ _. Refuses (texts_of given.now) Word.Path) }
-{
-    let Ok(lock) = path_in(given.lock, LOCK) else {
-        return Err(Refused);
-    };
-    match path_in(given.records, RECORDS) {
-        Ok(records) => Ok(Paths { lock, records }),
-        Err(_) => Err(Refused),
-    }
-}
-
 // Whether a program is more than blanks.
 fn has_word(program: &str) -> bool
     ensures { result ≡ list_any (λ b. nat_lt 0x20 b) program.now }
@@ -419,27 +381,29 @@ fn options_in(given: &Given) -> Options
 }
 
 /// What the options and words say, or the first that is refused.
-pub(crate) fn read_words(given: &Given) -> Result<Read, Word>
+pub(crate) fn read_words(alloc: Global, given: &Given) -> Result<Read, Unread>
     ensures { Reads (texts_of given.now) result }
 {
     let named = match names_in(given) {
         Ok(named) => named,
-        Err(word) => return Err(word),
+        Err(word) => return Err(Unread::Bad(word)),
     };
     let Ok(addresses) = addresses_in(given) else {
-        return Err(Word::Site);
+        return Err(Unread::Bad(Word::Site));
     };
     let Ok(numbers) = numbers_in(given) else {
-        return Err(Word::Number);
+        return Err(Unread::Bad(Word::Number));
     };
-    let Ok(paths) = paths_in(given) else {
-        return Err(Word::Path);
+    let paths = match paths_in(alloc, given) {
+        Ok(paths) => paths,
+        Err(PathsFault::Refused) => return Err(Unread::Bad(Word::Path)),
+        Err(PathsFault::NoMemory) => return Err(Unread::NoMemory),
     };
     let Ok(program) = program_in(given.program) else {
-        return Err(Word::Program);
+        return Err(Unread::Bad(Word::Program));
     };
     let Some(conf) = conf_in(given.conf) else {
-        return Err(Word::Configuration);
+        return Err(Unread::Bad(Word::Configuration));
     };
     Ok(Read {
         ticket: named.ticket,
@@ -454,6 +418,7 @@ pub(crate) fn read_words(given: &Given) -> Result<Read, Word>
         margin: numbers.times.margin,
         kill: numbers.times.kill,
         program,
+        journals: paths.journals,
         lock: paths.lock,
         records: paths.records,
         names_conf: names_conf(given.conf),

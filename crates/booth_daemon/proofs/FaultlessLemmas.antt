@@ -16,10 +16,10 @@ use Rattle.booth_outcomes.specs.declared.outcome.Outcome.TheVariants.{Done, Conf
 use Rattle.booth_outcomes.specs.declared.outcome.Outcome.TheVariants.{NotMember, KeyUnread, KeyBad}
 use Rattle.booth_outcomes.specs.declared.outcome.Outcome.TheVariants.{LockFault, Running, NotRunning, OpenFault}
 use Rattle.booth_outcomes.specs.declared.outcome.Outcome.TheVariants.{RecordUnread, TurnsSpent, PrintFault}
-use Rattle.booth_outcomes.specs.declared.outcome.Outcome.TheVariants.{OutOfMemory}
+use Rattle.booth_outcomes.specs.declared.outcome.Outcome.TheVariants.{AuditBad, JournalUnread, OutOfMemory}
 use Rattle.booth_daemon.specs.Fitness.{has_member, IsUnserved}
 use Rattle.booth_outcomes.specs.Configuration.{IsUnread}
-use Rattle.booth_outcomes.specs.Keys.{FirstKeyless, IsFileKeyless, IsKeyless, NamesKeyFile, OldKeyless}
+use Rattle.booth_outcomes.specs.Keys.{FirstKeyless, IsFileKeyless, IsKeyFile, IsKeyless, NamesKeyFile, OldKeyless}
 use Rattle.booth_daemon.specs.Opening.{IsLockless, IsUnopened, opened, reads_of}
 use Rattle.booth_daemon.specs.Serving.{IsServing, Unread, Refused, Unkeyed, Unlocked, Unopened, Turning, IsStuck}
 use Rattle.booth_daemon.specs.Serving.{IsTurning}
@@ -29,11 +29,16 @@ use Rattle.booth_cli.specs.declared.program.Program.TheVariants.{Boothd}
 use Rattle.booth_daemon.specs.Status.{IsStatus, status_text}
 use Rattle.booth_daemon.specs.Simulating.{IsSimulated, IsSummed, IsUnchosen, Simulated, Unchosen, summary_text}
 use Rattle.booth_cli.specs.declared.asking.SimulationWords.{SimulationWords}
-use Rattle.booth_daemon.specs.Run.{IsMade, Unasked, Served, Summed, Looked}
+use Rattle.booth_cli.specs.declared.asking.AuditWords.{AuditWords}
+use Rattle.booth_keys.specs.declared.ring.Ring.{Ring}
+use Rattle.booth_daemon.specs.Auditing.{AreJournalsUnread, IsAuditEnd, IsAuditing, holdings_text}
+use Rattle.booth_daemon.specs.Auditing as audit
+use Rattle.booth_daemon.specs.Run.{IsMade, Unasked, Served, Summed, Reviewed, Looked}
 use Rattle.booth_outcomes.proofs.CallLemmas.{among, first_of, same_calls, second_of, third_of}
 use Rattle.booth_outcomes.proofs.UsageLemmas.{for_memory}
 use Rattle.booth_daemon.specs.Faultless.{IsValid, IsFaultless, EndsWell, FaultlessRuns, IsUnfailing}
 use Rattle.booth_daemon.specs.Faultless.{Tells, FaultlessLooks, FaultlessSimulations, IsFaultlessFor, Sums}
+use Rattle.booth_daemon.specs.Faultless.{Audits, FaultlessAudits, IsFaultlessAudit}
 
 -- a valid text has no fault
 no_fault : (address : Address) (text : List ℕ) (fault : ConfFault) → IsValid address text → IsFault text fault → ⊥
@@ -45,6 +50,39 @@ same_member address text config valid says none =
     let same : valid.config ≡ config = (one_answer text).one_config valid.config config valid.says says in
     let is : has_member config address ≡ true = subst (λ c. has_member c address ≡ true) same valid.member in
     cc
+
+-- Where no read failed and each key file that is named holds a key, a key is missing for want of memory alone.
+module _ (conf said : List ℕ) (body entries : List Entry) (all : (x : Entry) → Contains body x → Contains entries x)
+    (read : (file : List ℕ) → Contains entries (ReadFile file (Err reads.Failed)) → ⊥)
+    (keyed : (text file key_text : List ℕ) (config : ConfigSays) → Contains entries (ReadFile conf (Ok text)) → Says text config →
+    NamesKeyFile config file → Contains entries (ReadFile file (Ok key_text)) → IsKeyFile key_text) where
+  -- a key file that the configuration names was read behind these calls, and had no key
+  no_file_key : (text : List ℕ) (config : ConfigSays) (file : List ℕ) (early rest : List Entry) (outcome : Outcome) → Says text config →
+      Contains entries (ReadFile conf (Ok text)) → NamesKeyFile config file → body ≡ early ++ rest → IsFileKeyless file outcome said rest → outcome ≡ OutOfMemory
+  no_file_key text config file early rest OutOfMemory says made named whole k = refl
+  no_file_key text config file early rest KeyUnread says made named whole k =
+      let call : Entry = ReadFile file (Err reads.Failed) in
+      absurd (read file (all call (same_calls call (early ++ rest) body
+      (Contains-append_right early rest call (same_calls call (call ∷ []) rest (first_of call []) k.1)) whole)))
+  no_file_key text config file early rest (KeyBad fault) says made named whole k =
+      let call : Entry = ReadFile file (Ok k.0) in
+      let key = keyed text file k.0 config made says named
+      (all call (same_calls call (early ++ rest) body
+      (Contains-append_right early rest call (same_calls call (call ∷ []) rest (first_of call []) k.3)) whole)) in
+      let is = k.1 in
+      let reads = key.reads in
+      cc
+  no_file_key text config file early rest outcome says made named whole k = absurd k
+
+  no_key : (text : List ℕ) (config : ConfigSays) (rest : List Entry) (outcome : Outcome) → Says text config → body ≡ ReadFile conf (Ok text) ∷ rest →
+      IsKeyless config outcome said rest → outcome ≡ OutOfMemory
+  no_key text config rest outcome says whole (FirstKeyless k) =
+      let call : Entry = ReadFile conf (Ok text) in
+      no_file_key text config k.file (call ∷ []) rest outcome says (all call (same_calls call (call ∷ rest) body (first_of call rest) whole)) (inl k.set) whole k.here
+  no_key text config rest outcome says whole (OldKeyless k) =
+      let call : Entry = ReadFile conf (Ok text) in
+      no_file_key text config k.old (call ∷ ReadFile k.file (Ok k.text) ∷ []) k.rest outcome says
+      (all call (same_calls call (call ∷ rest) body (first_of call rest) whole)) (inr k.old_set) (whole ∙ ap (λ es. call ∷ es) k.whole) k.here
 
 -- each part of a run whose calls are among these, and in which nothing fails, ends well
 module _ (asked : DaemonWords) (said : List ℕ) (body entries : List Entry) (all : (x : Entry) → Contains body x → Contains entries x)
@@ -70,31 +108,10 @@ module _ (asked : DaemonWords) (said : List ℕ) (body entries : List Entry) (al
       same_member asked.site text config (free.valid text (made call (call ∷ []) (first_of call []) whole)) says u.0
   unserved text config outcome says whole u = absurd u
 
-  -- a key file that the configuration names was read behind these calls, and had no key
-  file_keyless : (text : List ℕ) (config : ConfigSays) (file : List ℕ) (early rest : List Entry) (outcome : Outcome) → Says text config →
-      Contains entries (ReadFile asked.conf (Ok text)) → NamesKeyFile config file → body ≡ early ++ rest → IsFileKeyless file outcome said rest → EndsWell outcome
-  file_keyless text config file early rest OutOfMemory says read named whole k = tt
-  file_keyless text config file early rest KeyUnread says read named whole k =
-      let call : Entry = ReadFile file (Err reads.Failed) in
-      free.read file (made call (early ++ rest) (Contains-append_right early rest call (same_calls call (call ∷ []) rest (first_of call []) k.1)) whole)
-  file_keyless text config file early rest (KeyBad fault) says read named whole k =
-      let call : Entry = ReadFile file (Ok k.0) in
-      let key = free.keyed text file k.0 config read says named
-      (made call (early ++ rest) (Contains-append_right early rest call (same_calls call (call ∷ []) rest (first_of call []) k.3)) whole) in
-      let is = k.1 in
-      let reads = key.reads in
-      cc
-  file_keyless text config file early rest outcome says read named whole k = absurd k
-
   keyless : (text : List ℕ) (config : ConfigSays) (rest : List Entry) (outcome : Outcome) → Says text config → body ≡ ReadFile asked.conf (Ok text) ∷ rest →
       IsKeyless config outcome said rest → EndsWell outcome
-  keyless text config rest outcome says whole (FirstKeyless k) =
-      let conf : Entry = ReadFile asked.conf (Ok text) in
-      file_keyless text config k.file (conf ∷ []) rest outcome says (made conf (conf ∷ rest) (first_of conf rest) whole) (inl k.set) whole k.here
-  keyless text config rest outcome says whole (OldKeyless k) =
-      let conf : Entry = ReadFile asked.conf (Ok text) in
-      file_keyless text config k.old (conf ∷ ReadFile k.file (Ok k.text) ∷ []) k.rest outcome says (made conf (conf ∷ rest) (first_of conf rest) whole) (inr k.old_set)
-      (whole ∙ ap (λ es. conf ∷ es) k.whole) k.here
+  keyless text config rest outcome says whole k =
+      subst EndsWell (sym (no_key asked.conf said body entries all free.read free.keyed text config rest outcome says whole k)) tt
 
   -- a call behind the reads was made
   behind : {after : ConfigSays → List Entry → Type 0} (s : IsStuck asked after body) (x : Entry) (xs : List Entry) → Contains xs x → s.rest ≡ xs → Contains entries x
@@ -149,6 +166,7 @@ faultless_runs words outcome entries valid run free = go run.made
     go (Served asked asks is) =
         served asked run.said run.body entries (λ x here. among x run.body run.last entries here run.whole) (free asked asks) outcome is
     go (Summed asked asks is) = let named = valid.named in let other = asks.asks.named in cc
+    go (Reviewed asked asks is) = let named = valid.named in let other = asks.asks.named in cc
     go (Looked lock asks is) = let named = valid.named in let other = asks.asks.named in cc
 
 -- ---- a simulation
@@ -193,7 +211,65 @@ faultless_simulations words outcome entries valid run free = go run.made
     go (Served asked asks is) = let named = valid.named in let other = asks.asks.named in cc
     go (Summed asked asks is) =
         simulated asked run.said entries (free asked asks) outcome run.body (λ x here. among x run.body run.last entries here run.whole) is
+    go (Reviewed asked asks is) = let named = valid.named in let other = asks.asks.named in cc
     go (Looked lock asks is) = let named = valid.named in let other = asks.asks.named in cc
+
+-- ---- an audit
+
+module _ (asked : AuditWords) (said : List ℕ) (body entries : List Entry) (all : (x : Entry) → Contains body x → Contains entries x)
+    (free : IsFaultlessAudit asked entries) where
+  unread_conf : (outcome : Outcome) → IsUnread asked.conf outcome said body → Audits outcome
+  unread_conf OutOfMemory u = tt
+  unread_conf ConfUnread u =
+      let call : Entry = ReadFile asked.conf (Err reads.Failed) in
+      absurd (free.read asked.conf (all call (same_calls call (call ∷ []) body (first_of call []) u.1)))
+  unread_conf (ConfBad fault) u =
+      let call : Entry = ReadFile asked.conf (Ok u.0) in
+      let valid = free.valid u.0 (all call (same_calls call (call ∷ []) body (first_of call []) u.3)) in
+      absurd ((one_answer u.0).not_both valid.0 fault valid.1 u.1)
+  unread_conf outcome u = absurd u
+
+  unread_journal : (outcome : Outcome) (early rest : List Entry) → body ≡ early ++ rest → AreJournalsUnread asked.journals.items outcome said rest → Audits outcome
+  unread_journal OutOfMemory early rest whole u = tt
+  unread_journal JournalUnread early rest whole u =
+      let path = u.0 in
+      let no = u.2 in
+      let call : Entry = ReadFile path (Err reads.Failed) in
+      absurd (free.read path (all call (same_calls call (early ++ rest) body
+      (Contains-append_right early rest call (same_calls call (no.early ++ call ∷ []) rest
+      (Contains-append_right no.early (call ∷ []) call (first_of call [])) no.whole)) whole)))
+  unread_journal outcome early rest whole u = absurd u
+
+  ended : (config : ConfigSays) (ring : Option Ring) (texts : List (List ℕ)) (outcome : Outcome) (early rest : List Entry) → body ≡ early ++ rest →
+      IsAuditEnd config ring asked.journals.items texts outcome said rest → Audits outcome
+  ended config ring texts Done early rest whole e = tt
+  ended config ring texts OutOfMemory early rest whole e = tt
+  ended config ring texts (AuditBad fault) early rest whole e = tt
+  ended config ring texts PrintFault early rest whole e =
+      let call : Entry = Out (holdings_text config e.1) (Err e.3) in
+      absurd (free.printed (holdings_text config e.1) e.3 (all call (same_calls call (early ++ rest) body
+      (Contains-append_right early rest call (same_calls call (call ∷ []) rest (first_of call []) e.4)) whole)))
+  ended config ring texts outcome early rest whole e = absurd e
+
+  audits : (outcome : Outcome) → IsAuditing asked outcome said body → Audits outcome
+  audits outcome (audit.Unread u) = unread_conf outcome u
+  audits outcome (audit.Unkeyed u) =
+      subst Audits (sym (no_key asked.conf said body entries all free.read free.keyed u.text u.config u.rest outcome u.says u.whole u.here)) tt
+  audits outcome (audit.Wanting w) = unread_journal outcome w.early w.rest w.whole w.here
+  audits outcome (audit.Audited config ring texts early rest read end whole) = ended config ring texts outcome early rest whole end
+
+pub faultless_audits : FaultlessAudits
+faultless_audits words outcome entries valid run free = go run.made
+  where
+    go : IsMade words outcome run.said run.body → Audits outcome
+    go (Unasked is) = subst Audits (sym (for_memory Boothd words verbs.Audit outcome run.said run.body valid is)) tt
+    go (Served asked asks is) = let named = valid.named in let other = asks.asks.named in cc
+    go (Summed asked asks is) = let named = valid.named in let other = asks.asks.named in cc
+    go (Reviewed asked asks is) =
+        audits asked run.said run.body entries (λ x here. among x run.body run.last entries here run.whole) (free asked asks) outcome is
+    go (Looked lock asks is) = let named = valid.named in let other = asks.asks.named in cc
+
+-- ---- a look at the lock
 
 looked : (lock said : List ℕ) (body entries : List Entry) (outcome : Outcome) → ((x : Entry) → Contains body x → Contains entries x) →
     IsUnfailing entries → IsStatus lock outcome said body → Tells outcome
@@ -215,5 +291,6 @@ faultless_looks words outcome entries valid run free = go run.made
     go (Unasked is) = subst Tells (sym (for_memory Boothd words verbs.Status outcome run.said run.body valid is)) tt
     go (Served asked asks is) = let named = valid.named in let other = asks.asks.named in cc
     go (Summed asked asks is) = let named = valid.named in let other = asks.asks.named in cc
+    go (Reviewed asked asks is) = let named = valid.named in let other = asks.asks.named in cc
     go (Looked lock asks is) =
         looked lock run.said run.body entries outcome (λ x here. among x run.body run.last entries here run.whole) free is

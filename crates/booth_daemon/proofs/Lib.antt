@@ -4,6 +4,7 @@ mod RecordLemmas
 mod TurnLemmas
 mod StatusLemmas
 mod SimulatingLemmas
+mod AuditingLemmas
 mod RunLemmas
 mod FaultlessLemmas
 mod SessionLemmas

@@ -40,13 +40,12 @@ kept_last tickets records ticket rec xs ys kept call = record {
       ∙ sym (calls_more tickets records ticket rec kept.each);
 }
 
--- the tickets before this one, this one, and those behind it
-cut_at : (tickets : List TicketConf) (i : ℕ) (ticket : TicketConf) → i < length tickets →
-    ticket ≡ get_or tickets i ticket →
-    tickets ≡ take i tickets ++ ticket ∷ drop (suc i) tickets
-cut_at tickets i ticket below is =
-    sym (take-append-drop i tickets) ∙ ap (λ ts. take i tickets ++ ts) (drop-cons tickets i ticket below)
-    ∙ ap (λ t. take i tickets ++ t ∷ drop (suc i) tickets) (sym is)
+-- what stands before a place, what stands there, and what stands behind it
+pub cut_at : {X : Type 0} (xs : List X) (i : ℕ) (x : X) → i < length xs → x ≡ get_or xs i x →
+    xs ≡ take i xs ++ x ∷ drop (suc i) xs
+cut_at xs i x below is =
+    sym (take-append-drop i xs) ∙ ap (λ ts. take i xs ++ ts) (drop-cons xs i x below)
+    ∙ ap (λ t. take i xs ++ t ∷ drop (suc i) xs) (sym is)
 
 module _ (tickets : List TicketConf) (i : ℕ) (ticket : TicketConf) (below : i < length tickets)
     (is : ticket ≡ get_or tickets i ticket) (records : List (Option Record)) where

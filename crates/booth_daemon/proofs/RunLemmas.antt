@@ -10,22 +10,25 @@ use Rattle.booth_outcomes.specs.declared.outcome.Outcome.{Outcome}
 use Rattle.booth_outcomes.specs.declared.outcome.Outcome.TheVariants.{Done, Usage, BadWord, LockFault, NotRunning}
 use Rattle.booth_outcomes.specs.declared.outcome.Outcome.TheVariants.{PrintFault, OutOfMemory, Report, Refused, NoReply}
 use Rattle.booth_outcomes.specs.declared.outcome.Outcome.TheVariants.{SendFault, ConfUnread, ConfBad, NotSite, NotFollowed, Stranded}
+use Rattle.booth_outcomes.specs.declared.outcome.Outcome.TheVariants.{AuditBad, JournalUnread, KeyBad, KeyUnread}
 use Rattle.booth_cli.specs.declared.command.Verb.TheVariants as verbs
 use Rattle.booth_cli.specs.declared.program.Program.TheVariants.{Boothd}
+use Rattle.booth_cli.specs.declared.asking.AuditWords.{AuditWords}
 use Rattle.booth_cli.specs.declared.asking.DaemonWords.{DaemonWords}
 use Rattle.booth_cli.specs.declared.asking.SimulationWords.{SimulationWords}
 use Rattle.booth_cli.specs.declared.asking.Asked.{Asked}
-use Rattle.booth_cli.specs.declared.asking.Asked.TheVariants.{Daemon, Status, Simulation}
-use Rattle.booth_cli.specs.Asking.{Asks, AsksDaemon, AsksSimulation, AsksStatus, IsUntaken, IsUntakenFor}
+use Rattle.booth_cli.specs.declared.asking.Asked.TheVariants.{Audit, Daemon, Status, Simulation}
+use Rattle.booth_cli.specs.Asking.{Asks, AsksAudit, AsksDaemon, AsksSimulation, AsksStatus, IsUntaken, IsUntakenFor}
 use Rattle.booth_cli.proofs.AskingLemmas.{taken_named, untaken_named, untaken_of}
 use Rattle.booth_outcomes.proofs.UsageLemmas.{no_memory, unasked_of}
 use Rattle.booth_outcomes.specs.Unasked.{IsTold, IsToldOutcome, IsUnasked}
 use Rattle.booth_daemon.specs.Serving.{IsServing}
 use Rattle.booth_outcomes.specs.Outcomes.{IsServed}
 use Rattle.booth_daemon.specs.Status.{IsStatus, IsStatusOutcome}
-use Rattle.booth_daemon.specs.Simulating.{IsSimulated}
+use Rattle.booth_daemon.specs.Simulating.{IsSimulated, IsSimulationEnd}
+use Rattle.booth_daemon.specs.Auditing.{IsAuditOutcome, IsAuditing}
 use Rattle.booth_outcomes.specs.Texts.{IsText}
-use Rattle.booth_daemon.specs.Run.{IsMade, Unasked, Served, Summed, Looked, IsRun, FitsWords}
+use Rattle.booth_daemon.specs.Run.{AskForAudit, IsMade, Unasked, Served, Summed, Reviewed, Looked, IsRun, FitsWords}
 use Rattle.clap.specs.declared.error.Error.{Error}
 use Rattle.booth_cli.specs.declared.asking.Refusal.{Refusal}
 use Rattle.booth_cli.specs.declared.asking.Refusal.TheVariants.{Untaken}
@@ -52,7 +55,7 @@ unasked_made words outcome said is = some_of (IsMade words outcome said) no_entr
 pub fits_told : (words : List (List ℕ)) (kind : ErrorKind) (outcome : Outcome) → IsUntakenFor Boothd words kind → IsToldOutcome kind outcome → FitsWords words outcome
 fits_told words kind (Usage (Some told)) un out = subst (λ k. IsUntaken Boothd words k) (sym out.0) (untaken_of Boothd words kind out.1 un)
 fits_told words kind PrintFault un out =
-    inr (inr (record { kind = kind; untaken = untaken_of Boothd words kind (no_memory kind out) un; is = out }))
+    inr (inr (inr (record { kind = kind; untaken = untaken_of Boothd words kind (no_memory kind out) un; is = out })))
 fits_told words kind OutOfMemory un out = untaken_named Boothd words kind un
 fits_told words kind outcome un out = absurd out
 
@@ -67,6 +70,9 @@ asks_status words lock all asks same = let is : Asks Boothd words (Ok (Status lo
 pub asks_simulation : (words : List (List ℕ)) (asked : SimulationWords) (all : Asked) → Asks Boothd words (Ok all) → all ≡ Simulation asked → AsksSimulation words asked
 asks_simulation words asked all asks same = let is : Asks Boothd words (Ok (Simulation asked)) = subst (λ x. Asks Boothd words (Ok x)) same asks in is.1
 
+pub asks_audit : (words : List (List ℕ)) (asked : AuditWords) (all : Asked) → Asks Boothd words (Ok all) → all ≡ Audit asked → AsksAudit words asked
+asks_audit words asked all asks same = let is : Asks Boothd words (Ok (Audit asked)) = subst (λ x. Asks Boothd words (Ok x)) same asks in is.1
+
 pub served_made : {a b : Option (List Entry)} (words : List (List ℕ)) (asked : DaemonWords) (outcome : Outcome) (said : List ℕ) → AsksDaemon words asked →
     GrewSome (IsServing asked outcome said) a b → GrewSome (IsMade words outcome said) a b
 served_made words asked outcome said asks served =
@@ -76,6 +82,11 @@ pub summed_made : {a b : Option (List Entry)} (words : List (List ℕ)) (asked :
     GrewSome (IsSimulated asked outcome said) a b → GrewSome (IsMade words outcome said) a b
 summed_made words asked outcome said asks simulated =
     some_weaker (IsSimulated asked outcome said) (IsMade words outcome said) (λ es is. Summed asked asks is) simulated
+
+pub audited_made : {a b : Option (List Entry)} (words : List (List ℕ)) (asked : AuditWords) (outcome : Outcome) (said : List ℕ) → AsksAudit words asked →
+    GrewSome (IsAuditing asked outcome said) a b → GrewSome (IsMade words outcome said) a b
+audited_made words asked outcome said asks audited =
+    some_weaker (IsAuditing asked outcome said) (IsMade words outcome said) (λ es is. Reviewed asked asks is) audited
 
 pub looked_made : {a b : Option (List Entry)} (words : List (List ℕ)) (lock : List ℕ) (outcome : Outcome) (said : List ℕ) → AsksStatus words lock →
     GrewSome (IsStatus lock outcome said) a b → GrewSome (IsMade words outcome said) a b
@@ -94,6 +105,10 @@ fits_served words asked SendFault asks served = absurd served
 fits_served words asked NotSite asks served = absurd served
 fits_served words asked (Stranded result) asks served = absurd served
 fits_served words asked (NotFollowed fault) asks served = absurd served
+fits_served words asked JournalUnread asks served = absurd served
+fits_served words asked (AuditBad fault) asks served = absurd served
+fits_served words asked KeyUnread asks served = inl (record { asked = asked; asks = asks })
+fits_served words asked (KeyBad fault) asks served = inl (record { asked = asked; asks = asks })
 fits_served words asked Done asks served = inl (record { asked = asked; asks = asks })
 fits_served words asked LockFault asks served = inl (record { asked = asked; asks = asks })
 fits_served words asked OutOfMemory asks served = taken_named Boothd words verbs.Daemon asks.all asks.asks
@@ -107,6 +122,33 @@ fits_looked words lock LockFault asks is = inr (record { lock = lock; asks = ask
 fits_looked words lock NotRunning asks is = record { lock = lock; asks = asks }
 fits_looked words lock PrintFault asks is = inl (record { lock = lock; asks = asks })
 fits_looked words lock outcome asks is = absurd is
+
+pub fits_summed : (words : List (List ℕ)) (asked : SimulationWords) (outcome : Outcome) → AsksSimulation words asked → IsSimulationEnd asked.conf outcome →
+    FitsWords words outcome
+fits_summed words asked Done asks is = inr (inr (inl (record { asked = asked; asks = asks })))
+fits_summed words asked PrintFault asks is = inr (inl (record { asked = asked; asks = asks }))
+fits_summed words asked OutOfMemory asks is = taken_named Boothd words verbs.Simulate asks.all asks.asks
+fits_summed words asked ConfUnread asks is = inr (inl (record { asked = asked; asks = asks; named = is }))
+fits_summed words asked (ConfBad fault) asks is = inr (inl (record { asked = asked; asks = asks; named = is }))
+fits_summed words asked outcome asks is = absurd is
+
+pub fits_audited : (words : List (List ℕ)) (asked : AuditWords) (outcome : Outcome) → AsksAudit words asked → IsAuditOutcome outcome → FitsWords words outcome
+fits_audited words asked outcome asks is = go outcome is
+  where
+    audit : AskForAudit words
+    audit = record { asked = asked; asks = asks }
+
+    go : (outcome : Outcome) → IsAuditOutcome outcome → FitsWords words outcome
+    go Done is = inr (inr (inr audit))
+    go PrintFault is = inr (inr (inl audit))
+    go OutOfMemory is = taken_named Boothd words verbs.Audit asks.all asks.asks
+    go ConfUnread is = inr (inr audit)
+    go (ConfBad fault) is = inr (inr audit)
+    go KeyUnread is = inr audit
+    go (KeyBad fault) is = inr audit
+    go JournalUnread is = audit
+    go (AuditBad fault) is = audit
+    go outcome is = absurd is
 
 -- ---- the whole run
 

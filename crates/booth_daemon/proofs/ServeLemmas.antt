@@ -20,7 +20,7 @@ use Rattle.booth_node.specs.Opening.{opened as start_state}
 use Rattle.booth_outcomes.specs.declared.outcome.Ended.{Ended}
 use Rattle.booth_outcomes.specs.declared.outcome.Outcome.{Outcome}
 use Rattle.booth_outcomes.specs.declared.outcome.Outcome.TheVariants.{ConfUnread, KeyUnread, LockFault, OpenFault}
-use Rattle.booth_outcomes.specs.declared.outcome.Outcome.TheVariants.{RecordUnread, PrintFault, OutOfMemory, SendFault}
+use Rattle.booth_outcomes.specs.declared.outcome.Outcome.TheVariants.{JournalUnread, RecordUnread, PrintFault, OutOfMemory, SendFault}
 use Rattle.booth_outcomes.specs.Texts.{out_of_memory_text, unopened_text}
 use Rattle.booth_daemon.specs.Fitness.{IsAdmitted}
 use Rattle.booth_daemon.specs.Records.{AreKept, AreUnread}
@@ -39,9 +39,10 @@ rose_since : (a b c : ℕ) → a ≤ b → Rose b c → Rose a c
 rose_since a b c le rose = grind (arith, le, rose)
 
 -- who had failed later had failed since before
-blame_since : (outcome : Outcome) (a b c : ℕ) → a ≤ b → HasBlame outcome b c → HasBlame outcome a c
+pub blame_since : (outcome : Outcome) (a b c : ℕ) → a ≤ b → HasBlame outcome b c → HasBlame outcome a c
 blame_since ConfUnread a b c le blame = rose_since a b c le blame
 blame_since KeyUnread a b c le blame = rose_since a b c le blame
+blame_since JournalUnread a b c le blame = rose_since a b c le blame
 blame_since LockFault a b c le blame = rose_since a b c le blame
 blame_since OpenFault a b c le blame = rose_since a b c le blame
 blame_since RecordUnread a b c le blame = rose_since a b c le blame

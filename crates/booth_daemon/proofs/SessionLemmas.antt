@@ -20,7 +20,7 @@ use Rattle.booth_cli.specs.declared.asking.DaemonWords.{DaemonWords}
 use Rattle.booth_cli.specs.Asking.{AsksDaemon}
 use Rattle.booth_daemon.specs.Headline.{IsSafe, IsTurningEnd, DaemonsTurn, RunsAreSessions, CutRunsAreSessions}
 use Rattle.booth_daemon.specs.Opening.{member_config}
-use Rattle.booth_daemon.specs.Run.{IsRun, IsMade, Unasked, Served, Summed, Looked, AskForDaemon}
+use Rattle.booth_daemon.specs.Run.{IsRun, IsMade, Unasked, Served, Summed, Reviewed, Looked, AskForDaemon}
 use Rattle.booth_cli.specs.declared.reading.TheConstants.{MOST_TURNS}
 use Rattle.booth_daemon.specs.Serving.{IsNodeRun, IsServing, IsTurning, Unread, Refused, Unkeyed, Unlocked, Unopened, Turning}
 
@@ -79,6 +79,10 @@ serving_of words Done said body daemon ends (Unasked is) = absurd is
 serving_of words TurnsSpent said body daemon ends (Unasked is) = absurd is
 serving_of words outcome said body daemon ends (Served asked asks is) = (asked, asks, is)
 serving_of words outcome said body daemon ends (Summed asked asks is) =
+    let daemon_named = daemon.asks.asks.named in
+    let other_named = asks.asks.named in
+    cc
+serving_of words outcome said body daemon ends (Reviewed asked asks is) =
     let daemon_named = daemon.asks.asks.named in
     let other_named = asks.asks.named in
     cc

@@ -9,12 +9,13 @@ use Rattle.booth_host.specs.declared.entry.Entry.{Entry}
 use Rattle.booth_host.specs.declared.entry.Entry.TheVariants.{Open, ReadFile, Lock, Kept, Out}
 use Rattle.booth_cli.specs.declared.command.Verb.TheVariants as verbs
 use Rattle.booth_outcomes.specs.declared.outcome.Outcome.{Outcome}
-use Rattle.booth_outcomes.specs.declared.outcome.Outcome.TheVariants.{Done, TurnsSpent, NotRunning}
+use Rattle.booth_outcomes.specs.declared.outcome.Outcome.TheVariants.{AuditBad, Done, TurnsSpent, NotRunning}
 use Rattle.booth_outcomes.specs.declared.outcome.Outcome.TheVariants.{OutOfMemory}
+use Rattle.booth_cli.specs.declared.asking.AuditWords.{AuditWords}
 use Rattle.booth_cli.specs.declared.asking.DaemonWords.{DaemonWords}
 use Rattle.booth_cli.specs.declared.asking.SimulationWords.{SimulationWords}
 use Rattle.booth_cli.specs.declared.program.Program.TheVariants.{Boothd}
-use Rattle.booth_cli.specs.Asking.{AsksDaemon, AsksSimulation}
+use Rattle.booth_cli.specs.Asking.{AsksAudit, AsksDaemon, AsksSimulation}
 use Rattle.booth_cli.specs.Valid.{AreValid}
 use Rattle.booth_outcomes.specs.Keys.{IsKeyFile, NamesKeyFile}
 use Rattle.booth_daemon.specs.Fitness.{has_member}
@@ -86,6 +87,34 @@ abbrev pub FaultlessSimulations : Type 0
 FaultlessSimulations = (words : List (List ℕ)) (outcome : Outcome) (entries : List Entry) →
     AreValid Boothd words verbs.Simulate → IsRun words outcome entries →
     ((asked : SimulationWords) → AsksSimulation words asked → IsFaultlessFor asked entries) → Sums outcome
+
+-- ---- an audit
+
+-- What was read at the path of the configuration says one, what was read at a key file that it names holds a key, and
+-- neither a read nor a print failed.
+pub record IsFaultlessAudit (asked : AuditWords) (entries : List Entry) : Type 0 where
+  pub read : (file : List ℕ) → Contains entries (ReadFile file (Err reads.Failed)) → ⊥
+  pub valid : (text : List ℕ) → Contains entries (ReadFile asked.conf (Ok text)) →
+      (config : ConfigSays) × Says text config
+  pub keyed : (text file key_text : List ℕ) (config : ConfigSays) → Contains entries
+      (ReadFile asked.conf (Ok text)) → Says text config →
+      NamesKeyFile config file → Contains entries (ReadFile file (Ok key_text)) → IsKeyFile key_text
+  pub printed : (text : List ℕ) (failed : Failed) → Contains entries (Out text (Err failed)) → ⊥
+
+abbrev pub is_audited_well : Outcome → Bool
+is_audited_well Done = true
+is_audited_well (AuditBad fault) = true
+is_audited_well OutOfMemory = true
+is_audited_well outcome = false
+
+abbrev pub Audits : Outcome → Type 0
+Audits outcome = T (is_audited_well outcome)
+
+-- Valid words, a valid file, its keys and an outside that does not fail give Done, AuditBad or OutOfMemory.
+abbrev pub FaultlessAudits : Type 0
+FaultlessAudits = (words : List (List ℕ)) (outcome : Outcome) (entries : List Entry) →
+    AreValid Boothd words verbs.Audit → IsRun words outcome entries →
+    ((asked : AuditWords) → AsksAudit words asked → IsFaultlessAudit asked entries) → Audits outcome
 
 -- ---- a look at the lock
 

@@ -1,5 +1,6 @@
 pub mod Status
 pub mod Simulating
+pub mod Auditing
 pub mod Fitness
 pub mod Records
 pub mod Opening
@@ -10,5 +11,6 @@ pub mod Faultless
 pub mod Ending
 pub use Rattle.booth_host.specs.Past
 pub use Rattle.booth_sim.specs.Laws
+pub use Rattle.booth_audit.specs.Audit
 pub use Rattle.booth_host.specs.Causes
 pub use Rattle.booth_host.specs.Memory

@@ -4,17 +4,21 @@ use Rattle.booth_host.specs.declared.entry.Entry.{Entry}
 use Rattle.booth_outcomes.specs.declared.outcome.Outcome.{Outcome}
 use Rattle.booth_outcomes.specs.declared.outcome.Outcome.TheVariants.{Done, Usage, BadWord, LockFault, NotRunning}
 use Rattle.booth_outcomes.specs.declared.outcome.Outcome.TheVariants.{PrintFault, OutOfMemory, ConfUnread, ConfBad}
+use Rattle.booth_outcomes.specs.declared.outcome.Outcome.TheVariants.{KeyUnread, KeyBad, JournalUnread, AuditBad}
 use Rattle.booth_outcomes.specs.Outcomes.{is_served}
 use Rattle.booth_cli.specs.declared.program.Program.TheVariants.{Boothd}
+use Rattle.booth_cli.specs.declared.asking.AuditWords.{AuditWords}
 use Rattle.booth_cli.specs.declared.asking.DaemonWords.{DaemonWords}
 use Rattle.booth_cli.specs.declared.asking.SimulationWords.{SimulationWords}
 use Rattle.booth_cli.specs.Commands.{verb_in}
-use Rattle.booth_cli.specs.Asking.{AsksDaemon, AsksSimulation, AsksStatus, NamesCommand, IsUntaken, HasBadWord}
+use Rattle.booth_cli.specs.Asking.{AsksAudit, AsksDaemon, AsksSimulation, AsksStatus}
+use Rattle.booth_cli.specs.Asking.{HasBadWord, IsUntaken, NamesCommand}
 use Rattle.booth_outcomes.specs.Texts.{IsText}
 use Rattle.booth_outcomes.specs.Unasked.{IsRequest, IsUnasked}
 use Rattle.booth_daemon.specs.Serving.{IsServing}
 use Rattle.booth_daemon.specs.Status.{IsStatus}
 use Rattle.booth_daemon.specs.Simulating.{IsSimulated}
+use Rattle.booth_daemon.specs.Auditing.{IsAuditing}
 
 -- the calls up to where the outcome is decided, by what the words ask for
 pub data IsMade (words : List (List ℕ)) (outcome : Outcome) (said : List ℕ)
@@ -23,6 +27,8 @@ pub data IsMade (words : List (List ℕ)) (outcome : Outcome) (said : List ℕ)
   Served : (asked : DaemonWords) → AsksDaemon words asked → IsServing asked outcome said entries →
       IsMade words outcome said entries
   Summed : (asked : SimulationWords) → AsksSimulation words asked → IsSimulated asked outcome said entries →
+      IsMade words outcome said entries
+  Reviewed : (asked : AuditWords) → AsksAudit words asked → IsAuditing asked outcome said entries →
       IsMade words outcome said entries
   Looked : (lock : List ℕ) → AsksStatus words lock → IsStatus lock outcome said entries →
       IsMade words outcome said entries
@@ -53,6 +59,11 @@ pub record AskForSimulation (words : List (List ℕ)) : Type 0 where
   pub asked : SimulationWords
   pub asks : AsksSimulation words asked
 
+-- the words ask for an audit, whatever they say of it
+pub record AskForAudit (words : List (List ℕ)) : Type 0 where
+  pub asked : AuditWords
+  pub asks : AsksAudit words asked
+
 -- the words ask for a simulation of a configuration that they name
 pub record AskForNamed (words : List (List ℕ)) : Type 0 where
   pub asked : SimulationWords
@@ -65,11 +76,16 @@ abbrev pub FitsWords : List (List ℕ) → Outcome → Type 0
 FitsWords words (Usage None) = verb_in Boothd words ≡ None
 FitsWords words (Usage (Some kind)) = IsUntaken Boothd words kind
 FitsWords words (BadWord word) = HasBadWord Boothd words word
-FitsWords words Done = AskForDaemon words ⊎ (AskForStatus words ⊎ AskForSimulation words)
+FitsWords words Done = AskForDaemon words ⊎ (AskForStatus words ⊎ (AskForSimulation words ⊎ AskForAudit words))
 FitsWords words LockFault = AskForDaemon words ⊎ AskForStatus words
 FitsWords words NotRunning = AskForStatus words
-FitsWords words PrintFault = AskForStatus words ⊎ (AskForSimulation words ⊎ IsRequest Boothd words)
+FitsWords words PrintFault =
+    AskForStatus words ⊎ (AskForSimulation words ⊎ (AskForAudit words ⊎ IsRequest Boothd words))
 FitsWords words OutOfMemory = NamesCommand Boothd words
-FitsWords words ConfUnread = AskForDaemon words ⊎ AskForNamed words
-FitsWords words (ConfBad fault) = AskForDaemon words ⊎ AskForNamed words
+FitsWords words ConfUnread = AskForDaemon words ⊎ (AskForNamed words ⊎ AskForAudit words)
+FitsWords words (ConfBad fault) = AskForDaemon words ⊎ (AskForNamed words ⊎ AskForAudit words)
+FitsWords words KeyUnread = AskForDaemon words ⊎ AskForAudit words
+FitsWords words (KeyBad fault) = AskForDaemon words ⊎ AskForAudit words
+FitsWords words JournalUnread = AskForAudit words
+FitsWords words (AuditBad fault) = AskForAudit words
 FitsWords words outcome = T (is_served outcome) × AskForDaemon words

@@ -1,5 +1,5 @@
 //! What follows from the contracts, for all runs.
-ghost use Rattle.booth_daemon.specs.Faultless.{FaultlessRuns, FaultlessSimulations, FaultlessLooks};
+ghost use Rattle.booth_daemon.specs.Faultless.{FaultlessAudits, FaultlessRuns, FaultlessSimulations, FaultlessLooks};
 ghost use Rattle.booth_daemon.specs.Headline.{CutRunsAreSessions, DaemonsTurn, RunsAreSessions};
 
 /// Valid words and files, a free lock and an outside that does not fail give Done, TurnsSpent or
@@ -11,6 +11,12 @@ pub fn faultless_runs()
 /// Valid words, a valid file and an outside that does not fail have `sim` give Done or OutOfMemory.
 pub fn faultless_simulations()
     ensures { FaultlessSimulations }
+{}
+
+/// Valid words, a valid file, its keys and an outside that does not fail have `audit` give Done, AuditBad or
+/// OutOfMemory.
+pub fn faultless_audits()
+    ensures { FaultlessAudits }
 {}
 
 /// Valid words and an outside that does not fail have `status` give Done, NotRunning or OutOfMemory.

@@ -1,7 +1,9 @@
 //! The program `boothd` over any host: words in, calls on the host, texts and outcome out.
 #![tactic(auto)]
 
+mod auditing;
 mod fitness;
+mod holdings_text;
 pub mod laws;
 mod opening;
 mod records;

@@ -6,6 +6,7 @@ ghost use Rattle.booth_outcomes.specs.Outcomes.{HasBlame, IsBlameless};
 ghost use Rattle.booth_daemon.specs.Headline.{IsSafe};
 ghost use Rattle.booth_daemon.specs.Run.{FitsWords, IsMade, IsRun};
 
+use crate::auditing::audit;
 use crate::serving::serve;
 use crate::simulating::simulate;
 use crate::status::status;
@@ -27,6 +28,7 @@ fn run_words<H: Host>(alloc: Global, words: &[String], host: &mut H) -> Ended
         Ok(Asked::Daemon(asked)) => serve(alloc, &asked, host),
         Ok(Asked::Status(lock)) => status(&lock, host),
         Ok(Asked::Simulation(asked)) => simulate(alloc, &asked, host),
+        Ok(Asked::Audit(asked)) => audit(alloc, &asked, host),
         Ok(Asked::Client(_)) | Ok(Asked::Move(_)) | Ok(Asked::Follow(_)) => unreachable!(),
         Err(Refusal::Untaken(error)) => tell_error(alloc, Program::Boothd, &error, host),
         Err(Refusal::NoCommand) => Ended {
@@ -45,7 +47,8 @@ fn run_words<H: Host>(alloc: Global, words: &[String], host: &mut H) -> Ended
 /// `daemon` reads the configuration, its key where `authfile` is set, takes the lock, opens its socket, reads the
 /// record of each ticket, and makes turns at the member's address until the host says `Stop` or the turns that were
 /// asked for are made. `status` says whether a daemon holds the lock. `sim` runs a whole cluster in memory through
-/// generated events, and prints what was counted. Help and version are printed; of all other words it is said what is
+/// generated events, and prints what was counted. `audit` reads the journals of members and says who held which ticket
+/// when, or where they are not true. Help and version are printed; of all other words it is said what is
 /// wrong with them.
 #[tactic(auto, using(crate::proofs::RunLemmas::run_of, crate::proofs::SessionLemmas::safe_run))]
 pub fn boothd<H: Host>(alloc: Global, words: &[String], host: &mut H) -> Outcome

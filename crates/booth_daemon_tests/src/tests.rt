@@ -3,6 +3,7 @@
 //! The words of a run are one text with a blank between each two, and what its host is made of is a text as
 //! `booth_scripts` reads it. How a run ends is told as the letters of its calls, its status, its outcome, and what was
 //! printed or said last, or `-`.
+mod audits;
 mod failing_hosts;
 mod faults;
 mod grants;

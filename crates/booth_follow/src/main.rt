@@ -21,7 +21,7 @@ fn words(rt: &HostRuntime, alloc: Global) -> Result<Vec<String>, AllocError> {
 // Has each reading be one of the clock that the daemon of this site keeps: an end that its list tells is one of that.
 fn shares_clock(alloc: Global, words: &[String], host: &mut RealHost) -> bool {
     let mut is_shared = true;
-    if let Ok(Asked::Follow(asked)) = ask(alloc, Program::BoothFollow, words) {
+    if let Ok(Asked::Follow(asked)) = &ask(alloc, Program::BoothFollow, words) {
         is_shared = host.share_clock(&asked.records);
     }
     is_shared

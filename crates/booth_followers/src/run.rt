@@ -22,6 +22,8 @@ fn run_words<H: Host>(alloc: Global, words: &[String], host: &mut H) -> Ended
     match ask(alloc, Program::BoothFollow, words) {
         Ok(Asked::Follow(asked)) => follow_ticket(alloc, asked, host),
         Ok(Asked::Daemon(_)) | Ok(Asked::Status(_)) | Ok(Asked::Simulation(_)) => unreachable!(),
+        // (taken out of the words, since its journals own memory)
+        Ok(Asked::Audit(_asked)) => unreachable!(),
         Ok(Asked::Client(_)) | Ok(Asked::Move(_)) => unreachable!(),
         Err(Refusal::Untaken(error)) => tell_error(alloc, Program::BoothFollow, &error, host),
         Err(Refusal::NoCommand) => Ended {

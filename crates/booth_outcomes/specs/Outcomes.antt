@@ -5,7 +5,7 @@ use Rattle.booth_outcomes.specs.declared.outcome.Outcome.{Outcome}
 use Rattle.booth_outcomes.specs.declared.outcome.Outcome.TheVariants.{Done, ConfUnread, ConfBad, NotMember}
 use Rattle.booth_outcomes.specs.declared.outcome.Outcome.TheVariants.{KeyUnread, KeyBad, LockFault, Running, OpenFault}
 use Rattle.booth_outcomes.specs.declared.outcome.Outcome.TheVariants.{RecordUnread, TurnsSpent, OutOfMemory}
-use Rattle.booth_outcomes.specs.declared.outcome.Outcome.TheVariants.{PrintFault, SendFault}
+use Rattle.booth_outcomes.specs.declared.outcome.Outcome.TheVariants.{JournalUnread, PrintFault, SendFault}
 
 -- an outcome of a daemon that was asked for
 abbrev pub is_served : Outcome → Bool
@@ -30,6 +30,7 @@ IsServed outcome = T (is_served outcome)
 abbrev pub has_blame : Outcome → Bool
 has_blame ConfUnread = true
 has_blame KeyUnread = true
+has_blame JournalUnread = true
 has_blame LockFault = true
 has_blame OpenFault = true
 has_blame RecordUnread = true

@@ -1,5 +1,5 @@
 -- What is said on standard error, and the exit status.
-use Rattle.std.specs.Prelude.{◌≡◌, ◌++◌, ℕ, List, [], ◌∷◌, Option, Some, Result, codes, decimal, unwrap_or}
+use Rattle.std.specs.Prelude.{◌≡◌, ◌++◌, ℕ, List, [], ◌∷◌, Option, Some, Result, codes, decimal, slice_get, unwrap_or}
 use Rattle.booth_base.specs.declared.address.Address.{Address}
 use Rattle.booth_base.specs.Address.{printed}
 use Rattle.booth_conf.specs.declared.keys.KeyNo.{KeyNo}
@@ -14,6 +14,8 @@ use Rattle.booth_following.specs.declared.choosing.FollowFault.TheVariants as fo
 use Rattle.booth_host.specs.declared.host.Failed.{Failed}
 use Rattle.booth_host.specs.declared.entry.Entry.{Entry}
 use Rattle.booth_host.specs.declared.entry.Entry.TheVariants as calls
+use Rattle.booth_journal.specs.declared.audit_fault.AuditFault.{AuditFault}
+use Rattle.booth_journal.specs.declared.audit_fault.AuditFault.TheVariants as audits
 use Rattle.clap.specs.declared.error.kind.ErrorKind.TheVariants.{DisplayHelp, DisplayVersion}
 use Rattle.booth_cli.specs.declared.program.Program.{Program}
 use Rattle.booth_cli.specs.declared.program.Program.TheVariants.{Boothd, Booth, Geostore, BoothFollow}
@@ -35,7 +37,7 @@ IsText program (b ∷ text) entries = (answer : Result (Unit {0}) Failed)
 
 abbrev pub usage_text : Program → List ℕ
 usage_text Boothd =
-    codes "usage: boothd COMMAND [OPTIONS], with the command daemon, status or sim; see --help behind it, and boothd(8)"
+    codes "usage: boothd COMMAND [OPTIONS], with the command daemon, status, sim or audit; see --help behind it, and boothd(8)"
 usage_text Booth =
     codes "usage: booth COMMAND [OPTIONS], with the command list, peers, grant, revoke or move; see --help behind it"
 usage_text Geostore =
@@ -141,6 +143,19 @@ IsFaultText path text (confs.Renewal ticket) said = IsTicketText path text ticke
 IsFaultText path text (confs.RetryTime ticket) said = IsTicketText path text ticket
     (codes "timeout and retries do not fit renewal-freq") said
 IsFaultText path text confs.OutOfMemory said = said ≡ out_of_memory_text
+
+-- the path of the journal at this place; that of a fault has one
+abbrev pub journal_at : List (List ℕ) → ℕ → List ℕ
+journal_at paths place = unwrap_or (slice_get paths place) []
+
+-- what is said of the fault of journals, which stand in the files at these paths
+abbrev pub audit_text : List (List ℕ) → AuditFault → List ℕ
+audit_text paths (audits.Line journal line) = at_line (journal_at paths journal) line (codes "syntax")
+audit_text paths (audits.Member journal) = file_text (journal_at paths journal) (codes "member")
+audit_text paths (audits.Differs journal line) = at_line (journal_at paths journal) line (codes "differs")
+audit_text paths (audits.Kept journal line) = at_line (journal_at paths journal) line (codes "record")
+audit_text paths (audits.Unsent journal line) = at_line (journal_at paths journal) line (codes "unsent")
+audit_text paths audits.OutOfMemory = out_of_memory_text
 
 abbrev pub status_of : Outcome → ℕ
 status_of Done = 0

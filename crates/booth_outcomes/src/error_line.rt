@@ -47,10 +47,10 @@ impl ErrorLine {
     }
 
     /// Appends a number.
-    pub(crate) fn put_number(&mut self, number: u32)
-        requires { length self.old + 10 ≤ LINE_BYTES }
+    pub(crate) fn put_number(&mut self, number: u64)
+        requires { length self.old + 20 ≤ LINE_BYTES }
         ensures bytes { self.new ≡ self.old ++ decimal number }
-        ensures len { length self.new ≤ length self.old + 10 }
+        ensures len { length self.new ≤ length self.old + 20 }
     {
         let mut digits = Buffer::new();
         self.put(digits.format(number).as_bytes());

@@ -7,6 +7,7 @@ use crate::texts;
 use booth_cli::Word;
 use booth_conf::ConfFault;
 use booth_following::FollowFault;
+use booth_journal::AuditFault;
 use booth_keys::KeyFault;
 use clap::error::ErrorKind;
 
@@ -14,7 +15,7 @@ use clap::error::ErrorKind;
 #[derive(Clone, Copy, Debug, PartialEq, Eq)]
 pub enum Outcome {
     /// The end was asked for, or the turns that were asked for were made; or a daemon runs, and that was
-    /// printed; or a simulation's counts were printed.
+    /// printed; or a simulation's counts were printed, or who held what by true journals.
     Done,
     /// A daemon did or began what it was asked for, and that was printed.
     Report,
@@ -45,6 +46,10 @@ pub enum Outcome {
     KeyUnread,
     /// The key file holds no key.
     KeyBad(KeyFault),
+    /// A journal could not be read.
+    JournalUnread,
+    /// This is the first fault of the journals.
+    AuditBad(AuditFault),
     /// The lock file could not be locked.
     LockFault,
     /// Another daemon holds the lock.
@@ -76,6 +81,7 @@ impl Outcome {
             Outcome::ConfUnread | Outcome::ConfBad(_) => 1,
             Outcome::NotMember | Outcome::NotSite | Outcome::NotFollowed(_) => 1,
             Outcome::KeyUnread | Outcome::KeyBad(_) => 1,
+            Outcome::JournalUnread | Outcome::AuditBad(_) => 1,
             Outcome::LockFault | Outcome::Running | Outcome::OpenFault => 1,
             Outcome::RecordUnread => 1,
             Outcome::Refused(_) | Outcome::Stranded(_) => 1,

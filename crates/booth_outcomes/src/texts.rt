@@ -2,11 +2,12 @@
 ghost use Rattle.std.specs.Prelude.{◌≡◌, ◌≤◌, ◌+◌, ◌++◌, [], codes, decimal, length};
 ghost use Rattle.std.specs.Prelude.{unwrap_or};
 ghost use Rattle.booth_base.specs.Address.{printed};
+ghost use Rattle.booth_following.specs.declared.programs.TheConstants.{PATH_BYTES};
 ghost use Rattle.booth_outcomes.specs.Texts.{usage_text, version_text, bad_word_text, unread_text, unread_record_text};
 ghost use Rattle.booth_outcomes.specs.Texts.{unlocked_text, unopened_text, unprinted_text};
 ghost use Rattle.booth_outcomes.specs.Texts.{not_followed_text, why_not_followed};
 ghost use Rattle.booth_outcomes.specs.Texts.{not_member_text, not_site_text, key_name, key_fault_text, out_of_memory_text};
-ghost use Rattle.booth_outcomes.specs.Texts.{file_text, at_line, IsTicketText, IsFaultText};
+ghost use Rattle.booth_outcomes.specs.Texts.{file_text, at_line, audit_text, journal_at, IsTicketText, IsFaultText};
 
 use crate::Word;
 use crate::error_line::ErrorLine;
@@ -14,6 +15,7 @@ use booth_base::{Address, Name, PathText};
 use booth_cli::{Program, version};
 use booth_conf::{ConfFault, KeyNo, ticket_name};
 use booth_following::FollowFault;
+use booth_journal::AuditFault;
 use booth_keys::KeyFault;
 
 /// A line of this text.
@@ -32,7 +34,7 @@ pub fn usage_text(program: Program) -> ErrorLine
 {
     match program {
         Program::Boothd => line_of(
-            b"usage: boothd COMMAND [OPTIONS], with the command daemon, status or sim; \
+            b"usage: boothd COMMAND [OPTIONS], with the command daemon, status, sim or audit; \
             see --help behind it, and boothd(8)",
         ),
         Program::Booth => line_of(
@@ -78,7 +80,7 @@ pub fn bad_word_text(word: Word) -> ErrorLine
 }
 
 /// What is said of a file that could not be read.
-pub(crate) fn unread_text(path: &PathText) -> ErrorLine
+pub fn unread_text(path: &PathText) -> ErrorLine
     ensures { result ≡ unread_text path.now }
 {
     let mut line = ErrorLine::none();
@@ -207,12 +209,13 @@ pub(crate) fn out_of_memory_text() -> ErrorLine
 }
 
 // The begin of a line on the file at this path.
-fn begun_with(path: &PathText) -> ErrorLine
+fn begun_with(path: &str) -> ErrorLine
+    requires { length path.now ≤ PATH_BYTES }
     ensures bytes { result ≡ path.now ++ codes ": " }
     ensures len { length result ≤ 257 }
 {
     let mut line = ErrorLine::none();
-    line.put(path.as_str().as_bytes());
+    line.put(path.as_bytes());
     line.put(b": ");
     line
 }
@@ -221,16 +224,17 @@ fn file_text(path: &PathText, what: &[u8]) -> ErrorLine
     requires { length what.now ≤ 100 }
     ensures { result ≡ file_text path.now what.now }
 {
-    let mut line = begun_with(path);
+    let mut line = begun_with(path.as_str());
     line.put(what);
     line
 }
 
 // The begin of a line on a line of the file at this path.
-fn begun_at(path: &PathText, number: u32) -> ErrorLine
+fn begun_at(path: &str, number: u64) -> ErrorLine
+    requires { length path.now ≤ PATH_BYTES }
     ensures bytes { result ≡ path.now ++ codes ": line "
         ++ decimal number ++ codes ": " }
-    ensures len { length result ≤ 274 }
+    ensures len { length result ≤ 284 }
 {
     let mut line = begun_with(path);
     line.put(b"line ");
@@ -243,7 +247,7 @@ fn at_line(path: &PathText, number: u32, what: &[u8]) -> ErrorLine
     requires { length what.now ≤ 100 }
     ensures { result ≡ at_line path.now number what.now }
 {
-    let mut line = begun_at(path, number);
+    let mut line = begun_at(path.as_str(), u64::from(number));
     line.put(what);
     line
 }
@@ -260,7 +264,7 @@ fn put_value(key: KeyNo, line: &mut ErrorLine)
 fn of_value(path: &PathText, number: u32, key: KeyNo) -> ErrorLine
     ensures { result ≡ at_line path.now number (codes "bad value for " ++ key_name key) }
 {
-    let mut line = begun_at(path, number);
+    let mut line = begun_at(path.as_str(), u64::from(number));
     put_value(key, &mut line);
     line
 }
@@ -281,7 +285,7 @@ fn at_ticket(path: &PathText, text: &[u8], ticket: usize, what: &[u8]) -> ErrorL
     ensures { IsTicketText path.now text.now ticket what.now result }
 {
     let name = ticket_name(text, ticket);
-    let mut line = begun_with(path);
+    let mut line = begun_with(path.as_str());
     line.put(b"ticket ");
     put_name(&name, &mut line);
     line.put(b": ");
@@ -315,5 +319,48 @@ pub(crate) fn fault_text(path: &PathText, text: &[u8], fault: ConfFault) -> Erro
             b"timeout and retries do not fit renewal-freq",
         ),
         ConfFault::OutOfMemory => out_of_memory_text(),
+    }
+}
+
+// The path of the journal at this place.
+fn journal_at(paths: &[PathText], place: u32) -> &str
+    ensures value { result.now ≡ journal_at paths.now place }
+    ensures short { length result.now ≤ PATH_BYTES }
+{
+    let Some(path) = paths.get(place as usize) else {
+        return "";
+    };
+    path.as_str()
+}
+
+fn of_journal(paths: &[PathText], journal: u32, what: &[u8]) -> ErrorLine
+    requires { length what.now ≤ 100 }
+    ensures { result ≡ file_text (journal_at paths.now journal) what.now }
+{
+    let mut line = begun_with(journal_at(paths, journal));
+    line.put(what);
+    line
+}
+
+fn at_journal_line(paths: &[PathText], journal: u32, number: u64, what: &[u8]) -> ErrorLine
+    requires { length what.now ≤ 100 }
+    ensures { result ≡ at_line (journal_at paths.now journal) number what.now }
+{
+    let mut line = begun_at(journal_at(paths, journal), number);
+    line.put(what);
+    line
+}
+
+/// What is said of the fault of journals, which stand in the files at these paths.
+pub fn audit_text(paths: &[PathText], fault: AuditFault) -> ErrorLine
+    ensures { result ≡ audit_text paths.now fault }
+{
+    match fault {
+        AuditFault::Line { journal, line } => at_journal_line(paths, journal, line, b"syntax"),
+        AuditFault::Member { journal } => of_journal(paths, journal, b"member"),
+        AuditFault::Differs { journal, line } => at_journal_line(paths, journal, line, b"differs"),
+        AuditFault::Kept { journal, line } => at_journal_line(paths, journal, line, b"record"),
+        AuditFault::Unsent { journal, line } => at_journal_line(paths, journal, line, b"unsent"),
+        AuditFault::OutOfMemory => out_of_memory_text(),
     }
 }

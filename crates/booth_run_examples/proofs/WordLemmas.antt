@@ -4,6 +4,7 @@ use Rattle.std.specs.Fmt.{digits}
 use Rattle.std.specs.Net.Grammar.{IsDotted}
 use Rattle.std.proofs.Common.{◌≡◌, false, [], ◌∷◌, refl, sym, subst, inl, inr, arith}
 use Rattle.std.proofs.lemmas.Bool.{leb-true, ltb-true}
+use denote.RawPtr.{null_ptr}
 use Rattle.clap.proofs.OnLiterals.{clap_on_literals}
 use Rattle.clap.specs.Words.{fault_of}
 use Rattle.booth_cli.specs.declared.command.Verb.TheVariants as verbs
@@ -41,6 +42,7 @@ texts = record {
   program = None;
   margin = None;
   kill = None;
+  journals = [];
   wait = false;
   commit = false;
   immediate = false;
@@ -83,7 +85,8 @@ none_refused words.Number (inl (inr (inr r))) = r
 none_refused words.Number (inr (inl r)) = r
 none_refused words.Number (inr (inr r)) = r
 none_refused words.Path (inl r) = r
-none_refused words.Path (inr r) = r
+none_refused words.Path (inr (inl r)) = r
+none_refused words.Path (inr (inr r)) = absurd cc
 none_refused words.Program r = r
 none_refused words.Configuration r = let long : 255 < 21 = r in absurd (omega (arith, long, short_path))
 
@@ -102,6 +105,15 @@ reads_it = (
     margin = None;
     kill = None;
     program = None;
+    journals = record {
+      ptr = null_ptr;
+      len = 0;
+      cap = 0;
+      alloc = record { memory = record { seal = tt } };
+      items = [];
+      ok = (refl, omega arith);
+      small = omega arith;
+    };
     lock = asked_for.lock;
     records = asked_for.records;
     names_conf = false;
@@ -121,6 +133,7 @@ reads_it = (
     margin = refl;
     kill = refl;
     program = refl;
+    journals = refl;
     names_conf = refl;
     lock = refl;
     records = refl;

@@ -40,6 +40,8 @@ fn run_words<H: Host>(alloc: Global, program: Program, words: &[String], host: &
         Ok(Asked::Client(asked)) => ask_daemon(alloc, asked, host),
         Ok(Asked::Move(asked)) => move_ticket(alloc, asked, host),
         Ok(Asked::Daemon(_)) | Ok(Asked::Status(_)) | Ok(Asked::Simulation(_)) => unreachable!(),
+        // (taken out of the words, since its journals own memory)
+        Ok(Asked::Audit(_asked)) => unreachable!(),
         Ok(Asked::Follow(_)) => unreachable!(),
         Err(Refusal::Untaken(error)) => tell_error(alloc, program, &error, host),
         Err(Refusal::NoCommand) => Ended {

@@ -32,7 +32,7 @@ fn words(rt: &HostRuntime, alloc: Global) -> Result<Vec<String>, AllocError> {
 
 // Has a daemon's first reading be one of the clock that its records keep.
 fn await_clock(alloc: Global, words: &[String], host: &mut RealHost) {
-    if let Ok(Asked::Daemon(asked)) = ask(alloc, Program::Boothd, words) {
+    if let Ok(Asked::Daemon(asked)) = &ask(alloc, Program::Boothd, words) {
         host.await_clock(&asked.records);
     }
 }

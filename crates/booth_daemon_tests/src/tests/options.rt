@@ -127,6 +127,15 @@ How many events, 0 to 10000000 [default: 100000]$|\
 The number that the events are drawn by [default: 1]$|\
 boothd(8)";
     check_help(&rt, rt.alloc(), "sim --help", pieces);
+    let pieces = "\
+p 0 Usage(Some(DisplayHelp)) |\
+Usage: boothd audit [OPTIONS] <JOURNAL>...$|\
+<JOURNAL>...|\
+Journals of members, 1 to 16, all behind one another$|\
+-c <CONF>|\
+Configuration: a path with a slash, or a name in /etc/booth [default: booth]$|\
+boothd(8)";
+    check_help(&rt, rt.alloc(), "audit --help", pieces);
     let pieces = "p 0 Usage(Some(DisplayVersion)) boothd 0.2.0$";
     check_help(&rt, rt.alloc(), "daemon -s x --version", pieces);
     check_help(&rt, rt.alloc(), "status -V", pieces);

@@ -19,6 +19,8 @@ daemon -s ::1 -n 4611686018427387905 |  => e 1 BadWord(Number) boothd: bad numbe
 daemon -s ::1 -l  |  => e 1 BadWord(Path) boothd: bad path$
 daemon -d  -s ::1 |  => e 1 BadWord(Path) boothd: bad path$
 status -l  |  => e 1 BadWord(Path) boothd: bad path$
+audit  |  => e 1 BadWord(Path) boothd: bad path$
+audit /k  |  => e 1 BadWord(Path) boothd: bad path$
 daemon -n  -s ::1 |  => e 1 BadWord(Number) boothd: bad number$
 daemon -l  -n x -s y |  => e 1 BadWord(Site) boothd: bad site$
 daemon -l  -n x -s ::1 |  => e 1 BadWord(Number) boothd: bad number$";
@@ -70,6 +72,13 @@ sim -s ::1 |  => e 1 Usage(Some(UnknownArgument)) error: ..
 sim -e |  => e 1 Usage(Some(InvalidValue)) error: ..
 sim -r 1 -c |  => e 1 Usage(Some(InvalidValue)) error: ..
 sim -e 1 -e 1 |  => e 1 Usage(Some(ArgumentConflict)) error: ..
+audit |  => e 1 Usage(Some(MissingRequiredArgument)) error: ..
+audit -c x |  => e 1 Usage(Some(MissingRequiredArgument)) error: ..
+audit /k -c |  => e 1 Usage(Some(InvalidValue)) error: ..
+audit -s ::1 /k |  => e 1 Usage(Some(UnknownArgument)) error: ..
+audit -c a -c b /k |  => e 1 Usage(Some(ArgumentConflict)) error: ..
+audit /k -c a /old |  => e 1 Usage(Some(ArgumentConflict)) error: ..
+audit 1 2 3 4 5 6 7 8 9 10 11 12 13 14 15 16 17 |  => e 1 Usage(Some(TooManyValues)) error: ..
  |  => e 1 Usage(None) boothd: usage: ..";
     check_words(&rt, rt.alloc(), table);
 }
@@ -118,6 +127,8 @@ fn a_path_has_at_most_255_bytes(rt: HostRuntime) {
     check_long(&rt, rt.alloc(), "daemon -s ::1 -l /", 256, path);
     check_long(&rt, rt.alloc(), "daemon -s ::1 -d /", 255, unread);
     check_long(&rt, rt.alloc(), "daemon -s ::1 -d /", 256, path);
+    check_long(&rt, rt.alloc(), "audit -c /none /", 255, unread);
+    check_long(&rt, rt.alloc(), "audit -c /none /k /", 256, path);
     check_long(&rt, rt.alloc(), "daemon -s ::1 -c /", 255, unread);
     check_long(&rt, rt.alloc(), "daemon -s ::1 -c /", 256, conf);
     check_long(&rt, rt.alloc(), "daemon -s ::1 -c x", 239, unread);

@@ -1,5 +1,6 @@
 use Rattle.std.proofs.Common.{map, rules, string_bytes}
-use Rattle.booth_daemon.proofs.RunLemmas.{asks_daemon, asks_simulation, asks_status, looked_made, served_made, summed_made, told_asked}
+use Rattle.booth_daemon.proofs.RunLemmas.{asks_audit, asks_daemon, asks_simulation, asks_status, audited_made, fits_audited, fits_summed}
+use Rattle.booth_daemon.proofs.RunLemmas.{looked_made, served_made, summed_made, told_asked}
 use Rattle.booth_daemon.proofs.run.run_words.Goals as goal
 
 pub returns-in-Ok-Daemon-clause-past : goal.returns-in-Ok-Daemon-clause-past
@@ -16,6 +17,21 @@ pub returns-in-Ok-Simulation-clause-past : goal.returns-in-Ok-Simulation-clause-
 returns-in-Ok-Simulation-clause-past g c =
     summed_made (map string_bytes c.args.words.now) c.in-Ok-Simulation.asked c.simulate.result.outcome c.simulate.result.said
     (asks_simulation (map string_bytes c.args.words.now) c.in-Ok-Simulation.asked c.in-Ok-Simulation.field-0 c.in-Ok-Simulation.ensures (search rules)) c.simulate.ensures.past
+
+pub returns-in-Ok-Simulation-clause-words : goal.returns-in-Ok-Simulation-clause-words
+returns-in-Ok-Simulation-clause-words g c =
+    fits_summed (map string_bytes c.args.words.now) c.in-Ok-Simulation.asked c.simulate.result.outcome
+    (asks_simulation (map string_bytes c.args.words.now) c.in-Ok-Simulation.asked c.in-Ok-Simulation.field-0 c.in-Ok-Simulation.ensures (search rules)) c.simulate.ensures.outcome
+
+pub returns-in-Ok-Audit-clause-past : goal.returns-in-Ok-Audit-clause-past
+returns-in-Ok-Audit-clause-past g c =
+    audited_made (map string_bytes c.args.words.now) c.in-Ok-Audit.asked c.audit.result.outcome c.audit.result.said
+    (asks_audit (map string_bytes c.args.words.now) c.in-Ok-Audit.asked c.in-Ok-Audit.field-0 c.in-Ok-Audit.ensures (search rules)) c.audit.ensures.past
+
+pub returns-in-Ok-Audit-clause-words : goal.returns-in-Ok-Audit-clause-words
+returns-in-Ok-Audit-clause-words g c =
+    fits_audited (map string_bytes c.args.words.now) c.in-Ok-Audit.asked c.audit.result.outcome
+    (asks_audit (map string_bytes c.args.words.now) c.in-Ok-Audit.asked c.in-Ok-Audit.field-0 c.in-Ok-Audit.ensures (search rules)) c.audit.ensures.outcome
 
 pub returns-in-Err-Untaken-clause-past : goal.returns-in-Err-Untaken-clause-past
 returns-in-Err-Untaken-clause-past g c =

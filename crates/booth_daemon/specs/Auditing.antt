@@ -1,0 +1,201 @@
+-- The calls of `boothd audit`, and what it prints.
+use Rattle.std.specs.Prelude.{◌≡◌, ◌++◌, ◌⊎◌, ℕ, Bool, true, false, T, List, [], ◌∷◌, length, map, slice_get}
+use Rattle.std.specs.Prelude.{Option, Result, Ok, Err}
+use Rattle.std.specs.Prelude.{codes, decimal}
+use Rattle.std.specs.List.{flat_map, zip}
+use Rattle.std.specs.Option.{option_map_or}
+use Rattle.booth_base.specs.Address.{printed}
+use Rattle.booth_conf.specs.Config.{ConfigSays}
+use Rattle.booth_conf.specs.Says.{Says}
+use Rattle.booth_conf.specs.declared.members.Member.{Member}
+use Rattle.booth_conf.specs.declared.tickets.TicketConf.{TicketConf}
+use Rattle.booth_keys.specs.declared.ring.Ring.{Ring}
+use Rattle.booth_host.specs.declared.host.Failed.{Failed}
+use Rattle.booth_host.specs.declared.host.ReadFault.{ReadFault}
+use Rattle.booth_host.specs.declared.host.ReadFault.TheVariants as reads
+use Rattle.booth_host.specs.declared.entry.Entry.{Entry}
+use Rattle.booth_host.specs.declared.entry.Entry.TheVariants.{Out, ReadFile}
+use Rattle.booth_audit.specs.Audit.{HasFault, IsAudited}
+use Rattle.booth_journal.specs.declared.audit_fault.AuditFault.{AuditFault}
+use Rattle.booth_journal.specs.declared.audit_fault.AuditFault.TheVariants as audits
+use Rattle.booth_audit.specs.declared.holding.Holding.{Holding}
+use Rattle.booth_cli.specs.declared.asking.AuditWords.{AuditWords}
+use Rattle.booth_outcomes.specs.declared.outcome.Outcome.{Outcome}
+use Rattle.booth_outcomes.specs.declared.outcome.Outcome.TheVariants.{Done, ConfUnread, ConfBad, KeyUnread, KeyBad}
+use Rattle.booth_outcomes.specs.declared.outcome.Outcome.TheVariants.{JournalUnread, AuditBad, PrintFault, OutOfMemory}
+use Rattle.booth_outcomes.specs.declared.outcome.Ended.{Ended}
+use Rattle.booth_outcomes.specs.Configuration.{IsUnread}
+use Rattle.booth_outcomes.specs.Keys.{HasRing, IsKeyless, KeyTexts, key_calls}
+use Rattle.booth_outcomes.specs.Texts.{audit_text, out_of_memory_text, unprinted_text, unread_text}
+use Rattle.booth_daemon.specs.declared.auditing.Files.{Files}
+
+-- ---- what is printed
+
+-- the name of the ticket at this place; that of a holding has one
+abbrev pub ticket_at : ConfigSays → ℕ → List ℕ
+ticket_at config place =
+    option_map_or (λ (ticket : TicketConf). ticket.name) (slice_get config.tickets place) []
+
+-- the address of the member at this place, as text; that of a holding has one
+abbrev pub site_at : ConfigSays → ℕ → List ℕ
+site_at config place =
+    option_map_or (λ (member : Member). printed member.address) (slice_get config.members place) []
+
+-- which ticket was held, and where
+abbrev pub held_text : ConfigSays → Holding → List ℕ
+held_text config held =
+    codes "ticket " ++ ticket_at config held.ticket ++ codes ", site " ++ site_at config held.member
+
+-- from when until when
+abbrev pub span_text : Holding → List ℕ
+span_text held = codes ", from " ++ decimal held.from ++ codes " until " ++ decimal held.until ++ codes "\n"
+
+abbrev pub holding_text : ConfigSays → Holding → List ℕ
+holding_text config held = held_text config held ++ span_text held
+
+-- a line for each holding
+abbrev pub holdings_text : ConfigSays → List Holding → List ℕ
+holdings_text config holdings = flat_map (holding_text config) holdings
+
+-- ---- the reads
+
+-- a journal was read: its path, and its text
+abbrev pub journal_call : List ℕ × List ℕ → Entry
+journal_call p = ReadFile p.0 (Ok p.1)
+
+-- the journals at these paths were read, one after the other
+pub record AreJournals (paths texts : List (List ℕ)) (entries : List Entry) : Type 0 where
+  pub each : length texts ≡ length paths
+  pub calls : entries ≡ map journal_call (zip paths texts)
+
+-- the journals before this one were read, and it was not
+pub record IsUnreadAt (paths : List (List ℕ)) (fault : ReadFault) (path : List ℕ) (entries : List Entry) : Type 0 where
+  pub before : List (List ℕ)
+  pub after : List (List ℕ)
+  pub order : paths ≡ before ++ path ∷ after
+  pub texts : List (List ℕ)
+  pub early : List Entry
+  pub read : AreJournals before texts early
+  pub whole : entries ≡ early ++ ReadFile path (Err fault) ∷ []
+
+-- a journal could not be read, or there was no memory for it, or none for any
+abbrev pub AreJournalsUnread : List (List ℕ) → Outcome → List ℕ → List Entry → Type 0
+AreJournalsUnread paths JournalUnread said entries =
+    (path : List ℕ) × (said ≡ unread_text path) × IsUnreadAt paths reads.Failed path entries
+AreJournalsUnread paths OutOfMemory said entries = (said ≡ out_of_memory_text)
+    × ((entries ≡ []) ⊎ ((path : List ℕ) × IsUnreadAt paths reads.NoMemory path entries))
+AreJournalsUnread paths outcome said entries = ⊥
+
+-- the configuration was read, and the keys that it names
+pub record IsKeyed (conf : List ℕ) (config : ConfigSays) (ring : Option Ring) (entries : List Entry) : Type 0 where
+  pub text : List ℕ
+  pub says : Says text config
+  pub key_texts : KeyTexts
+  pub holds : HasRing config key_texts ring
+  pub whole : entries ≡ ReadFile conf (Ok text) ∷ key_calls config key_texts
+
+-- and then the journals
+pub record AreAllRead (asked : AuditWords) (config : ConfigSays) (ring : Option Ring) (texts : List (List ℕ))
+    (entries : List Entry) : Type 0 where
+  pub early : List Entry
+  pub keyed : IsKeyed asked.conf config ring early
+  pub calls : List Entry
+  pub journals : AreJournals asked.journals.items texts calls
+  pub whole : entries ≡ early ++ calls
+
+-- ---- the ends
+
+-- a configuration was read, and no key
+pub record IsUnkeyed (asked : AuditWords) (outcome : Outcome) (said : List ℕ) (entries : List Entry) : Type 0 where
+  pub text : List ℕ
+  pub config : ConfigSays
+  pub says : Says text config
+  pub rest : List Entry
+  pub whole : entries ≡ ReadFile asked.conf (Ok text) ∷ rest
+  pub here : IsKeyless config outcome said rest
+
+-- configuration and keys were read, and not every journal
+pub record IsWanting (asked : AuditWords) (outcome : Outcome) (said : List ℕ) (entries : List Entry) : Type 0 where
+  pub config : ConfigSays
+  pub ring : Option Ring
+  pub early : List Entry
+  pub keyed : IsKeyed asked.conf config ring early
+  pub rest : List Entry
+  pub whole : entries ≡ early ++ rest
+  pub here : AreJournalsUnread asked.journals.items outcome said rest
+
+-- How the audit of these texts ends: who held what was printed, or could not be printed; or this is their first fault;
+-- or there was no memory.
+abbrev pub IsAuditEnd :
+    ConfigSays → Option Ring → List (List ℕ) → List (List ℕ) → Outcome → List ℕ → List Entry → Type 0
+IsAuditEnd config ring paths texts Done said entries = (said ≡ [])
+    × (holdings : List Holding) × IsAudited config ring texts holdings
+    × (entries ≡ Out (holdings_text config holdings) (Ok tt) ∷ [])
+IsAuditEnd config ring paths texts PrintFault said entries = (said ≡ unprinted_text)
+    × (holdings : List Holding) × IsAudited config ring texts holdings
+    × (failed : Failed) × (entries ≡ Out (holdings_text config holdings) (Err failed) ∷ [])
+IsAuditEnd config ring paths texts (AuditBad fault) said entries = (fault ≡ audits.OutOfMemory → ⊥)
+    × HasFault config ring texts fault × (said ≡ audit_text paths fault) × (entries ≡ [])
+IsAuditEnd config ring paths texts OutOfMemory said entries = (said ≡ out_of_memory_text) × (entries ≡ [])
+IsAuditEnd config ring paths texts outcome said entries = ⊥
+
+-- the calls of the audit that was asked for, up to where its outcome is decided
+pub data IsAuditing (asked : AuditWords) (outcome : Outcome) (said : List ℕ) (entries : List Entry) : Type 0 where
+  Unread : IsUnread asked.conf outcome said entries → IsAuditing asked outcome said entries
+  Unkeyed : IsUnkeyed asked outcome said entries → IsAuditing asked outcome said entries
+  Wanting : IsWanting asked outcome said entries → IsAuditing asked outcome said entries
+  Audited : (config : ConfigSays) (ring : Option Ring) (texts : List (List ℕ)) (early rest : List Entry) →
+      AreAllRead asked config ring texts early → IsAuditEnd config ring asked.journals.items texts outcome said rest →
+      entries ≡ early ++ rest → IsAuditing asked outcome said entries
+
+-- the outcomes of an audit
+abbrev pub is_audit_outcome : Outcome → Bool
+is_audit_outcome Done = true
+is_audit_outcome ConfUnread = true
+is_audit_outcome (ConfBad fault) = true
+is_audit_outcome KeyUnread = true
+is_audit_outcome (KeyBad fault) = true
+is_audit_outcome JournalUnread = true
+is_audit_outcome (AuditBad fault) = true
+is_audit_outcome PrintFault = true
+is_audit_outcome OutOfMemory = true
+is_audit_outcome outcome = false
+
+abbrev pub IsAuditOutcome : Outcome → Type 0
+IsAuditOutcome outcome = T (is_audit_outcome outcome)
+
+-- ---- in the code
+
+-- no journal came from this path
+abbrev pub IsJournalUnread : List ℕ → Outcome → List ℕ → List Entry → Type 0
+IsJournalUnread path JournalUnread said entries =
+    (said ≡ unread_text path) × (entries ≡ ReadFile path (Err reads.Failed) ∷ [])
+IsJournalUnread path OutOfMemory said entries =
+    (said ≡ out_of_memory_text) × (entries ≡ ReadFile path (Err reads.NoMemory) ∷ [])
+IsJournalUnread path outcome said entries = ⊥
+
+-- the journal at this path, or how the audit ends without it
+abbrev pub IsJournalRead : List ℕ → Result (List ℕ) Ended → List Entry → Type 0
+IsJournalRead path (Ok text) entries = entries ≡ ReadFile path (Ok text) ∷ []
+IsJournalRead path (Err ended) entries = IsJournalUnread path ended.outcome ended.said entries
+
+-- what the files say, or how the audit ends without them
+abbrev pub AreFilesRead : AuditWords → Result Files Ended → List Entry → Type 0
+AreFilesRead asked (Ok files) entries = AreAllRead asked files.config files.ring files.journals.items entries
+AreFilesRead asked (Err ended) entries = IsAuditing asked ended.outcome ended.said entries
+
+-- how an audit ends whose journals have this fault
+abbrev pub IsBadEnd : List (List ℕ) → AuditFault → Outcome → List ℕ → Type 0
+IsBadEnd paths fault OutOfMemory said = said ≡ out_of_memory_text
+IsBadEnd paths fault (AuditBad told) said =
+    (told ≡ fault) × (fault ≡ audits.OutOfMemory → ⊥) × (said ≡ audit_text paths fault)
+IsBadEnd paths fault outcome said = ⊥
+
+-- the print of who held what
+abbrev pub IsPrinted : ConfigSays → List Holding → Outcome → List ℕ → List Entry → Type 0
+IsPrinted config holdings Done said entries = (said ≡ [])
+    × (entries ≡ Out (holdings_text config holdings) (Ok tt) ∷ [])
+IsPrinted config holdings PrintFault said entries = (said ≡ unprinted_text)
+    × (failed : Failed) × (entries ≡ Out (holdings_text config holdings) (Err failed) ∷ [])
+IsPrinted config holdings OutOfMemory said entries = (said ≡ out_of_memory_text) × (entries ≡ [])
+IsPrinted config holdings outcome said entries = ⊥
