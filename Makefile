@@ -6,10 +6,10 @@
 # make deb     a Debian package of the same, at out/booth-proved_VERSION_amd64.deb
 
 PROGRAMS := boothd booth geostore booth-follow
-# what is written in Python, and the modules of it
+# what is written in Python, the modules of it, and what is run as python3 MODULE
 TOOLS := booth-status booth-record
 TOOL_MODULES := changes checking configuration ending exporting frames judging key_file lists looking problems \
-  record_file showing state_file ways wording
+  record_file showing state_file timeline ways wording
 SERVICES := booth@.service booth-follow@.service
 VERSION := 0.2.0
 PREFIX ?= /usr/local
@@ -54,13 +54,14 @@ INSTALLED := $(foreach program,$(PROGRAMS),$(SBIN)/$(program):out/$(program):755
   $(foreach name,booth-keygen $(TOOLS),$(SBIN)/$(name):packaging/$(name):755) \
   $(foreach name,$(TOOL_MODULES),$(MODULES)/$(name).py:tools/$(name).py:644) \
   $(MODULES)/follow-unit:packaging/follow-unit:755 \
+  $(MODULES)/journal.conf:packaging/journal.conf:644 \
   $(foreach page,$(wildcard man/*.5 man/*.8),$(MAN)/man$(subst .,,$(suffix $(page)))/$(notdir $(page)):$(page):644) \
   $(foreach program,$(PROGRAMS) $(TOOLS),$(COMPLETIONS)/$(program):packaging/booth.bash:644) \
   $(USERS)/booth.conf:packaging/booth.sysusers:644 \
   $(DOCS)/README.md:README.md:644 \
   $(DOCS)/copyright:packaging/copyright:644 \
   $(DOCS)/changelog:packaging/changelog:644 \
-  $(foreach doc,$(wildcard docs/*.md),$(DOCS)/$(notdir $(doc)):$(doc):644) \
+  $(foreach doc,$(wildcard docs/*.md docs/*.svg),$(DOCS)/$(notdir $(doc)):$(doc):644) \
   $(foreach file,$(wildcard examples/*.conf examples/*.py),$(DOCS)/examples/$(notdir $(file)):$(file):644) \
   $(foreach file,$(wildcard examples/follow-*),$(DOCS)/examples/$(notdir $(file)):$(file):755)
 

@@ -29,6 +29,7 @@ BENCHES = {
     "turn": "one turn",
     "seals": "sealed frames",
     "links": "links",
+    "journals": "journals",
     "records": "keeps",
     "backlog": "the backlog",
     "promises": "kept promises",

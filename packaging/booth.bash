@@ -121,7 +121,7 @@ _booth_offer() {
   local word=${words[cword]} before=${words[cword - 1]} program=${1##*/}
   local command=${words[1]} commands options
   case $program in
-    boothd) commands=$'daemon\nstatus\nsim' ;;
+    boothd) commands=$'daemon\nstatus\nsim\naudit' ;;
     geostore) commands=$'set\nget\ndelete\nlist' ;;
     *) commands=$'list\npeers\ngrant\nrevoke\nmove' ;;
   esac
@@ -131,6 +131,7 @@ _booth_offer() {
     boothd:daemon) options=$'-c\n-s\n-l\n-d\n-n\n--help\n--version' ;;
     boothd:status) options=$'-l\n--help\n--version' ;;
     boothd:sim) options=$'-c\n-e\n-r\n--help\n--version' ;;
+    boothd:audit) options=$'-c\n--help\n--version' ;;
     geostore:*) options=$'-c\n-s\n-t\n--help\n--version' ;;
     booth:grant) options=$'-c\n-s\n-w\n-C\n-F\n--help\n--version' ;;
     booth:revoke | booth:move) options=$'-c\n-s\n-w\n--help\n--version' ;;
@@ -149,6 +150,8 @@ _booth_offer() {
   esac
   if [[ $word == -* ]]; then
     _booth_reply "$options" "$word"
+  elif [[ $program:$command == boothd:audit ]]; then
+    _booth_files -f -- "$word"
   elif [[ $program:$command == booth:move ]]; then
     # (first a ticket, and then a site; one that stands before the cursor is a ticket)
     _booth_reply "$(_booth_values "$(_booth_next_of_move)")" "$word"

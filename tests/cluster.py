@@ -2,7 +2,7 @@
 """Holds a cluster of three real boothd on loopback to the lease rules: grants, renewals, failover.
 
 Run it as `python3 tests/cluster.py [BOOTHD BOOTH GEOSTORE]`, which are what `make build` leaves where they are
-left out. It takes less than two minutes, prints a line for each check, ends all that it started, and has the status 1
+left out. It takes a minute and a half, prints a line for each check, ends all that it started, and has the status 1
 where a check failed. Where a program is not built it checks nothing, with status 0.
 
 What an operator does is done by booth and geostore, at each member: their status and each text that they print or
@@ -11,7 +11,8 @@ handler_stories.py, those of members that are killed and started anew in promise
 log_stories.py, that of a file that changes in change_stories.py, and those of moves in move_stories.py.
 
 Who holds a ticket is judged from the record files and this machine's clock, hundred times a second over
-the whole run, and never from what a daemon says of itself.
+the whole run, and never from what a daemon says of itself. Each daemon writes a journal, and where boothd has an
+auditor that judges them behind each story.
 """
 
 import contextlib
@@ -32,8 +33,9 @@ import change_stories  # (its story comes into the list)
 import key_stories  # (its stories are taken into the list)
 import log_stories  # (its story comes into the list)
 import move_stories  # (its stories are taken into the list)
+from auditing import AuditedCluster
 from handler_stories import handler_in
-from members import MANUAL, TICKET, Cluster, Times, now, wait_for
+from members import MANUAL, TICKET, Times, now, wait_for
 from promise_stories import MANY
 from serving import built_program, end_by_signals, own_addresses
 from stories import (
@@ -56,7 +58,9 @@ from stories import (
 KEY, OTHER_KEY = b"a-key-of-the-cluster", b"another-key-than-that"
 BADMAC = 2
 # how many stories run at once
-SIDE_BY_SIDE = 3
+SIDE_BY_SIDE = 6
+# stories whose records come from elsewhere, and what an audit says of their journals
+REFUSED = {"members_from_version_1": "record"}
 
 
 @story
@@ -320,7 +324,7 @@ def made(function, folder, program, client, geostore):
     more = {"key": key, "client": client, "geostore": geostore, "settings": settings}
     more.update(manual=manual, by_hand=by_hand)
     more.update(tickets=(TICKET, *MANY) if "many" in function.__name__ else (TICKET,))
-    return Cluster(program, folder, places, **more)
+    return AuditedCluster(program, folder, places, **more)
 
 
 def tell(function, cluster):
@@ -341,6 +345,7 @@ def outcome(place, programs):
         try:
             with made(function, folder, *programs) as cluster:
                 tell(function, cluster)
+            passed(f"{cluster.judged(REFUSED.get(function.__name__))} ({function.__doc__})")
             passes = True
         except Exception as why:  # (whatever it is, the other stories are told)
             print(f"FAILED  {function.__doc__}: {type(why).__name__}: {why}")

@@ -40,7 +40,7 @@ def completion_offers(room):
     told = run(f"{TOP}/packaging/booth-status", "--help").stdout
     status_options = re.findall(r"(?:^ +|, )(--?[A-Za-z][a-z-]*)", told, re.M)
     cases = [
-        (("boothd", ""), ["daemon", "status", "sim"]),
+        (("boothd", ""), ["daemon", "status", "sim", "audit"]),
         (("booth", "gr"), ["grant"]),
         (("booth", "client", "re"), ["revoke"]),
         (("booth", "grant", "-c", conf, ""), ["db8", "mail"]),
@@ -53,6 +53,8 @@ def completion_offers(room):
         (("boothd", "daemon", "-c", conf, "-s", ""), ["192.0.2.10", "192.0.2.30"]),
         (("boothd", "status", "-"), ["-l", "--help", "--version"]),
         (("boothd", "sim", "-"), ["-c", "-e", "-r", "--help", "--version"]),
+        (("boothd", "audit", "-"), ["-c", "--help", "--version"]),
+        (("boothd", "audit", "-c", conf, f"{room}/fold"), [f"{room}/folder/"]),
         (("geostore", ""), ["set", "get", "delete", "list"]),
         (("geostore", "client", "d"), []),
         (("geostore", "get", "-c", conf, "-t", "m"), ["mail"]),

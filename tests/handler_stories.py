@@ -137,7 +137,7 @@ def sites_with_a_handler(cluster):
     passed(f"a handler that begins to fail gives the lease back, and the other site takes over ({took:.1f} s)")
     for handler in (first, second):
         kept_out = handler.read("descriptors")
-        require(kept_out and not any(word in kept_out for word in ("socket", "records", "lock")), kept_out)
+        require(kept_out and not any(word in kept_out for word in ("socket", "records", "lock", "journal")), kept_out)
     passed("no file and no socket of a daemon reaches its handler, which may print, also where its standard streams are closed")
 
     second.set("sleeps", "30")

@@ -9,6 +9,9 @@ status 0.
 Each datagram has to be counted by its fault, counted for its member, or answered, as tests/gate.py reads
 docs/PROTOCOL.md: what was sent is compared with the daemon's counters and with its answers. Who holds the ticket is
 read from the record files and this machine's clock.
+
+Behind it a second cluster writes journals in a shorter flood, which has nothing that would be heard as a member's: an
+auditor has to let these pass, and to name the first of those messages that nobody sent, where they come too.
 """
 
 import collections
@@ -19,6 +22,7 @@ import signal
 import socket
 import statistics
 import struct
+import subprocess
 import sys
 import tempfile
 import time
@@ -27,6 +31,8 @@ HERE = os.path.dirname(os.path.abspath(__file__))
 sys.path[:0] = [HERE, f"{HERE}/../tools"]
 
 import frames
+import journal_file
+from auditing import AuditedCluster, LeftOut, Misjudged, audit, content, shown_at
 from gate import Station
 from hostile_frames import Foes
 from members import TICKET, Cluster, Times, now, wait_for
@@ -35,6 +41,8 @@ from serving import NotServing, built_program, end_by_signals, own_addresses
 DATAGRAMS = 1_000_000
 # how many different ones there are: each is sent again and again, in another order each time
 DIFFERENT = 50_000
+# how many a daemon meets that writes a journal, of how many different ones, and how many of those that members say
+JOURNALED, DIFFERENT_JOURNALED, FORGED = 20_000, 5_000, 20
 # after how many the daemon's memory is looked at first: by then it has met each kind
 FIRST = 5_000
 SEED = 20_26
@@ -351,6 +359,70 @@ def passes(check, scene):
     return True
 
 
+# ---- journals
+
+
+def meets(member, foes):
+    """Sends these to the member, and waits until it has met them."""
+    with socket.socket(socket.AF_INET, socket.SOCK_DGRAM) as sender:
+        for foe in foes:
+            sender.sendto(foe.datagram, (member.address, frames.PORT))
+    member.counts()
+
+
+def judged(cluster, forged=()):
+    """What was found of the journals of all members, which are killed: they pass, or one of these is named."""
+    for member in cluster.members:
+        member.kill()
+    paths = [member.journal for member in cluster.members]
+    lines = [journal_file.lines_of(content(path)) for path in paths]
+    told = f"{sum(map(len, lines))} lines, {sum(map(os.path.getsize, paths))} bytes"
+    if not cluster.has_auditor:
+        for path in paths:
+            journal_file.read(path)
+        return f"{told}: each is one; not audited, since boothd has no auditor"
+    found = audit(cluster.program, cluster.conf, paths)
+    if not forged:
+        require(found.passes(), f"the audit left {found}, {shown_at(paths, found.fault(paths))}")
+        return f"{told}: they pass"
+    ends = tuple(f" {datagram.hex()}" for datagram in forged)
+    first = next(number for number, line in enumerate(lines[0], 1) if line.startswith("data ") and line.endswith(ends))
+    require(found.fault(paths) == (0, first, "unsent"), f"line {first} was sent by nobody, and the audit left {found}")
+    return f"{told}: line {first} is named, the first of {len(forged)} that nobody sent"
+
+
+def journals_of_a_flood(program, folder, own):
+    """a flood leaves journals that an auditor takes, and a message that no member sent is named"""
+    with AuditedCluster(program, folder, [next(own) for _ in range(3)], times=TIMES, key=KEY) as cluster:
+        scene = Scene(cluster, DIFFERENT_JOURNALED)
+        scene.begin()
+        if cluster.has_auditor and cluster.refused:
+            raise LeftOut("no clock can be put forward here, so the members have records that no journal says")
+        said = [foe for foe in scene.foes if foe.member is not None][:FORGED]
+        others = [foe for foe in scene.foes if foe.member is None]
+        flooded = Flood(scene.one)
+        flooded.run(itertools.islice(again_and_again(others), JOURNALED))
+        told = [judged(cluster)]
+        cluster.start()
+        meets(scene.one, said)
+        told.append(judged(cluster, [foe.datagram for foe in said]))
+    return f"{flooded.sent()} datagrams; {'; and behind it '.join(told)}"
+
+
+def journals_pass(program):
+    with tempfile.TemporaryDirectory(prefix="booth-hostile-") as folder:
+        try:
+            told = journals_of_a_flood(program, folder, own_addresses())
+        except LeftOut as why:
+            print(f"hostile: journals: not checked: {why}", flush=True)
+            return True
+        except (Wrong, Misjudged, NotServing, journal_file.BadLine, OSError, subprocess.SubprocessError) as why:
+            print(f"FAILED  {journals_of_a_flood.__doc__}: {type(why).__name__}: {why}", flush=True)
+            return False
+    print(f"ok      {journals_of_a_flood.__doc__}: {told}", flush=True)
+    return True
+
+
 def run(program, count):
     """Runs the checks over one cluster. Says whether all passed."""
     started, own, passed = time.monotonic(), own_addresses(), []
@@ -365,7 +437,9 @@ def run(program, count):
                 passed.append(False)
             else:
                 passed += [passes(check, scene) for check in CHECKS]
-    print(f"hostile: {sum(passed)} passed, {passed.count(False)} failed, in {time.monotonic() - started:.1f} s ({program})")
+    passed.append(journals_pass(program))
+    took = time.monotonic() - started
+    print(f"hostile: {sum(passed)} passed, {passed.count(False)} failed, in {took:.1f} s ({program})")
     return all(passed)
 
 

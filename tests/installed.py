@@ -31,7 +31,7 @@ from shells import Wrong, need, read, run
 
 # each program with its commands; one that is not built yet is left out
 PROGRAMS = {
-    "boothd": ["daemon", "status", "sim"],
+    "boothd": ["daemon", "status", "sim", "audit"],
     "booth": ["list", "peers", "grant", "revoke", "move"],
     "geostore": ["set", "get", "delete", "list"],
     # (it has no commands)
@@ -152,6 +152,8 @@ def installs_and_uninstalls(room):
     named += [f"usr/share/bash-completion/completions/{name}" for name in (*PROGRAMS, *TOOLS)]
     named += [f"usr/share/doc/booth-proved/{name}" for name in ("OPERATING.md", "HANDLERS.md", "examples/manual.conf")]
     named += [f"usr/lib/systemd/system/{name}" for name in SERVICES]
+    named += ["usr/share/booth-proved/journal.conf", "usr/share/booth-proved/timeline.py"]
+    named += [f"usr/share/doc/booth-proved/{name}" for name in ("AUDIT.md", "JOURNAL.md", "incident.svg")]
     named += ["usr/share/booth-proved/follow-unit", *(f"usr/share/doc/booth-proved/examples/follow-{name}" for name in EXAMPLES)]
     for name in (*named, "usr/lib/sysusers.d/booth.conf"):
         need(name in there, f"{name} is missing")
@@ -161,6 +163,8 @@ def installs_and_uninstalls(room):
         told = (done.returncode, done.stdout, done.stderr)
         need(told == (0, f"{program} {version}\n", ""), f"the installed {program}: {told}")
     run_alone(f"{room}/root/usr/sbin")
+    done = run(sys.executable, "-IB", f"{room}/root/usr/share/booth-proved/timeline.py", "/dev/null", cwd="/")
+    need(done.returncode == 0 and done.stdout.startswith("<?xml"), f"the installed timeline.py: {done.stderr}")
     need(files_below(f"{room}/root") == there, "to run them left a file")
     for name in SERVICES:
         unit = read(f"{room}/root/usr/lib/systemd/system/{name}")
@@ -202,15 +206,15 @@ def unit_in(room, name, more=""):
 
 
 def drop_ins():
-    """The drop-ins that OPERATING.md tells."""
+    """The drop-ins that OPERATING.md tells, and the one that is installed."""
     text = read(f"{TOP}/docs/OPERATING.md")
     found = re.findall(r"^ {4,}\[Service\]\n(?: {4,}.*\n)+", text, re.M)
     need(len(found) > 1, f"OPERATING.md has the drop-ins {found}")
-    return [re.sub("^ +", "", each, flags=re.M) for each in found]
+    return [*(re.sub("^ +", "", each, flags=re.M) for each in found), read(f"{TOP}/packaging/journal.conf")]
 
 
 def unit_is_sound(room):
-    """the unit is one that systemd takes, alone and with each drop-in of OPERATING.md"""
+    """the unit is one that systemd takes, alone, with each drop-in of OPERATING.md, and with that of the journal"""
     if not shutil.which("systemd-analyze"):
         return "systemd-analyze is not here"
     for number, more in enumerate(["", *drop_ins()]):

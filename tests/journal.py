@@ -38,7 +38,7 @@ LOST = "is not written any more"
 # how large a file of the daemon may get where the disk is full
 ROOM = 8192
 # kills inside keeps, each of which takes as long as this at least, and so long after a start at most
-KILLS, SLOW_MS, LATEST = 120, 8, 0.25
+KILLS, SLOW_MS, LATEST = 60, 8, 0.25
 # of so many kills one at least has to come within a keep
 KILLS_OF_ONE_CUT = 20
 SEED = 9929

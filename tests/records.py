@@ -28,7 +28,7 @@ FILE = b"ticket-db8".hex() + ".rec"
 
 # the status where nothing was checked
 NOTHING_CHECKED = 77
-KILLS, SECONDS = 2_000, 55
+KILLS, SECONDS = 2_000, 20
 # the longest time from a start to its end, in seconds, beside twice what a run of one keep takes; a run gets to some keeps in it
 LONGEST = 0.02
 # of so many kills one at least has to come after a keep

@@ -29,7 +29,7 @@ LEAST = SITE + TICKET
 MOST_BYTES = 16_777_216
 
 USAGE = (
-    b"usage: boothd COMMAND [OPTIONS], with the command daemon, status or sim;"
+    b"usage: boothd COMMAND [OPTIONS], with the command daemon, status, sim or audit;"
     b" see --help behind it, and boothd(8)"
 )
 

@@ -1,6 +1,6 @@
 """What the programs in tests/ that run other programs stand on.
 
-It is imported by tests/installed.py and completions.py, and not run by itself.
+It is imported by the programs in tests/, and not run by itself.
 """
 
 import subprocess

@@ -120,6 +120,8 @@ class Member:
         self.client = client
         self.store = geostore
         self.conf = None
+        # all that it was started with
+        self.confs = set()
         self.server = None
         self.records = os.path.join(folder, "records")
         self.journal = os.path.join(folder, "journal")
@@ -135,6 +137,7 @@ class Member:
         server.__enter__()
         self.server = server
         self.conf = conf
+        self.confs.add(conf)
 
     def is_running(self):
         return self.server is not None and self.server.process.poll() is None

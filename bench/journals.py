@@ -1,0 +1,138 @@
+#!/usr/bin/env python3
+"""Measures what a journal costs a proved boothd on loopback, and what an audit of a million lines takes.
+
+Run it as `python3 bench/journals.py [PROGRAM]`, PROGRAM being what `make build` leaves where it is left out. It prints
+one table, has the status 1 where a mark is missed by more than a tenth, and takes half a minute. The turns with and
+without a journal are taken in rounds by turns, so that other work on the machine spoils both alike.
+"""
+
+import contextlib
+import itertools
+import os
+import socket
+import subprocess
+import sys
+import tempfile
+import time
+
+HERE = os.path.dirname(os.path.abspath(__file__))
+sys.path[:0] = [HERE, f"{HERE}/../tools", f"{HERE}/../tests"]
+
+import frames
+from audit_incidents import LINES, long_journal, run_measured
+from auditing import KEY, can_audit, content
+from journal_changes import text_of
+from members import Cluster
+from rows import Row, at_least, below, told
+from run import cpu_seconds
+from serving import NotServing, built_program, end_by_signals, own_addresses
+
+ROUNDS, DROPPED, LISTS = 8, 10_000, 2_000
+SECONDS_OF_QUIET = 5
+LINES_A_SECOND, TIMES_ITS_BYTES = 200_000, 4
+
+
+def dropped(member):
+    """Datagrams that are dropped, no faster than they are taken. Gives how many turns they made."""
+    with socket.socket(socket.AF_INET, socket.SOCK_DGRAM) as sender:
+        sender.connect((member.address, frames.PORT))
+        for number in range(DROPPED):
+            sender.send(b"")
+            if number % 100 == 99:
+                member.ask("CLst")
+    return DROPPED + DROPPED // 100
+
+
+def listed(member):
+    for _ in range(LISTS):
+        if member.ask("CLst") is None:
+            raise NotServing("a list is not answered")
+    return LISTS
+
+
+def micros(member, work):
+    """The daemon's CPU of a turn of this work, in microseconds."""
+    before = cpu_seconds(member.server.process)
+    turns = work(member)
+    return (cpu_seconds(member.server.process) - before) / turns * 1e6
+
+
+@contextlib.contextmanager
+def pair(program, folder):
+    """An arbitrator that writes a journal and one that writes none, each alone in a cluster of three."""
+    addresses = own_addresses()
+    with contextlib.ExitStack() as both:
+        members = []
+        for name in ("with", "without"):
+            places = list(itertools.islice(addresses, 3))
+            made = both.enter_context(Cluster(program, f"{folder}/{name}", places, key=KEY))
+            made.members[2].journals = name == "with"
+            made.start(2)
+            members.append(made.members[2])
+        yield members
+
+
+def turn_rows(members):
+    """A turn that drops a datagram, and one that answers a list, with a journal and without, in the best rounds."""
+    for name, work in (("dropped datagram", dropped), ("list", listed)):
+        took = [[micros(member, work) for member in members] for _ in range(ROUNDS)]
+        journaled, bare = map(min, zip(*took))
+        shown = f"{bare:.1f}; {journaled:.1f} µs ({journaled - bare:+.1f} µs)"
+        yield Row(f"daemon CPU a {name}, without a journal; with one", shown)
+
+
+def byte_rows(member):
+    """What a daemon writes that has nothing to do."""
+    before = os.path.getsize(member.journal)
+    started = time.monotonic()
+    time.sleep(SECONDS_OF_QUIET)
+    rate = (os.path.getsize(member.journal) - before) / (time.monotonic() - started)
+    lines = content(member.journal).decode("latin-1").split("\n")
+    at = lines.index("quiet") - 1
+    quiet = sum(len(line) + 1 for line in lines[at : at + 4])
+    yield Row("journal of a quiet turn; of a quiet daemon", f"{quiet} bytes; {rate * 86_400 / 1e6:.1f} MB a day")
+
+
+def audit_rows(program, conf, begin, address, folder):
+    """An audit of a million lines."""
+    path = os.path.join(folder, "long")
+    lines = long_journal(begin, address)
+    with open(path, "wb") as file:
+        size = file.write(text_of(lines))
+    status, printed, said, seconds, peak = run_measured([program, "audit", "-c", conf, path], folder)
+    if (status, printed, said) != (0, "", ""):
+        raise NotServing(f"the audit ended with {status}: {printed}{said}")
+    name = f"audit of {LINES:,} lines, {size / 1e6:.0f} MB"
+    rate = len(lines) / seconds
+    yield at_least(f"{name}: lines a second", rate, f"{rate:,.0f} ({seconds:.2f} s)", LINES_A_SECOND)
+    shown = f"{peak / 1e6:.0f} MB ({peak / size:.2f} times its bytes)"
+    yield below("its greatest memory", peak / size, shown, TIMES_ITS_BYTES, "times its bytes")
+
+
+def rows(program, folder):
+    with pair(program, folder) as members:
+        journaled, bare = members
+        conf = journaled.conf
+        yield from byte_rows(journaled)
+        begin = content(journaled.journal)
+        yield from turn_rows(members)
+    if can_audit(program):
+        yield from audit_rows(program, conf, begin, journaled.address, folder)
+    else:
+        yield Row("audit", "not measured: boothd has no auditor")
+
+
+def main(words):
+    end_by_signals()
+    program = words[0] if words else built_program()
+    if program is None:
+        sys.exit("journals.py: boothd is not built: run make build")
+    with tempfile.TemporaryDirectory(prefix="booth-bench-") as folder:
+        try:
+            return told(rows(os.path.abspath(program), folder))
+        except (NotServing, OSError, subprocess.SubprocessError) as why:
+            sys.exit(f"journals.py: {why}")
+
+
+if __name__ == "__main__":
+    sys.exit(main(sys.argv[1:]))

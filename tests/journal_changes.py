@@ -1,0 +1,363 @@
+"""Journals of which a line or some bytes are changed, and which of these are journals still.
+
+It is imported by tests/audit.py, and not run by itself. It asks no auditor, and has few rules of the protocol: what is
+let in, as tests/gate.py reads docs/PROTOCOL.md, which reading a turn uses, and that each frame bears it.
+
+**Which changes leave a journal.** By the form of the lines (`form`):
+
+- A line left out, doubled or swapped is a journal still where only a call lost its answer, and this call is the last of
+  its session: the end follows, or a start, which is `now` and then `open`, another start or the end. So it is where the
+  last line is left out, where the answer before a start is, and where a start's `now` is doubled. Else the first call
+  behind it that is no `now` is not demanded there, since a start has to go on by `open`.
+- A cut journal is one always. Others may have heard what it then does not say was sent.
+
+By whole calls, with their answers (`judged_call`): a call that is left out, doubled or swapped with the next is another
+than the one that is demanded there, or the one behind it is. But the last of a session may be missing, and a start may
+read its clock twice.
+
+By what a digit says (`judged_digit`):
+
+- A call's digit changed is none, since each call is demanded as it stands; and none is a record that a start read.
+- A reading is one still where each turn uses the same reading as before; and none where a turn that sends uses another,
+  since frames bear it. Any other is one or none, by what is due when.
+- Where a datagram came from is one still where it was a member's, since answers go to where that member listens; and
+  none where a client was answered there in that turn. Any other is one or none.
+- A datagram is one still where it is let in as the same message, or dropped for the same fault; and none where it was
+  a client's that was answered in that turn, and is dropped now. Any other is one or none.
+
+Where one is none, the fault stands at the changed line or behind it.
+"""
+
+import functools
+import math
+from typing import List, NamedTuple, Optional
+
+import frames
+import gate
+import journal_file
+import record_file
+
+GREATEST = 2**62 - 1
+# the kind of a change of whole calls, with their answers
+CALL = "call"
+
+
+class Roster(NamedTuple):
+    """What journals are judged by: members as (role, address), tickets, and the key."""
+
+    members: tuple
+    tickets: tuple
+    key: Optional[bytes] = None
+    skew: int = 600
+
+    def station(self, address):
+        others = tuple(member for member in self.members if member[1] != address)
+        is_site = ("site", address) in self.members
+        return gate.Station(address, others, self.tickets, self.key, self.skew, is_site=is_site)
+
+    def address_of(self, number):
+        return next((address for _, address in self.members if frames.member_id(address) == number), None)
+
+
+class Change(NamedTuple):
+    """A changed journal: which kind, at which line (counted from 1), and the whole text."""
+
+    kind: str
+    line: int
+    text: bytes
+
+
+class Due(NamedTuple):
+    """What an audit has to say of a changed journal: one of these faults at a line from `first` to `last`; or, where it
+    may pass, what it says of journals.
+    """
+
+    faults: tuple = ()
+    first: int = 0
+    last: float = math.inf
+    may_pass: bool = False
+
+    def allows(self, line, fault):
+        """Whether this fault of the changed journal is one of them. That of a whole journal has no line."""
+        return fault in self.faults and (line is None or self.first <= line <= self.last)
+
+
+VALID = Due(may_pass=True)
+
+
+def fault_at(line, *faults):
+    return Due(faults, line, line)
+
+
+class Turn(NamedTuple):
+    """A turn or a start: the place of its `next` or `now`, the reading that it uses, and the places of its deeds."""
+
+    at: int
+    now: int
+    used: int
+    deeds: List[int]
+
+
+def text_of(lines):
+    return "".join(f"{line}\n" for line in lines).encode("latin-1")
+
+
+# ---- changes
+
+
+def left_out(lines):
+    for at in range(len(lines)):
+        yield Change("left out", at + 1, text_of(lines[:at] + lines[at + 1 :]))
+
+
+def doubled(lines):
+    for at in range(len(lines)):
+        yield Change("doubled", at + 1, text_of(lines[: at + 1] + lines[at:]))
+
+
+def swapped(lines):
+    for at in range(len(lines) - 1):
+        yield Change("swapped", at + 1, text_of(lines[:at] + [lines[at + 1], lines[at]] + lines[at + 2 :]))
+
+
+def with_calls(kind, lines, put):
+    """Of each call that has an answer, as the next one has: with these lines in the place of the two."""
+    entries = entries_of(text_of(lines))
+    ends = [entry.line - 1 for entry in entries] + [len(lines)] * 2
+    for entry, later, begin, middle, end in zip(entries, [*entries[1:], None], ends, ends[1:], ends[2:]):
+        if entry.answer is None or later and later.answer is None:
+            continue
+        changed = lines[:begin] + put(lines[begin:middle], lines[middle:end]) + lines[end:]
+        if changed != lines:
+            yield Change(kind, entry.line, text_of(changed))
+
+
+def calls_left_out(lines):
+    return with_calls(CALL, lines, lambda one, two: two)
+
+
+def calls_doubled(lines):
+    return with_calls(CALL, lines, lambda one, two: one + one + two)
+
+
+def calls_swapped(lines):
+    return with_calls(CALL, lines, lambda one, two: two + one)
+
+
+def digit_places(line):
+    """Where a line has digits: of what is spelled in hexadecimal, each letter of it too."""
+    words, places, start = line.split(" "), [], 0
+    for number, word in enumerate(words):
+        # (hexadecimal is the last word, or the only one; names and calls are no such)
+        is_hex = number == len(words) - 1 and len(word) > 16 and not set(word) - set("0123456789abcdef")
+        digits = "0123456789abcdef" if is_hex else "0123456789"
+        places += [start + at for at, letter in enumerate(word) if letter in digits]
+        start += len(word) + 1
+    return places
+
+
+def other_digit(line, place, chance):
+    letters = "0123456789abcdef" if line[place] in "abcdef" else "0123456789"
+    return chance.choice([letter for letter in letters if letter != line[place]])
+
+
+def with_a_digit(lines, chance, count=1):
+    """Of each line that has digits, so many with another in the place of one."""
+    for at, line in enumerate(lines):
+        places = digit_places(line)
+        for place in chance.sample(places, min(count, len(places))):
+            changed = line[:place] + other_digit(line, place, chance) + line[place + 1 :]
+            yield Change("digit", at + 1, text_of(lines[:at] + [changed] + lines[at + 1 :]))
+
+
+# ---- what lines say
+
+
+@functools.lru_cache(maxsize=16)
+def entries_of(text):
+    """The calls that a journal says. Those of a text that comes again and again are read once."""
+    return tuple(journal_file.entries_of(text))
+
+
+def strays_behind(entries, place):
+    """The place of the call that is not demanded behind this one, which was cut, or None: a start has to follow."""
+    place += 1
+    while place < len(entries) and entries[place].kind == "now":
+        place += 1
+        if place < len(entries) and entries[place].kind == "open":
+            return None
+    return place if place < len(entries) else None
+
+
+def form(text) -> Due:
+    """What is due of a text whose lines stood in a journal, by their form."""
+    try:
+        entries = entries_of(text)
+    except journal_file.BadLine as why:
+        return fault_at(why.number, "syntax")
+    cut = (place for place, entry in enumerate(entries) if entry.answer is None)
+    strays = next((found for place in cut if (found := strays_behind(entries, place)) is not None), None)
+    return VALID if strays is None else fault_at(entries[strays].line, "differs")
+
+
+def named(entries, line):
+    """What stands at a line: the call, or whose answer."""
+    entry = max((entry for entry in entries if entry.line <= line), key=lambda entry: entry.line)
+    return entry.kind if entry.line == line else f"answer of {entry.kind}"
+
+
+def is_start(entries, place):
+    return entries[place].kind == "now" and place + 1 < len(entries) and entries[place + 1].kind == "open"
+
+
+def turns_of(entries) -> List[Turn]:
+    """The starts and turns of a journal that passes, each with the reading in use."""
+    turns, last = [], 0
+    for place, entry in enumerate(entries):
+        if entry.kind == "now" and entry.answer is not None:
+            reading, starts = min(int(entry.answer), GREATEST), is_start(entries, place)
+            last = reading if starts else max(last, reading)
+            turns.append(Turn(place if starts else place - 1, place, last, []))
+        elif turns and entry.kind not in ("next", "now"):
+            turns[-1].deeds.append(place)
+    return turns
+
+
+def is_whole(roster, entries, start):
+    """Whether a start opened its socket and read all records: else it is no session."""
+    answers = [entries[place].answer for place in start.deeds[: 1 + len(roster.tickets)]]
+    return len(answers) == 1 + len(roster.tickets) and None not in answers and "fail" not in answers
+
+
+def lease_in(digits):
+    """The lease of a record in hexadecimal, or None."""
+    content = bytes.fromhex(digits)
+    if len(content) == record_file.FIRST_FORM.size:
+        return record_file.first_record(record_file.FIRST_FORM.unpack(content)).lease
+    return record_file.second_record(record_file.SECOND_FORM.unpack(content)).lease
+
+
+def address_in(entries):
+    """The address that the starts of a journal open, or None."""
+    return next((entry.call["address"] for entry in entries if entry.kind == "open"), None)
+
+
+def holdings(roster, texts):
+    """What an audit prints of journals that pass."""
+    lines = []
+    all_of = [entries_of(text) for text in texts]
+    for ticket in roster.tickets:
+        for entries in all_of:
+            for turn in turns_of(entries):
+                if is_start(entries, turn.at) and not is_whole(roster, entries, turn):
+                    continue
+                for place in turn.deeds:
+                    lines += held_by(entries[place], ticket.decode(), address_in(entries), turn.used)
+    return "".join(lines)
+
+
+def held_by(entry, ticket, address, reading):
+    """The line of a keep with a lease, or of a record with one that a start read."""
+    digits = {"keep": entry.call.get("hex"), "kept": entry.came.get("hex")}.get(entry.kind)
+    lease = lease_in(digits) if digits and entry.call["ticket"] == ticket else None
+    return [f"ticket {ticket}, site {address}, from {reading} until {lease.until}\n"] if lease else []
+
+
+# ---- messages
+
+
+@functools.lru_cache(maxsize=1 << 14)
+def met(station, digits, used):
+    """What is let in of a datagram in hexadecimal, or the number of the fault for which it is dropped."""
+    return gate.verdict(station, journal_file.bytes_of(digits), used // 1000)
+
+
+def sends_of(roster, entries):
+    """The messages that a journal sends, each without its signature."""
+    size = frames.AUTH_BYTES if roster.key else 0
+    sent = (journal_file.bytes_of(entry.call["hex"]) for entry in entries if entry.kind == "send")
+    return {frame[: len(frame) - size] for frame in sent}
+
+
+def first_unsent(roster, texts):
+    """The place of the first journal that heard what no journal sends, and the line; or None."""
+    all_of = [entries_of(text) for text in texts]
+    sent = {address_in(entries): sends_of(roster, entries) for entries in all_of}
+    size = frames.AUTH_BYTES if roster.key else 0
+    for place, entries in enumerate(all_of):
+        station = roster.station(address_in(entries))
+        for turn in turns_of(entries):
+            came = entries[turn.at].came.get("hex")
+            found = met(station, came, turn.used) if came else gate.FRAME
+            if isinstance(found, int) or found.letters not in frames.MEMBERS_SAY:
+                continue
+            frame = journal_file.bytes_of(came)
+            if frame[: len(frame) - size] not in sent.get(roster.address_of(found.head.sender), ()):
+                return place, entries[turn.at].line + 1
+    return None
+
+
+# ---- what a changed call is
+
+
+def judged_call(good, change) -> Due:
+    """What is due of the text with a call left out, doubled or swapped with the next, each with its answer."""
+    due = form(change.text)
+    if due != VALID:
+        return due
+    entries = entries_of(good)
+    place = next(place for place, entry in enumerate(entries) if entry.line == change.line)
+    is_last = place + 1 == len(entries) or is_start(entries, place + 1)
+    # (a reading that no turn demands begins a start, which the call behind it does not go on)
+    return Due(("differs",), change.line, change.line + 4, may_pass=is_last or is_start(entries, place))
+
+
+# ---- what a changed digit is
+
+
+def judged_digit(roster, good, changed, line) -> Due:
+    """What is due of the text with a digit changed at this line."""
+    due = form(changed)
+    if due != VALID:
+        return due
+    before, after = entries_of(good), entries_of(changed)
+    place = next(place for place, (old, new) in enumerate(zip(before, after)) if old != new)
+    kind = before[place].kind
+    if before[place].line == line:
+        return Due(("differs", "member"), line) if kind == "open" else fault_at(line, "differs", "syntax")
+    if kind == "kept":
+        return fault_at(line, "record", "syntax")
+    if kind == "now":
+        return judged_reading(before, after, line)
+    return judged_datagram(roster, before, after, place)
+
+
+def judged_reading(before, after, line):
+    """The same where a reading of the clock is another."""
+    pairs = [(old, new) for old, new in zip(turns_of(before), turns_of(after)) if old.used != new.used]
+    if not pairs:
+        return VALID
+    sends = any(before[place].kind == "send" for old, _ in pairs for place in old.deeds)
+    return Due(("differs",), line) if sends else Due(("differs", "unsent"), line - 2, may_pass=True)
+
+
+def judged_datagram(roster, before, after, place):
+    """The same where what came, or where it came from, is another."""
+    old, new, line = before[place].came, after[place].came, before[place].line + 1
+    either = Due(("differs", "unsent"), line, may_pass=True)
+    if "hex" not in old:
+        return either
+    turn = next((turn for turn in turns_of(before) if turn.at == place), None)
+    if turn is None:
+        # (its turn has no reading: it is the last of its session)
+        return VALID
+    station = roster.station(address_in(before))
+    was, now = met(station, old["hex"], turn.used), met(station, new["hex"], turn.used)
+    # (what is dropped is counted by its fault)
+    if isinstance(was, int) or was.letters in frames.MEMBERS_SAY:
+        return VALID if now == was else either
+    whom = {(before[deed].call.get("address"), before[deed].call.get("port")) for deed in turn.deeds}
+    is_answered = (old["address"], old["port"]) in whom
+    if old["hex"] == new["hex"] or isinstance(now, int):
+        return Due(("differs",), line) if is_answered else either
+    return VALID if now == was else either

@@ -1,0 +1,210 @@
+#!/usr/bin/env python3
+"""Holds tools/timeline.py to what it draws: of leases that are drawn by chance, of each kind of line, and of no line.
+
+Run it as `python3 tests/timeline.py`. It takes some seconds, prints a line for each check, and has the status 1 where a
+check failed. When two sites hold is found here moment by moment, and never by the tool's own way.
+"""
+
+import os
+import random
+import re
+import subprocess
+import sys
+import xml.etree.ElementTree as trees
+
+TOP = os.path.dirname(os.path.dirname(os.path.abspath(__file__)))
+sys.path.insert(0, f"{TOP}/tools")
+
+import timeline
+
+PROGRAM = f"{TOP}/tools/timeline.py"
+SEED, DRAWN, MOMENTS = 9929, 300, 40
+# a cluster of a month: so many renewals of so many tickets
+TICKETS, RENEWALS, SECONDS = 64, 500, 20
+SVG = "{http://www.w3.org/2000/svg}"
+
+
+class Wrong(Exception):
+    """The tool did not what it has to."""
+
+
+def require(holds, why):
+    if not holds:
+        raise Wrong(why)
+
+
+def run(text, *words):
+    """The status, the picture and what was said, of a run over these lines."""
+    done = subprocess.run([sys.executable, PROGRAM, *words], input=text.encode(), capture_output=True, timeout=SECONDS)
+    return done.returncode, done.stdout.decode(), done.stderr.decode()
+
+
+def line(ticket, site, start, until):
+    return f"ticket {ticket}, site {site}, from {start} until {until}\n"
+
+
+def shapes(text):
+    """The bars of a picture, as (kind, where it begins, how wide it is, what is said of it), and its texts."""
+    root = trees.fromstring(text)
+    bars = [each for each in root.iter(f"{SVG}rect") if each.get("class") in ("held", "both")]
+    told = [(each.get("class"), float(each.get("x")), float(each.get("width")), each[0].text) for each in bars]
+    return told, [each.text for each in root.iter(f"{SVG}text")]
+
+
+def holders(holdings, ticket, moment):
+    return {each.site for each in holdings if each.ticket == ticket and each.start <= moment < each.until}
+
+
+def covers(spans, moment):
+    return any(span.start <= moment < span.until for span in spans)
+
+
+def red_is_where_two_sites_hold():
+    """a row has a bar where its site holds, and red where another one does too, at each moment"""
+    chance, red = random.Random(SEED), 0
+    for _ in range(DRAWN):
+        holdings = []
+        for _ in range(chance.randrange(8)):
+            start, until = chance.randrange(MOMENTS), chance.randrange(MOMENTS)
+            holdings.append(timeline.Holding(chance.choice("tu"), f"127.0.0.{chance.randrange(3)}", start, until))
+        for row in timeline.rows_of(holdings):
+            for moment in range(MOMENTS):
+                sites = holders(holdings, row.ticket, moment)
+                require(covers(row.held, moment) == (row.site in sites), f"{row} at {moment}: {holdings}")
+                both = row.site in sites and len(sites) > 1
+                require(covers(row.both, moment) == both, f"{row} at {moment}: {holdings}")
+                red += both
+    return f"{DRAWN} pictures, {red} moments in red"
+
+
+def the_incident_is_the_picture_of_the_page():
+    """the picture of docs/AUDIT.md is drawn from the lines that stand there"""
+    with open(f"{TOP}/docs/AUDIT.md", encoding="utf-8") as file:
+        incident = file.read().split("## An incident")[1]
+    text = "".join(f"{found}\n" for found in re.findall(r"^ +(ticket .* until [0-9]+)$", incident, re.M))
+    status, drawn, said = run(text)
+    with open(f"{TOP}/docs/incident.svg", encoding="utf-8") as file:
+        require((status, drawn, said) == (0, file.read(), ""), f"status {status}, {said}: draw docs/incident.svg anew")
+    bars, texts = shapes(drawn)
+    require([kind for kind, *_ in bars] == ["held", "both", "held", "both"], f"the bars are {bars}")
+    require("16:35" in texts and "2026-11-25" in texts, f"the axis says {texts}")
+    return texts[0]
+
+
+def what_is_no_line_is_refused():
+    """a line that is no holding is refused by its number, and nothing is drawn"""
+    good = line("db8", "10.0.0.1", 1000, 2000)
+    bad = (
+        "ticket db8, site 10.0.0.1, from 1000 until",
+        "ticket db8, site 10.0.0.1, from 01 until 2000",
+        "ticket db8, site 10.0.0.1, from 1000 until 18446744073709551616",
+        "ticket db 8, site 10.0.0.1, from 1000 until 2000",
+        "ticket db8, site 10.0.0.1, from -1 until 2000",
+        "ticket db8, site 10.0.0.1, from 1000 until 2000 ",
+        "",
+        "boothd: a.journal: line 13: differs",
+        "x" * 10_000,
+    )
+    for each in bad:
+        status, drawn, said = run(good + each + "\n" + good)
+        begins = f"timeline: standard input: line 2: no holding: {each[:60]!r}"[:-1]
+        require((status, drawn) == (1, "") and said.startswith(begins), f"{each[:80]!r}: {status}, {said}")
+        require(said.count("\n") == 1 and len(said) < 200, f"it says {said[:300]}")
+    status, drawn, said = run("", "/no/such/file")
+    due = (1, "", "timeline: /no/such/file: No such file or directory\n")
+    require((status, drawn, said) == due, f"{status}, {said}")
+    status, drawn, said = run("", "one", "two")
+    require(status == 1 and not drawn and "timeline.py [FILE]" in said, f"two files: {status}, {said}")
+    return f"{len(bad)} lines"
+
+
+def nothing_is_a_picture_too():
+    """no line at all is a picture without a row, and so is a lease that was over when it was found"""
+    for text, row in (("", None), (line("db8", "::1", 2000, 1000), "db8 at ::1")):
+        status, drawn, said = run(text)
+        bars, texts = shapes(drawn)
+        require((status, said, bars) == (0, "", []), f"status {status}, {said}, {bars}")
+        require(row is None or row in texts, f"the texts are {texts}")
+    return None
+
+
+def all_that_a_line_may_have_is_drawn():
+    """names of any letters, leases without an end, the greatest numbers, and times of one millisecond"""
+    name = "<&\"'],site>"
+    endless = line("by-hand", "10.0.0.1", 1_795_622_400_000, 2**62)
+    endless += line("by-hand", "10.0.0.2", 1_795_622_460_000, 2**62)
+    cases = {
+        "a name": line(name, "10.0.0.1", 1, 2),
+        "no end": endless,
+        "the greatest": line("t", "10.0.0.1", 2**64 - 2, 2**64 - 1),
+        "from the first to the greatest": line("t", "10.0.0.1", 0, 2**64 - 1) + line("t", "10.0.0.2", 5, 9),
+        "from the first": line("t", "10.0.0.1", 0, 253_402_300_799_999),
+        "a millisecond": line("t", "10.0.0.1", 1_795_622_400_000, 1_795_622_400_001),
+    }
+    for kind, text in cases.items():
+        status, drawn, said = run(text)
+        bars, texts = shapes(drawn)
+        require((status, said) == (0, "") and bars, f"{kind}: {status}, {said}")
+        within = all(0 <= left and 1 <= width and left + width <= timeline.WIDTH + 1 for _, left, width, _ in bars)
+        require(within and all(each for each in texts), f"{kind}: {bars}, {texts}")
+    _, drawn, _ = run(cases["a name"])
+    require(f"{name} at 10.0.0.1" in shapes(drawn)[1], "the name is another")
+    _, drawn, _ = run(endless)
+    bars, texts = shapes(drawn)
+    red = [told for kind, _, _, told in bars if kind == "both"]
+    require(len(red) == 2 and all(told.endswith("without an end") for told in red), f"in red: {red}")
+    require(texts[0].endswith("without an end"), f"it says {texts[0]}")
+    return None
+
+
+def axes_are_readable():
+    """an axis has two marks and more, apart from one another, whatever the time is that it shows"""
+    first = 1_795_622_400_123
+    for length in [1, 7, 100, 5_000, 59_999, *(3_600_000 * 3**power for power in range(14))]:
+        axis = timeline.Axis(timeline.Span(first, first + length), 200)
+        places = [axis.at(millis) for millis, _, _ in axis.marks()]
+        apart = [after - before for before, after in zip(places, places[1:])]
+        require(1 <= len(places) <= 9 and all(each >= timeline.MARK_ROOM - 1 for each in apart), f"{length}: {places}")
+        require(len(places) > 1 or length < 2, f"{length} ms have the marks {places}")
+    return None
+
+
+def a_month_is_drawn_soon():
+    """renewals of a month are drawn in seconds, a bar for each site"""
+    text = []
+    for ticket in range(TICKETS):
+        for number in range(RENEWALS):
+            start = 1_795_622_400_000 + number * 300_000
+            text.append(line(f"t{ticket}", f"10.0.0.{1 + (number > RENEWALS // 2)}", start, start + 600_000))
+    status, drawn, said = run("".join(text))
+    bars, _ = shapes(drawn)
+    require((status, said, len(bars)) == (0, "", 4 * TICKETS), f"status {status}, {said}, {len(bars)} bars")
+    return f"{len(text)} lines"
+
+
+CHECKS = (
+    red_is_where_two_sites_hold,
+    the_incident_is_the_picture_of_the_page,
+    what_is_no_line_is_refused,
+    nothing_is_a_picture_too,
+    all_that_a_line_may_have_is_drawn,
+    axes_are_readable,
+    a_month_is_drawn_soon,
+)
+
+
+def main():
+    wrong = 0
+    for check in CHECKS:
+        try:
+            told = check()
+            print(f"ok      {check.__doc__}" + (f": {told}" if told else ""), flush=True)
+        except (Wrong, OSError, ValueError, LookupError, trees.ParseError, subprocess.TimeoutExpired) as why:
+            wrong += 1
+            print(f"FAILED  {check.__doc__}: {type(why).__name__}: {why}", flush=True)
+    print(f"timeline: {len(CHECKS) - wrong} passed, {wrong} failed")
+    return 1 if wrong else 0
+
+
+if __name__ == "__main__":
+    sys.exit(main())
