@@ -4,7 +4,7 @@
 Run it as `python3 tests/audit.py [--every-byte] [BOOTHD]`, by default what `make build` leaves. It takes half a minute,
 prints a line for each check, ends all that it started, and has the status 1 where a check failed. Where boothd is not
 built, or has no auditor, only the rule by which changes are judged is checked, and the status is 77. With --every-byte
-journals are cut at each byte, and not at three of each line, which takes two minutes more.
+journals are cut at each byte too, and not at three of each line alone, which takes two minutes more.
 
 Which changes leave a journal is said by tests/journal_changes.py, with which line is named where none is left, and what
 an audit prints of one: it asks no auditor.
@@ -317,22 +317,30 @@ def judge_cut(good, work):
     return None, f"journal {place + 1}, cut at {size} bytes: due is {due}, and it left {found}"
 
 
-def cuts_of(good, place, chance):
-    """Where a journal is cut: before each line, somewhere within it, and before its end; each with what is due."""
+def cuts_of(good, place, within):
+    """Where a journal is cut: within each line as this says, and behind the last; each with what is due."""
     size, due = 0, whole_due(good, place, b"")
     for line in good.texts[place].splitlines(keepends=True):
-        drawn = {0, chance.randrange(len(line)), len(line) - 1}
-        yield from ((place, size + more, due) for more in (range(len(line)) if EVERY_BYTE in sys.argv else drawn))
+        yield from ((place, size + more, due) for more in within(line))
         size += len(line)
         due = whole_due(good, place, good.texts[place][:size])
     yield place, size, due
 
 
+def judged_cuts(good, within):
+    cuts = [cut for place in range(len(good.texts)) for cut in cuts_of(good, place, within)]
+    return judged_all(good, cuts, judge_cut)
+
+
 def cut_anywhere(good):
     """a journal that is cut is one, of the lines that are whole; who heard what it then lacks is named"""
     chance = random.Random(SEED)
-    cuts = [cut for place in range(len(good.texts)) for cut in cuts_of(good, place, chance)]
-    return judged_all(good, cuts, judge_cut)
+    return judged_cuts(good, lambda line: {0, chance.randrange(len(line)), len(line) - 1})
+
+
+def cut_at_every_byte(good):
+    """a journal that is cut at any byte is one, of the lines that are whole"""
+    return judged_cuts(good, lambda line: range(len(line)))
 
 
 OF_GOOD = (
@@ -377,8 +385,8 @@ def in_folder():
         shutil.rmtree(folder, ignore_errors=True)
 
 
-def checked_over_good(boothd):
-    """The results of the checks over one cluster's journals, or of what could not be had."""
+def checked_over_good(boothd, checks):
+    """The results of these checks over one cluster's journals, or of what could not be had."""
     with in_folder() as folder:
         made = []
 
@@ -388,7 +396,7 @@ def checked_over_good(boothd):
             return f"{sum(map(len, made[0].texts))} bytes"
 
         results = [passes(a_good_cluster)]
-        return results + [passes(check, good) for good in made for check in OF_GOOD]
+        return results + [passes(check, good) for good in made for check in checks]
 
 
 def main(words):
@@ -400,7 +408,7 @@ def main(words):
         why = "boothd is not built" if boothd is None else f"{boothd} has no command audit"
         print(f"audit: no journal is audited, since {why}")
         return NOTHING_CHECKED if all(results) else 1
-    results += checked_over_good(boothd)
+    results += checked_over_good(boothd, (*OF_GOOD, cut_at_every_byte) if EVERY_BYTE in words else OF_GOOD)
     for check in audit_incidents.CHECKS:
         with in_folder() as folder:
             results.append(passes(check, boothd, folder))
