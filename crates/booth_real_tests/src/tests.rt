@@ -11,8 +11,9 @@ mod handlers;
 mod links;
 
 use booth_base::PathText;
-use booth_host::{Host, Place};
+use booth_host::{Arrival, Datagram, Host, Place};
 use booth_real::RealHost;
+use std::alloc::Global;
 use std::fs;
 use std::fs::Permissions;
 use std::os::unix::fs::PermissionsExt;
@@ -31,6 +32,13 @@ fn new_host(rt: &impl Abort, own: &HostRuntime) -> RealHost {
 
 fn open(rt: &impl Abort, host: &mut RealHost, place: &Place) {
     assert!(rt; host.open(place).is_ok(), "not opened");
+}
+
+// The host hears nothing for so long.
+fn check_quiet(rt: &impl Abort, alloc: Global, host: &mut RealHost, wait_ms: u64) {
+    let mut datagram = Datagram::new(alloc).expect(rt, "memory");
+    let heard = host.next(wait_ms, &mut datagram);
+    assert!(rt; heard == Ok(Arrival::Quiet), "something came, or failed");
 }
 
 fn write(rt: &(impl Abort + Files), path: &str, bytes: &[u8]) {

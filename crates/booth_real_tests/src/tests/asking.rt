@@ -1,7 +1,7 @@
 //! Clients, which hear the peer that they asked last.
 
 use super::devices::{LOOPBACK, LOOPBACK_6, carried, keeper, open_somewhere, place};
-use super::{new_host, open};
+use super::{check_quiet, new_host, open};
 use booth_base::{Address, Peer};
 use booth_host::{Arrival, Datagram, Host};
 use booth_real::RealHost;
@@ -14,13 +14,6 @@ const OTHER_LOOPBACK: Address = Address::V4([127, 0, 0, 2]);
 // Sends these bytes to a client.
 fn answer(rt: &impl Abort, from: &mut RealHost, to: &Peer, bytes: &[u8]) {
     assert!(rt; from.send(to, bytes).is_ok(), "not sent");
-}
-
-// The client hears nothing.
-fn check_quiet(rt: &impl Abort, alloc: Global, client: &mut RealHost) {
-    let mut datagram = Datagram::new(alloc).expect(rt, "memory");
-    let heard = client.next(200, &mut datagram);
-    assert!(rt; heard == Ok(Arrival::Quiet), "something came, or failed");
 }
 
 // The client hears these bytes of this peer, and nothing before them.
@@ -57,7 +50,7 @@ fn a_client_hears_the_peer_that_it_asked_alone(rt: HostRuntime) {
     let mut at_its_port = open_beside(&rt, &rt, &at);
     answer(&rt, &mut at_its_address, &from, b"another port");
     answer(&rt, &mut at_its_port, &from, b"another address");
-    check_quiet(&rt, rt.alloc(), &mut client);
+    check_quiet(&rt, rt.alloc(), &mut client, 200);
     answer(&rt, &mut at_its_address, &from, b"another port");
     answer(&rt, &mut daemon, &from, b"nobody");
     check_heard(&rt, rt.alloc(), &mut client, &at, b"nobody");
@@ -98,7 +91,7 @@ fn a_client_that_asks_another_peer_hears_that_one(rt: HostRuntime) {
         if from_second.address == LOOPBACK {
             answer(&rt, &mut first, &from_second, b"another has it");
         }
-        check_quiet(&rt, rt.alloc(), &mut client);
+        check_quiet(&rt, rt.alloc(), &mut client, 200);
         answer(&rt, &mut second, &from_second, b"done");
         check_heard(&rt, rt.alloc(), &mut client, &at, b"done");
         mem::forget(second);
@@ -116,7 +109,7 @@ fn a_client_that_nobody_hears_is_quiet(rt: HostRuntime) {
     let mut client = keeper(&rt, &rt, "");
     for _ in 0..3 {
         answer(&rt, &mut client, &at, b"who has it?");
-        check_quiet(&rt, rt.alloc(), &mut client);
+        check_quiet(&rt, rt.alloc(), &mut client, 200);
     }
     answer(&rt, &mut client, &at, b"who has it?");
     let mut daemon = new_host(&rt, &rt);
@@ -138,9 +131,9 @@ fn a_client_that_nobody_hears_is_quiet(rt: HostRuntime) {
 // The answer comes, at once or behind what the network told of an earlier request.
 fn check_quiet_or_heard(rt: &impl Abort, alloc: Global, client: &mut RealHost, from: &Peer) {
     let mut datagram = Datagram::new(alloc).expect(rt, "memory");
-    let mut heard = client.next(5000, &mut datagram);
-    if heard == Ok(Arrival::Quiet) {
-        heard = client.next(5000, &mut datagram);
-    }
+    let heard = match client.next(5000, &mut datagram) {
+        Ok(Arrival::Quiet) => client.next(5000, &mut datagram),
+        heard => heard,
+    };
     assert!(rt; heard == Ok(Arrival::Datagram(*from)), "no answer came");
 }

@@ -2,7 +2,7 @@
 ghost use Rattle.std.specs.Prelude.{◌≡◌, ◌≤◌, length};
 
 use super::devices::{LOOPBACK, open_somewhere, place};
-use super::{new_host, remove_all};
+use super::{check_quiet, new_host, remove_all};
 use booth_base::{Name, Peer};
 use booth_host::{Arrival, Datagram, Host};
 use booth_real::RealHost;
@@ -106,7 +106,7 @@ fn check_come(rt: &impl Abort, alloc: Global, pair: &mut Pair, count: u32, bytes
         );
         assert!(rt; datagram.bytes() == bytes, "another came: {place}");
     }
-    assert!(rt; pair.member.next(0, &mut datagram) == Ok(Arrival::Quiet));
+    check_quiet(rt, alloc, pair.member, 0);
 }
 
 fn check_load(

@@ -1,7 +1,7 @@
 //! The real devices: datagrams on loopback, files, the clock, kept records, locks.
 ghost use Rattle.std.specs.Prelude.{◌≤◌};
 
-use super::{create_all, new_host, open, path, remove, remove_all, set_mode, write};
+use super::{check_quiet, create_all, new_host, open, path, remove, remove_all, set_mode, write};
 use booth_base::{Address, Name, Peer};
 use booth_host::{Arrival, Datagram, Failed, Host, Place, ReadFault};
 use booth_real::RealHost;
@@ -11,7 +11,7 @@ use std::cell::Cell;
 use std::fs::File;
 use std::io::Write;
 use std::os::fd::AsRawFd;
-use std::os::unix::fs::MetadataExt;
+use std::os::unix::fs::{MetadataExt, symlink};
 use std::process::{Abort, Command};
 use std::rc::Rc;
 use std::rt::{Clock, Files, Processes};
@@ -431,33 +431,29 @@ fn a_lock_is_of_a_regular_file(rt: HostRuntime) {
     mem::forget(host);
 }
 
+const KINDS_FILE: &str = "booth-host-kinds/7469636b65742d646238.rec";
+
+// No record is kept in what has the file's place, nor read there; then it is moved out of the way.
+fn check_kind(rt: &(impl Abort + Files), host: &mut RealHost, moved: &str) {
+    let name = ticket(rt);
+    assert!(rt; host.kept(&name) == Err(Failed), "{moved}");
+    let kept = host.keep(&name, &Record::plain(1, None));
+    assert!(rt; kept == Err(Failed), "{moved}");
+    fs::rename(rt, KINDS_FILE, moved).expect(rt, moved);
+}
+
 // (a link to a file of zeros, which keeps no record where it is in its place itself)
 #[test]
 fn a_record_is_kept_in_a_regular_file(rt: HostRuntime) {
     let directory = "booth-host-kinds";
     let mut host = keeper(&rt, &rt, directory);
     write(&rt, "booth-host-kinds/zeros", &[0; 64]);
-    for kind in ["mkfifo", "mkdir", "ln -s zeros"] {
-        let file = "booth-host-kinds/7469636b65742d646238.rec";
-        let mut words = kind.split(' ');
-        let program = words.next().expect(&rt, "a program");
-        let mut command = Command::new(rt.alloc(), program).expect(&rt, "memory");
-        for word in words {
-            command.arg(word).expect(&rt, "memory");
-        }
-        command.arg(file).expect(&rt, "memory");
-        assert!(rt; command.status(&rt).expect(&rt, kind).success());
-        let name = ticket(&rt);
-        assert!(rt; host.kept(&name) == Err(Failed), "{kind}");
-        assert!(rt;
-            host.keep(&name, &Record::plain(1, None)) == Err(Failed),
-            "{kind}"
-        );
-        fs::rename(&rt, file, kind).expect(&rt, kind);
-    }
-    remove(&rt, "mkfifo");
-    fs::remove_dir(&rt, "mkdir").expect(&rt, "mkdir");
-    remove(&rt, "ln -s zeros");
+    make_pipe(&rt, rt.alloc(), KINDS_FILE);
+    check_kind(&rt, &mut host, "booth-host-kinds/pipe");
+    create_all(&rt, KINDS_FILE);
+    check_kind(&rt, &mut host, "booth-host-kinds/directory");
+    symlink(&rt, "zeros", KINDS_FILE).expect(&rt, "a link");
+    check_kind(&rt, &mut host, "booth-host-kinds/link");
     remove_all(&rt, directory);
     mem::forget(host);
 }
@@ -466,21 +462,20 @@ fn a_record_is_kept_in_a_regular_file(rt: HostRuntime) {
 #[test]
 fn another_file_that_can_be_read_ends_a_wait(rt: HostRuntime) {
     let mut host = keeper(&rt, &rt, "");
-    let mut datagram = Datagram::new(rt.alloc()).expect(&rt, "memory");
     let (reader, mut writer) = io::pipe(&rt).expect(&rt, "a pipe");
     let start = Instant::now(&rt).expect(&rt, "a clock");
     let Ok(mark) = Rc::new(rt.alloc(), Cell::new(false)) else {
         panic!(rt; "no memory");
     };
     host.wake_on(reader.as_raw_fd(), mark.clone().expect(&rt, "memory"));
-    assert!(rt; host.next(100, &mut datagram) == Ok(Arrival::Quiet));
+    check_quiet(&rt, rt.alloc(), &mut host, 100);
     assert!(rt; !mark.get(), "nothing can be read");
     let empty = start.elapsed(&rt).expect(&rt, "a clock").as_millis();
     assert!(rt; empty >= 80, "it waited {empty} ms");
     writer.write_all(b"x").expect(&rt, "a byte");
-    assert!(rt; host.next(60_000, &mut datagram) == Ok(Arrival::Quiet));
+    check_quiet(&rt, rt.alloc(), &mut host, 60_000);
     assert!(rt; mark.get(), "a byte can be read");
-    assert!(rt; host.next(60_000, &mut datagram) == Ok(Arrival::Quiet));
+    check_quiet(&rt, rt.alloc(), &mut host, 60_000);
     let filled = start.elapsed(&rt).expect(&rt, "a clock").as_millis();
     assert!(rt; filled < 30_000, "it waited {filled} ms");
     mem::forget(host);

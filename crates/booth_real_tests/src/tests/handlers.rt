@@ -1,5 +1,5 @@
 //! Handlers over the real host: programs of this machine, and scripts that tell what they saw.
-use super::{create_all, new_host, open, path, remove, remove_all, set_mode, write};
+use super::{check_quiet, create_all, new_host, open, path, remove, remove_all, set_mode, write};
 use booth_base::{Address, Name};
 use booth_host::{Arrival, Datagram, Failed, Host, Job, Place};
 use booth_real::RealHost;
@@ -130,11 +130,6 @@ fn a_program_knows_what_it_is_run_for(rt: HostRuntime) {
     assert!(rt; seen.as_str() == expected, "{}", seen.as_str());
     remove(&rt, "booth-sees");
     remove(&rt, "booth-seen");
-}
-
-fn check_quiet(rt: &impl Abort, alloc: Global, host: &mut RealHost, wait_ms: u64) {
-    let mut datagram = Datagram::new(alloc).expect(rt, "memory");
-    assert!(rt; host.next(wait_ms, &mut datagram) == Ok(Arrival::Quiet));
 }
 
 #[test]
