@@ -27,23 +27,33 @@ fn leaves(chains: &mut Chains<u32>, before: NodeId, gone: NodeId, next: NodeId) 
     chains.holds(before) && chains.after(before) == Some(next)
 }
 
+// Removes each node but the last, the first first. How many were removed; None where one did not leave so.
+fn remove_each(chains: &mut Chains<u32>, before: NodeId, nodes: &[NodeId]) -> Option<u32> {
+    let mut removed = 0u32;
+    for pair in nodes.windows(2) {
+        let [gone, next] = pair else {
+            return None;
+        };
+        if !leaves(chains, before, *gone, *next) {
+            return None;
+        }
+        removed = removed.saturating_add(1);
+    }
+    Some(removed)
+}
+
+// Removes the nodes of the second half but the last.
+fn remove_second_half(chains: &mut Chains<u32>, nodes: &[NodeId]) -> Option<u32> {
+    let (first, second) = nodes.split_at(nodes.len() / 2);
+    let before = *first.last()?;
+    remove_each(chains, before, second)
+}
+
 /// Pushes so many items to one list, and removes those of its second half but the last, the first first. After each
 /// the last of the first half is followed by the next that stays. How many were removed; None where a step was
 /// another one, or memory was wanting.
 pub fn remove_from_the_middle(alloc: Global, items: u32) -> Option<u32> {
     let mut chains = Chains::with_capacity(alloc, items, 1).ok()?;
     let nodes = push_each(alloc, &mut chains, items)?;
-    let (first, second) = nodes.split_at(nodes.len() / 2);
-    let before = *first.last()?;
-    let mut removed = 0u32;
-    for pair in second.windows(2) {
-        let [gone, next] = pair else {
-            return None;
-        };
-        if !leaves(&mut chains, before, *gone, *next) {
-            return None;
-        }
-        removed = removed.saturating_add(1);
-    }
-    Some(removed)
+    remove_second_half(&mut chains, &nodes)
 }
