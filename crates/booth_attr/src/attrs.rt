@@ -23,7 +23,7 @@ pub const TICKET_NAMES: u32 = 64;
 pub const LIST_BYTES: usize = 12_288;
 
 /// What a `set` did.
-#[derive(Clone, Copy, Debug, PartialEq, Eq)]
+#[derive(Clone, Copy, PartialEq, Eq)]
 pub enum SetAnswer {
     /// The name has the value.
     Done,
@@ -32,7 +32,7 @@ pub enum SetAnswer {
 }
 
 /// What a `delete` did.
-#[derive(Clone, Copy, Debug, PartialEq, Eq)]
+#[derive(Clone, Copy, PartialEq, Eq)]
 pub enum DelAnswer {
     /// The name is gone.
     Done,

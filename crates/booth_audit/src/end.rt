@@ -1,7 +1,7 @@
 //! How the lines of a session end.
 
 /// How the lines of a session end.
-#[derive(Clone, Copy, Debug, PartialEq, Eq)]
+#[derive(Clone, Copy)]
 pub(crate) enum End {
     /// No call is left, or another start begins.
     Over,

@@ -2,7 +2,7 @@
 
 /// A member had a lease of a ticket on its disk, or tried to keep one. Both are named by their places in the
 /// configuration.
-#[derive(Clone, Copy, Debug, PartialEq, Eq)]
+#[derive(Clone, Copy)]
 pub struct Holding {
     pub ticket: u32,
     pub member: u32,

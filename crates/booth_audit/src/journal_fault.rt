@@ -5,7 +5,7 @@ ghost use Rattle.booth_audit.specs.Judging.{fault_at};
 use booth_journal::AuditFault;
 
 /// The first fault of one journal. Lines are counted from 1.
-#[derive(Clone, Copy, Debug, PartialEq, Eq, Drop)]
+#[derive(Clone, Copy, Drop)]
 pub(crate) enum JournalFault {
     /// This line is none of a journal.
     Line(u64),

@@ -15,7 +15,7 @@ use booth_journal::{Call, is_open, look, read_call};
 use std::alloc::Global;
 
 /// Why the owner of a journal is not known.
-#[derive(Clone, Copy, Debug, PartialEq, Eq, Drop)]
+#[derive(Clone, Copy, Drop)]
 pub(crate) enum OwnerFault {
     /// Its starts are not those of one member.
     NotOne,

@@ -31,7 +31,7 @@ const MOST_JOURNALS: usize = 16;
 const MORE: &str = "See boothd(8) for more.";
 
 /// A command of a program.
-#[derive(Clone, Copy, Debug, PartialEq, Eq)]
+#[derive(Clone, Copy)]
 pub enum Verb {
     /// Runs a daemon.
     Daemon,

@@ -9,11 +9,11 @@ const KEPT_BYTES: usize = 60;
 const VERSION: u64 = 1;
 
 /// The id of a boot of the machine, as the kernel writes it.
-#[derive(Clone, Copy, Debug, PartialEq, Eq)]
+#[derive(Clone, Copy, PartialEq, Eq)]
 pub struct BootId(pub [u8; 36]);
 
 /// What is kept of the clock.
-#[derive(Clone, Copy, Debug, PartialEq, Eq)]
+#[derive(Clone, Copy)]
 pub struct KeptClock {
     /// The boot in which the offset was taken.
     pub boot: BootId,

@@ -13,7 +13,7 @@ const STEP_MS: u64 = 100;
 const NEAR_MS: u64 = 2;
 
 /// Both clocks at one moment, in milliseconds.
-#[derive(Clone, Copy, Debug, PartialEq, Eq)]
+#[derive(Clone, Copy)]
 pub struct Readings {
     /// The time since the boot, also while the machine slept.
     pub boot: u64,
@@ -22,7 +22,7 @@ pub struct Readings {
 }
 
 /// Why a clock does not begin.
-#[derive(Clone, Copy, Debug, PartialEq, Eq, Drop, Error)]
+#[derive(Clone, Copy, Debug, Drop, Error)]
 pub enum ClockFault {
     #[error("the clock is behind a reading that was reached before")]
     Behind,
@@ -31,14 +31,14 @@ pub enum ClockFault {
 }
 
 /// By how many milliseconds the wall clock is off this clock.
-#[derive(Clone, Copy, Debug, PartialEq, Eq)]
+#[derive(Clone, Copy)]
 pub enum Step {
     Ahead(u64),
     Behind(u64),
 }
 
 /// The clock of a daemon, within one boot.
-#[derive(Clone, Copy, Debug, PartialEq, Eq)]
+#[derive(Clone, Copy)]
 pub struct OwnClock {
     boot: BootId,
     /// What it reads beyond the time since the boot, in milliseconds.

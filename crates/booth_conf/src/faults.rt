@@ -33,7 +33,7 @@ pub enum ConfFault {
 }
 
 /// What is wrong with a line, in the order in which it is reported.
-#[derive(Clone, Copy, Debug, PartialEq, Eq)]
+#[derive(Clone, Copy)]
 pub enum LineFault {
     Syntax,
     UnknownKey,
@@ -45,7 +45,7 @@ pub enum LineFault {
 }
 
 /// Why reading stopped at a line.
-#[derive(Clone, Copy, Debug, PartialEq, Eq)]
+#[derive(Clone, Copy)]
 pub enum Stop {
     Memory,
     Line(LineFault),

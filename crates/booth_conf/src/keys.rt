@@ -9,7 +9,7 @@ use crate::limits::{LEAST_RETRIES, MOST_RETRIES, SECONDS};
 pub struct KeyNo(pub u8);
 
 /// Words of which a value is one.
-#[derive(Clone, Copy, Debug)]
+#[derive(Clone, Copy)]
 pub enum Choice {
     Transport,
     Mode,
@@ -17,7 +17,7 @@ pub enum Choice {
 }
 
 /// What the value of a key has to be.
-#[derive(Clone, Copy, Debug)]
+#[derive(Clone, Copy)]
 pub enum Form {
     /// A number in this range.
     Number { least: u32, most: u32 },
@@ -34,7 +34,7 @@ pub enum Form {
 }
 
 /// A key.
-#[derive(Clone, Copy, Debug)]
+#[derive(Clone, Copy)]
 pub enum ConfKey {
     Port,
     Transport,
@@ -62,7 +62,7 @@ pub enum ConfKey {
 }
 
 /// What a key belongs to: the whole file, or the last `ticket` line.
-#[derive(Clone, Copy, Debug)]
+#[derive(Clone, Copy)]
 pub enum Scope {
     File,
     Ticket,

@@ -16,7 +16,7 @@ use itoa::Buffer;
 use std::alloc::{AllocError, Global};
 
 /// What a value is put in.
-#[derive(Clone, Copy, Debug)]
+#[derive(Clone, Copy)]
 pub enum Quote {
     Double,
     Single,

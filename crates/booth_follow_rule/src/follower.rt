@@ -8,7 +8,7 @@ use crate::state::{FollowDeed, Stage, State};
 use crate::steps::{end_of, hears, run_after, step_at};
 
 /// A follower of one ticket. No call takes memory.
-#[derive(Clone, Copy, Debug, PartialEq, Eq)]
+#[derive(Clone, Copy)]
 pub struct Follower {
     margins: Margins,
     state: State,

@@ -14,7 +14,7 @@ const LEAST_KILL: u64 = 1_000;
 const PAUSE: u64 = 5_000;
 
 /// The times of a follower, in milliseconds.
-#[derive(Clone, Copy, Debug, PartialEq, Eq)]
+#[derive(Clone, Copy)]
 pub struct Margins {
     /// How long before the end of the lease the service is stopped.
     pub margin: u64,
@@ -25,7 +25,7 @@ pub struct Margins {
 }
 
 /// Why margins do not fit a ticket.
-#[derive(Clone, Copy, Debug, PartialEq, Eq, Drop, Error)]
+#[derive(Clone, Copy, Debug, Drop, Error)]
 pub enum MarginFault {
     #[error("the margin is too long: the service would be stopped before the lease is renewed")]
     MarginTooLong,

@@ -1,7 +1,7 @@
 //! What a follower is told.
 
 /// What an authentic list of this site's daemon shows of the ticket.
-#[derive(Clone, Copy, Debug, PartialEq, Eq)]
+#[derive(Clone, Copy)]
 pub enum Shown {
     /// This site holds it, until this reading in milliseconds.
     Here { until: u64 },
@@ -10,7 +10,7 @@ pub enum Shown {
 }
 
 /// How a run of the program ended.
-#[derive(Clone, Copy, Debug, PartialEq, Eq)]
+#[derive(Clone, Copy)]
 pub enum RunEnd {
     /// With status 0: what it was run for is done.
     Done,
@@ -19,7 +19,7 @@ pub enum RunEnd {
 }
 
 /// What came before a reading.
-#[derive(Clone, Copy, Debug, PartialEq, Eq)]
+#[derive(Clone, Copy)]
 pub enum News {
     Nothing,
     List(Shown),

@@ -1,7 +1,7 @@
 //! Where a follower stands, and what it does.
 
 /// What the program is run for.
-#[derive(Clone, Copy, Debug, PartialEq, Eq)]
+#[derive(Clone, Copy, PartialEq, Eq)]
 pub enum Word {
     /// The service is to run. The run may end as soon as it does, with 0.
     Start,
@@ -12,7 +12,7 @@ pub enum Word {
 }
 
 /// What is to be done.
-#[derive(Clone, Copy, Debug, PartialEq, Eq)]
+#[derive(Clone, Copy, PartialEq, Eq)]
 pub enum FollowDeed {
     Nothing,
     /// The program is run: for this, under this number, and with the end that the last list of this site told, or 0.
@@ -22,7 +22,7 @@ pub enum FollowDeed {
 }
 
 /// What is known of the service, and what is waited for.
-#[derive(Clone, Copy, Debug, PartialEq, Eq)]
+#[derive(Clone, Copy)]
 pub enum Stage {
     /// Nothing was done yet. An earlier follower may have left the service running.
     Opening,
@@ -38,7 +38,7 @@ pub enum Stage {
 }
 
 /// What a follower knows.
-#[derive(Clone, Copy, Debug, PartialEq, Eq)]
+#[derive(Clone, Copy)]
 pub struct State {
     /// Whether the last list shows this site as the holder.
     pub here: bool,

@@ -129,7 +129,7 @@ pub(crate) fn turn<H: Host>(
 }
 
 /// How a following ended.
-#[derive(Clone, Copy, Debug, PartialEq, Eq)]
+#[derive(Clone, Copy, PartialEq, Eq)]
 pub enum FollowEnd {
     /// The end was asked for, and the service is stopped.
     Left,

@@ -25,7 +25,7 @@ pub enum ReadFault {
 }
 
 /// What came while the host was waited for.
-#[derive(Clone, Copy, Debug, PartialEq, Eq)]
+#[derive(Clone, Copy, PartialEq, Eq)]
 pub enum Arrival {
     /// A datagram from this peer.
     Datagram(Peer),

@@ -11,7 +11,7 @@ use std::alloc::Global;
 use thiserror::Error;
 
 /// Why a text was not read as a journal.
-#[derive(Clone, Copy, Debug, PartialEq, Eq, Drop, Error)]
+#[derive(Clone, Copy, Debug, Drop, Error)]
 pub enum TextFault {
     /// This line, counted from 1, is none of a journal behind the lines before it.
     #[error("line {0} is none of a journal")]

@@ -5,7 +5,7 @@ ghost use Rattle.booth_keys.specs.Ring.{alone};
 use crate::key::Key;
 
 /// The hash by which the MAC of what is sent is made.
-#[derive(Clone, Copy, Debug, PartialEq, Eq, Drop)]
+#[derive(Clone, Copy, PartialEq, Eq, Drop)]
 pub enum Hash {
     /// HMAC-SHA1, of 20 bytes.
     Sha1,

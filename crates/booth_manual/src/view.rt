@@ -12,7 +12,7 @@ pub const NO_END: u64 = 4_611_686_018_427_387_904;
 pub const NO_END_SECONDS: u32 = 4_294_967_295;
 
 /// A call that keeps a record.
-#[derive(Clone, Copy, Debug, PartialEq, Eq)]
+#[derive(Clone, Copy, PartialEq, Eq)]
 pub enum Call {
     /// The ticket is granted to this site.
     Grant,
@@ -23,7 +23,7 @@ pub enum Call {
 }
 
 /// A keep that was asked for and is not answered.
-#[derive(Clone, Copy, Debug, PartialEq, Eq)]
+#[derive(Clone, Copy, PartialEq, Eq)]
 pub struct Waiting {
     pub call: Call,
     /// The record that is to be kept.
@@ -31,7 +31,7 @@ pub struct Waiting {
 }
 
 /// The view of a manual ticket at one member.
-#[derive(Clone, Copy, Debug, PartialEq, Eq)]
+#[derive(Clone, Copy, PartialEq, Eq)]
 pub struct ManualView {
     pub term: u32,
     /// The kept record; without one, that of version 1 with term 0 and no lease.

@@ -1,7 +1,7 @@
 //! What a move does next, and how it ends.
 
 /// How a move ended.
-#[derive(Clone, Copy, Debug, PartialEq, Eq)]
+#[derive(Clone, Copy, PartialEq, Eq)]
 pub enum MoveEnd {
     /// The ticket was granted to the target.
     Moved,
@@ -16,7 +16,7 @@ pub enum MoveEnd {
 }
 
 /// What is to be done after a pair.
-#[derive(Clone, Copy, Debug, PartialEq, Eq)]
+#[derive(Clone, Copy, PartialEq, Eq)]
 pub enum MoveDeed {
     Nothing,
     /// The revoke is sent: to the member at this place, or where `booth revoke` sends it.

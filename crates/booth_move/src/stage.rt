@@ -1,7 +1,7 @@
 //! Where a move stands.
 
 /// The last request, and the wait for its answer.
-#[derive(Clone, Copy, Debug, PartialEq, Eq)]
+#[derive(Clone, Copy)]
 pub struct Request {
     /// The number that an answer repeats.
     pub number: u32,
@@ -14,7 +14,7 @@ pub struct Request {
 }
 
 /// What a move waits for.
-#[derive(Clone, Copy, Debug, PartialEq, Eq)]
+#[derive(Clone, Copy)]
 pub enum Stage {
     /// Nothing was sent yet.
     Opening { start: u64 },

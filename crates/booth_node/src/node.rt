@@ -28,7 +28,7 @@ use std::alloc::{AllocError, Global};
 const WAIT_MS: u64 = 100;
 
 /// How a turn ended.
-#[derive(Clone, Copy, Debug, PartialEq, Eq)]
+#[derive(Clone, Copy, PartialEq, Eq)]
 pub enum Turn {
     /// The next turn may follow.
     Went,

@@ -11,7 +11,7 @@ use booth_ticket::To;
 pub(crate) const READINGS_END: u64 = 1 << 62;
 
 /// What is counted of a member. A counter that reaches its greatest value stays there.
-#[derive(Clone, Copy, Debug, PartialEq, Eq)]
+#[derive(Clone, Copy, PartialEq, Eq)]
 pub struct Counters {
     /// How many of its datagrams were let in.
     pub accepted: u64,
@@ -24,7 +24,7 @@ pub struct Counters {
 }
 
 /// What is counted beside the tickets.
-#[derive(Clone, Copy, Debug, PartialEq, Eq)]
+#[derive(Clone, Copy)]
 pub struct Common {
     /// How many datagrams were dropped for each fault, in the gate's order.
     pub drops: [u64; 8],

@@ -3,7 +3,7 @@ use booth_rec::Record;
 use booth_wire::Say;
 
 /// What is to follow that the rules of leases do not decide.
-#[derive(Clone, Copy, Debug, PartialEq, Eq)]
+#[derive(Clone, Copy, PartialEq, Eq)]
 pub enum Want {
     Nothing,
     /// The lease is to be renewed.
@@ -13,7 +13,7 @@ pub enum Want {
 }
 
 /// What the clients that wait are to be told.
-#[derive(Clone, Copy, Debug, PartialEq, Eq)]
+#[derive(Clone, Copy, PartialEq, Eq)]
 pub enum Told {
     Nothing,
     /// A lease was gained; `sure` where its record is kept.
@@ -42,7 +42,7 @@ pub struct Deed {
 }
 
 /// What became of handlers and clients' requests.
-#[derive(Clone, Copy, Debug, PartialEq, Eq)]
+#[derive(Clone, Copy)]
 pub enum Note {
     /// A client's request is followed.
     Asked,

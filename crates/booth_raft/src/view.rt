@@ -10,7 +10,7 @@ pub const LAST_TERM: u32 = 4_294_967_294;
 pub const LAST_NUMBER: u32 = 4_294_967_295;
 
 /// What a member does for the ticket.
-#[derive(Clone, Copy, Debug, PartialEq, Eq)]
+#[derive(Clone, Copy, PartialEq, Eq)]
 pub enum Role {
     /// It holds no lease and asks for none.
     Follower,
@@ -23,7 +23,7 @@ pub enum Role {
 }
 
 /// Why a round is opened.
-#[derive(Clone, Copy, Debug, PartialEq, Eq)]
+#[derive(Clone, Copy, PartialEq, Eq)]
 pub enum RoundKind {
     /// Votes for a new term are asked for: the round has number 0.
     Election,
@@ -32,7 +32,7 @@ pub enum RoundKind {
 }
 
 /// A round that this member opened.
-#[derive(Clone, Copy, Debug, PartialEq, Eq)]
+#[derive(Clone, Copy, PartialEq, Eq)]
 pub struct Round {
     pub term: u32,
     pub number: u32,
@@ -45,14 +45,14 @@ pub struct Round {
 }
 
 /// An owner of the ticket that this member has heard of, or is itself.
-#[derive(Clone, Copy, Debug, PartialEq, Eq)]
+#[derive(Clone, Copy, PartialEq, Eq)]
 pub struct Shown {
     pub owner: MemberId,
     pub until: u64,
 }
 
 /// A rule that keeps a record, with its arguments.
-#[derive(Clone, Copy, Debug, PartialEq, Eq)]
+#[derive(Clone, Copy, PartialEq, Eq)]
 pub enum Rule {
     /// A round was won.
     Gain,
@@ -82,7 +82,7 @@ pub enum Rule {
 }
 
 /// A keep that was asked for and is not answered.
-#[derive(Clone, Copy, Debug, PartialEq, Eq)]
+#[derive(Clone, Copy, PartialEq, Eq)]
 pub struct Waiting {
     pub rule: Rule,
     /// The record that is to be kept.
@@ -92,7 +92,7 @@ pub struct Waiting {
 }
 
 /// The view of a ticket at one member.
-#[derive(Clone, Copy, Debug, PartialEq, Eq)]
+#[derive(Clone, Copy, PartialEq, Eq)]
 pub struct View {
     pub term: u32,
     /// The greatest term that was heard of.

@@ -26,7 +26,7 @@ pub trait Outlet {
 }
 
 /// Why a line was not written whole.
-#[derive(Clone, Copy, Debug, PartialEq, Eq)]
+#[derive(Clone, Copy)]
 pub enum Unwritten {
     /// The write would have waited, and none was made.
     Full,

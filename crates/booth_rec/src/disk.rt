@@ -5,7 +5,7 @@ ghost use Rattle.booth_rec.specs.Disk.{IsRead, IsWritten, SameOutside, NoMore, F
 use thiserror::Error;
 
 /// A call of a disk failed.
-#[derive(Clone, Copy, Debug, PartialEq, Eq, Drop, Error)]
+#[derive(Clone, Copy, Debug, Drop, Error)]
 #[error("the disk failed")]
 pub struct DiskFault;
 

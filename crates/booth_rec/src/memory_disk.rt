@@ -14,7 +14,7 @@ const WRITE_BYTES: usize = 128;
 const ROOM: usize = 4096;
 
 /// A call that changed the disk.
-#[derive(Clone, Copy, Debug, PartialEq, Eq)]
+#[derive(Clone, Copy)]
 enum Call {
     /// These bytes were written at this place, so many of them.
     Write {

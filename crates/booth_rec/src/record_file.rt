@@ -25,28 +25,28 @@ const OLD_FIRST: usize = 0;
 const OLD_SECOND: usize = 64;
 
 /// One of the two slots of version 2, into which records are put.
-#[derive(Clone, Copy, Debug, PartialEq, Eq)]
+#[derive(Clone, Copy, PartialEq, Eq)]
 pub(crate) enum Half {
     First,
     Second,
 }
 
 /// What an open slot holds.
-#[derive(Clone, Copy, Debug, PartialEq, Eq)]
+#[derive(Clone, Copy)]
 pub(crate) struct Held {
     pub number: u64,
     pub kept: Record,
 }
 
 /// The record that a file stands for, and its slot, which is none where that is one of version 1.
-#[derive(Clone, Copy, Debug, PartialEq, Eq)]
+#[derive(Clone, Copy)]
 pub(crate) struct Standing {
     pub half: Option<Half>,
     pub held: Held,
 }
 
 /// What is known of a file: the record that it stands for, if it stands for one, and which slots of version 2 are open.
-#[derive(Clone, Copy, Debug, PartialEq, Eq)]
+#[derive(Clone, Copy)]
 pub(crate) struct Holding {
     pub standing: Option<Standing>,
     pub first_is_open: bool,

@@ -20,7 +20,7 @@ use thiserror::Error;
 const ENTRY_BYTES: usize = BODY_AT - NUMBER_AT + SECOND_BYTES;
 
 /// Why a record file was not opened; the disk is handed back.
-#[derive(Debug, Drop)]
+#[derive(Drop)]
 pub enum OpenFault<D> {
     /// A call of the disk failed.
     Disk(D),

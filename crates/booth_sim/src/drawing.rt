@@ -9,7 +9,7 @@ use rand_pcg::Pcg32;
 const STREAM: u64 = 54;
 
 /// Three words, in the order in which they are drawn.
-#[derive(Clone, Copy, Debug, PartialEq, Eq)]
+#[derive(Clone, Copy)]
 pub struct Draw {
     pub first: u32,
     pub second: u32,
@@ -17,7 +17,7 @@ pub struct Draw {
 }
 
 /// What an event is.
-#[derive(Clone, Copy, Debug, PartialEq, Eq)]
+#[derive(Clone, Copy)]
 pub(crate) enum Kind {
     /// A frame arrives where it was sent to.
     Frame,

@@ -4,7 +4,7 @@
 pub const MOST_EVENTS: u64 = 10_000_000;
 
 /// What became of the tickets of a cluster in a simulation.
-#[derive(Clone, Copy, Debug, PartialEq, Eq)]
+#[derive(Clone, Copy, PartialEq, Eq)]
 pub struct Summary {
     /// How many events there were.
     pub events: u64,

@@ -17,7 +17,7 @@ const NAMED: usize = 28;
 const HEADER_BYTES: usize = 48;
 
 /// What a call made of its piece.
-#[derive(Clone, Copy, Debug, PartialEq, Eq)]
+#[derive(Clone, Copy)]
 pub enum Got {
     /// More bytes are wanted.
     Nothing,
@@ -28,7 +28,7 @@ pub enum Got {
 }
 
 /// How many bytes of the piece were taken, and what came of them.
-#[derive(Clone, Copy, Debug, PartialEq, Eq)]
+#[derive(Clone, Copy)]
 pub struct Fed {
     pub taken: usize,
     pub got: Got,

@@ -9,7 +9,7 @@ use booth_base::Peer;
 use booth_host::{Failed, Place};
 
 /// What links bring.
-#[derive(Clone, Copy, Debug, PartialEq, Eq)]
+#[derive(Clone, Copy, PartialEq, Eq)]
 pub enum LinkEvent {
     /// A link was opened by this peer, by this number from now on.
     Opened { link: u32, peer: Peer },

@@ -12,7 +12,7 @@ use booth_base::Name;
 use std::alloc::{AllocError, Global};
 
 /// A text of several lines.
-#[derive(Clone, Copy, Debug, PartialEq, Eq)]
+#[derive(Clone, Copy)]
 pub(crate) enum Form {
     /// A line for each ticket.
     List,
@@ -21,7 +21,7 @@ pub(crate) enum Form {
 }
 
 /// A line of such a text.
-#[derive(Clone, Copy, Debug, PartialEq, Eq)]
+#[derive(Clone, Copy)]
 pub(crate) enum LineKind {
     Ticket,
     Drops,

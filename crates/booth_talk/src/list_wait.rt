@@ -14,7 +14,7 @@ use booth_host::{Arrival, Datagram, Failed, Host};
 use booth_wire::Message;
 
 /// How the wait for a list ended.
-#[derive(Clone, Copy, Debug, PartialEq, Eq)]
+#[derive(Clone, Copy)]
 pub enum Listed {
     /// All its parts came.
     Whole,

@@ -9,7 +9,7 @@ use booth_keys::Ring;
 use booth_wire::{Cmd, options};
 
 /// How a grant or a revoke is asked for.
-#[derive(Clone, Copy, Debug, PartialEq, Eq)]
+#[derive(Clone, Copy)]
 pub struct Options {
     /// Whether a manual ticket is granted although another member is known to hold it.
     pub immediate: bool,

@@ -10,7 +10,7 @@ use booth_base::{MemberId, NO_ONE};
 use booth_wire::{Body, Cmd, Message, decode};
 
 /// What counts of a reply while it is waited for.
-#[derive(Clone, Copy, Debug, PartialEq, Eq)]
+#[derive(Clone, Copy)]
 pub struct Reply {
     pub result: u32,
     /// The member that is named, or `NO_ONE`.

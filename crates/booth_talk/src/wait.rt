@@ -16,7 +16,7 @@ pub const MOST_PAIRS: u64 = 1 << 40;
 pub const PATIENCE: u64 = 5_000;
 
 /// How a wait ended.
-#[derive(Clone, Copy, Debug, PartialEq, Eq)]
+#[derive(Clone, Copy)]
 pub enum Waited {
     /// This reply came, and then this reading.
     Came { reply: Reply, reading: u64 },

@@ -15,7 +15,7 @@ use booth_wire::Say;
 use booth_wire::reasons::{LOCF, RACQ};
 
 /// What the end of a handler says of the service of its ticket at this site.
-#[derive(Clone, Copy, Debug, PartialEq, Eq)]
+#[derive(Clone, Copy)]
 pub enum Service {
     /// The handler ended with status 0.
     CanRun,

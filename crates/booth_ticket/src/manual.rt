@@ -22,7 +22,7 @@ use booth_wire::{Head, Say, Setup, TicketPart};
 use std::marker::Model;
 
 /// The handler of a grant by hand that runs.
-#[derive(Clone, Copy, Debug, PartialEq, Eq)]
+#[derive(Clone, Copy)]
 pub struct Job {
     pub number: u64,
     /// When it counts as failed, in milliseconds since 1970.

@@ -16,7 +16,7 @@ use booth_wire::{Head, Setup, TicketPart};
 use std::marker::Model;
 
 /// Who is shown as the owner of a ticket.
-#[derive(Clone, Copy, Debug, PartialEq, Eq)]
+#[derive(Clone, Copy)]
 pub struct Owner {
     pub site: MemberId,
     /// The end of its lease, in whole seconds since 1970.
