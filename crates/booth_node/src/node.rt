@@ -9,19 +9,17 @@ ghost use Rattle.booth_node.specs.Reaction.{IsDone, action, all_places, met, arr
 
 use crate::deadlines::{drain, expire_each, look_again};
 use crate::jobs::end_each;
-use crate::opening::{start_tickets, start_wheel};
-use crate::reply_buffer::ReplyBuffer;
+use crate::opening::start_timer;
 use crate::state::READINGS_END;
 use crate::tickets::TicketTable;
-use crate::{Common, Counters, NodeConfig};
-use booth_attr::Attrs;
+use crate::{Counters, NodeConfig};
 use booth_base::{MemberId, Peer};
 use booth_chain::Wheel;
 use booth_conf::Config;
 use booth_host::{Arrival, Datagram, Failed, Host};
 use booth_keys::Ring;
 use booth_rec::Record;
-use booth_ticket::{Service, Waiters};
+use booth_ticket::Service;
 use std::alloc::{AllocError, Global};
 
 /// How long a turn waits for an arrival, in milliseconds.
@@ -73,6 +71,7 @@ impl Node {
         ensures state { IfOk result (λ node. state_of node
             ≡ opened (record { config = config; ring = ring; me = me; second = true }) records.now now) }
     {
+        let datagram = Datagram::new(alloc)?;
         let node = NodeConfig {
             config,
             ring,
@@ -80,22 +79,12 @@ impl Node {
             second: true,
         };
         let last_reading = now.min(READINGS_END - 1);
-        let tickets = start_tickets(alloc, &node, records, last_reading)?;
-        let wheel = start_wheel(alloc, &tickets)?;
-        let waiters = Waiters::new(alloc, tickets.len() as u32)?;
-        let attrs = Attrs::new(alloc, tickets.len() as u32)?;
-        let due = Vec::with_capacity(alloc, tickets.len())?;
+        let table = TicketTable::open(alloc, node, records, last_reading)?;
+        let (wheel, due) = start_timer(alloc, &table.tickets)?;
         Ok(Node {
-            table: TicketTable {
-                node,
-                tickets,
-                waiters,
-                attrs,
-                common: Common::nothing_counted(),
-                buffer: ReplyBuffer::new(alloc)?,
-            },
+            table,
             last_reading,
-            datagram: Datagram::new(alloc)?,
+            datagram,
             wheel,
             due,
         })

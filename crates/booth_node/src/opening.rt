@@ -1,5 +1,5 @@
 //! The tickets that a node starts with, and their timer.
-ghost use Rattle.std.specs.Prelude.{◌≡◌, ◌<◌, ◌≤◌, ◌^◌, IfOk, IsSome, IsTrue, Some, length, map, position, slice_get, option_copied};
+ghost use Rattle.std.specs.Prelude.{◌≡◌, ◌<◌, ◌≤◌, ◌^◌, IfOk, IsSome, IsTrue, Some, length, map, position, slice_get, option_copied, vec_capacity};
 ghost use Rattle.std.specs.List.{All};
 ghost use Rattle.booth_conf.specs.Config.{has_id};
 ghost use Rattle.booth_conf.specs.Sound.{HasTimes};
@@ -118,8 +118,8 @@ pub(crate) fn start_tickets(
     Ok(tickets)
 }
 
-/// A timer with the deadline of each ticket.
-pub(crate) fn start_wheel(alloc: Global, tickets: &[Ticket]) -> Result<Wheel, AllocError>
+// A timer with the deadline of each ticket.
+fn start_wheel(alloc: Global, tickets: &[Ticket]) -> Result<Wheel, AllocError>
     requires { length tickets.now ≤ TICKETS }
     ensures timed { IfOk result (λ wheel. wheel.deadlines ≡ map deadline_of tickets.now) }
     ensures waited { IfOk result (λ wheel. wheel.last ≡ 0) }
@@ -129,4 +129,18 @@ pub(crate) fn start_wheel(alloc: Global, tickets: &[Ticket]) -> Result<Wheel, Al
         set_deadline(&mut wheel, place as u32, ticket.deadline());
     }
     Ok(wheel)
+}
+
+/// The timer of these tickets, and room for the places of those that are due at once.
+pub(crate) fn start_timer(
+    alloc: Global,
+    tickets: &[Ticket],
+) -> Result<(Wheel, Vec<u32>), AllocError>
+    requires { length tickets.now ≤ TICKETS }
+    ensures timed { IfOk result (λ timer. timer.0.deadlines ≡ map deadline_of tickets.now) }
+    ensures waited { IfOk result (λ timer. timer.0.last ≡ 0) }
+    ensures room { IfOk result (λ timer. length tickets.now ≤ vec_capacity timer.1) }
+{
+    let wheel = start_wheel(alloc, tickets)?;
+    Ok((wheel, Vec::with_capacity(alloc, tickets.len())?))
 }

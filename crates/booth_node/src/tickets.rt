@@ -1,14 +1,16 @@
 //! The tickets of a node, and what their deeds change beside them.
-ghost use Rattle.std.specs.Prelude.{◌≡◌, ◌≢◌, ◌≤◌, ◌<◌, ◌^◌, ◌==◌, false, Some, drop, length, position, slice_get, IfOk, IsSomeAnd, MatchOption};
+ghost use Rattle.std.specs.Prelude.{◌≡◌, ◌≢◌, ◌≤◌, ◌<◌, ◌^◌, ◌==◌, [], false, Some, drop, length, position, replicate, slice_get, IfOk, IsSome, IsSomeAnd, IsTrue, MatchOption};
 ghost use Rattle.std.specs.List.{All};
+ghost use Rattle.booth_attr.specs.Attributes.{no_attributes};
 ghost use Rattle.booth_conf.specs.Config.{has_id};
 ghost use Rattle.booth_conf.specs.declared.limits.TheConstants.{TICKETS};
 ghost use Rattle.booth_ticket.specs.Ticket.{IsDue};
 ghost use Rattle.booth_node.specs.Acting.{MayBefall, IsSetAt};
 ghost use Rattle.booth_wire.specs.Command.{direction_of};
 ghost use Rattle.booth_wire.specs.PlainMessage.{plain_of};
-ghost use Rattle.booth_node.specs.Counting.{accepted, counted, counters_at, with_counters, count_drop};
+ghost use Rattle.booth_node.specs.Counting.{accepted, counted, counters_at, with_counters, count_drop, nothing_counted};
 ghost use Rattle.booth_node.specs.Led.{Led};
+ghost use Rattle.booth_node.specs.Opening.{started_from};
 ghost use Rattle.booth_base.specs.Tree.{each};
 ghost use Rattle.booth_node.specs.Reaction.{Attends, IsDone, action, acts, met, routed, deadline_of, sends_back};
 ghost use Rattle.booth_node.specs.Replies.{is_list, list_lines};
@@ -19,6 +21,7 @@ ghost use Rattle.booth_node.specs.Ours.{IsOurs};
 use crate::attributes::AttrRequest;
 use crate::event::Event;
 use crate::hands::{NodeHands, act_at};
+use crate::opening::start_tickets;
 use crate::replies::{Part, is_list};
 use crate::reply_buffer::ReplyBuffer;
 use crate::routing::{Action, route};
@@ -27,8 +30,10 @@ use booth_attr::Attrs;
 use booth_auth::DropFault;
 use booth_base::Peer;
 use booth_host::Host;
+use booth_rec::Record;
 use booth_ticket::{Request, Service, Ticket, Waiters};
 use booth_wire::{Head, Message, TicketPart};
+use std::alloc::{AllocError, Global};
 
 /// The tickets in the order of the configuration, the clients that wait for each, the attributes of each, what is
 /// counted, and where messages are made.
@@ -49,6 +54,38 @@ pub(crate) struct TicketTable {
 
 impl TicketTable {
     ghost use Rattle.booth_node.specs.View.{TellsAlone, state_with};
+
+    /// The tickets of a node at its start, each from its record at this reading in ms.
+    pub fn open(
+        alloc: Global,
+        node: NodeConfig,
+        records: &[Option<Record>],
+        now: u64,
+    ) -> Result<TicketTable, AllocError>
+        requires early { now < 2 ^ 62 }
+        requires second { IsTrue node.second }
+        requires member { IsSome (position (has_id node.me) node.config.members) }
+        requires records { length records.now ≡ length node.config.tickets }
+        ensures node { IfOk result (λ table. table.node ≡ node) }
+        ensures tickets { IfOk result (λ table. table.tickets.items
+            ≡ started_from node now 0 node.config.tickets records.now) }
+        ensures waiters { IfOk result (λ table. table.waiters ≡ replicate (length node.config.tickets) []) }
+        ensures attributes { IfOk result (λ table. table.attrs ≡ no_attributes (length node.config.tickets)) }
+        ensures common { IfOk result (λ table. table.common ≡ nothing_counted) }
+    {
+        let buffer = ReplyBuffer::new(alloc)?;
+        let tickets = start_tickets(alloc, &node, records, now)?;
+        let waiters = Waiters::new(alloc, tickets.len() as u32)?;
+        let attrs = Attrs::new(alloc, tickets.len() as u32)?;
+        Ok(TicketTable {
+            node,
+            tickets,
+            waiters,
+            attrs,
+            common: Common::nothing_counted(),
+            buffer,
+        })
+    }
 
     // What befalls the ticket at a place.
     fn act<H: Host>(&mut self, place: usize, event: &Event, now: u64, host: &mut H)
