@@ -16,7 +16,9 @@ use Rattle.booth_world.proofs.LogSessions.{logs_are_sessions, stopped_logs_are_s
 use Rattle.booth_outcomes.specs.declared.outcome.Outcome.{Outcome}
 use Rattle.booth_outcomes.specs.declared.outcome.Outcome.TheVariants.{Done, TurnsSpent}
 use Rattle.booth_outcomes.specs.Keys.{FirstKeyless, IsKeyless, OldKeyless}
+use Rattle.booth_outcomes.specs.Unasked.{IsUnasked}
 use Rattle.booth_cli.specs.declared.asking.DaemonWords.{DaemonWords}
+use Rattle.booth_cli.specs.declared.program.Program.TheVariants.{Boothd}
 use Rattle.booth_cli.specs.Asking.{AsksDaemon}
 use Rattle.booth_daemon.specs.Headline.{IsSafe, IsTurningEnd, DaemonsTurn, RunsAreSessions, CutRunsAreSessions}
 use Rattle.booth_daemon.specs.Opening.{member_config}
@@ -72,11 +74,17 @@ turning_of asked TurnsSpent said body ends (Unopened is) = absurd is.here
 turning_of asked TurnsSpent said body ends (Turning is) = is
 turning_of asked outcome said body ends is = absurd ends
 
+-- what was not asked for does not end so
+unasked_end : (words : List (List ℕ)) (outcome : Outcome) (said : List ℕ) (body : List Entry) → IsTurningEnd outcome
+    → IsUnasked Boothd words outcome said body → ⊥
+unasked_end words Done said body ends is = absurd is
+unasked_end words TurnsSpent said body ends is = absurd is
+unasked_end words outcome said body ends is = absurd ends
+
 -- words that ask for a daemon ask for nothing else
 serving_of : (words : List (List ℕ)) (outcome : Outcome) (said : List ℕ) (body : List Entry) → AskForDaemon words → IsTurningEnd outcome
     → IsMade words outcome said body → (asked : DaemonWords) × AsksDaemon words asked × IsServing asked outcome said body
-serving_of words Done said body daemon ends (Unasked is) = absurd is
-serving_of words TurnsSpent said body daemon ends (Unasked is) = absurd is
+serving_of words outcome said body daemon ends (Unasked is) = absurd (unasked_end words outcome said body ends is)
 serving_of words outcome said body daemon ends (Served asked asks is) = (asked, asks, is)
 serving_of words outcome said body daemon ends (Summed asked asks is) =
     let daemon_named = daemon.asks.asks.named in
@@ -90,7 +98,6 @@ serving_of words outcome said body daemon ends (Looked lock asks is) =
     let daemon_named = daemon.asks.asks.named in
     let other_named = asks.asks.named in
     cc
-serving_of words outcome said body daemon ends is = absurd ends
 
 pub daemons_turn : DaemonsTurn
 daemons_turn words outcome entries run daemon ends =
