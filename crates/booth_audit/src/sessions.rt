@@ -136,6 +136,39 @@ fn tally_turn(
     tally_cut(whose, turned.end, unread, at, tally)
 }
 
+// Each turn of a session over its node, to where it is over.
+fn replay_each<'a>(
+    alloc: Global,
+    whose: &Whose<'_>,
+    node: &mut Node,
+    from: Left<'a>,
+    tally: &mut Tally,
+) -> Result<Behind<'a>, AllocError>
+    requires member { node_config node.old ≡ whose.now.node }
+    requires short { from.line + length from.rest.now ≤ 2 ^ 63 }
+    requires says { (left : List Said) × Says from.rest.now left }
+    ensures { (left : List Said) → Says from.entry.rest.now left → IfOk result (λ found. IsSession whose.now
+        (state_of node.old) from.entry.rest.now from.entry.line left tally.old tally.new
+        found.strays found.left.rest.now found.left.line) }
+{
+    let mut left = from;
+    'turns: loop {
+        let Left { rest, line, draft } = left;
+        let turned = replay_turn(alloc, node, rest, line, draft)?;
+        tally_turn(whose, &turned, line, tally)?;
+        let end = turned.end;
+        left = Left {
+            rest: turned.rest,
+            line: turned.line,
+            draft: turned.draft,
+        };
+        match end {
+            Some(how) => return Ok(left_behind(left, Some(how))),
+            None => {}
+        }
+    }
+}
+
 // The turns of a session, to where it is over.
 fn replay_turns<'a>(
     alloc: Global,
@@ -152,22 +185,7 @@ fn replay_turns<'a>(
         found.strays found.left.rest.now found.left.line) }
 {
     let mut node = node;
-    let mut left = from;
-    'turns: loop {
-        let Left { rest, line, draft } = left;
-        let turned = replay_turn(alloc, &mut node, rest, line, draft)?;
-        tally_turn(whose, &turned, line, tally)?;
-        let end = turned.end;
-        left = Left {
-            rest: turned.rest,
-            line: turned.line,
-            draft: turned.draft,
-        };
-        match end {
-            Some(how) => return Ok(left_behind(left, Some(how))),
-            None => {}
-        }
-    }
+    replay_each(alloc, whose, &mut node, from, tally)
 }
 
 // A start that read its clock so, and the session that it begins if all its calls are answered.

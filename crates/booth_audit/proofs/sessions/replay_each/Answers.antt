@@ -1,13 +1,13 @@
 use Rattle.std.proofs.Common.{◌∙◌, arith}
 use Rattle.booth_node.specs.View.{state_of}
 use Rattle.booth_audit.proofs.SessionLemmas.{going_more, going_none, of_member, session_over, turn_shorter}
-use Rattle.booth_audit.proofs.sessions.replay_turns.Goals as goal
+use Rattle.booth_audit.proofs.sessions.replay_each.Goals as goal
 
 pub turns-init : goal.turns-init
 turns-init c = record {
   member = c.requires.member;
   going = λ left says.
-      going_none c.args.whose.now (state_of c.args.node) c.args.from.rest.now c.args.from.line left c.args.tally.now says;
+      going_none c.args.whose.now (state_of c.args.node.now) c.args.from.rest.now c.args.from.line left c.args.tally.now says;
 }
 
 pub replay_turn-requires : goal.replay_turn-requires

@@ -2,7 +2,7 @@ use Rattle.std.proofs.Common.{◌≡◌, List, length}
 use Rattle.booth_journal.specs.Says.{Said, Says}
 use Rattle.booth_node.specs.View.{node_config, state_of}
 use Rattle.booth_audit.specs.Course.{IsGoing}
-use Rattle.booth_audit.proofs.sessions.replay_turns.Given as goal
+use Rattle.booth_audit.proofs.sessions.replay_each.Given as goal
 
 abbrev pub invariant-turns : goal.invariant-turns
 invariant-turns l = record {
