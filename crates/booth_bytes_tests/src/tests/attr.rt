@@ -70,6 +70,8 @@ fn a_new_name_goes_last_and_one_that_is_there_keeps_its_place(rt: HostRuntime) {
     set(&rt, &mut attrs, 0, &a, b"3");
     lists(&rt, rt.alloc(), &attrs, 0, b"b two words\na 3\n");
     lists(&rt, rt.alloc(), &attrs, 1, b"b other\n");
+    assert!(rt; attrs.delete(1, &b) == DelAnswer::Done);
+    lists(&rt, rt.alloc(), &attrs, 0, b"b two words\na 3\n");
 }
 
 #[test]
