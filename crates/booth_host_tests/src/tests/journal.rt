@@ -45,6 +45,8 @@ job 7 db8 1795780800\n\
 ok\n\
 next\n\
 handler 7 -1\n\
+send 192.0.2.20 9930 -\n\
+fail\n\
 next\n\
 fail\n\
 next\n\
@@ -64,6 +66,7 @@ fn lease(term: u32) -> Option<Lease> {
     })
 }
 
+// A step in which nothing can be sent where no datagram came.
 fn step(
     rt: &impl Abort,
     alloc: Global,
@@ -75,7 +78,7 @@ fn step(
         arrival,
         bytes: ByteText::new(alloc, bytes).expect(rt, "memory"),
         reading,
-        fail_send: false,
+        fail_send: bytes.is_empty(),
         fail_keep: false,
         fail_start: false,
         fail_out: false,
@@ -147,7 +150,9 @@ fn make_calls(rt: &impl Abort, alloc: Global, host: &mut JournalHost<MemoryHost,
     to.port = 9930;
     let _ = host.send(&to, b"");
     let _ = host.start(&job);
-    for _end in 0..4 {
+    let _ = host.next(100, &mut datagram);
+    let _ = host.send(&to, b"");
+    for _end in 0..3 {
         let _ = host.next(100, &mut datagram);
     }
 }
@@ -162,16 +167,23 @@ fn each_call_has_its_lines(rt: HostRuntime) {
     mem::forget(host);
 }
 
+// Makes each call over a sink that takes so many bytes in so many appends: so many of the lines are written.
+fn check_written(rt: &impl Abort, alloc: Global, room: u32, passes: u32, lines: usize) {
+    let sink = MemorySink::new(alloc, room, passes).expect(rt, "memory");
+    let mut host = JournalHost::new(alloc, memory_host(rt, alloc), sink).expect(rt, "memory");
+    make_calls(rt, alloc, &mut host);
+    let written = host.sink().bytes();
+    assert!(rt; written.iter().filter(|byte| **byte == b'\n').count() == lines);
+    assert!(rt; LINES.as_bytes().starts_with(written));
+    mem::forget(host);
+}
+
 #[test]
 fn nothing_is_written_after_an_append_that_failed(rt: HostRuntime) {
     let alloc = rt.alloc();
     for passes in 0..4 {
-        let sink = MemorySink::new(alloc, 10_000, passes).expect(&rt, "memory");
-        let mut host = JournalHost::new(alloc, memory_host(&rt, alloc), sink).expect(&rt, "memory");
-        make_calls(&rt, alloc, &mut host);
-        let lines = host.sink().bytes().iter().filter(|byte| **byte == b'\n');
-        assert_eq!(&rt; lines.count(), passes as usize);
-        assert!(&rt; LINES.as_bytes().starts_with(host.sink().bytes()));
-        mem::forget(host);
+        check_written(&rt, alloc, 10_000, passes, passes as usize);
     }
+    // the record of the eighth line has no room, and each line behind it would have
+    check_written(&rt, alloc, 70, 100, 7);
 }
