@@ -2,7 +2,7 @@
 //!
 //! It is the reading, and then `nothing`, `failure`, `list` for a client's list request, `ends`, the number of a job
 //! and a status, `bytes` and hexadecimal words of a client, or a frame. Before a step of which calls fail stands
-//! `send: `, `keep: ` or `out: `.
+//! `send: `, `keep: `, `start: ` or `out: `.
 use crate::frames::frame_of;
 use crate::words::{byte_text, moment_of};
 use booth_base::{Address, ByteText, Peer};
@@ -70,7 +70,7 @@ pub(crate) fn step_of(alloc: Global, line: &str) -> Option<Step> {
         reading: moment_of(reading)?,
         fail_send: fails == "send",
         fail_keep: fails == "keep",
-        fail_start: false,
+        fail_start: fails == "start",
         fail_out: fails == "out",
     })
 }

@@ -36,6 +36,7 @@ const ROWS: &str = "\
 1 of cluster: second start: last 5, held 0 1 5 900000
 0 of two tickets: start of two: last 7, held 1 0 7 900000
 0 of alone: start, quiet, cut keep: last 1000000, held 0 0 1000000 1600000
+0 of alone: start, quiet, cut keep, fails: last 1000000, held 0 0 1000000 1600000
 0 of alone: start, quiet, cut send: last 1000000, held 0 0 1000000 1600000, sent 124
 0 of alone: start, quiet, cut keep, kept start: last 1000500, held 0 0 1000000 1600000, held 0 0 1000500 1600000
 0 of alone: start, cut wait, kept start: last 1000500, held 0 0 1000500 1600000

@@ -93,6 +93,30 @@ now 7500
     check_calls(&rt, rt.alloc(), given, calls);
 }
 
+// A run that could not be begun is told at the next turn as one that failed, so a stop that was none is a kill then.
+#[test]
+fn a_stop_that_is_not_begun_is_followed_by_a_kill(rt: HostRuntime) {
+    let given = "\
+first 900
+start: 1000 nothing
+1100 nothing
+1200 ends 2 0";
+    let calls = "\
+next 100 quiet
+now 1000
+start 1 at S1 until 0 ticket-db8 /etc/booth/db8 fast stop failed
+send S1:9929: CLst of - at 1000 1000 0 0 0
+next 100 quiet
+now 1100
+start 2 at S1 until 0 ticket-db8 /etc/booth/db8 fast kill
+next 100 job 2 over: 0
+now 1200
+next 100 stop
+now 1200
+";
+    check_calls(&rt, rt.alloc(), given, calls);
+}
+
 // A line tells an end only where it is this site's whole line, with a number of seconds.
 #[test]
 fn a_line_has_its_form(rt: HostRuntime) {
