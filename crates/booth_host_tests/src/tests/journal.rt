@@ -184,6 +184,6 @@ fn nothing_is_written_after_an_append_that_failed(rt: HostRuntime) {
     for passes in 0..4 {
         check_written(&rt, alloc, 10_000, passes, passes as usize);
     }
-    // the record of the eighth line has no room, and each line behind it would have
+    // the record of the eighth line has no room, and the short line behind it would have
     check_written(&rt, alloc, 70, 100, 7);
 }
