@@ -4,8 +4,8 @@ use super::path;
 use booth_base::Address;
 use booth_host::Place;
 use booth_links::{QUEUE_BYTES, RealLinks};
-use booth_stream::{LinkEvent, Links, Piece};
-use std::io::{ErrorKind, Read};
+use booth_stream::{LinkEvent, Links, PIECE_BYTES, Piece};
+use std::io::{ErrorKind, Read, Write};
 use std::net::{Ipv4Addr, SocketAddr, TcpStream};
 use std::process::Abort;
 use std::rt::Clock;
@@ -14,6 +14,9 @@ use std::time::Duration;
 
 /// What is written again and again, so that the place of a byte says which it is.
 const PERIOD: usize = 251;
+
+/// More bytes than the system takes at once and a queue holds.
+const MOST: usize = 16_777_216;
 
 fn place(rt: &impl Abort, port: u16) -> Place {
     Place {
@@ -45,36 +48,47 @@ fn opened(rt: &(impl Abort + Clock), links: &mut RealLinks, piece: &mut Piece) -
     panic!(rt; "no link is opened")
 }
 
+// Writes behind all that the link took, and says how many bytes it took then.
+fn write_on(rt: &impl Abort, links: &mut RealLinks, link: u32, bytes: &[u8], all: usize) -> usize {
+    let rest = bytes.get(all % PERIOD..).expect(rt, "bytes");
+    let Ok(taken) = links.write(link, rest) else {
+        panic!(rt; "a write failed");
+    };
+    all.saturating_add(taken)
+}
+
 // Writes until the link takes nothing, and says how many bytes it took.
 fn fill(rt: &impl Abort, links: &mut RealLinks, link: u32, bytes: &[u8]) -> usize {
     let mut all = 0usize;
     for _ in 0..100_000 {
-        let rest = bytes.get(all % PERIOD..).expect(rt, "bytes");
-        let Ok(taken) = links.write(link, rest) else {
-            panic!(rt; "a write failed");
-        };
-        if taken == 0 {
+        let next = write_on(rt, links, link, bytes, all);
+        if next == all {
             return all;
         }
-        all = all.saturating_add(taken);
+        all = next;
     }
     panic!(rt; "the link takes bytes without end")
 }
 
-// Reads on from this place while the link goes on, up to so many bytes, each of which has to be the one of its place.
+// Reads all that the link took, each byte of which has to be the one of its place. At first the link is given more
+// after each read, so that its queue goes in parts.
 fn drain(
-    rt: &impl Abort,
+    rt: &(impl Abort + Clock),
     links: &mut RealLinks,
     piece: &mut Piece,
+    link: u32,
     peer: &mut TcpStream,
     bytes: &[u8],
-    all: usize,
+    mut all: usize,
 ) {
     let mut came = 0usize;
     let mut buffer = [0u8; 8_192];
-    for _ in 0..1_000_000 {
+    for step in 0..20_000u32 {
         if came >= all {
             break;
+        }
+        if step < 500 {
+            all = write_on(rt, links, link, bytes, all);
         }
         assert!(rt; links.poll(piece) == Ok(LinkEvent::Quiet), "the link ended");
         match peer.read(&mut buffer) {
@@ -86,14 +100,40 @@ fn drain(
                 assert!(rt; read == due, "other bytes came");
                 came = came.saturating_add(count);
             }
-            Err(error) => assert!(rt; error.kind() == ErrorKind::WouldBlock, "no read"),
+            Err(error) => {
+                assert!(rt; error.kind() == ErrorKind::WouldBlock, "no read");
+                thread::sleep(rt, Duration::from_millis(1));
+            }
         }
     }
     assert!(rt; came == all, "bytes are missing");
 }
 
+// Whether these bytes come, though nobody asks the link.
+fn comes(rt: &(impl Abort + Clock), peer: &mut TcpStream, bytes: &[u8]) -> bool {
+    let mut buffer = [0u8; 200];
+    for _ in 0..5_000 {
+        if let Ok(count) = peer.read(&mut buffer) {
+            return buffer.get(..count) == Some(bytes);
+        }
+        thread::sleep(rt, Duration::from_millis(1));
+    }
+    false
+}
+
+// Whether the link brings bytes.
+fn brings(rt: &impl Clock, links: &mut RealLinks, piece: &mut Piece, link: u32) -> bool {
+    for _ in 0..5_000 {
+        if links.poll(piece) == Ok(LinkEvent::Bytes(link)) {
+            return true;
+        }
+        thread::sleep(rt, Duration::from_millis(1));
+    }
+    false
+}
+
 #[test]
-fn a_link_takes_no_more_than_its_queue_and_gives_all_it_took(rt: HostRuntime) {
+fn a_link_gives_all_that_it_took_and_the_host_has_its_turn(rt: HostRuntime) {
     let mut links = RealLinks::new(rt, rt.alloc()).expect(&rt, "memory");
     let mut piece = Piece::new(rt.alloc()).expect(&rt, "memory");
     let port = open_somewhere(&rt, &mut links);
@@ -102,15 +142,24 @@ fn a_link_takes_no_more_than_its_queue_and_gives_all_it_took(rt: HostRuntime) {
     peer.set_nonblocking(true).expect(&rt, "it blocks");
     let link = opened(&rt, &mut links, &mut piece);
     let mut bytes = Vec::new(rt.alloc());
-    for place in 0..80 * PERIOD {
+    for place in 0..MOST {
         bytes.push((place % PERIOD) as u8).expect(&rt, "memory");
     }
     let all = fill(&rt, &mut links, link, &bytes);
     assert!(&rt; all >= QUEUE_BYTES, "the queue is smaller");
-    drain(&rt, &mut links, &mut piece, &mut peer, &bytes, all);
+    drain(&rt, &mut links, &mut piece, link, &mut peer, &bytes, all);
     let more = bytes.get(..100).expect(&rt, "bytes");
     let taken = links.write(link, more);
     assert!(&rt; taken == Ok(100), "it takes nothing again");
+    assert!(&rt; comes(&rt, &mut peer, more), "it is not given at once");
+    let more = bytes.get(..2 * PIECE_BYTES).expect(&rt, "bytes");
+    peer.write_all(more).expect(&rt, "the peer's link is full");
+    assert!(&rt;
+        brings(&rt, &mut links, &mut piece, link),
+        "nothing is brought"
+    );
+    let turn = links.poll(&mut piece);
+    assert!(&rt; turn == Ok(LinkEvent::Quiet), "the host has no turn");
 }
 
 #[test]
