@@ -94,13 +94,15 @@ now 7500
 }
 
 // A run that could not be begun is told at the next turn as one that failed, so a stop that was none is a kill then.
+// The end of that stop, which cannot come, is here for a follower that would wait for it.
 #[test]
 fn a_stop_that_is_not_begun_is_followed_by_a_kill(rt: HostRuntime) {
     let given = "\
 first 900
 start: 1000 nothing
 1100 nothing
-1200 ends 2 0";
+1200 ends 2 0
+1300 ends 1 0";
     let calls = "\
 next 100 quiet
 now 1000
@@ -111,8 +113,10 @@ now 1100
 start 2 at S1 until 0 ticket-db8 /etc/booth/db8 fast kill
 next 100 job 2 over: 0
 now 1200
+next 100 job 1 over: 0
+now 1300
 next 100 stop
-now 1200
+now 1300
 ";
     check_calls(&rt, rt.alloc(), given, calls);
 }

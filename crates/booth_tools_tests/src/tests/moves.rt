@@ -124,7 +124,7 @@ first 1000
 // An arbitrator, and an address that is in no line. No key is read then, and no socket is opened.
 #[test]
 fn a_target_that_is_no_site_is_not_asked_for(rt: HostRuntime) {
-    let given = "first 1000\n1000 nothing\nmore authfile = /k$\nkey  secret-key$";
+    let given = "first 1000\n6001 nothing\nmore authfile = /k$\nkey  secret-key$";
     let end = "re 1 NotSite booth: 192.168.203.100 is not a site$";
     let words = "move ticket-db8 192.168.203.100 -c/etc/booth.conf";
     check_end(&rt, rt.alloc(), words, given, end);
