@@ -18,6 +18,15 @@ arbitrator=\"192.168.203.100\"
 ticket=\"ticket-db8\"
 ticket=\"ticket-web\"
 
+# own times: the second ticket has a lease of 120 s, a promise of 120,242 ms
+site=\"192.168.201.100\"
+site=\"192.168.202.100\"
+arbitrator=\"192.168.203.100\"
+ticket=\"ticket-db8\"
+ticket=\"ticket-web\"
+expire = 120
+renewal-freq = 60
+
 # prerequisite: an attribute is asked for by a takeover
 site=\"192.168.201.100\"
 site=\"192.168.202.100\"

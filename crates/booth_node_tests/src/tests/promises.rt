@@ -47,6 +47,25 @@ at 601203 from S1: S1 RVot 0 0 Admn 0 ticket-db8 S1 2 0
 keep ticket-db8 2 bound S1 promise S1 2 1202406 abstain 601203
 send S1: S2 VtFr 0 0 0 0 ticket-db8 S1 2 0
 
+# each ticket goes by its own times
+AR of own times from none, none
+
+at 0 quiet
+send S1: AR Stat 0 0 0 0 ticket-db8 none 0 0
+send S2: AR Stat 0 0 0 0 ticket-db8 none 0 0
+send S1: AR Stat 0 0 0 0 ticket-web none 0 0
+send S2: AR Stat 0 0 0 0 ticket-web none 0 0
+
+at 120241 from S1: S1 RVot 0 0 Admn 0 ticket-web S1 1 0
+send S1: AR RJC! 0 0 0 Busy ticket-web none 0 0
+
+at 120242 from S1: S1 RVot 0 0 Admn 0 ticket-web S1 1 0
+keep ticket-web 1 bound S1 promise S1 1 240484 abstain 120242
+send S1: AR VtFr 0 0 0 0 ticket-web S1 1 0
+
+at 120242 from S1: S1 RVot 0 0 Admn 0 ticket-db8 S1 1 0
+send S1: AR RJC! 0 0 0 Busy ticket-db8 none 0 0
+
 # a site that starts from a record of version 1 abstains for a promise
 It asks for votes all the same, and wins without its own.
 S1 of cluster at 5000000 from first 4
