@@ -104,7 +104,8 @@ $(PACKAGE): build $(wildcard packaging/*)
 
 out/boothd: crates/boothd/out/boothd
 out/booth: crates/booth/out/booth
-out/geostore: crates/geostore/out/geostore
+# (one program with booth, which does what the name says that it is run by)
+out/geostore: crates/booth/out/booth
 out/booth-follow: crates/booth_follow/out/booth_follow
 $(PROGRAMS:%=out/%):
 	@mkdir -p out
@@ -112,7 +113,7 @@ $(PROGRAMS:%=out/%):
 
 # rt run proves, builds and then runs a program, here without words, which is a usage error: so the program that it leaves
 # tells whether it was proved, and not its status. rt ci leaves the programs too.
-crates/boothd/out/boothd crates/booth/out/booth crates/geostore/out/geostore crates/booth_follow/out/booth_follow: $(SOURCES)
+crates/boothd/out/boothd crates/booth/out/booth crates/booth_follow/out/booth_follow: $(SOURCES)
 	@$(NEEDS_RT)
 	@mkdir -p out
 	@echo "proving and building $(notdir $@), half an hour or more at first (out/build.log); make try shows something sooner"
@@ -122,5 +123,4 @@ crates/boothd/out/boothd crates/booth/out/booth crates/geostore/out/geostore cra
 
 # one after the other
 crates/booth/out/booth: | crates/boothd/out/boothd
-crates/geostore/out/geostore: | crates/booth/out/booth
-crates/booth_follow/out/booth_follow: | crates/geostore/out/geostore
+crates/booth_follow/out/booth_follow: | crates/booth/out/booth
