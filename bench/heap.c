@@ -1,4 +1,4 @@
-/* heap ask SLOTS UNTIL and heap renew SLOTS SPREAD UNTIL: what many_nodes does of these words, with a binary heap in
+/* heap ask SLOTS UNTIL and heap renew SLOTS SPREAD UNTIL: what trials does of these words, with a binary heap in
    place of the buckets. Prints how many answers were none, or how often a slot was due. */
 #include <stdint.h>
 #include <stdio.h>

@@ -1,7 +1,7 @@
 #!/usr/bin/env python3
 """Measures what kept promises cost: keeps of an election and a renewal, votes a second, and a voter's restart.
 
-Run it as `python3 bench/promises.py [BOOTHD KEEPS]`, the programs being what `make build` and rt leave where they are
+Run it as `python3 bench/promises.py [BOOTHD TRIALS]`, the programs being what `make build` and rt leave where they are
 left out. It prints one table, has the status 1 where a mark is missed by more than a tenth, and takes two minutes. All
 of it is on one disk, in the folder for temporary files: what else writes to that spoils it. A voter is asked by a site
 that is none: this program has its address.
@@ -24,7 +24,7 @@ sys.path[:0] = [HERE, f"{TOP}/tools"]
 import frames
 import record_file
 from members import TICKET, Cluster, Times, now, wait_for
-from records import KEEPS, host_round
+from records import TRIALS, host_round
 from rows import Row, at_least, below, print_table
 from run import cpu_seconds
 from serving import NotServing, built_program, end_by_signals, own_addresses
@@ -230,9 +230,9 @@ def answered(site):
 
 def main(words):
     end_by_signals()
-    program, keeps = words if len(words) == 2 else (built_program(), KEEPS)
+    program, keeps = words if len(words) == 2 else (built_program(), TRIALS)
     if program is None or not os.access(keeps, os.X_OK):
-        sys.exit("promises.py: boothd or keeps is not built: make build and rt ci leave them")
+        sys.exit("promises.py: boothd or trials is not built: make build and rt ci leave them")
     program, keeps = os.path.abspath(program), os.path.abspath(keeps)
     with tempfile.TemporaryDirectory(prefix="booth-bench-") as folder:
         try:

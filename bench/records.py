@@ -1,7 +1,7 @@
 #!/usr/bin/env python3
 """Measures keeps of the real host beside a bare loop in C, and a start with many record files.
 
-Run it as `python3 bench/records.py [KEEPS [BOOTHD]]`, the programs being what rt and `make build` leave where
+Run it as `python3 bench/records.py [TRIALS [BOOTHD]]`, the programs being what rt and `make build` leave where
 they are left out; without boothd nothing is said of starts. It prints one table, and has the status 1 where a
 mark is missed by more than a tenth. Host and loop take turns on one disk, in the folder for temporary files,
 and a speed is that of the best round: what else writes to the disk spoils most of them.
@@ -24,7 +24,7 @@ from rows import Row, at_least, below, print_table
 from serving import boothd, built_program, end_by_signals, own_addresses
 from texts import MEMBERS
 
-KEEPS = f"{TOP}/crates/keeps/out/keeps"
+TRIALS = f"{TOP}/crates/trials/out/trials"
 ROUNDS, KEEPS_A_ROUND = 30, 400
 STARTS, FILES = 40, 64
 
@@ -43,7 +43,7 @@ def cpu_of_children():
 def host_round(program, directory):
     """The seconds of a keep and those of the processor, those of the start with them."""
     before, started = cpu_of_children(), time.perf_counter()
-    subprocess.run([program, directory, str(KEEPS_A_ROUND)], stdout=subprocess.DEVNULL, check=True)
+    subprocess.run([program, "keeps", directory, str(KEEPS_A_ROUND)], stdout=subprocess.DEVNULL, check=True)
     took = time.perf_counter() - started
     return took / KEEPS_A_ROUND, (cpu_of_children() - before) / KEEPS_A_ROUND
 
@@ -96,7 +96,7 @@ def start_rows(program, folder):
 
 def main(words):
     end_by_signals()
-    keeps = os.path.abspath(words[0] if words else KEEPS)
+    keeps = os.path.abspath(words[0] if words else TRIALS)
     daemon = words[1] if len(words) > 1 else built_program()
     if not os.access(keeps, os.X_OK):
         sys.exit(f"records.py: {keeps} is not built: rt ci leaves it")

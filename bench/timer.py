@@ -1,8 +1,8 @@
 #!/usr/bin/env python3
 """Measures the timer alone beside a binary heap in C, at 64, 4,096 and 1,000,000 slots.
 
-Run it as `python3 bench/timer.py [PROGRAM]`, PROGRAM being the built `many_nodes`, which rt leaves at
-crates/many_nodes/out/many_nodes. It prints one table and takes half a minute. Both programs run the same words in turns; a
+Run it as `python3 bench/timer.py [PROGRAM]`, PROGRAM being the built `trials`, which rt leaves at
+crates/trials/out/trials. It prints one table and takes half a minute. Both programs run the same words in turns; a
 value is the processor's time of the best round, less that of the best round that only sets the slots.
 """
 
@@ -19,7 +19,7 @@ sys.path[:0] = [HERE, f"{TOP}/tools"]
 from rows import Row, print_table
 from serving import end_by_signals
 
-PROGRAM = f"{TOP}/crates/many_nodes/out/many_nodes"
+PROGRAM = f"{TOP}/crates/trials/out/trials"
 SIZES = (64, 4_096, 1_000_000)
 ROUNDS = 7
 

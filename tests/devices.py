@@ -1,7 +1,7 @@
 #!/usr/bin/env python3
 """Steps the wall clock of daemons that run, has neighbours fall silent, and puts other things in the place of files.
 
-Run it as `python3 tests/devices.py [BOOTHD [KEEPS]]`, by default what `make build` and the gate leave. It takes 40
+Run it as `python3 tests/devices.py [BOOTHD [TRIALS]]`, by default what `make build` and the gate leave. It takes 40
 seconds at most, prints a line for each check, ends all that it started, and has the status 1 where a check failed. What
 this machine does not let it do, or has no program for, is left out with a line.
 
@@ -80,9 +80,9 @@ def require(holds, why):
 def run_keeps(keeps, directory, count=0):
     """The status of a run, what it printed and what it said."""
     if keeps is None:
-        raise LeftOut("keeps is not built")
+        raise LeftOut("trials is not built")
     how = {"stdin": subprocess.DEVNULL, "capture_output": True, "text": True, "timeout": SECONDS_OF_A_RUN}
-    done = subprocess.run([keeps, directory, str(count)], **how)
+    done = subprocess.run([keeps, "keeps", directory, str(count)], **how)
     return done.returncode, done.stdout, done.stderr
 
 
@@ -318,7 +318,7 @@ def main(words):
     if words[:1] == [WITHIN]:
         return run_within(*words[1:])
     paths = [os.path.abspath(word) for word in words] + [None] * 2
-    programs = {"boothd": paths[0] or built_program(), "keeps": paths[1] or built_program("keeps")}
+    programs = {"boothd": paths[0] or built_program(), "keeps": paths[1] or built_program("trials")}
     wrong = 0
     for check in CHECKS:
         name = check.__name__.replace("_", " ")

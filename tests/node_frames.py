@@ -1,11 +1,11 @@
 #!/usr/bin/env python3
-"""Prints turns with datagrams and replies for the tests of crates/booth_node, as constants.
+"""Prints turns with datagrams and replies for the stories of nodes, as parts.
 
-tools/frames.py spells them, and the standard library's `hmac` signs them: nothing here is of the
+tools/frames.py spells them, and the standard library's `hmac` seals them: nothing here is of the
 program's own making. From the top of the repository:
 
-    python3 tests/node_frames.py > crates/booth_node_tests/src/tests/frames.rt
-    python3 tests/node_frames.py signed > crates/booth_node_tests/src/tests/signed_frames.rt
+    python3 tests/node_frames.py > tests/rows/node/frames.txt
+    python3 tests/node_frames.py sealed > tests/rows/node/sealed_frames.txt
 """
 
 import hashlib
@@ -16,7 +16,6 @@ import sys
 sys.path.insert(0, os.path.join(os.path.dirname(os.path.abspath(__file__)), "../tools"))
 
 import frames
-from constants import in_hex, print_text
 
 KEY = b"secret-key"
 # the sites at 192.168.201.100 and 192.168.202.100
@@ -40,7 +39,7 @@ def plain(letters, body=b"", **fields):
     return frames.frame(letters, body, **fields)
 
 
-def signed(letters, body=b"", **fields):
+def sealed(letters, body=b"", **fields):
     before = frames.frame(letters, body, bytes(frames.AUTH_BYTES), **fields)[: -frames.AUTH_BYTES]
     mac = hmac.new(KEY, before, hashlib.sha1).digest()
     return before + frames.numbers(2) + mac + bytes(4)
@@ -65,15 +64,23 @@ def nobodys(ticket=TICKET):
 
 def heartbeat(sender, leader=None, ticket=TICKET):
     body = frames.ticket_body(ticket, sender if leader is None else leader, 1, 600)
-    return at(SENT, signed, "HrtB", body, sender=sender, options=3)
+    return at(SENT, sealed, "HrtB", body, sender=sender, options=3)
+
+
+def in_hex(datagram):
+    """The bytes in words of eight hexadecimal digits, as lines of eight words that go on with the line before."""
+    words = [datagram[i : i + 4].hex() for i in range(0, len(datagram), 4)]
+    return "".join("\n    " + " ".join(words[i : i + 8]) for i in range(0, len(words), 8))
 
 
 def print_turn(name, about, comes, sends=(), now=NOW, keeps=()):
-    """A turn as text: what comes from a client, if anything does, and then what is kept, and sent to whom."""
-    head = "quiet" if comes is None else f"from client: # \\\n{in_hex(comes)}"
-    lines = [f"at {now} {head}", *(f"keep {record}" for record in keeps)]
-    lines += [f"send {who}: # \\\n{in_hex(frame)}" for who, frame in sends]
-    print_text(f"pub(super) const {name}", about, "\n".join(lines))
+    """A turn as a part: what comes from a client, if anything does, and then what is kept, and sent to whom."""
+    head = "quiet" if comes is None else f"from client: #{in_hex(comes)}"
+    print(f"\n# {name}: {about}\nat {now} {head}")
+    for record in keeps:
+        print(f"keep {record}")
+    for who, frame in sends:
+        print(f"send {who}: #{in_hex(frame)}")
 
 
 def hello(make):
@@ -109,88 +116,89 @@ def print_requests():
         request = at(SENT, plain, command, body, request=number, **said)
         fields = {"sender": S1, "request": number, "result": result}
         reply = at(NOW, plain, answer, answer_body, **fields)
-        about = f"`{command}` is answered with `{answer}`{', ' + case if case else ''}."
-        name = "_".join(word.upper() for word in (command, case) if word)
+        about = f"`{command}` is answered with `{answer}`{', ' + case if case else ''}"
+        name = f"{command.lower()} {case}".rstrip()
         print_turn(name, about, request, [("client", reply)])
         if command == "CLst":
             sends = [("client", reply), *hello(plain)]
-            print_turn("CLST_FIRST", "The same before the hello.", request, sends)
+            print_turn("clst first", "the same before the hello", request, sends)
             print_moments(request)
         if command == "Peer":
             none_sent = peers(NO_DROPS, "0 0 0 0", "0 0 0 0")
             reply = at(NOW, plain, answer, none_sent, **fields)
             sends = [("client", reply), *hello(plain)]
-            print_turn("PEER_FIRST", "The same before the hello.", request, sends)
+            print_turn("peer first", "the same before the hello", request, sends)
 
 
 def print_moments(request):
     """`CLst` where the clock reads this, and where the reading that is used is that."""
     table = [
-        ("BACK", "the first reading", 5, NOW),
-        ("LATE", "a reading past the seconds of a frame", 4_294_967_296_005, 4_294_967_296_005),
-        ("LATE_STILL", "an earlier one after that", NOW, 4_294_967_296_005),
-        ("LAST", "the greatest one", 2**64 - 1, 2**62 - 1),
+        ("back", "the first reading", 5, NOW),
+        ("late", "a reading past the seconds of a frame", 4_294_967_296_005, 4_294_967_296_005),
+        ("late still", "an earlier one after that", NOW, 4_294_967_296_005),
+        ("last", "the greatest one", 2**64 - 1, 2**62 - 1),
     ]
     for name, about, reading, used in table:
         reply = at(used, plain, "RLst", LIST, sender=S1, request=1)
-        print_turn(f"CLST_{name}", f"`CLst` at {about}.", request, [("client", reply)], now=reading)
-    about = "The hello of S1, which started later than its clock reads."
-    print_turn("HELLO_BACK", about, None, hello(plain), now=5)
+        print_turn(f"clst {name}", f"`CLst` at {about}", request, [("client", reply)], now=reading)
+    about = "the hello of S1, which started later than its clock reads"
+    print_turn("hello back", about, None, hello(plain), now=5)
 
 
-def print_signed_requests():
+def print_sealed_requests():
     revoke = frames.ticket_body(TICKET, S2, 7, 9)
     table = [
         ("CLst", b"", "RLst", LIST, 11, 0),
         ("CRvk", revoke, "RRvk", nobodys(), 12, frames.code("Tidl")),
     ]
     for command, body, answer, answer_body, number, result in table:
-        request = at(SENT, signed, command, body, request=number)
+        request = at(SENT, sealed, command, body, request=number)
         fields = {"sender": S1, "request": number, "result": result}
-        reply = at(NOW, signed, answer, answer_body, **fields)
-        about = f"`{command}` with its MAC is answered with `{answer}` with its own."
-        print_turn(f"{command.upper()}_SIGNED", about, request, [("client", reply)])
-    request = at(SENT, signed, "Peer", request=13)
+        reply = at(NOW, sealed, answer, answer_body, **fields)
+        about = f"`{command}` with its MAC is answered with `{answer}` with its own"
+        print_turn(f"{command.lower()} sealed", about, request, [("client", reply)])
+    request = at(SENT, sealed, "Peer", request=13)
     for name, after, text in [
-        ("BAD_MAC", "one frame with a wrong MAC", peers("0 0 1 0 0 0 0 0")),
-        ("HRTB", "one `HrtB` of S2", peers(NO_DROPS, "1700000000 1 2 0")),
-        ("FAULTS", "one frame with each fault", peers("1 1 1 1 1 1 1 1")),
-        ("FLOOD", "1,250 frames with each fault", peers(" ".join(["1250"] * 8))),
+        ("bad mac", "one frame with a wrong MAC", peers("0 0 1 0 0 0 0 0")),
+        ("hrtb", "one `HrtB` of S2", peers(NO_DROPS, "1700000000 1 2 0")),
+        ("faults", "one frame with each fault", peers("1 1 1 1 1 1 1 1")),
+        ("flood", "1,250 frames with each fault", peers(" ".join(["1250"] * 8))),
     ]:
-        reply = at(NOW, signed, "RPer", text, sender=S1, request=13)
-        about = f"`Peer` with its MAC, after {after}."
-        print_turn(f"PEER_AFTER_{name}", about, request, [("client", reply)])
+        reply = at(NOW, sealed, "RPer", text, sender=S1, request=13)
+        about = f"`Peer` with its MAC, after {after}"
+        print_turn(f"peer after {name}", about, request, [("client", reply)])
 
 
 def print_faults():
     answer = frames.ticket_body(TICKET, S2, 1, 0)
-    ack = at(NOW, signed, "Ack.", answer, sender=S1, options=3)
-    about = "`HrtB` of S2 with its MAC, from anywhere, is answered to where S2 listens, once that is kept."
+    ack = at(NOW, sealed, "Ack.", answer, sender=S1, options=3)
+    about = "`HrtB` of S2 with its MAC, from anywhere, is answered to where S2 listens, once that is kept"
     promise = f"bound S2 promise S2 1 {NOW + PROMISE} abstain {PROMISE}"
-    print_turn("HRTB", about, heartbeat(S2), [("S2", ack)], keeps=[f"ticket-db8 1 {promise}"])
-    unsigned = at(SENT, plain, "CLst", request=1)
-    print_turn("NO_FRAME", "47 bytes.", at(SENT, plain, "CLst")[:47])
-    print_turn("NO_MAC", "`CLst` without a MAC.", unsigned)
-    wrong = bytearray(at(SENT, signed, "CLst", request=11))
+    print_turn("hrtb", about, heartbeat(S2), [("S2", ack)], keeps=[f"ticket-db8 1 {promise}"])
+    unsealed = at(SENT, plain, "CLst", request=1)
+    print_turn("no frame", "47 bytes", at(SENT, plain, "CLst")[:47])
+    print_turn("no mac", "`CLst` without a MAC", unsealed)
+    wrong = bytearray(at(SENT, sealed, "CLst", request=11))
     wrong[frames.HEAD_BYTES + 4] ^= 1
-    print_turn("BAD_MAC", "`CLst` with one bit of its MAC turned.", bytes(wrong))
-    old = at(NOW - 601_999, signed, "CLst", request=11)
-    print_turn("TOO_OLD", "`CLst` of 601 seconds ago.", old)
-    print_turn("STRANGER", "`HrtB` of nobody.", heartbeat(0x0102_0304))
-    print_turn("OWN", "`HrtB` of S1 itself.", heartbeat(S1))
-    print_turn("NO_TICKET", "`HrtB` of S2 on another ticket.", heartbeat(S2, ticket=b"ticket-db9"))
-    about = "`HrtB` of S2 that names S1 as its leader."
-    print_turn("NO_LEADER", about, heartbeat(S2, leader=S1))
+    print_turn("bad mac", "`CLst` with one bit of its MAC turned", bytes(wrong))
+    old = at(NOW - 601_999, sealed, "CLst", request=11)
+    print_turn("too old", "`CLst` of 601 seconds ago", old)
+    print_turn("stranger", "`HrtB` of nobody", heartbeat(0x0102_0304))
+    print_turn("own", "`HrtB` of S1 itself", heartbeat(S1))
+    print_turn("no ticket", "`HrtB` of S2 on another ticket", heartbeat(S2, ticket=b"ticket-db9"))
+    about = "`HrtB` of S2 that names S1 as its leader"
+    print_turn("no leader", about, heartbeat(S2, leader=S1))
 
 
-WHERE = "at 192.168.201.100, with frames in hexadecimal as tools/frames.py spells them"
-if sys.argv[1:] == ["signed"]:
-    print(f"//! Turns of S1 with the key, {WHERE} and")
-    print("//! Python's `hmac` signs them with `secret-key`.")
-    print_turn("HELLO_SIGNED", "The hello of S1 with its MAC.", None, hello(signed))
-    print_signed_requests()
+WHERE = "with all bytes of their frames in hexadecimal"
+if sys.argv[1:] == ["sealed"]:
+    print(f"# Turns of S1 with the key `secret-key`, {WHERE}: each has its name and what")
+    print("# happens in it. The frames were spelled by tools/frames.py and sealed by the hmac of Python.")
+    print_turn("sealed hello", "the hello of S1 with its MAC", None, hello(sealed))
+    print_sealed_requests()
     print_faults()
 else:
-    print(f"//! Turns of S1 without a key, {WHERE}.")
-    print_turn("HELLO", "The hello of S1.", None, hello(plain))
+    print(f"# Turns of S1 without a key, {WHERE}: each has its name and what happens in it.")
+    print("# The frames were spelled by tools/frames.py.")
+    print_turn("plain hello", "the hello of S1", None, hello(plain))
     print_requests()

@@ -1,11 +1,11 @@
 #!/usr/bin/env python3
 """Ends a stream of keeps by SIGKILL at any moment, and reads what is left; fills the disk, and empties it.
 
-Run it as `python3 tests/records.py [PROGRAM]`, PROGRAM being the built `keeps`, which rt leaves at
-crates/keeps/out/keeps. It takes a minute at most, prints a line for each check, and has the status 1 where
-one failed. Where `keeps` is not built it checks nothing, and has the status 77. Where it may mount a small tmpfs, it fills it.
+Run it as `python3 tests/records.py [PROGRAM]`, PROGRAM being the built `trials`, which rt leaves at
+crates/trials/out/trials. It takes a minute at most, prints a line for each check, and has the status 1 where
+one failed. Where `trials` is not built it checks nothing, and has the status 77. Where it may mount a small tmpfs, it fills it.
 
-`keeps DIRECTORY COUNT` is the real host alone: it says which record it reads, and each that it has kept.
+`trials keeps DIRECTORY COUNT` is the real host alone: it says which record it reads, and each that it has kept.
 """
 
 import contextlib
@@ -23,7 +23,7 @@ sys.path.insert(0, f"{TOP}/tools")
 
 from serving import end_by_signals
 
-PROGRAM = f"{TOP}/crates/keeps/out/keeps"
+PROGRAM = f"{TOP}/crates/trials/out/trials"
 FILE = b"ticket-db8".hex() + ".rec"
 
 # the status where nothing was checked
@@ -62,13 +62,13 @@ def said(output):
 
 def run(program, directory, count, **more):
     """What a run to its end said, and its status."""
-    done = subprocess.run([program, directory, str(count)], capture_output=True, timeout=SECONDS_OF_A_RUN, **more)
+    done = subprocess.run([program, "keeps", directory, str(count)], capture_output=True, timeout=SECONDS_OF_A_RUN, **more)
     return *said(done.stdout), done.returncode
 
 
 def killed(program, directory, seconds):
     """What a run said that was ended after so many seconds."""
-    words = [program, directory, "1000000"]
+    words = [program, "keeps", directory, "1000000"]
     with subprocess.Popen(words, stdout=subprocess.PIPE, stderr=subprocess.DEVNULL) as process:
         try:
             time.sleep(seconds)

@@ -1,9 +1,9 @@
 #!/usr/bin/env python3
 """Holds the pool of linked nodes and the timer to their speed at large sizes.
 
-Run it as `python3 tests/sizes.py [PROGRAM]`, PROGRAM being the built `many_nodes`, which rt leaves at
-crates/many_nodes/out/many_nodes. It takes some seconds, prints a line for each check, and has the status 1 where one failed
-or took more than a minute. Where `many_nodes` is not built it checks nothing, with status 0.
+Run it as `python3 tests/sizes.py [PROGRAM]`, PROGRAM being the built `trials`, which rt leaves at
+crates/trials/out/trials. It takes some seconds, prints a line for each check, and has the status 1 where one failed
+or took more than a minute. Where `trials` is not built it checks nothing, with status 0.
 
 What the lists and the answers are is proved, and in how many counted looks a slot is found. Time is not: a pool that moves
 all later items, or a timer that looks without counting, would only be slow, and take hours here.
@@ -15,7 +15,7 @@ import sys
 import time
 
 TOP = os.path.dirname(os.path.dirname(os.path.abspath(__file__)))
-PROGRAM = f"{TOP}/crates/many_nodes/out/many_nodes"
+PROGRAM = f"{TOP}/crates/trials/out/trials"
 SECONDS = 60
 
 ITEMS, SLOTS, UNTIL, ASKS = 4_000_000, 1_000_000, 60_000, 16

@@ -6,6 +6,8 @@ mod clock_file;
 mod clocks;
 mod files;
 mod jobs;
+mod journal_file;
+mod journal_opening;
 mod lines;
 mod lock;
 mod mail;
@@ -19,5 +21,6 @@ mod streams;
 mod telling;
 mod wake;
 
+pub use journal_file::JournalFile;
 pub use outlet::{Outlet, Unwritten, write_at_once};
 pub use real_host::RealHost;

@@ -1,7 +1,6 @@
 //! Links over TCP on loopback, and a peer that reads nothing before the link takes no more.
 
-use super::path;
-use booth_base::Address;
+use booth_base::{Address, PathText};
 use booth_host::Place;
 use booth_links::{QUEUE_BYTES, RealLinks};
 use booth_stream::{LinkEvent, Links, PIECE_BYTES, Piece};
@@ -22,8 +21,8 @@ fn place(rt: &impl Abort, port: u16) -> Place {
     Place {
         local: Some(Address::V4([127, 0, 0, 1])),
         port,
-        records: path(rt, ""),
-        conf_path: path(rt, ""),
+        records: PathText::read("").expect(rt, "a path"),
+        conf_path: PathText::read("").expect(rt, "a path"),
     }
 }
 

@@ -1,4 +1,0 @@
-//! What is printed of replies, and planned moves.
-mod carried;
-mod client;
-mod moves;

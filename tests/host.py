@@ -1,0 +1,310 @@
+#!/usr/bin/env python3
+"""Calls the real host: datagrams on loopback, files, the clock, records, locks and handlers.
+
+Run it as `python3 tests/host.py`, over what the gate leaves at crates/trials/out/trials. It takes half a minute, prints
+a line for each check, and has the status 1 if one failed.
+"""
+
+import contextlib
+import os
+import subprocess
+import sys
+import tempfile
+import time
+from typing import Iterator, List
+
+TOP = os.path.dirname(os.path.dirname(os.path.abspath(__file__)))
+sys.path.insert(0, f"{TOP}/tests")
+
+from host_handlers import CHECKS as HANDLER_CHECKS
+from host_peers import CHECKS as PEER_CHECKS
+from real_host import FILE, Host, LOOPBACK, Unplayed, Wrong, first, plain, require
+
+# an hour in milliseconds
+HOUR = 3_600_000
+
+
+def mode(path: str) -> int:
+    """Returns who may do what with a file."""
+    return os.stat(path).st_mode & 0o777
+
+
+@contextlib.contextmanager
+def opened(folder: str, records: str = "") -> Iterator[Host]:
+    """Gives a host without an address that keeps its records in this directory."""
+    with Host(folder) as host:
+        require(host.open(records=records), "it is not opened")
+        yield host
+
+
+def waited(host: Host) -> "tuple[str, float]":
+    """Returns what a wait of 100 ms gives, and how many milliseconds it takes."""
+    started = time.monotonic()
+    return host.next(100), (time.monotonic() - started) * 1000
+
+
+def a_next_waits_its_time(folder: str) -> None:
+    """Also if it fails. (The system's timer may be some milliseconds off.)"""
+    with Host(folder) as host:
+        answer, took = waited(host)
+        require(answer == "failed" and took >= 80, f"unopened: {answer}, {took} ms")
+    with opened(folder) as host:
+        answer, took = waited(host)
+        require(answer == "quiet" and took >= 80, f"opened: {answer}, {took} ms")
+
+
+def a_file_is_read_whole(folder: str) -> None:
+    """One of no byte, of one piece and of more."""
+    with Host(folder) as host:
+        for content in (b"", b'site="127.0.0.1"\n', b"x" * 4096 + b"y" + b"x" * 4902 + b"z"):
+            with open(f"{folder}/file", "wb") as file:
+                file.write(content)
+            require(host.read("file") == content, f"{len(content)} bytes")
+
+
+def no_other_file_is_read(folder: str) -> None:
+    """One that is too long, one that is missing, a directory and a device."""
+    with open(f"{folder}/long", "wb") as file:
+        file.truncate((1 << 30) + 1)
+    with Host(folder) as host:
+        for path in ("long", "missing", ".", "/dev/null"):
+            require(host.read(path) is None, path)
+
+
+def the_clock_tells_milliseconds_since_1970(folder: str) -> None:
+    """And runs."""
+    with Host(folder) as host:
+        system = int(time.time() * 1000)
+        one = host.now()
+        time.sleep(0.003)
+        two = host.now()
+        require(system <= one + 1 and one < system + 60_000, f"{one} at {system}")
+        require(one % 1000 != 0 or two % 1000 != 0, "it tells whole seconds alone")
+        require(one < two, f"{two} after {one}")
+
+
+def a_kept_record_is_read_by_another_host(folder: str) -> None:
+    """With a lease and without."""
+    with opened(folder, "records") as host:
+        require(host.kept() == "none", "nothing was kept")
+    for record in (plain(7), plain(7, 1_600_000)):
+        with opened(folder, "records") as host:
+            require(host.keep(record), "it is not kept")
+        with opened(folder, "records") as host:
+            require(host.kept() == record, record)
+
+
+def a_commit_byte_before_no_record_is_a_failure(folder: str) -> None:
+    """Without it nothing is kept."""
+    with opened(folder, "records") as host:
+        for commit, answer in ((0, "none"), (1, "failed")):
+            with open(f"{folder}/records/{FILE}", "wb") as file:
+                file.write(bytes([commit]) + bytes(63))
+            require(host.kept() == answer, f"commit byte {commit}: {host.kept()}")
+
+
+def slot(number: int, version: int, term: int) -> bytes:
+    """Returns an open slot with a record of this version and term, and what stands behind it."""
+    fields = (number.to_bytes(8, "big"), version.to_bytes(4, "big"), term.to_bytes(4, "big"))
+    return (b"\1" + bytes(7) + b"".join(fields)).ljust(64 if version == 1 else 128, b"\0")
+
+
+def the_next_record_goes_into_the_other_slot(folder: str) -> None:
+    """A file of 64 bytes is from before there were two slots. The next records go into those of version 2, in turn."""
+    with opened(folder, "records") as host:
+        path = f"{folder}/records/{FILE}"
+        with open(path, "wb") as file:
+            file.write(slot(1, 1, 7))
+        require(host.kept() == first(7), "the old record")
+        old = slot(1, 1, 7).ljust(128, b"\0")
+        # (nothing is written behind the last record, which has 80 bytes with its number)
+        second, third = slot(2, 2, 8), slot(3, 2, 9)[:80]
+        for term, slots in ((8, second[:80]), (9, second + third), (10, slot(4, 2, 10) + third)):
+            require(host.keep(plain(term)) and host.kept() == plain(term), f"term {term}")
+            with open(path, "rb") as file:
+                require(file.read() == old + slots, f"the file of term {term}")
+
+
+def records_are_made_for_their_owner(folder: str) -> None:
+    """The directory, its lock and a record's file."""
+    with opened(folder, "records") as host:
+        require(mode(f"{folder}/records") == 0o700, "the directory")
+        require(mode(f"{folder}/records/booth.lock") == 0o600, "the lock")
+        require(host.keep(plain(1)), "it is not kept")
+        require(mode(f"{folder}/records/{FILE}") == 0o600, "the record")
+
+
+def a_directory_that_was_there_is_kept_in(folder: str) -> None:
+    """Its mode stays. (Whoever runs this as root may look anywhere.)"""
+    os.makedirs(f"{folder}/above/records")
+    os.chmod(f"{folder}/above/records", 0o755)
+    os.chmod(f"{folder}/above", 0o311)
+    with opened(folder, "above/records") as host:
+        require(host.keep(plain(1)), "it is not kept")
+    with opened(folder, "above/records") as host:
+        require(host.kept() == plain(1), "it is not read")
+    require(mode(f"{folder}/above/records") == 0o755, "another mode")
+    os.chmod(f"{folder}/above", 0o755)
+
+
+def a_record_that_has_no_place_is_a_failure(folder: str) -> None:
+    """Of a host that is not open, and of one without a directory."""
+    with Host(folder) as host:
+        require(not host.keep(plain(1)) and host.kept() == "failed", "it is not open")
+    with opened(folder) as host:
+        require(not host.keep(plain(1)) and host.kept() == "failed", "it has no directory")
+
+
+def a_directory_of_records_has_one_host(folder: str) -> None:
+    """Until that one ends; and it may be opened again."""
+    with Host(folder) as second:
+        with opened(folder, "records"):
+            require(not second.open(records="records"), "two hosts")
+        for _ in range(2):
+            require(second.open(records="records"), "the first one is gone")
+
+
+def a_directory_that_cannot_be_is_not_opened(folder: str) -> None:
+    """A file in its place, and one in a directory that is missing."""
+    open(f"{folder}/file", "wb").close()
+    with Host(folder) as host:
+        for records in ("file", "missing/below"):
+            require(not host.open(records=records), records)
+
+
+def a_lock_is_held_by_one_host(folder: str) -> None:
+    """Which may ask again. The file that is left behind is no lock."""
+    with Host(folder) as second:
+        with Host(folder) as host:
+            require(host.lock("lock") == "got" and mode(f"{folder}/lock") == 0o600, "the first")
+            require(second.lock("lock") == "taken", "the second")
+            require(host.lock("lock") == "got", "the first again")
+        require(second.lock("lock") == "got", "the first is gone")
+
+
+def a_lock_that_cannot_be_is_a_failure(folder: str) -> None:
+    """In a directory that is missing, and a second one of a host."""
+    with Host(folder) as host:
+        require(host.lock("missing/lock") == "failed", "no directory")
+        require(host.lock("one") == "got" and host.lock("other") == "failed", "one lock is held")
+
+
+def a_lock_is_of_a_regular_file(folder: str) -> None:
+    """To open a named pipe that nobody writes to would not end."""
+    os.mkfifo(f"{folder}/pipe")
+    os.makedirs(f"{folder}/records/booth.lock")
+    with Host(folder) as host:
+        for path in ("pipe", ".", "/dev/null"):
+            require(host.lock(path) == "failed", path)
+        require(not host.open(records="records"), "the lock of a directory of records")
+
+
+def a_record_is_kept_in_a_regular_file(folder: str) -> None:
+    """A link to a file of zeros, which keeps no record if it is in the place itself, a pipe and a directory."""
+    with opened(folder, "records") as host:
+        path = f"{folder}/records/{FILE}"
+        with open(f"{folder}/records/zeros", "wb") as file:
+            file.write(bytes(64))
+        for kind, make in (("pipe", os.mkfifo), ("directory", os.mkdir), ("link", lambda at: os.symlink("zeros", at))):
+            make(path)
+            require(host.kept() == "failed" and not host.keep(plain(1)), kind)
+            os.rename(path, f"{folder}/records/{kind}")
+
+
+def kept_clock(folder: str) -> bytes:
+    """Returns what a directory keeps of its clock."""
+    with open(f"{folder}/records/booth.clock", "rb") as file:
+        kept = file.read()
+    require(len(kept) == 60 and kept[:8] == (1).to_bytes(8, "big"), f"{len(kept)} bytes")
+    return kept
+
+
+def is_opened(folder: str, kept: bytes) -> bool:
+    """Whether a host opens the directory with this clock."""
+    with open(f"{folder}/records/booth.clock", "wb") as file:
+        file.write(kept)
+    with Host(folder) as host:
+        return host.open(records="records")
+
+
+def with_number(kept: bytes, at: int, number: int) -> bytes:
+    """Returns the bytes with a number of eight bytes at a place."""
+    return kept[:at] + number.to_bytes(8, "big") + kept[at + 8 :]
+
+
+def number_at(kept: bytes, at: int) -> int:
+    """Returns the number of eight bytes at a place."""
+    return int.from_bytes(kept[at : at + 8], "big")
+
+
+def a_clock_goes_on_in_its_boot_and_starts_again_in_another(folder: str) -> None:
+    """Its offset is at byte 8, and the reading that was reached at byte 16."""
+    with opened(folder, "records") as host:
+        reading = host.now()
+    clock = kept_clock(folder)
+    require(is_opened(folder, with_number(clock, 8, number_at(clock, 8) + HOUR)), "an hour ahead of the wall clock")
+    with opened(folder, "records") as host:
+        require(HOUR <= host.now() - reading < HOUR + 60_000, "an hour later")
+    other = bytearray(kept_clock(folder))
+    other[59] ^= 1
+    require(not is_opened(folder, bytes(other)), "in another boot the wall clock is behind")
+    require(is_opened(folder, with_number(bytes(other), 16, reading)), "it is not behind")
+    require(abs(number_at(kept_clock(folder), 8) - number_at(clock, 8)) <= 2, "the offset")
+    require(not is_opened(folder, clock[:59]), "a byte is missing")
+
+
+def a_start_that_was_told_another_time_is_refused(folder: str) -> None:
+    """The directory's clock is a minute ahead of the wall clock, in the same boot."""
+    with opened(folder, "records"):
+        pass
+    clock = kept_clock(folder)
+    with open(f"{folder}/records/booth.clock", "wb") as file:
+        file.write(with_number(clock, 8, number_at(clock, 8) + 60_000))
+    with Host(folder) as told:
+        told.now()
+        require(not told.open(records="records"), "it was told another time")
+    with Host(folder) as asked:
+        asked.await_clock("records")
+        reading = asked.now()
+        require(asked.open(records="records") and 0 <= asked.now() - reading < 60_000, "it waited for the clock")
+
+
+CHECKS = (
+    a_next_waits_its_time,
+    a_file_is_read_whole,
+    no_other_file_is_read,
+    the_clock_tells_milliseconds_since_1970,
+    a_kept_record_is_read_by_another_host,
+    a_commit_byte_before_no_record_is_a_failure,
+    the_next_record_goes_into_the_other_slot,
+    records_are_made_for_their_owner,
+    a_directory_that_was_there_is_kept_in,
+    a_record_that_has_no_place_is_a_failure,
+    a_directory_of_records_has_one_host,
+    a_directory_that_cannot_be_is_not_opened,
+    a_lock_is_held_by_one_host,
+    a_lock_that_cannot_be_is_a_failure,
+    a_lock_is_of_a_regular_file,
+    a_record_is_kept_in_a_regular_file,
+    a_clock_goes_on_in_its_boot_and_starts_again_in_another,
+    a_start_that_was_told_another_time_is_refused,
+)
+
+
+def main() -> int:
+    """Runs each check in a directory of its own, and returns the status."""
+    wrong: List[str] = []
+    for check in CHECKS + PEER_CHECKS + HANDLER_CHECKS:
+        name = check.__name__.replace("_", " ")
+        with tempfile.TemporaryDirectory(prefix="booth-host-") as folder:
+            try:
+                check(folder)
+                print(f"ok: {name}", flush=True)
+            except (Wrong, Unplayed, OSError, subprocess.SubprocessError) as why:
+                wrong.append(name)
+                print(f"FAILED: {name}: {why}", flush=True)
+    return 1 if wrong else 0
+
+
+if __name__ == "__main__":
+    sys.exit(main())

@@ -1,0 +1,143 @@
+"""Checks of the handlers that the real host runs: programs of this machine, and scripts that tell what they saw."""
+
+import contextlib
+import os
+import time
+from typing import Callable, Iterator, Tuple
+
+from real_host import Host, Wrong, require
+
+CONF = "/etc/booth/cluster-a.conf"
+
+
+@contextlib.contextmanager
+def opened(folder: str) -> Iterator[Host]:
+    """Gives a host that is open, without records, under a configuration of this name."""
+    with Host(folder) as host:
+        require(host.open(conf=CONF), "it is not opened")
+        yield host
+
+
+def over(host: Host) -> "tuple[int, int]":
+    """Returns the number and the status of the next job that is over, in ten seconds."""
+    for _ in range(200):
+        word, *given = host.next(50).split(" ")
+        if word == "handler":
+            number, status = map(int, given)
+            return number, status
+    raise Wrong("no job is over")
+
+
+def status(folder: str, handler: str) -> int:
+    """Returns how a handler ends."""
+    with opened(folder) as host:
+        require(host.start(7, handler), "it is not started")
+        number, ended = over(host)
+        require(number == 7, f"job {number}")
+        return ended
+
+
+def write(path: str, text: str) -> None:
+    """Writes a file."""
+    with open(path, "w", encoding="ascii") as file:
+        file.write(text)
+
+
+def write_script(path: str, lines: str) -> None:
+    """Writes a script that anyone may run."""
+    write(path, f"#!/bin/sh\n{lines}\n")
+    os.chmod(path, 0o755)
+
+
+def content(path: str) -> str:
+    """Returns what a script wrote."""
+    with open(path, encoding="ascii") as file:
+        return file.read()
+
+
+def a_program_that_refuses_has_another_status(folder: str) -> None:
+    """`cat` of a file that is there, and of one that is not."""
+    write(f"{folder}/service", "runs\n")
+    require(status(folder, "/bin/cat service") == 0, "it runs")
+    require(status(folder, "/bin/cat missing") == 1, "it refuses")
+
+
+def a_signal_counts_as_a_status(folder: str) -> None:
+    """255."""
+    write(f"{folder}/signal", "kill -TERM $$\n")
+    require(status(folder, "/bin/sh signal") == 255, "another status")
+
+
+def programs_of_a_directory_run_until_one_refuses(folder: str) -> None:
+    """In the order of their names' bytes; names that begin with a dot are passed by."""
+    os.mkdir(f"{folder}/programs")
+    for name in ("b", "a", "B"):
+        write_script(f"{folder}/programs/{name}", f"echo {name} $1 >> order\nexit 0")
+    write_script(f"{folder}/programs/.0", "echo .0 $1 >> order\nexit 9")
+    require(status(folder, "programs  db8") == 0, "all agree")
+    require(content(f"{folder}/order") == "B db8\na db8\nb db8\n", "another order")
+    write_script(f"{folder}/programs/a", "exit 3")
+    require(status(folder, "programs  db8") == 3, "one refuses")
+    require(content(f"{folder}/order") == "B db8\na db8\nb db8\nB db8\n", "none is run behind it")
+
+
+def a_directory_without_programs_refuses_nothing(folder: str) -> None:
+    """One with a hidden file alone."""
+    os.mkdir(f"{folder}/programs")
+    write(f"{folder}/programs/.hidden", "")
+    require(status(folder, "programs") == 0, "another status")
+
+
+def a_program_knows_what_it_is_run_for(folder: str) -> None:
+    """Five variables, the arguments, an empty standard input, and no other descriptor."""
+    script = "env | grep '^BOOTH_' | sort > seen; echo $# $1 $2 >> seen; cat; ls /proc/self/fd | wc -l >> seen"
+    write_script(f"{folder}/sees", script)
+    require(status(folder, "sees\tone   two ") == 0, "another status")
+    wanted = (
+        "BOOTH_CONF_NAME=cluster-a\nBOOTH_CONF_PATH=/etc/booth/cluster-a.conf\nBOOTH_LOCAL=192.168.201.100\n"
+        "BOOTH_TICKET=ticket-db8\nBOOTH_TICKET_EXPIRES=1700000600\n2 one two\n4\n"
+    )
+    require(content(f"{folder}/seen") == wanted, content(f"{folder}/seen"))
+
+
+def a_program_is_not_waited_for(folder: str) -> None:
+    """Its ticket's next job ends it."""
+    with opened(folder) as host:
+        require(host.start(1, "/bin/sleep 30"), "it is not started")
+        started = time.monotonic()
+        require(host.next(50) == "quiet" and time.monotonic() - started < 5, "it is waited for")
+        require(host.start(2, "/bin/true") and over(host) == (2, 0), "the second")
+        time.sleep(0.1)
+        require(host.next(1) == "quiet", "the first one is not told")
+        require(host.start(3, "/bin/false") and over(host) == (3, 1), "the third")
+
+
+def what_cannot_be_run_is_a_failure(folder: str) -> None:
+    """A program is never looked for in PATH."""
+    with Host(folder) as host:
+        require(not host.start(1, "/bin/true"), "it is not open")
+    write(f"{folder}/no-program", "exit 0\n")
+    with opened(folder) as host:
+        for handler in ("/booth/missing", "true", "no-program", " "):
+            require(not host.start(1, handler), handler)
+
+
+def a_later_program_that_cannot_be_run_ends_the_row(folder: str) -> None:
+    """With the status 255."""
+    os.mkdir(f"{folder}/programs")
+    write_script(f"{folder}/programs/1", "exit 0")
+    write(f"{folder}/programs/2", "exit 0\n")
+    with opened(folder) as host:
+        require(host.start(1, "programs") and over(host) == (1, 255), "another end")
+
+
+CHECKS: Tuple[Callable[[str], None], ...] = (
+    a_program_that_refuses_has_another_status,
+    a_signal_counts_as_a_status,
+    programs_of_a_directory_run_until_one_refuses,
+    a_directory_without_programs_refuses_nothing,
+    a_program_knows_what_it_is_run_for,
+    a_program_is_not_waited_for,
+    what_cannot_be_run_is_a_failure,
+    a_later_program_that_cannot_be_run_ends_the_row,
+)

@@ -1,0 +1,174 @@
+"""Checks of the real host's datagrams: whom it hears and reaches, in both families, and in which order."""
+
+from typing import Callable, Tuple
+
+from real_host import LOOPBACK, LOOPBACK_6, OTHER_LOOPBACK, Host, Peer, carried, plain, require
+
+
+def a_host_without_an_address_reaches_both_families(folder: str) -> None:
+    """48 bytes go one way and 66 the other."""
+    with Host(folder) as client:
+        require(client.open(), "it is not opened")
+        for address in (LOOPBACK, LOOPBACK_6):
+            with Host(folder) as daemon:
+                at = daemon.open_somewhere(address)
+                where = carried(client, daemon, at, b"\x51" * 48)
+                require(where.address == address, f"from {where}")
+                require(carried(daemon, client, where, b"\x52" * 66) == at, "back")
+
+
+def a_port_is_opened_by_one_host(folder: str) -> None:
+    """The other one can send nothing."""
+    with Host(folder) as first, Host(folder) as second:
+        at = first.open_somewhere(LOOPBACK)
+        require(not second.open(at.address, at.port), "two hosts")
+        require(not second.send(at, b"x"), "nothing is open")
+
+
+def check_pair(one: Host, address: str, two: Host, other_address: str) -> None:
+    """Two members send to one another, each at the address that the other listens at."""
+    at_one, at_two = one.open_somewhere(address), two.open_somewhere(other_address)
+    first = carried(one, two, at_two, b"\x51" * 48)
+    require(first == carried(one, two, at_two, b"\x52" * 66), "from another port")
+    require(first.address == other_address, f"from {first}")
+    require(carried(two, one, at_one, b"\x53" * 66).address == address, "back")
+
+
+def members_of_both_families_reach_one_another(folder: str) -> None:
+    """A member on IPv4 and one on IPv6."""
+    with Host(folder) as one, Host(folder) as two:
+        check_pair(one, LOOPBACK, two, LOOPBACK_6)
+
+
+def a_member_that_moves_to_the_other_family_reaches_both(folder: str) -> None:
+    """A host sends by sockets of its own after it was opened again."""
+    with Host(folder) as one, Host(folder) as two:
+        for address in (LOOPBACK, LOOPBACK_6):
+            for other in (LOOPBACK, LOOPBACK_6):
+                check_pair(one, address, two, other)
+
+
+def check_quiet(host: Host, wait: int = 200) -> None:
+    """Nothing comes for so many milliseconds."""
+    answer = host.next(wait)
+    require(answer == "quiet", answer)
+
+
+def check_heard(host: Host, peer: Peer, content: bytes) -> None:
+    """These bytes of this peer come, and nothing before them."""
+    came = host.heard()
+    require((came.peer, came.content) == (peer, content), f"{came} in place of {content!r} from {peer}")
+
+
+def a_client_hears_the_peer_that_it_asked_alone(folder: str) -> None:
+    """And nobody at the same address with another port, or at another address with the same port."""
+    with Host(folder) as client, Host(folder) as daemon, Host(folder) as neighbour, Host(folder) as other:
+        require(client.open(), "it is not opened")
+        at = daemon.open_somewhere(LOOPBACK)
+        where = carried(client, daemon, at, b"who has it?")
+        require(neighbour.open_somewhere(LOOPBACK).port != at.port, "one port twice")
+        require(other.open(OTHER_LOOPBACK, at.port), "the same port at another address")
+        require(neighbour.send(where, b"another port") and other.send(where, b"another address"), "they are not sent")
+        check_quiet(client)
+        require(neighbour.send(where, b"another port") and daemon.send(where, b"nobody"), "they are not sent")
+        check_heard(client, at, b"nobody")
+
+
+def a_client_that_asks_another_peer_hears_that_one(folder: str) -> None:
+    """As if a revoke is redirected."""
+    with Host(folder) as client, Host(folder) as first:
+        require(client.open(), "it is not opened")
+        at_first = first.open_somewhere(LOOPBACK)
+        where = carried(client, first, at_first, b"give it back")
+        require(first.send(where, b"another has it"), "it is not sent")
+        check_heard(client, at_first, b"another has it")
+        for address in (LOOPBACK, LOOPBACK_6):
+            with Host(folder) as second:
+                at = second.open_somewhere(address)
+                now_at = carried(client, second, at, b"give it back")
+                require(first.send(where, b"another has it"), "it is not sent")
+                if now_at.address == LOOPBACK:
+                    require(first.send(now_at, b"another has it"), "it is not sent")
+                check_quiet(client)
+                require(second.send(now_at, b"done"), "it is not sent")
+                check_heard(client, at, b"done")
+
+
+def a_client_that_nobody_hears_is_quiet(folder: str) -> None:
+    """A daemon that is not there yet is no failure of a client's devices."""
+    with Host(folder) as client:
+        with Host(folder) as daemon:
+            at = daemon.open_somewhere(LOOPBACK)
+        require(client.open(), "it is not opened")
+        for _ in range(3):
+            require(client.send(at, b"who has it?"), "it is not sent")
+            check_quiet(client)
+        require(client.send(at, b"who has it?"), "it is not sent")
+        with Host(folder) as daemon:
+            require(daemon.open(at.address, at.port), "the daemon is not opened")
+            where = carried(client, daemon, at, b"who has it?")
+            require(daemon.send(where, b"nobody"), "it is not sent")
+            # (at once, or behind what the network told of an earlier request)
+            if client.next(5000) == "quiet":
+                check_heard(client, at, b"nobody")
+
+
+# more than the system holds for a socket, and than the backlog has room for: what is behind that stays with the system
+ROUNDS, EACH = 82, 200
+# longer ones, which have no more room after the 261st
+LONG_ROUNDS, LONG_EACH, LONG_BYTES = 54, 5, 16_000
+
+
+def check_load(folder: str, rounds: int, each: int, size: int, turn: Callable[[Host, Peer], bool]) -> None:
+    """Sends so many rounds of so many datagrams to a member, which does this after each; all come in their order."""
+    with Host(folder) as sender, Host(folder) as member:
+        origin = sender.open_somewhere(LOOPBACK)
+        at = member.open_somewhere(LOOPBACK, "records")
+        count = 0
+        for _ in range(rounds):
+            for _ in range(each):
+                require(sender.send(at, count.to_bytes(4, "big").ljust(size, b"\0")), f"{count} is not sent")
+                count += 1
+            require(turn(member, origin), "the member's turn")
+        for place in range(count):
+            check_heard(member, origin, place.to_bytes(4, "big").ljust(size, b"\0"))
+        check_quiet(member, 0)
+
+
+def keep(member: Host, _origin: Peer) -> bool:
+    """Keeps a record."""
+    return member.keep(plain(1))
+
+
+def send_many(member: Host, origin: Peer) -> bool:
+    """Sends as often as it takes to look for what came."""
+    return all([member.send(origin, b"x") for _ in range(32)])
+
+
+def all_that_comes_between_keeps_is_given_in_order(folder: str) -> None:
+    """16,400 datagrams."""
+    check_load(folder, ROUNDS, EACH, 48, keep)
+
+
+def all_that_comes_between_sends_is_given_in_order(folder: str) -> None:
+    """16,400 datagrams."""
+    check_load(folder, ROUNDS, EACH, 48, send_many)
+
+
+def the_backlog_has_a_bound_in_bytes(folder: str) -> None:
+    """More bytes than the backlog has room for."""
+    check_load(folder, LONG_ROUNDS, LONG_EACH, LONG_BYTES, keep)
+
+
+CHECKS: Tuple[Callable[[str], None], ...] = (
+    a_host_without_an_address_reaches_both_families,
+    a_port_is_opened_by_one_host,
+    members_of_both_families_reach_one_another,
+    a_member_that_moves_to_the_other_family_reaches_both,
+    a_client_hears_the_peer_that_it_asked_alone,
+    a_client_that_asks_another_peer_hears_that_one,
+    a_client_that_nobody_hears_is_quiet,
+    all_that_comes_between_keeps_is_given_in_order,
+    all_that_comes_between_sends_is_given_in_order,
+    the_backlog_has_a_bound_in_bytes,
+)

@@ -1,0 +1,139 @@
+"""A real host in a process of its own, whose calls are played.
+
+It is imported by the programs in tests/, and not run by itself.
+"""
+
+from typing import NamedTuple, Optional
+
+from row_driver import Session, Unplayed
+
+TICKET = b"ticket-db8"
+# the file that a ticket's record is kept in: its name in hexadecimal
+FILE = TICKET.hex() + ".rec"
+
+LOOPBACK, OTHER_LOOPBACK, LOOPBACK_6 = "127.0.0.1", "127.0.0.2", "::1"
+
+# ports that are tried, one after another
+PORTS = range(19_829, 20_129)
+
+
+class Wrong(Exception):
+    """The host did not do what it has to."""
+
+
+def require(holds: bool, why: str) -> None:
+    """Raises `Wrong` if a condition does not hold."""
+    if not holds:
+        raise Wrong(why)
+
+
+class Peer(NamedTuple):
+    """An address and a port."""
+
+    address: str
+    port: int
+
+
+class Came(NamedTuple):
+    """A datagram that came."""
+
+    peer: Peer
+    content: bytes
+
+
+def hexed(text: str) -> str:
+    """Returns a text in hexadecimal, or `-` if it is empty."""
+    return text.encode().hex() or "-"
+
+
+def plain(term: int, until: Optional[int] = None) -> str:
+    """Returns the words of a record of version 2 with this term, and a lease of it until then if there is one."""
+    lease = "- -" if until is None else f"{term} {until}"
+    return f"2 {term} {lease} - - - - 0"
+
+
+def first(term: int) -> str:
+    """Returns the words of a record of version 1 with this term."""
+    return f"1 {term} - - - - - - 0"
+
+
+class Host:
+    """A real host."""
+
+    def __init__(self, folder: str) -> None:
+        self.session = Session("host", folder=folder)
+
+    def __enter__(self) -> "Host":
+        return self
+
+    def __exit__(self, *_: object) -> None:
+        self.session.end()
+
+    def open(self, local: str = "-", port: int = 0, records: str = "", conf: str = "") -> bool:
+        """Opens it at an address and a port."""
+        return self.session.say(f"open {local} {port} {hexed(records)} {hexed(conf)}") == "ok"
+
+    def open_somewhere(self, local: str, records: str = "") -> Peer:
+        """Opens it at the first port that is free."""
+        for port in PORTS:
+            if self.open(local, port, records):
+                return Peer(local, port)
+        raise Wrong("no port is free")
+
+    def next(self, wait: int) -> str:
+        """Waits for at most so many milliseconds."""
+        return self.session.say(f"next {wait}")
+
+    def heard(self, wait: int = 5000) -> Came:
+        """Returns the datagram that comes next."""
+        word, *given = self.next(wait).split(" ")
+        if word != "datagram":
+            raise Wrong(f"nothing came: {word}")
+        address, port, content = given
+        return Came(Peer(address, int(port)), bytes.fromhex(content.replace("-", "")))
+
+    def send(self, to: Peer, content: bytes) -> bool:
+        """Sends a datagram."""
+        return self.session.say(f"send {to.address} {to.port} {content.hex() or '-'}") == "ok"
+
+    def kept(self) -> str:
+        """Returns the record of the ticket, `none` or `failed`."""
+        return self.session.say(f"kept {TICKET.hex()}")
+
+    def keep(self, record: str) -> bool:
+        """Keeps a record of the ticket."""
+        return self.session.say(f"keep {TICKET.hex()} {record}") == "ok"
+
+    def now(self) -> int:
+        """Reads the clock."""
+        return int(self.session.say("now"))
+
+    def lock(self, path: str) -> str:
+        """Takes a lock: `got`, `taken` or `failed`."""
+        return self.session.say(f"lock {hexed(path)}")
+
+    def read(self, path: str) -> Optional[bytes]:
+        """Returns the bytes of a file, or None if it is not read."""
+        answer = self.session.say(f"read {hexed(path)}")
+        return None if answer in ("failed", "no-memory") else bytes.fromhex(answer.replace("-", ""))
+
+    def start(self, number: int, handler: str) -> bool:
+        """Starts the handler of a job of the ticket."""
+        words = f"start {number} {TICKET.hex()} {hexed(handler)} 192.168.201.100 1700000600"
+        return self.session.say(words) == "ok"
+
+    def await_clock(self, records: str) -> None:
+        """Waits for the clock of a directory of records."""
+        self.session.say(f"await {hexed(records)}")
+
+
+def carried(one: Host, other: Host, at: Peer, content: bytes) -> Peer:
+    """Sends bytes from one host to another, which has to hear them, and returns whom it heard them from."""
+    require(one.send(at, content), "it is not sent")
+    came = other.heard()
+    require(came.content == content, "other bytes came")
+    return came.peer
+
+
+__all__ = ["Came", "FILE", "Host", "LOOPBACK", "LOOPBACK_6", "OTHER_LOOPBACK", "Peer", "TICKET", "Unplayed", "Wrong"]
+__all__ += ["carried", "first", "hexed", "plain", "require"]

@@ -1,0 +1,284 @@
+"""Plays the audits below tests/rows/audit/: journals of members, and what `boothd audit` says of them.
+
+It is imported by tests/rows.py, which plays its files. `stories_in.py` has how texts stand in a file. A text is one
+of these, as its name begins:
+
+`audits`: a row has the configuration, the parts of each journal, and the result. ` with ` and a key stand behind a
+configuration whose members have that key. ` and ` stands between journals, and a comma between their parts; `nothing`
+has none. Behind ` with ` stand digits that take the place of those behind ` for `.
+
+`edits`: the configuration and the journals stand in its second line. Each line of each journal is left out, doubled,
+swapped with the next one, or has its last digit changed: one more if it is even, and else one less. A row has how
+many lines that is done to and how many of the results are good, or else the edit, the journal, the line and the
+result. If no row says another result, that line is none of a journal, or the one behind it if it was doubled.
+
+`cuts`: the configuration and the journals stand in its second line. Each journal is cut before each of its lines, and
+before each line end. A row has the journal, how many whole lines it must have for the rows behind, and the result if
+it has fewer; behind `else` stands the result if no row says another one.
+
+A result is `good` and each holding (the ticket, the member, from when and until when), or the fault, its journal and
+its line. `boothd audit` prints and says it in words, which are compared whole, as are all its calls.
+
+Journals `S1`, `S2` and `AR` are those of the three members of `run.txt`. The run is played as a story of row_node.py,
+and its calls are written as docs/JOURNAL.md has them, up to the one that stops the daemon.
+"""
+
+import re
+from typing import Dict, Iterator, List, NamedTuple, Optional, Tuple
+
+import row_node
+from call_lines import hexed, parted
+from record_file import FIRST_FORM, HAS_BOUND, HAS_LEASE, HAS_PROMISE, SECOND_FORM
+from row_driver import Driver, Trouble, Unplayed
+from stories_in import named_in, paragraphs, read_file, text_of, texts_in
+
+FAULT = {"line": "syntax", "differs": "differs", "kept": "record", "unsent": "unsent"}
+EDITS = ["left out", "doubled", "swapped", "digit"]
+
+
+class Audit(NamedTuple):
+    """An audit: the text of the configuration, the key of its members, and the journals."""
+
+    configuration: str
+    key: Optional[bytes]
+    journals: List[str]
+
+    def files(self) -> List[Tuple[str, bytes]]:
+        """Returns the paths and the bytes of its files, in the order in which they are read."""
+        found = [(row_node.CONFIGURATION, self.configuration.encode())]
+        found += [] if self.key is None else [(row_node.KEY_FILE, self.key)]
+        return found + [(path_of(place), journal.encode()) for place, journal in enumerate(self.journals)]
+
+    def script(self) -> List[str]:
+        """Returns the lines that the driver is given for it."""
+        lines = [f"file {hexed(path.encode())} {hexed(data)}" for path, data in self.files()]
+        words = ["audit", "-c", row_node.CONFIGURATION] + [path_of(place) for place in range(len(self.journals))]
+        return lines + [" ".join(["run boothd", *(hexed(word.encode()) for word in words)])]
+
+    def answer(self, result: str) -> List[str]:
+        """Returns the lines that the driver is to answer its run with, if this is its result."""
+        read = [f"read {hexed(path.encode())} ok" for path, _ in self.files()]
+        kind, *held = result.split(", ")
+        if kind == "good":
+            printed = "".join(self.holding(one) for one in held)
+            return read + [f"out {hexed(printed.encode())} ok", "ends 0 Done"]
+        told, outcome = fault_of(kind)
+        return read + [f"err {hexed(told.encode())} ok", f"ends 1 AuditBad({outcome})"]
+
+    def holding(self, text: str) -> str:
+        """Returns the line that is printed of a holding."""
+        word, *numbers = text.split(" ")
+        ticket, member, since, until = (int(number) for number in numbers)
+        if word != "held":
+            raise Trouble(f"{text!r} is no holding")
+        name = re.findall(r'^ticket="(.*)"$', self.configuration, re.MULTILINE)[ticket]
+        site = re.findall(r'^(?:site|arbitrator)="(.*)"$', self.configuration, re.MULTILINE)[member]
+        return f"ticket {name}, site {site}, from {since} until {until}\n"
+
+
+class Shared(NamedTuple):
+    """What the audits share: configurations, and the parts of journals, each of whole lines."""
+
+    configurations: Dict[str, str]
+    parts: Dict[str, str]
+
+    def audit(self, configuration: str, journals: str) -> Audit:
+        """Reads an audit."""
+        name, _, key = configuration.partition(" with ")
+        text = text_of(self.configurations, name) + "\n" + (f"authfile = {row_node.KEY_FILE}\n" if key else "")
+        return Audit(text, key.encode() if key else None, [self.journal(one) for one in journals.split(" and ")])
+
+    def journal(self, text: str) -> str:
+        """Reads a journal."""
+        names, _, change = text.partition(" with ")
+        journal = "" if names == "nothing" else "".join(text_of(self.parts, name) for name in names.split(", "))
+        if not change:
+            return journal
+        new, old = parted(change, " for ")
+        if old not in journal:
+            raise Trouble(f"the journal {names!r} has no {old}")
+        return journal.replace(old, new, 1)
+
+
+class Try(NamedTuple):
+    """An audit, how a row calls it, and its result by the row."""
+
+    name: str
+    audit: Audit
+    wanted: str
+
+
+def path_of(place: int) -> str:
+    """Returns the path of the journal at this place."""
+    return f"/{place}.journal"
+
+
+def fault_of(text: str) -> Tuple[str, str]:
+    """Returns what is said of a fault, and the outcome."""
+    kind, *places = text.split(" ")
+    if kind == "member" and len(places) == 1:
+        return f"boothd: {path_of(int(places[0]))}: member\n", f"Member {{ journal: {places[0]} }}"
+    if kind not in FAULT or len(places) != 2:
+        raise Trouble(f"{text!r} is no result")
+    journal, line = (int(place) for place in places)
+    told = f"boothd: {path_of(journal)}: line {line}: {FAULT[kind]}\n"
+    return told, f"{kind.capitalize()} {{ journal: {journal}, line: {line} }}"
+
+
+def spelled_record(words: List[str]) -> str:
+    """Returns the bytes of a record of the driver, in hexadecimal."""
+    if words[0] in ("none", "failed"):
+        return "fail" if words[0] == "failed" else "none"
+    numbers = (0 if word == "-" else int(word) for word in words)
+    version, term, lease_term, until, bound, to, promised, end, abstain = numbers
+    flags = [0 if words[place] == "-" else flag for place, flag in ((2, HAS_LEASE), (4, HAS_BOUND), (5, HAS_PROMISE))]
+    if version == 1:
+        return FIRST_FORM.pack(version, term, flags[0], lease_term, until, 0).hex()
+    return SECOND_FORM.pack(version, term, sum(flags), lease_term, until, bound, to, promised, 0, end, abstain, 0).hex()
+
+
+def journal_lines(call: str) -> List[str]:
+    """Returns what a journal says of a call that the driver printed."""
+    kind, *words = call.split(" ")
+    if kind in ("read", "lock", "out", "err", "ends"):
+        return []
+    done = {"ok": "ok", "failed": "fail"}.get(words[-1], "")
+    if kind == "now":
+        return ["now", words[0]]
+    if kind == "next":
+        return ["next", " ".join(["data", *words[2:]]) if words[1] == "datagram" else " ".join(words[1:])]
+    if kind == "kept":
+        return [f"kept {words[0]}", spelled_record(words[1:])]
+    if kind == "keep":
+        return [f"keep {words[0]} {spelled_record(words[1:-1])}", done]
+    if kind in ("open", "send"):
+        return [" ".join([kind, *words[:3 if kind == "send" else 1]]), done]
+    raise Trouble(f"{call!r} is in no journal")
+
+
+def journals_of(driver: Driver) -> Dict[str, str]:
+    """Plays the run of three members, and returns their journals."""
+    texts = row_node.shared_texts()
+    story = row_node.story_of(texts_in(read_file("audit", "run.txt"))[0], texts)
+    journals = {}
+    for life in row_node.lives_of(story):
+        wanted = row_node.calls_of(story, life)
+        calls = driver.play("runs", row_node.script_of(story, life, len(wanted) + 100))[-1]
+        other = row_node.first_other(wanted, calls)
+        if other:
+            raise Trouble(f"the run of {life.member}: {other}")
+        lines = [line for call in calls[:-3] for line in journal_lines(call)]
+        journals[life.member] = "".join(f"{line}\n" for line in lines)
+    return journals
+
+
+def audits(shared: Shared, _head: List[str], rows: List[str]) -> Iterator[Try]:
+    """Gives the audits of rows."""
+    for row in rows:
+        configuration, rest = parted(row, ": ")
+        journals, wanted = parted(rest, ": ")
+        yield Try(row, shared.audit(configuration, journals), wanted)
+
+
+def replaced(audit: Audit, place: int, journal: str) -> Audit:
+    """Returns the audit with another journal at this place."""
+    return audit._replace(journals=audit.journals[:place] + [journal] + audit.journals[place + 1:])
+
+
+def changed_digit(line: str) -> Optional[str]:
+    """Returns a line with another last digit, if it has one."""
+    found = re.fullmatch(r"(.*)([0-9])([^0-9]*)", line)
+    return found and f"{found[1]}{int(found[2]) ^ 1}{found[3]}"
+
+
+def edited(edit: str, lines: List[str], at: int) -> Optional[List[str]]:
+    """Returns the lines of a journal with this edit of the line at a place, if there is such an edit."""
+    line, more = lines[at], lines[at + 1:]
+    digit = changed_digit(line)
+    if (edit == "swapped" and not more) or (edit == "digit" and digit is None):
+        return None
+    if edit == "swapped":
+        return lines[:at] + [more[0], line] + more[1:]
+    return lines[:at] + {"left out": [], "doubled": [line, line], "digit": [digit or ""]}[edit] + more
+
+
+def rows_by_name(rows: List[str]) -> Dict[str, str]:
+    """Returns what stands in rows behind their names."""
+    found = dict(parted(row, ": ") for row in rows)
+    if len(found) != len(rows):
+        raise Trouble("a name stands in two rows")
+    return found
+
+
+def edits_of(audit: Audit, edit: str) -> Iterator[Tuple[str, Audit, str]]:
+    """Gives the name of each edit of this kind, its audit, and its result if no row says another one."""
+    for place, journal in enumerate(audit.journals):
+        lines = journal.splitlines()
+        for at in range(len(lines)):
+            changed = edited(edit, lines, at)
+            if changed is not None:
+                other = replaced(audit, place, "".join(f"{line}\n" for line in changed))
+                fault = f"line {place} {at + 2 if edit == 'doubled' else at + 1}"
+                yield f"{edit} {place} {at + 1}", other, fault
+
+
+def edits(shared: Shared, head: List[str], rows: List[str]) -> Iterator[Try]:
+    """Gives the audits of edits."""
+    audit = shared.audit(*parted(head[1], ": "))
+    wanted = rows_by_name(rows)
+    for edit in EDITS:
+        tries = [Try(name, other, wanted.pop(name, fault)) for name, other, fault in edits_of(audit, edit)]
+        good = sum(one.wanted.startswith("good") for one in tries)
+        if wanted.pop(edit, "") != f"{len(tries)} tried, {good} good":
+            raise Trouble(f"{edit}: {len(tries)} tried, {good} good")
+        yield from tries
+    if wanted:
+        raise Trouble(f"there are no such edits: {list(wanted)}")
+
+
+def cuts(shared: Shared, head: List[str], rows: List[str]) -> Iterator[Try]:
+    """Gives the audits of cuts."""
+    audit = shared.audit(*parted(head[1], ": "))
+    wanted = rows_by_name(rows)
+    otherwise = wanted.pop("else")
+    limits = [(*(int(word) for word in name.split(" ")), result) for name, result in wanted.items()]
+    for place, journal in enumerate(audit.journals):
+        ends = [at for at, byte in enumerate(journal) if byte == "\n"]
+        for at in sorted({0, *ends, *(end + 1 for end in ends[:-1])}):
+            lines = journal.count("\n", 0, at)
+            results = [result for row_place, before, result in limits if row_place == place and lines < before]
+            yield Try(f"journal {place} cut at {at}", replaced(audit, place, journal[:at]), (results or [otherwise])[0])
+
+
+def played(tries: List[Try], driver: Driver) -> Iterator[str]:
+    """Plays audits, and gives what is wrong with them."""
+    answers = driver.play("runs", [line for one in tries for line in one.audit.script()])
+    for one in tries:
+        *made, run = answers[:len(one.audit.script())]
+        answers = answers[len(one.audit.script()):]
+        wanted = one.audit.answer(one.wanted)
+        if any(made) or run != wanted:
+            yield f"{one.name}: not {one.wanted!r}: {made} {[legible(line) for line in run]}"
+
+
+def legible(call: str) -> str:
+    """Returns a call that the driver printed with what it prints or says in letters."""
+    kind, *words = call.split(" ")
+    return f"{kind} {bytes.fromhex(words[0].strip('-')).decode()!r}" if kind in ("out", "err", "read") else call
+
+
+def check(text: str, driver: Driver) -> Tuple[int, List[str]]:
+    """Plays the audits of a file, and returns how many there are, and what is wrong with some."""
+    parts = {name: f"{part}\n" for name, part in named_in("audit", ["parts.txt"]).items()}
+    kinds = {"audits": audits, "edits": edits, "cuts": cuts}
+    count, wrong = 0, []
+    try:
+        shared = Shared(named_in("audit", ["configurations.txt"]), {**parts, **journals_of(driver)})
+        for one in texts_in(text):
+            head, rest = paragraphs(one)
+            tries = list(text_of(kinds, parted(head[0], ": ")[0])(shared, head, "\n".join(rest).split("\n")))
+            count += len(tries)
+            wrong += played(tries, driver)
+    except (Trouble, Unplayed, ValueError, LookupError) as fault:
+        wrong.append(str(fault))
+    return count, wrong if count else wrong + ["no audit"]

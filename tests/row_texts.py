@@ -1,0 +1,91 @@
+r"""Which texts are journals, and which frames a stream has, however it is cut.
+
+It is imported by tests/rows.py, and not run by itself. A file of rows has these lines:
+
+    # TEXT                       a comment
+    * SENTENCE                   what the rows below it show
+    journal TEXT => LINE         the first line of the text that is none of a journal, counted from 1, or 0
+    cut STREAM | SIZE .. => MARKS
+                                 the marks of the frames of a stream that comes in pieces of these sizes, or `-` for
+                                 none, and `!` if the stream is then broken
+    each LEAST MOST PLACES       for frames of each length from LEAST to MOST, with a frame of 48 bytes behind: the two
+                                 frames, cut at each place, or at each two places
+
+In a text `$` is the end of a line and `''` is the empty text. `{9 0a}` is `0a` nine times. Streams are those of
+tests/stream_data.py. Each frame is compared with all its bytes.
+"""
+
+import re
+from typing import Iterator, List, NamedTuple, Tuple
+
+from row_driver import Driver, Trouble
+from run_frames import bytes_of
+from run_hosts import hexadecimal
+from stream_data import bytes_of_word, frame, stream_of
+
+
+class Line(NamedTuple):
+    """A line that is played, where it comes from, and the answer that is expected."""
+
+    place: str
+    text: str
+    wanted: List[str]
+
+
+def journal(place: str, rest: str) -> Iterator[Line]:
+    """Gives the line of a text of a journal."""
+    text, _, line = rest.rpartition(" => ")
+    whole = re.sub(r"\{(\d+) (\w+)\}", lambda found: found[2] * int(found[1]), text)
+    yield Line(place, f"journal {hexadecimal(bytes_of(whole))}", ["journal" if int(line) == 0 else str(int(line))])
+
+
+def cut(place: str, rest: str) -> Iterator[Line]:
+    """Gives the lines of a stream that is cut once."""
+    asked, _, marks = rest.rpartition(" => ")
+    stream, found, sizes = asked.partition(" | ")
+    if not found:
+        raise Trouble(f"{place}: no sizes")
+    data = stream_of(stream)
+    frames = {word.partition(":")[2]: bytes_of_word(word).hex() for word in stream.split(" ")}
+    wanted = " ".join("broken" if mark == "!" else frames[mark] for mark in marks if marks != "-")
+    yield Line(place, f"stream {hexadecimal(data)}", [])
+    yield Line(place, f"cut {sizes}", [wanted])
+
+
+def each(place: str, rest: str) -> Iterator[Line]:
+    """Gives the lines of streams of two frames that are cut everywhere."""
+    least, most, places = (int(word) for word in rest.split(" "))
+    if places not in (1, 2):
+        raise Trouble(f"{place}: no number of places")
+    for length in range(least, most + 1):
+        first, second = frame(length, "a"), frame(48, "b")
+        end = len(first + second)
+        yield Line(place, f"stream {(first + second).hex()}", [])
+        for one in range(end):
+            for two in range(one, end if places == 2 else one + 1):
+                yield Line(place, f"cut {one} {two - one} {end - two}", [f"{first.hex()} {second.hex()}"])
+
+
+def lines_of(text: str) -> Iterator[Line]:
+    """Gives the lines that a file's rows are played by."""
+    sentence = ""
+    for number, line in enumerate(text.split("\n"), 1):
+        first, _, rest = line.partition(" ")
+        place = f"line {number}: {sentence} {line}"
+        if first == "*":
+            sentence = rest
+        elif line and first != "#":
+            if first not in ("journal", "cut", "each") or not sentence:
+                raise Trouble(f"{place}: no row")
+            yield from {"journal": journal, "cut": cut, "each": each}[first](place, rest)
+
+
+def check(text: str, driver: Driver) -> Tuple[int, List[str]]:
+    """Plays the rows of a file. Returns how many there are, and what is wrong."""
+    lines = list(lines_of(text))
+    if not lines:
+        raise Trouble("no rows")
+    answers = driver.play("texts", [line.text for line in lines])
+    wrong = [f"{line.place}: {line.text[:80]}, and it was: {str(answer)[:400]}"
+             for line, answer in zip(lines, answers) if answer != line.wanted]
+    return len({line.place for line in lines}), wrong

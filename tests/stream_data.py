@@ -1,0 +1,39 @@
+"""Bytes of streams from their texts.
+
+It is imported by the programs in tests/, and not run by itself.
+
+A text is words with one blank between each two, or `-` for no bytes. `48:a` is a frame that says that it has 48 bytes
+and has them, each of them an `a` but for the length field. `48:a/20-48` is its bytes from the 20th on, up to the 48th.
+Each other word is in hexadecimal, and `78*9` is the byte 78 nine times.
+"""
+
+import re
+
+from row_driver import Trouble
+
+# where the length field of a frame begins and ends
+LENGTH_AT, LENGTH_END = 24, 28
+
+
+def frame(said: int, mark: str) -> bytes:
+    """Returns a frame of so many bytes with this mark."""
+    fill = mark.encode()
+    return fill * LENGTH_AT + said.to_bytes(4, "big") + fill * (said - LENGTH_END)
+
+
+def bytes_of_word(word: str) -> bytes:
+    """Returns the bytes of a word."""
+    found = re.fullmatch(r"(\d+):([a-z])(?:/(\d+)-(\d+))?", word)
+    if found:
+        said, mark, first, last = found.groups()
+        data = frame(int(said), mark)
+        if last and int(last) > len(data):
+            raise Trouble(f"too few bytes: {word}")
+        return data[int(first):int(last)] if last else data
+    digits, _, times = word.partition("*")
+    return bytes.fromhex(digits) * int(times or "1")
+
+
+def stream_of(text: str) -> bytes:
+    """Returns the bytes of a text."""
+    return b"" if text == "-" else b"".join(bytes_of_word(word) for word in text.split(" "))
