@@ -18,7 +18,8 @@ sys.path.insert(0, f"{TOP}/tests")
 
 from host_handlers import CHECKS as HANDLER_CHECKS
 from host_peers import CHECKS as PEER_CHECKS
-from real_host import FILE, Host, LOOPBACK, Unplayed, Wrong, first, plain, require
+from real_host import FILE, Host, Wrong, first, plain, require
+from row_driver import Unplayed
 
 # an hour in milliseconds
 HOUR = 3_600_000

@@ -5,7 +5,7 @@ It is imported by the programs in tests/, and not run by itself.
 
 from typing import NamedTuple, Optional
 
-from row_driver import Session, Unplayed
+from row_driver import Session
 
 TICKET = b"ticket-db8"
 # the file that a ticket's record is kept in: its name in hexadecimal
@@ -134,6 +134,3 @@ def carried(one: Host, other: Host, at: Peer, content: bytes) -> Peer:
     require(came.content == content, "other bytes came")
     return came.peer
 
-
-__all__ = ["Came", "FILE", "Host", "LOOPBACK", "LOOPBACK_6", "OTHER_LOOPBACK", "Peer", "TICKET", "Unplayed", "Wrong"]
-__all__ += ["carried", "first", "hexed", "plain", "require"]

@@ -5,7 +5,7 @@ It is imported by the programs in tests/, and not run by itself.
 
 import os
 import subprocess
-from typing import IO, Dict, List, Optional
+from typing import IO, List, Optional
 
 TOP = os.path.dirname(os.path.dirname(os.path.abspath(__file__)))
 
@@ -81,8 +81,3 @@ class Session:
         into.close()
         self.process.wait(timeout=SECONDS)
         out.close()
-
-
-def fields(line: str, names: str) -> Dict[str, str]:
-    """Returns the words of a line by these names."""
-    return dict(zip(names.split(), line.split(" ")))
