@@ -5,7 +5,8 @@ It is imported by tests/rows.py, and not run by itself. A file of rows has these
     # TEXT                     a comment
     conf                       below it, indented: the configuration of the rows
     * SENTENCE                 what the rows below it show
-    follow MARGIN KILL PAUSE   begins a service: its margins in ms
+    follow MARGIN KILL PAUSE LEFT
+                               begins a service: its margins in ms, and the end that an earlier one left, or `-`
     move wait|once START       begins a move of the ticket ticket-db8 to the second member: whether outcomes are
                                waited for, and its first reading
     READING CAME : DONE        a step: the reading, what came before it, and what is done
@@ -17,7 +18,7 @@ It is imported by tests/rows.py, and not run by itself. A file of rows has these
 What came is `-` for nothing. To a service come `here UNTIL` and `elsewhere`, which are lists that show this site or
 another one, `end RUN done` and `end RUN failed`, and `stop` if its end is asked for. To a move comes a reply of the
 first site: its command, request, result, and the member that it names as the owner. What a service does is `-`,
-`leave`, or `start`, `stop` or `kill` with the number of the run and the end of the lease. What a move does is
+`leave`, or `check`, `renew`, `start`, `stop` or `kill` with the number of the run and an end. What a move does is
 `nothing`, `revoke REQUEST`, `forward PLACE REQUEST` for a revoke that is sent on, `grant REQUEST`, or how it ends. A
 margin that is not given is `-`. Instead of margins a line may say why there are none.
 """

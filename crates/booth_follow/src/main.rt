@@ -1,13 +1,26 @@
-//! The program `booth-follow`: its words over the real host.
+//! The program `booth-follow`: its words over the real host, and what it says of its turns.
 #![tactic(auto)]
 
+mod texts;
+mod watcher;
+
+use crate::watcher::Watcher;
 use booth_cli::{Asked, Program, ask};
 use booth_followers::{Outcome, booth_follow};
-use booth_real::RealHost;
+use booth_following::Setting;
+use booth_host::Host;
+use booth_real::{Notifier, Priority, RealHost, Speaker};
 use std::alloc::{AllocError, Global};
-use std::env;
-use std::io::{ErrorKind, Write};
+use std::env::Env;
+use std::io::ErrorKind;
 use std::process::ExitCode;
+use std::{env, str};
+
+/// The word with which a program runs beside the other ones of its ticket.
+const BESIDE: &str = "renew";
+
+/// The variable that names the file of the end until which an earlier follower left the service running.
+const END_FILE: &str = "BOOTH_FOLLOW_END";
 
 // All words, the first of which is the program's name. Those that are no UTF-8 are none that are taken.
 fn words(rt: &HostRuntime, alloc: Global) -> Result<Vec<String>, AllocError> {
@@ -27,24 +40,54 @@ fn shares_clock(alloc: Global, words: &[String], host: &mut RealHost) -> bool {
     is_shared
 }
 
+// The end in milliseconds that a text tells in whole seconds, before a line feed.
+fn end_in(text: &[u8]) -> Option<u64> {
+    let Ok(text) = str::from_utf8(text) else {
+        return None;
+    };
+    let seconds = text.strip_suffix('\n')?.parse::<u64>().ok()?;
+    seconds.checked_mul(1000)
+}
+
+// The end until which an earlier follower left the service running, if a file tells one.
+fn left_end(rt: &HostRuntime, alloc: Global, host: &mut RealHost) -> Option<u64> {
+    let mut room = [0u8; 256];
+    let Ok(count) = rt.var(END_FILE, &mut room) else {
+        return None;
+    };
+    let Ok(path) = str::from_utf8(&room[..count]) else {
+        return None;
+    };
+    match host.read_file(alloc, path) {
+        Ok(text) => end_in(text.bytes()),
+        Err(_) => None,
+    }
+}
+
 fn run(rt: HostRuntime, alloc: Global) -> Result<Outcome, AllocError> {
+    let name = Program::BoothFollow.name();
     let words = words(&rt, alloc)?;
     let mut host = RealHost::new(rt, alloc)?;
-    host.speak_as(Program::BoothFollow.name());
+    host.speak_as(name);
+    host.run_beside(BESIDE);
     if !shares_clock(alloc, &words, &mut host) {
         return Ok(Outcome::OpenFault);
     }
-    Ok(booth_follow(alloc, &words, &mut host))
+    let mut setting = Setting {
+        left: left_end(&rt, alloc, &mut host),
+        watch: Watcher::new(Speaker::new(rt, name), Notifier::new(rt, name)),
+    };
+    Ok(booth_follow(alloc, &words, &mut setting, &mut host))
 }
 
 fn main(rt: HostRuntime) -> ExitCode {
     let alloc = rt.alloc();
-    let mut stderr = rt.stderr();
     let outcome = match run(rt, alloc) {
         Ok(outcome) => outcome,
         Err(AllocError) => {
             // There is no host yet that would say it.
-            let _ = stderr.write_all(b"booth-follow: out of memory\n");
+            let speaker = Speaker::new(rt, Program::BoothFollow.name());
+            speaker.say(Priority::Failure, b"out of memory");
             Outcome::OutOfMemory
         }
     };

@@ -1,6 +1,5 @@
--- What is known is what was heard.
-use Rattle.std.proofs.Common.{◌≡◌, ◌≢◌, ◌<◌, ◌≤◌, ◌⊎◌, ◌==◌, ℕ, Bool, true, false, cond, max, List, [], ◌∷◌, Option, Some, None, inl, inr, refl, sym, ap, ◌∙◌, arith}
-use Rattle.std.proofs.lemmas.Bool.{cases_lt}
+-- What is known of lists is what was heard.
+use Rattle.std.proofs.Common.{◌≡◌, ◌==◌, ℕ, Bool, true, false, cond, max, List, [], ◌∷◌, Option, Some, None, refl, sym, ap, ◌∙◌}
 use Rattle.booth_follow_rule.specs.declared.news.News.{News}
 use Rattle.booth_follow_rule.specs.declared.news.News.TheVariants as news
 use Rattle.booth_follow_rule.specs.declared.news.RunEnd.TheVariants.{Done, Failed}
@@ -8,49 +7,69 @@ use Rattle.booth_follow_rule.specs.declared.news.Shown.{Shown}
 use Rattle.booth_follow_rule.specs.declared.news.Shown.TheVariants.{Here, Elsewhere}
 use Rattle.booth_follow_rule.specs.declared.state.FollowDeed.{FollowDeed}
 use Rattle.booth_follow_rule.specs.declared.state.FollowDeed.TheVariants as deeds
+use Rattle.booth_follow_rule.specs.declared.state.Renewal.{Renewal}
 use Rattle.booth_follow_rule.specs.declared.state.Word.{Word}
-use Rattle.booth_follow_rule.specs.declared.state.Word.TheVariants.{Start, Stop, Kill}
-use Rattle.booth_follow_rule.specs.Known.{Known, Row, Service, Unknown, Started, Over, done_at, known_after, nothing_known, told, told_done}
-use Rattle.booth_follow_rule.specs.Laws.{HasTold, KnowsWhatIsHeard, known_from, last_shown, shown_after}
+use Rattle.booth_follow_rule.specs.declared.state.Word.TheVariants.{Check, Renew, Start, Stop, Kill}
+use Rattle.booth_follow_rule.specs.Known.{Known, Row, Service, Unknown, Started, Over, done_at, known_after, known_first, told, told_armed, told_done, told_ended}
+use Rattle.booth_follow_rule.specs.Laws.{KnowsWhatIsHeard, known_from, last_shown, shown_after, shown_first}
 
--- what is known of lists, which deeds and ends leave as it is
-pub record SameLists (k now : Known) : Type 0 where
-  pub here : now.here ≡ k.here
-  pub end : now.end ≡ k.end
-  pub latest : now.latest ≡ k.latest
+-- what the last list shows, as it was; or it counts no more
+record SameList (k now : Known) : Type 0 where
+  here : now.here ≡ true → k.here ≡ true
+  end : now.end ≡ k.end
 
-same : (k : Known) → SameLists k k
-same k = record { here = refl; end = refl; latest = refl }
+same : (k : Known) → SameList k k
+same k = record { here = λ is. is; end = refl }
 
-same_done : (k : Known) (reading : ℕ) (service : Service) (last : Option Word) → SameLists k (told_done k reading service last)
+no_more : (k now : Known) → now.here ≡ false → now.end ≡ k.end → SameList k now
+no_more k now not end = record { here = λ is. absurd (clash (sym not ∙ is)); end = end }
+  where
+    clash : false ≡ true → ⊥
+    clash p = cc
+
+same_done : (k : Known) (reading : ℕ) (service : Service) (last : Option Word) → SameList k (told_done k reading service last)
 same_done k reading Over last = same k
 same_done k reading Unknown None = same k
+same_done k reading Unknown (Some Check) = same k
+same_done k reading Unknown (Some Renew) = same k
 same_done k reading Unknown (Some Start) = same k
-same_done k reading Unknown (Some Stop) = record { here = refl; end = refl; latest = refl }
-same_done k reading Unknown (Some Kill) = record { here = refl; end = refl; latest = refl }
+same_done k reading Unknown (Some Stop) = no_more k _ refl refl
+same_done k reading Unknown (Some Kill) = no_more k _ refl refl
 same_done k reading Started None = same k
+same_done k reading Started (Some Check) = same k
+same_done k reading Started (Some Renew) = same k
 same_done k reading Started (Some Start) = same k
-same_done k reading Started (Some Stop) = record { here = refl; end = refl; latest = refl }
-same_done k reading Started (Some Kill) = record { here = refl; end = refl; latest = refl }
+same_done k reading Started (Some Stop) = no_more k _ refl refl
+same_done k reading Started (Some Kill) = no_more k _ refl refl
 
-same_test : (k : Known) (reading : ℕ) (test : Bool) → SameLists k (cond test (told_done k reading k.service k.last) k)
-same_test k reading true = same_done k reading k.service k.last
-same_test k reading false = same k
+same_ended : (k : Known) (reading : ℕ) (test : Bool) → SameList k (cond test (told_done k reading k.service k.last) k)
+same_ended k reading true = same_done k reading k.service k.last
+same_ended k reading false = same k
 
-pub same_deed : (k : Known) (reading : ℕ) (deed : FollowDeed) → SameLists k (done_at k reading deed)
-same_deed k reading deeds.Nothing = record { here = refl; end = refl; latest = refl }
-same_deed k reading deeds.Leave = record { here = refl; end = refl; latest = refl }
-same_deed k reading (deeds.Run Start number until) = record { here = refl; end = refl; latest = refl }
-same_deed k reading (deeds.Run Stop number until) = record { here = refl; end = refl; latest = refl }
-same_deed k reading (deeds.Run Kill number until) = record { here = refl; end = refl; latest = refl }
+same_armed : (k : Known) (run : ℕ) (r : Option Renewal) → SameList k (told_armed k run r)
+same_armed k run None = same k
+same_armed k run (Some r) = by_test (run == r.run)
+  where
+    by_test : (test : Bool) → SameList k (cond test (record k { armed = r.end; latest = max k.latest r.end; renewal = None }) k)
+    by_test true = record { here = λ is. is; end = refl }
+    by_test false = same k
+
+same_deed : (k : Known) (reading : ℕ) (deed : FollowDeed) → SameList k (done_at k reading deed)
+same_deed k reading deeds.Nothing = record { here = λ is. is; end = refl }
+same_deed k reading deeds.Leave = record { here = λ is. is; end = refl }
+same_deed k reading (deeds.Run Check number until) = record { here = λ is. is; end = refl }
+same_deed k reading (deeds.Run Renew number until) = record { here = λ is. is; end = refl }
+same_deed k reading (deeds.Run Start number until) = record { here = λ is. is; end = refl }
+same_deed k reading (deeds.Run Stop number until) = record { here = λ is. is; end = refl }
+same_deed k reading (deeds.Run Kill number until) = record { here = λ is. is; end = refl }
 
 -- ---- the last list
 
 abbrev Agrees : Known → Option Shown → Type 0
 Agrees k last = k.here ≡ true → last ≡ Some (Here k.end)
 
-agrees_with : (k now : Known) (last : Option Shown) → SameLists k now → Agrees k last → Agrees now last
-agrees_with k now last lists so here = so (sym lists.here ∙ here) ∙ ap (λ (n : ℕ). let s : Option Shown = Some (Here n) in s) (sym lists.end)
+agrees_with : (k now : Known) (last : Option Shown) → SameList k now → Agrees k last → Agrees now last
+agrees_with k now last list so here = so (list.here here) ∙ ap (λ (n : ℕ). let s : Option Shown = Some (Here n) in s) (sym list.end)
 
 agrees_told : (k : Known) (last : Option Shown) (reading : ℕ) → Agrees k last → (heard : News) → Agrees (told k reading heard) (shown_after last heard)
 agrees_told k last reading so news.Nothing = so
@@ -58,7 +77,9 @@ agrees_told k last reading so news.Stop = so
 agrees_told k last reading so (news.List (Here until)) = λ here. refl
 agrees_told k last reading so (news.List Elsewhere) = λ here. absurd cc
 agrees_told k last reading so (news.End run Failed) = so
-agrees_told k last reading so (news.End run Done) = agrees_with k _ last (same_test k reading (run == k.number)) so
+agrees_told k last reading so (news.End run Done) =
+    let then : Known = told_armed k run k.renewal in
+    agrees_with then (told_ended then reading run) last (same_ended then reading (run == then.run)) (agrees_with k then last (same_armed k run k.renewal) so)
 
 agrees_from : (k : Known) (last : Option Shown) → Agrees k last → (rows : List Row) → Agrees (known_from k rows) (last_shown last rows)
 unfolding known_from last_shown
@@ -69,48 +90,9 @@ agrees_from k last so (row ∷ rows) =
     (agrees_with now (known_after k row) (shown_after last row.at.heard) (same_deed now row.at.reading row.deed)
     (agrees_told k last row.at.reading so row.at.heard)) rows
 
--- ---- the latest end
-
--- the latest end is the one before, or this one is told
-latest_told : (k : Known) (reading : ℕ) (heard : News) →
-    ((told k reading heard).latest ≡ k.latest) ⊎ (heard ≡ news.List (Here (told k reading heard).latest))
-latest_told k reading news.Nothing = inl refl
-latest_told k reading news.Stop = inl refl
-latest_told k reading (news.List Elsewhere) = inl refl
-latest_told k reading (news.End run Failed) = inl refl
-latest_told k reading (news.End run Done) = inl (same_test k reading (run == k.number)).latest
-latest_told k reading (news.List (Here until)) = by_order (cases_lt k.latest until)
-  where
-    by_order : (k.latest < until) ⊎ (until ≤ k.latest) → (max k.latest until ≡ k.latest) ⊎ (news.List (Here until) ≡ news.List (Here (max k.latest until)))
-    by_order (inl lt) = let e : until ≡ max k.latest until = omega arith in inr (ap (λ (n : ℕ). news.List (Here n)) e)
-    by_order (inr le) = inl (omega arith)
-
-latest_from : (k : Known) (rows : List Row) → ((known_from k rows).latest ≡ k.latest) ⊎ HasTold (known_from k rows).latest rows
-unfolding known_from
-latest_from k [] = inl refl
-latest_from k (row ∷ rows) = by_rest (latest_from (known_after k row) rows)
-  where
-    by_row : (last : ℕ) → last ≡ (told k row.at.reading row.at.heard).latest →
-        ((told k row.at.reading row.at.heard).latest ≡ k.latest) ⊎ (row.at.heard ≡ news.List (Here (told k row.at.reading row.at.heard).latest)) →
-        (last ≡ k.latest) ⊎ HasTold last (row ∷ rows)
-    by_row last is (inl before) = inl (is ∙ before)
-    by_row last is (inr this) = inr (inl (this ∙ ap (λ (n : ℕ). news.List (Here n)) (sym is)))
-
-    by_rest : ((known_from (known_after k row) rows).latest ≡ (known_after k row).latest) ⊎ HasTold (known_from (known_after k row) rows).latest rows →
-        ((known_from (known_after k row) rows).latest ≡ k.latest) ⊎ HasTold (known_from (known_after k row) rows).latest (row ∷ rows)
-    by_rest (inl is) =
-        by_row (known_from (known_after k row) rows).latest
-        (is ∙ (same_deed (told k row.at.reading row.at.heard) row.at.reading row.deed).latest)
-        (latest_told k row.at.reading row.at.heard)
-    by_rest (inr told) = inr (inr told)
-
-some_latest : (rows : List Row) → (known_from nothing_known rows).latest ≢ 0 → HasTold (known_from nothing_known rows).latest rows
-some_latest rows some = by_end (latest_from nothing_known rows)
-  where
-    by_end : ((known_from nothing_known rows).latest ≡ 0) ⊎ HasTold (known_from nothing_known rows).latest rows →
-        HasTold (known_from nothing_known rows).latest rows
-    by_end (inl none) = absurd (some none)
-    by_end (inr told) = told
+agrees_first : (left : Option ℕ) → Agrees (known_first left) (shown_first left)
+agrees_first None = λ here. absurd cc
+agrees_first (Some end) = λ here. refl
 
 pub heard : KnowsWhatIsHeard
-heard = record { last = λ rows. agrees_from nothing_known None (λ here. absurd cc) rows; latest = some_latest }
+heard left rows = agrees_from (known_first left) (shown_first left) (agrees_first left) rows

@@ -10,35 +10,18 @@ use Rattle.booth_follow_rule.specs.declared.news.RunEnd.{RunEnd}
 use Rattle.booth_follow_rule.specs.declared.news.RunEnd.TheVariants.{Done, Failed}
 use Rattle.booth_follow_rule.specs.declared.news.Shown.TheVariants.{Here, Elsewhere}
 use Rattle.booth_follow_rule.specs.declared.state.FollowDeed.{FollowDeed}
+use Rattle.booth_follow_rule.specs.declared.state.Renewal.{Renewal}
 use Rattle.booth_follow_rule.specs.declared.state.Stage.{Stage}
 use Rattle.booth_follow_rule.specs.declared.state.Stage.TheVariants.{Opening, Down, Up, Stopping, Killing, Ended}
 use Rattle.booth_follow_rule.specs.declared.state.State.{State}
 use Rattle.booth_follow_rule.specs.declared.state.Word.{Word}
-use Rattle.booth_follow_rule.specs.declared.state.Word.TheVariants.{Start, Stop, Kill}
+use Rattle.booth_follow_rule.specs.declared.state.Word.TheVariants.{Check, Start, Stop, Kill}
 use Rattle.booth_follow_rule.specs.declared.steps.Step.{Step}
-use Rattle.booth_follow_rule.specs.Known.{AllRows, Known, Row, Service, Unknown, Started, Over, done_at, rows_from, told, told_done}
-use Rattle.booth_follow_rule.specs.Laws.{DeedsAreLet, IsDue, IsHeld, IsLet, IsRowLet}
-use Rattle.booth_follow_rule.specs.Rule.{Moment, deeds_from, end_of, ends_service, follow_step, has_failed, hears, is_held, is_rested, leaves_more, opening, no_deed, runs, stands, state_after, step_at}
+use Rattle.booth_follow_rule.specs.Known.{AllRows, Known, Row, Service, Unknown, Started, Over, done_at, known_first, rows_from, told, told_armed, told_done, told_ended}
+use Rattle.booth_follow_rule.specs.Laws.{DeedsAreLet, GoesOn, IsAwaited, IsDue, IsHeld, IsKept, IsLet, IsQuietLet, IsRenewable, IsRenewalRested, IsRenewedBeside, IsRowLet, IsStopLet}
+use Rattle.booth_follow_rule.specs.Rule.{Moment, arms, deeds_from, end_of, ends_service, follow_step, goes_on, has_failed, hears, is_held, is_kept, is_renewable, is_rested, leaves, leaves_more, may_renew, no_deed, opening, renewed, renews, rests, runs, starts, state_after, step_at, stops_first}
 
 -- ---- tests
-
-held : (m : Margins) (reading : ℕ) (k : Known) → (k.here && nat_lt (reading + m.margin) k.end) ≡ true → IsHeld m reading k
-held m reading k e =
-    let both = and_parts k.here (nat_lt (reading + m.margin) k.end) e in record { here = both.0; in_time = below (reading + m.margin) k.end both.1 }
-  where
-    below : (a b : ℕ) → nat_lt a b ≡ true → a < b
-    below a b h = grind (arith, nat_tests)
-
-not_held : (m : Margins) (reading : ℕ) (k : Known) → (k.here && nat_lt (reading + m.margin) k.end) ≡ false → IsHeld m reading k → ⊥
-not_held m reading k e h = by_here k.here (nat_lt (reading + m.margin) k.end) e h.here (above (reading + m.margin) k.end h.in_time)
-  where
-    above : (a b : ℕ) → a < b → nat_lt a b ≡ true
-    above a b h = grind (arith, nat_tests)
-
-    by_here : (a b : Bool) → (a && b) ≡ false → a ≡ true → b ≡ true → ⊥
-    by_here true true e p q = cc
-    by_here true false e p q = cc
-    by_here false b e p q = cc
 
 less : (a b : ℕ) → nat_lt a b ≡ true → a < b
 less a b h = grind (arith, nat_tests)
@@ -46,39 +29,61 @@ less a b h = grind (arith, nat_tests)
 not_less : (a b : ℕ) → nat_lt a b ≡ false → b ≤ a
 not_less a b h = grind (arith, nat_tests)
 
+test_less : (a b : ℕ) → a < b → nat_lt a b ≡ true
+test_less a b h = grind (arith, nat_tests)
+
 no_more : (a b : ℕ) → nat_le a b ≡ true → a ≤ b
 no_more a b h = grind (arith, nat_tests)
 
-more : (a b : ℕ) → nat_le a b ≡ false → a ≤ b → ⊥
-more a b h le = grind (arith, nat_tests, le)
+test_no_more : (a b : ℕ) → a ≤ b → nat_le a b ≡ true
+test_no_more a b h = grind (arith, nat_tests)
+
+is_zero : (a : ℕ) → (a == 0) ≡ true → a ≡ 0
+is_zero a h = grind (arith, nat_tests)
+
+no_zero : (a : ℕ) → (a == 0) ≡ false → a ≢ 0
+no_zero a h is = grind (arith, nat_tests, is)
+
+test_both : (a b : Bool) → a ≡ true → b ≡ true → (a && b) ≡ true
+test_both true b p q = q
+test_both false b p q = absurd cc
+
+clash : (b : Bool) → b ≡ false → b ≡ true → ⊥
+clash true p q = cc
+clash false p q = cc
 
 -- ---- what is known of a follower that stands so
 
--- what the stage does not tell: the latest end, when the service was over, when it was killed, the last reading, whether
--- it ended by a kill, and whether this follower started it
+-- what the state does not tell: the latest armed end, when the service was over, when it was killed, the last reading,
+-- whether it ended by a kill, whether it was taken over by a check, and whether this follower started it
 record Extra : Type 0 where
   latest : ℕ
   over_at : ℕ
   killed_at : ℕ
   seen : ℕ
   killed : Bool
+  checked : Bool
   started : Bool
 
 abbrev ended_by : Bool → Option Word
 ended_by true = Some Kill
 ended_by false = Some Stop
 
+abbrev begun_by : Bool → Option Word
+begun_by true = Some Check
+begun_by false = Some Start
+
 abbrev begun : Bool → Service
 begun true = Started
 begun false = Unknown
 
-abbrev last_of : Stage → Bool → Option Word
-last_of Opening killed = None
-last_of (Down since) killed = ended_by killed
-last_of Up killed = Some Start
-last_of (Stopping by) killed = Some Stop
-last_of (Killing failed) killed = Some Kill
-last_of Ended killed = ended_by killed
+abbrev last_of : Stage → Bool → Bool → Option Word
+last_of Opening killed checked = None
+last_of (Down since) killed checked = ended_by killed
+last_of Up killed checked = begun_by checked
+last_of (Stopping by) killed checked = Some Stop
+last_of (Killing failed) killed checked = Some Kill
+last_of Ended killed checked = ended_by killed
 
 abbrev service_of : Stage → Bool → Service
 service_of Opening started = Unknown
@@ -100,10 +105,13 @@ abbrev known_as : State → Extra → Known
 known_as s e = record {
   here = s.here;
   end = s.until;
+  armed = s.armed;
   latest = e.latest;
+  renewal = s.renewal;
   asked = s.asked;
-  last = last_of s.stage e.killed;
-  number = s.run;
+  last = last_of s.stage e.killed e.checked;
+  run = s.run;
+  number = s.number;
   service = service_of s.stage e.started;
   over_at = over_of s.stage e.over_at;
   killed_at = e.killed_at;
@@ -111,21 +119,60 @@ known_as s e = record {
   left = left_of s.stage;
 }
 
--- the end of a stop is that of the lease, where this follower made the start
+-- the end of a stop is the armed one, where this follower made the start
 abbrev IsSoundAt : Stage → ℕ → Bool → Type 0
-IsSoundAt (Stopping by) until started = started ≡ true → by ≡ until
-IsSoundAt stage until started = Unit {0}
+IsSoundAt (Stopping by) armed started = started ≡ true → by ≡ armed
+IsSoundAt stage armed started = Unit {0}
 
 abbrev IsSound : State → Extra → Type 0
-IsSound s e = IsSoundAt s.stage s.until e.started
+IsSound s e = IsSoundAt s.stage s.armed e.started
+
+-- ---- tests of a state
+
+held : (m : Margins) (reading : ℕ) (s : State) (e : Extra) → is_held m reading s ≡ true → IsHeld m reading (known_as s e)
+held m reading s e h =
+    let both = and_parts s.here (nat_lt (reading + m.margin) s.until) h in record { here = both.0; in_time = less (reading + m.margin) s.until both.1 }
+
+test_held : (m : Margins) (reading : ℕ) (s : State) (e : Extra) → IsHeld m reading (known_as s e) → is_held m reading s ≡ true
+test_held m reading s e h = test_both s.here (nat_lt (reading + m.margin) s.until) h.here (test_less (reading + m.margin) s.until h.in_time)
+
+kept : (m : Margins) (reading : ℕ) (s : State) (e : Extra) → is_kept m reading s ≡ true → IsKept m reading (known_as s e)
+kept m reading s e h =
+    let both = and_parts (is_held m reading s) (nat_lt (reading + m.margin) s.armed) h in
+    record { held = held m reading s e both.0; armed = less (reading + m.margin) s.armed both.1 }
+
+not_kept : (m : Margins) (reading : ℕ) (s : State) (e : Extra) → is_kept m reading s ≡ false → IsKept m reading (known_as s e) → ⊥
+not_kept m reading s e not h =
+    clash (is_kept m reading s) not
+    (test_both (is_held m reading s) (nat_lt (reading + m.margin) s.armed) (test_held m reading s e h.held) (test_less (reading + m.margin) s.armed h.armed))
+
+renewal_rested : (m : Margins) (reading : ℕ) (r : Option Renewal) → may_renew m reading r ≡ true → IsRenewalRested m reading r
+renewal_rested m reading None h = tt
+renewal_rested m reading (Some r) h = no_more (r.since + m.pause) reading h
+
+test_rested : (m : Margins) (reading : ℕ) (r : Option Renewal) → IsRenewalRested m reading r → may_renew m reading r ≡ true
+test_rested m reading None h = refl
+test_rested m reading (Some r) h = test_no_more (r.since + m.pause) reading h
+
+renewable : (m : Margins) (reading : ℕ) (s : State) (e : Extra) → is_renewable m reading s ≡ true → IsRenewable m reading (known_as s e)
+renewable m reading s e h =
+    let both = and_parts s.here (nat_lt s.armed s.until && may_renew m reading s.renewal) h in
+    let rest = and_parts (nat_lt s.armed s.until) (may_renew m reading s.renewal) both.1 in
+    record { here = both.0; later = less s.armed s.until rest.0; rested = renewal_rested m reading s.renewal rest.1 }
+
+not_renewable : (m : Margins) (reading : ℕ) (s : State) (e : Extra) → is_renewable m reading s ≡ false → IsRenewable m reading (known_as s e) → ⊥
+not_renewable m reading s e not h =
+    clash (is_renewable m reading s) not
+    (test_both s.here (nat_lt s.armed s.until && may_renew m reading s.renewal) h.here
+    (test_both (nat_lt s.armed s.until) (may_renew m reading s.renewal) (test_less s.armed s.until h.later) (test_rested m reading s.renewal h.rested)))
 
 -- ---- one step
 
 -- the step is let, and leads to what is known of where the follower then stands
-abbrev Goes : Margins → ℕ → Option RunEnd → Service → Known → State → Step → Type 0
-Goes m reading how was now s step =
+abbrev Goes : Margins → ℕ → Option RunEnd → Service → Known → Step → Type 0
+Goes m reading how was now step =
     IsLet m reading how was now step.deed
-    × ((e : Extra) × (done_at now reading step.deed ≡ known_as (stands s step) e) × IsSound (stands s step) e)
+    × ((e : Extra) × (done_at now reading step.deed ≡ known_as step.state e) × IsSound step.state e)
 
 abbrev with_stage : State → Stage → State
 with_stage s stage = record s { stage = stage }
@@ -136,55 +183,19 @@ with_started e started = record e { started = started }
 -- the step from a stage at which this is known
 abbrev GoesAt : Margins → ℕ → Option RunEnd → State → Extra → Stage → Type 0
 GoesAt m reading how s e stage =
-    Goes m reading how (service_of stage e.started) (known_as (with_stage s stage) e) (with_stage s stage)
+    Goes m reading how (service_of stage e.started) (known_as (with_stage s stage) e)
     (step_at m reading how (with_stage s stage) stage)
 
-opening_goes : (m : Margins) (reading : ℕ) (how : Option RunEnd) (s : State) (e : Extra) → GoesAt m reading how s e Opening
-opening_goes m reading how s e = ((refl, refl, refl, tt), (record e { seen = reading; started = false }, refl, λ h. absurd cc))
-
-not_both : (a b : Bool) → (a && b) ≡ false → a ≡ true → b ≡ true → ⊥
-not_both true true e p q = cc
-not_both true false e p q = cc
-not_both false b e p q = cc
-
-test_held : (m : Margins) (reading : ℕ) (k : Known) → IsHeld m reading k → (k.here && nat_lt (reading + m.margin) k.end) ≡ true
-test_held m reading k h = by_parts k.here (nat_lt (reading + m.margin) k.end) h.here (above (reading + m.margin) k.end h.in_time)
-  where
-    above : (a b : ℕ) → a < b → nat_lt a b ≡ true
-    above a b h = grind (arith, nat_tests)
-
-    by_parts : (a b : Bool) → a ≡ true → b ≡ true → (a && b) ≡ true
-    by_parts true b p q = q
-    by_parts false b p q = absurd cc
-
-test_rested : (a b : ℕ) → a ≤ b → nat_le a b ≡ true
-test_rested a b h = grind (arith, nat_tests)
-
-down_goes : (m : Margins) (reading : ℕ) (how : Option RunEnd) (s : State) (e : Extra) (since : ℕ) → GoesAt m reading how s e (Down since)
-down_goes m reading how s e since =
-    let h : State = with_stage s (Down since) in
-    let now : Known = known_as h e in
-    cond_both s.asked _ _ (λ (step : Step). Goes m reading how Over now h step)
-    (λ asked. ((refl, refl, asked), (record e { over_at = since; seen = reading }, refl, tt)))
-    (λ not_asked. cond_both (is_held m reading h && is_rested m since reading) (runs h Start Up) (no_deed (Down since)) (λ (step : Step). Goes m reading how Over now h step)
-    (λ test. let both = and_parts (is_held m reading h) (is_rested m since reading) test in (
-      (
-        refl,
-        refl,
-        refl,
-        record {
-          over = refl;
-          rested = no_more (since + m.pause) reading both.1;
-          not_asked = not_asked;
-          held = held m reading now both.0;
-        },
-      ),
-      (record e { over_at = since; seen = reading }, refl, tt),
-    ))
-    (λ test. (
-      λ over. (not_asked, λ rested is. not_both (is_held m reading h) (is_rested m since reading) test (test_held m reading now is) (test_rested (since + m.pause) reading rested)),
-      (record e { seen = reading }, refl, tt),
-    )))
+-- no deed but a renewal, where one is due
+on_goes : (m : Margins) (reading : ℕ) (how : Option RunEnd) (was : Service) (s : State) (e : Extra) → IsSound s e → left_of s.stage ≡ false →
+    IsRenewedBeside m reading how (known_as s e) (service_of s.stage e.started) (last_of s.stage e.killed e.checked) →
+    ((IsRenewable m reading (known_as s e) → ⊥)
+    → IsQuietLet m reading how was (known_as s e) (left_of s.stage) (service_of s.stage e.started) (last_of s.stage e.killed e.checked)) →
+    Goes m reading how was (known_as s e) (goes_on m reading s)
+on_goes m reading how was s e sound here beside quiet =
+    cond_both (is_renewable m reading s) (renews reading s) (no_deed s s.stage) (λ (step : Step). Goes m reading how was (known_as s e) step)
+    (λ test. ((here, refl, refl, (renewable m reading s e test, beside)), (record e { seen = reading }, refl, sound)))
+    (λ test. (quiet (not_renewable m reading s e test), (record e { seen = reading }, refl, sound)))
 
 -- what the test for the end of a service says
 due : (asked failed held : Bool) → (asked || (failed || not held)) ≡ true → (asked ≡ true) ⊎ ((failed ≡ true) ⊎ (held ≡ false))
@@ -199,6 +210,16 @@ not_due false true held e = absurd cc
 not_due false false true e = (refl, refl, refl)
 not_due false false false e = absurd cc
 
+due_first : (asked held : Bool) → (asked || not held) ≡ true → (asked ≡ true) ⊎ (held ≡ false)
+due_first true held e = inl refl
+due_first false true e = absurd cc
+due_first false false e = inr refl
+
+not_due_first : (asked held : Bool) → (asked || not held) ≡ false → (asked ≡ false) × (held ≡ true)
+not_due_first true held e = absurd cc
+not_due_first false true e = (refl, refl)
+not_due_first false false e = absurd cc
+
 failed_is : (how : Option RunEnd) → has_failed how ≡ true → how ≡ Some Failed
 failed_is None h = absurd cc
 failed_is (Some Done) h = absurd cc
@@ -209,92 +230,186 @@ not_failed None h = λ is. cc
 not_failed (Some Done) h = λ is. cc
 not_failed (Some Failed) h = absurd cc
 
-up_due : (m : Margins) (reading : ℕ) (how : Option RunEnd) (s : State) (e : Extra) →
-    (s.asked || (has_failed how || not (is_held m reading s))) ≡ true → IsDue m reading how (known_as (with_stage s Up) e)
-up_due m reading how s e test = by_due (due s.asked (has_failed how) (is_held m reading s) test)
+-- ---- at first
+
+first_due : (m : Margins) (reading : ℕ) (how : Option RunEnd) (s : State) (e : Extra) → (s.asked || not (is_kept m reading s)) ≡ true →
+    IsDue m reading how (known_as s e)
+first_due m reading how s e test = by_due (due_first s.asked (is_kept m reading s) test)
   where
-    by_due : (s.asked ≡ true) ⊎ ((has_failed how ≡ true) ⊎ (is_held m reading s ≡ false)) → IsDue m reading how (known_as (with_stage s Up) e)
+    by_due : (s.asked ≡ true) ⊎ (is_kept m reading s ≡ false) → IsDue m reading how (known_as s e)
+    by_due (inl asked) = inl asked
+    by_due (inr not) = inr (inr (not_kept m reading s e not))
+
+opening_goes : (m : Margins) (reading : ℕ) (how : Option RunEnd) (s : State) (e : Extra) → GoesAt m reading how s e Opening
+opening_goes m reading how s e =
+    let h : State = with_stage s Opening in
+    let now : Known = known_as h e in
+    cond_both (s.asked || not (is_kept m reading h)) (stops_first m reading h) (runs h Check Up) (λ (step : Step). Goes m reading how Unknown now step)
+    (λ test. cond_both (s.armed == 0) (runs h Stop (Stopping _)) (ends_service m reading h) (λ (step : Step). Goes m reading how Unknown now step)
+    (λ none. ((refl, refl, refl, (λ is. cc, inl (is_zero s.armed none))), (record e { seen = reading; started = false }, refl, λ is. absurd cc)))
+    (λ some. cond_both (leaves_more m.kill reading s.armed) (runs h Stop (Stopping s.armed)) (runs h Kill (Killing None)) (λ (step : Step). Goes m reading how Unknown now step)
+    (λ time. (
+      (refl, refl, refl, (λ is. cc, inr (first_due m reading how h e test, less (reading + m.kill) s.armed time))),
+      (record e { seen = reading; started = false }, refl, λ is. refl),
+    ))
+    (λ time. (
+      (refl, refl, refl, (λ is. cc, (no_zero s.armed some, (first_due m reading how h e test, not_less (reading + m.kill) s.armed time)))),
+      (record e { killed_at = reading; seen = reading; started = false }, refl, tt),
+    ))))
+    (λ test. let is = not_due_first s.asked (is_kept m reading h) test in (
+      (refl, refl, refl, record { first = refl; not_asked = is.0; kept = kept m reading h e is.1 }),
+      (record e { seen = reading; checked = true }, refl, tt),
+    ))
+
+-- ---- while it is stopped
+
+down_goes : (m : Margins) (reading : ℕ) (how : Option RunEnd) (s : State) (e : Extra) (since : ℕ) → GoesAt m reading how s e (Down since)
+down_goes m reading how s e since =
+    let h : State = with_stage s (Down since) in
+    let now : Known = known_as h e in
+    cond_both s.asked (leaves h) _ (λ (step : Step). Goes m reading how Over now step)
+    (λ asked. ((refl, refl, asked), (record e { over_at = since; seen = reading }, refl, tt)))
+    (λ not_asked. cond_both (is_held m reading h && is_rested m since reading) (starts m reading h) (no_deed h (Down since)) (λ (step : Step). Goes m reading how Over now step)
+    (λ test. let both = and_parts (is_held m reading h) (is_rested m since reading) test in
+    let awaited : IsAwaited m reading now = record { not_asked = not_asked; rested = no_more (since + m.pause) reading both.1; held = held m reading h e both.0 } in
+    cond_both (leaves_more m.margin reading s.armed) (runs h Start Up) (goes_on m reading h) (λ (step : Step). Goes m reading how Over now step)
+    (λ armed. (
+      (refl, refl, refl, record { over = refl; awaited = awaited; armed = less (reading + m.margin) s.armed armed }),
+      (record e { over_at = since; seen = reading; checked = false }, refl, tt),
+    ))
+    (λ unarmed. let late = not_less (reading + m.margin) s.armed unarmed in
+    on_goes m reading how Over h e tt refl (awaited, late) (λ none over. (not_asked, λ is. (late, none)))))
+    (λ test. (
+      λ over. (
+        not_asked,
+        λ is. absurd (clash (is_held m reading h && is_rested m since reading) test
+            (test_both (is_held m reading h) (is_rested m since reading) (test_held m reading h e is.held) (test_no_more (since + m.pause) reading is.rested))),
+      ),
+      (record e { seen = reading }, refl, tt),
+    )))
+
+-- ---- while it runs
+
+up_due : (m : Margins) (reading : ℕ) (how : Option RunEnd) (s : State) (e : Extra) → (s.asked || (has_failed how || not (is_kept m reading s))) ≡ true →
+    IsDue m reading how (known_as s e)
+up_due m reading how s e test = by_due (due s.asked (has_failed how) (is_kept m reading s) test)
+  where
+    by_due : (s.asked ≡ true) ⊎ ((has_failed how ≡ true) ⊎ (is_kept m reading s ≡ false)) → IsDue m reading how (known_as s e)
     by_due (inl asked) = inl asked
     by_due (inr (inl failed)) = inr (inl (failed_is how failed))
-    by_due (inr (inr not)) = inr (inr (not_held m reading (known_as (with_stage s Up) e) not))
+    by_due (inr (inr not)) = inr (inr (not_kept m reading s e not))
+
+-- a service that was started or taken over: its stop, its kill, a renewal, and nothing
+stop_of : (m : Margins) (reading : ℕ) (how : Option RunEnd) (now : Known) (checked : Bool) → IsDue m reading how now × (reading + m.kill < now.armed) →
+    IsStopLet m reading how now (begun_by checked)
+stop_of m reading how now true h = h
+stop_of m reading how now false h = h
+
+abbrev with_checked : Extra → Bool → Extra
+with_checked e checked = record e { checked = checked }
+
+up_killed : (m : Margins) (reading : ℕ) (how : Option RunEnd) (s : State) (e : Extra) (checked : Bool) →
+    (IsDue m reading how (known_as (with_stage s Up) (with_checked e checked)) × (s.armed ≤ reading + m.kill)) →
+    Goes m reading how Started (known_as (with_stage s Up) (with_checked e checked)) (runs (with_stage s Up) Kill (Killing None))
+up_killed m reading how s e true why =
+    ((refl, refl, refl, (λ over. cc, why)), (record e { killed_at = reading; seen = reading; checked = true; started = true }, refl, tt))
+up_killed m reading how s e false why =
+    ((refl, refl, refl, (λ over. cc, why)), (record e { killed_at = reading; seen = reading; checked = false; started = true }, refl, tt))
+
+renewal_of : (m : Margins) (reading : ℕ) (how : Option RunEnd) (now : Known) (checked : Bool) → GoesOn m reading how now →
+    IsRenewedBeside m reading how now Started (begun_by checked)
+renewal_of m reading how now true h = h
+renewal_of m reading how now false h = h
+
+quiet_of : (m : Margins) (reading : ℕ) (how : Option RunEnd) (was : Service) (now : Known) (checked : Bool) → GoesOn m reading how now →
+    (IsRenewable m reading now → ⊥) → IsQuietLet m reading how was now false Started (begun_by checked)
+quiet_of m reading how was now true h none = (h, none)
+quiet_of m reading how was now false h none = (h, none)
 
 up_goes : (m : Margins) (reading : ℕ) (how : Option RunEnd) (s : State) (e : Extra) → GoesAt m reading how s e Up
 up_goes m reading how s e =
     let h : State = with_stage s Up in
     let now : Known = known_as h e in
-    cond_both (s.asked || (has_failed how || not (is_held m reading h))) (ends_service m reading h) (no_deed Up) (λ (step : Step). Goes m reading how Started now h step)
-    (λ test. cond_both (leaves_more m.kill reading s.until) (runs h Stop (Stopping s.until)) (runs h Kill (Killing None)) (λ (step : Step). Goes m reading how Started now h step)
+    cond_both (s.asked || (has_failed how || not (is_kept m reading h))) (ends_service m reading h) (goes_on m reading h) (λ (step : Step). Goes m reading how Started now step)
+    (λ test. cond_both (leaves_more m.kill reading s.armed) (runs h Stop (Stopping s.armed)) (runs h Kill (Killing None)) (λ (step : Step). Goes m reading how Started now step)
     (λ time. (
-      (refl, refl, refl, (up_due m reading how s e test, less (reading + m.kill) s.until time)),
+      (refl, refl, refl, (λ over. cc, stop_of m reading how now e.checked (up_due m reading how h e test, less (reading + m.kill) s.armed time))),
       (record e { seen = reading; started = true }, refl, λ started. refl),
     ))
-    (λ time. (
-      (refl, refl, refl, (λ over. cc, (up_due m reading how s e test, not_less (reading + m.kill) s.until time))),
-      (record e { killed_at = reading; seen = reading; started = true }, refl, tt),
-    )))
-    (λ test. let is = not_due s.asked (has_failed how) (is_held m reading h) test in (
-      record { not_asked = is.0; not_failed = not_failed how is.1; held = held m reading now is.2 },
-      (record e { seen = reading }, refl, tt),
-    ))
+    (λ time. up_killed m reading how s e e.checked (up_due m reading how h e test, not_less (reading + m.kill) s.armed time)))
+    (λ test. let is = not_due s.asked (has_failed how) (is_kept m reading h) test in
+    let goes : GoesOn m reading how now = record { not_asked = is.0; not_failed = not_failed how is.1; kept = kept m reading h e is.2 } in
+    on_goes m reading how Started h e tt refl (renewal_of m reading how now e.checked goes) (quiet_of m reading how Started now e.checked goes))
+
+-- what started it, or whether it runs, was done
+up_done : (m : Margins) (reading : ℕ) (s : State) (e : Extra) (checked : Bool) →
+    Goes m reading (Some Done) Started (told_done (known_as (with_stage s Up) (with_checked e checked)) reading Started (begun_by checked))
+    (step_at m reading (Some Done) (with_stage s Up) Up)
+up_done m reading s e true = up_goes m reading (Some Done) s (with_checked e true)
+up_done m reading s e false = up_goes m reading (Some Done) s (with_checked e false)
 
 begun_not_over : (started : Bool) → begun started ≢ Over
 begun_not_over true = λ h. cc
 begun_not_over false = λ h. cc
 
+-- ---- while it stops
+
 -- a kill of a service whose stop is awaited
 stop_killed : (m : Margins) (reading : ℕ) (how : Option RunEnd) (s : State) (e : Extra) (by : ℕ) →
-    ((how ≡ Some Failed) ⊎ ((begun e.started ≡ Unknown) ⊎ (s.until ≤ reading + m.kill))) →
-    Goes m reading how (begun e.started) (known_as (with_stage s (Stopping by)) e) (with_stage s (Stopping by)) (runs (with_stage s (Stopping by)) Kill (Killing None))
+    ((how ≡ Some Failed) ⊎ ((begun e.started ≡ Unknown) ⊎ (s.armed ≤ reading + m.kill))) →
+    Goes m reading how (begun e.started) (known_as (with_stage s (Stopping by)) e) (runs (with_stage s (Stopping by)) Kill (Killing None))
 stop_killed m reading how s e by why =
     ((refl, refl, refl, (begun_not_over e.started, why)), (record e { killed_at = reading; seen = reading }, refl, tt))
 
 -- a service whose stop is awaited, and there is time
-stop_awaited : (m : Margins) (reading : ℕ) (s : State) (e : Extra) (by : ℕ) (started : Bool) → (started ≡ true → by ≡ s.until) → reading + m.kill < by →
-    Goes m reading None (begun started) (known_as (with_stage s (Stopping by)) (with_started e started)) (with_stage s (Stopping by)) (no_deed (Stopping by))
+stop_awaited : (m : Margins) (reading : ℕ) (s : State) (e : Extra) (by : ℕ) (started : Bool) → (started ≡ true → by ≡ s.armed) → reading + m.kill < by →
+    Goes m reading None (begun started) (known_as (with_stage s (Stopping by)) (with_started e started)) (goes_on m reading (with_stage s (Stopping by)))
 stop_awaited m reading s e by true sound time =
-    (λ is. subst (λ (n : ℕ). reading + m.kill < n) (sound refl) time, (record e { seen = reading; started = true }, refl, sound))
-stop_awaited m reading s e by false sound time = (λ is. absurd cc, (record e { seen = reading; started = false }, refl, sound))
+    let left : reading + m.kill < s.armed = subst (λ (n : ℕ). reading + m.kill < n) (sound refl) time in
+    on_goes m reading None Started (with_stage s (Stopping by)) (with_started e true) sound refl (λ is. left) (λ none. (λ is. left, none))
+stop_awaited m reading s e by false sound time =
+    on_goes m reading None Unknown (with_stage s (Stopping by)) (with_started e false) sound refl (λ is. absurd cc) (λ none. (λ is. absurd cc, none))
 
-stop_late : (m : Margins) (reading : ℕ) (until by : ℕ) (started : Bool) → (started ≡ true → by ≡ until) → by ≤ reading + m.kill →
-    (begun started ≡ Unknown) ⊎ (until ≤ reading + m.kill)
-stop_late m reading until by true sound late = inr (subst (λ (n : ℕ). n ≤ reading + m.kill) (sound refl) late)
-stop_late m reading until by false sound late = inl refl
+stop_late : (m : Margins) (reading : ℕ) (armed by : ℕ) (started : Bool) → (started ≡ true → by ≡ armed) → by ≤ reading + m.kill →
+    (begun started ≡ Unknown) ⊎ (armed ≤ reading + m.kill)
+stop_late m reading armed by true sound late = inr (subst (λ (n : ℕ). n ≤ reading + m.kill) (sound refl) late)
+stop_late m reading armed by false sound late = inl refl
 
-stopping_goes : (m : Margins) (reading : ℕ) (s : State) (e : Extra) (by : ℕ) → (e.started ≡ true → by ≡ s.until) → GoesAt m reading None s e (Stopping by)
+stopping_goes : (m : Margins) (reading : ℕ) (s : State) (e : Extra) (by : ℕ) → (e.started ≡ true → by ≡ s.armed) → GoesAt m reading None s e (Stopping by)
 stopping_goes m reading s e by sound =
     let h : State = with_stage s (Stopping by) in
-    cond_both (leaves_more m.kill reading by) (no_deed (Stopping by)) (runs h Kill (Killing None)) (λ (step : Step). Goes m reading None (begun e.started) (known_as h e) h step)
+    cond_both (leaves_more m.kill reading by) (goes_on m reading h) (runs h Kill (Killing None)) (λ (step : Step). Goes m reading None (begun e.started) (known_as h e) step)
     (λ time. stop_awaited m reading s e by e.started sound (less (reading + m.kill) by time))
-    (λ time. stop_killed m reading None s e by (inr (stop_late m reading s.until by e.started sound (not_less (reading + m.kill) by time))))
+    (λ time. stop_killed m reading None s e by (inr (stop_late m reading s.armed by e.started sound (not_less (reading + m.kill) by time))))
 
 -- a stop or a kill is done
 over_goes : (m : Margins) (reading : ℕ) (s : State) (e : Extra) (by : ℕ) (started : Bool) →
     Goes m reading (Some Done) (begun started) (told_done (known_as (with_stage s (Stopping by)) (with_started e started)) reading (begun started) (Some Stop))
-    (with_stage s (Stopping by)) (no_deed (Down reading))
+    (rests reading (with_stage s (Stopping by)))
 over_goes m reading s e by true = (λ over. absurd cc, (record e { killed = false; seen = reading }, refl, tt))
 over_goes m reading s e by false = (λ over. absurd cc, (record e { killed = false; seen = reading }, refl, tt))
 
 killed_goes : (m : Margins) (reading : ℕ) (s : State) (e : Extra) (failed : Option ℕ) (started : Bool) →
     Goes m reading (Some Done) (begun started) (told_done (known_as (with_stage s (Killing failed)) (with_started e started)) reading (begun started) (Some Kill))
-    (with_stage s (Killing failed)) (no_deed (Down reading))
+    (rests reading (with_stage s (Killing failed)))
 killed_goes m reading s e failed true = (λ over. absurd cc, (record e { killed = true; seen = reading }, refl, tt))
 killed_goes m reading s e failed false = (λ over. absurd cc, (record e { killed = true; seen = reading }, refl, tt))
 
 -- it is being killed, and nothing is done
 kill_awaited : (m : Margins) (reading : ℕ) (how : Option RunEnd) (s : State) (e : Extra) (failed next : Option ℕ) (started : Bool) →
-    Goes m reading how (begun started) (known_as (with_stage s (Killing failed)) (with_started e started)) (with_stage s (Killing failed)) (no_deed (Killing next))
+    Goes m reading how (begun started) (known_as (with_stage s (Killing failed)) (with_started e started)) (no_deed (with_stage s (Killing failed)) (Killing next))
 kill_awaited m reading how s e failed next true = (tt, (record e { seen = reading; started = true }, refl, tt))
 kill_awaited m reading how s e failed next false = (tt, (record e { seen = reading; started = false }, refl, tt))
 
 kill_again : (m : Margins) (reading : ℕ) (s : State) (e : Extra) (failed : Option ℕ) →
-    Goes m reading None (begun e.started) (known_as (with_stage s (Killing failed)) e) (with_stage s (Killing failed)) (runs (with_stage s (Killing failed)) Kill (Killing None))
+    Goes m reading None (begun e.started) (known_as (with_stage s (Killing failed)) e) (runs (with_stage s (Killing failed)) Kill (Killing None))
 kill_again m reading s e failed = ((refl, refl, refl, (begun_not_over e.started, tt)), (record e { seen = reading }, refl, tt))
 
 killing_goes : (m : Margins) (reading : ℕ) (s : State) (e : Extra) (failed : Option ℕ) → GoesAt m reading None s e (Killing failed)
 killing_goes m reading s e None = kill_awaited m reading None s e None None e.started
 killing_goes m reading s e (Some since) =
     let h : State = with_stage s (Killing (Some since)) in
-    cond_both (is_rested m since reading) (runs h Kill (Killing None)) (no_deed (Killing (Some since))) (λ (step : Step). Goes m reading None (begun e.started) (known_as h e) h step)
+    cond_both (is_rested m since reading) (runs h Kill (Killing None)) (no_deed h (Killing (Some since))) (λ (step : Step). Goes m reading None (begun e.started) (known_as h e) step)
     (λ test. kill_again m reading s e (Some since))
     (λ test. kill_awaited m reading None s e (Some since) (Some since) e.started)
 
@@ -304,7 +419,7 @@ ended_goes m reading how s e = (tt, (record e { seen = reading }, refl, tt))
 -- ---- what came
 
 -- no end of the last run came
-none_goes : (m : Margins) (reading : ℕ) (s : State) (e : Extra) (stage : Stage) → IsSoundAt stage s.until e.started → GoesAt m reading None s e stage
+none_goes : (m : Margins) (reading : ℕ) (s : State) (e : Extra) (stage : Stage) → IsSoundAt stage s.armed e.started → GoesAt m reading None s e stage
 none_goes m reading s e Opening sound = opening_goes m reading None s e
 none_goes m reading s e (Down since) sound = down_goes m reading None s e since
 none_goes m reading s e Up sound = up_goes m reading None s e
@@ -322,54 +437,69 @@ failed_goes m reading s e Ended = ended_goes m reading (Some Failed) s e
 
 done_goes : (m : Margins) (reading : ℕ) (s : State) (e : Extra) (stage : Stage) →
     Goes m reading (Some Done) (service_of stage e.started)
-    (told_done (known_as (with_stage s stage) e) reading (service_of stage e.started) (last_of stage e.killed))
-    (with_stage s stage) (step_at m reading (Some Done) (with_stage s stage) stage)
+    (told_done (known_as (with_stage s stage) e) reading (service_of stage e.started) (last_of stage e.killed e.checked))
+    (step_at m reading (Some Done) (with_stage s stage) stage)
 done_goes m reading s e Opening = opening_goes m reading (Some Done) s e
 done_goes m reading s e (Down since) = down_goes m reading (Some Done) s e since
-done_goes m reading s e Up = up_goes m reading (Some Done) s e
+done_goes m reading s e Up = up_done m reading s e e.checked
 done_goes m reading s e (Stopping by) = over_goes m reading s e by e.started
 done_goes m reading s e (Killing failed) = killed_goes m reading s e failed e.started
 done_goes m reading s e Ended = ended_goes m reading (Some Done) s e
 
-abbrev shown : State → ℕ → State
-shown s until = record s { here = true; until = until }
+-- a run ended with 0, which may be the last but for renewals
+run_goes : (m : Margins) (reading : ℕ) (s : State) (e : Extra) (stage : Stage) → IsSoundAt stage s.armed e.started → (test : Bool) →
+    Goes m reading (cond test (Some Done) None) (service_of stage e.started)
+    (cond test (told_done (known_as (with_stage s stage) e) reading (service_of stage e.started) (last_of stage e.killed e.checked)) (known_as (with_stage s stage) e))
+    (step_at m reading (cond test (Some Done) None) (with_stage s stage) stage)
+run_goes m reading s e stage sound true = done_goes m reading s e stage
+run_goes m reading s e stage sound false = none_goes m reading s e stage sound
+
+abbrev until_armed : State → ℕ → State
+until_armed s end = record s { armed = end; renewal = None }
 
 abbrev later : Extra → ℕ → Extra
-later e until = record e { latest = max e.latest until }
+later e end = record e { latest = max e.latest end }
 
--- a list shows this site
-here_goes : (m : Margins) (reading : ℕ) (s : State) (e : Extra) (until : ℕ) (stage : Stage) →
-    Goes m reading None (service_of stage e.started) (told (known_as (with_stage s stage) e) reading (news.List (Here until)))
-    (hears (with_stage s stage) (news.List (Here until)))
-    (step_at m reading None (hears (with_stage s stage) (news.List (Here until))) (hears (with_stage s stage) (news.List (Here until))).stage)
-here_goes m reading s e until Opening = opening_goes m reading None (shown s until) (later e until)
-here_goes m reading s e until (Down since) = down_goes m reading None (shown s until) (later e until) since
-here_goes m reading s e until Up = up_goes m reading None (shown s until) (later e until)
-here_goes m reading s e until (Stopping by) = stopping_goes m reading (shown s until) (later e until) until (λ started. refl)
-here_goes m reading s e until (Killing failed) = killing_goes m reading (shown s until) (later e until) failed
-here_goes m reading s e until Ended = ended_goes m reading None (shown s until) (later e until)
+-- the same run was a renewal's
+armed_goes : (m : Margins) (reading : ℕ) (s : State) (e : Extra) (end run : ℕ) (stage : Stage) →
+    Goes m reading (cond (run == s.run) (Some Done) None) (service_of stage e.started)
+    (told_ended (record (known_as (with_stage s stage) e) { armed = end; latest = max e.latest end; renewal = None }) reading run)
+    (step_at m reading (cond (run == s.run) (Some Done) None) (arms (with_stage s stage) end) (arms (with_stage s stage) end).stage)
+armed_goes m reading s e end run Opening = run_goes m reading (until_armed s end) (later e end) Opening tt (run == s.run)
+armed_goes m reading s e end run (Down since) = run_goes m reading (until_armed s end) (later e end) (Down since) tt (run == s.run)
+armed_goes m reading s e end run Up = run_goes m reading (until_armed s end) (later e end) Up tt (run == s.run)
+armed_goes m reading s e end run (Stopping by) = run_goes m reading (until_armed s end) (later e end) (Stopping end) (λ started. refl) (run == s.run)
+armed_goes m reading s e end run (Killing failed) = run_goes m reading (until_armed s end) (later e end) (Killing failed) tt (run == s.run)
+armed_goes m reading s e end run Ended = run_goes m reading (until_armed s end) (later e end) Ended tt (run == s.run)
+
+renewal_goes : (m : Margins) (reading : ℕ) (s : State) (e : Extra) → IsSound s e → (run : ℕ) (r : Option Renewal) →
+    Goes m reading (cond (run == s.run) (Some Done) None) (service_of s.stage e.started)
+    (told_ended (told_armed (known_as s e) run r) reading run)
+    (step_at m reading (cond (run == s.run) (Some Done) None) (renewed s run r) (renewed s run r).stage)
+renewal_goes m reading s e sound run None = run_goes m reading s e s.stage sound (run == s.run)
+renewal_goes m reading s e sound run (Some r) = by_test (run == r.run)
+  where
+    by_test : (test : Bool) → Goes m reading (cond (run == s.run) (Some Done) None) (service_of s.stage e.started)
+        (told_ended (cond test (record (known_as s e) { armed = r.end; latest = max e.latest r.end; renewal = None }) (known_as s e)) reading run)
+        (step_at m reading (cond (run == s.run) (Some Done) None) (cond test (arms s r.end) s) (cond test (arms s r.end) s).stage)
+    by_test true = armed_goes m reading s e r.end run s.stage
+    by_test false = run_goes m reading s e s.stage sound (run == s.run)
 
 -- what follows a moment
 moment_goes : (m : Margins) (reading : ℕ) (s : State) (e : Extra) → IsSound s e → (heard : News) →
-    Goes m reading (end_of s.run heard) (service_of s.stage e.started) (told (known_as s e) reading heard) (hears s heard)
+    Goes m reading (end_of s.run heard) (service_of s.stage e.started) (told (known_as s e) reading heard)
     (step_at m reading (end_of s.run heard) (hears s heard) (hears s heard).stage)
 moment_goes m reading s e sound news.Nothing = none_goes m reading s e s.stage sound
 moment_goes m reading s e sound news.Stop = none_goes m reading (record s { asked = true }) e s.stage sound
 moment_goes m reading s e sound (news.List Elsewhere) = none_goes m reading (record s { here = false }) e s.stage sound
-moment_goes m reading s e sound (news.List (Here until)) = here_goes m reading s e until s.stage
+moment_goes m reading s e sound (news.List (Here until)) = none_goes m reading (record s { here = true; until = until }) e s.stage sound
 moment_goes m reading s e sound (news.End run Failed) = by_test (run == s.run)
   where
-    by_test : (test : Bool) → Goes m reading (cond test (Some Failed) None) (service_of s.stage e.started) (known_as s e) s
+    by_test : (test : Bool) → Goes m reading (cond test (Some Failed) None) (service_of s.stage e.started) (known_as s e)
         (step_at m reading (cond test (Some Failed) None) s s.stage)
     by_test true = failed_goes m reading s e s.stage
     by_test false = none_goes m reading s e s.stage sound
-moment_goes m reading s e sound (news.End run Done) = by_test (run == s.run)
-  where
-    by_test : (test : Bool) → Goes m reading (cond test (Some Done) None) (service_of s.stage e.started)
-        (cond test (told_done (known_as s e) reading (service_of s.stage e.started) (last_of s.stage e.killed)) (known_as s e)) s
-        (step_at m reading (cond test (Some Done) None) s s.stage)
-    by_test true = done_goes m reading s e s.stage
-    by_test false = none_goes m reading s e s.stage sound
+moment_goes m reading s e sound (news.End run Done) = renewal_goes m reading s e sound run s.renewal
 
 -- ---- all rows
 
@@ -393,13 +523,16 @@ unfolding rows_from
 rows_moments m s [] = refl
 rows_moments m s (p ∷ ps) = ap (λ (qs : List Moment). p ∷ qs) (rows_moments m (state_after m s p) ps)
 
-first_extra : Extra
-first_extra = record { latest = 0; over_at = 0; killed_at = 0; seen = 0; killed = false; started = false }
+abbrev first_extra : ℕ → Extra
+first_extra latest = record { latest = latest; over_at = 0; killed_at = 0; seen = 0; killed = false; checked = false; started = false }
+
+rows_first : (m : Margins) (left : Option ℕ) (ps : List Moment) → AllRows (IsRowLet m) (known_first left) (rows_from m (opening left) ps)
+rows_first m None ps = rows_let m (opening None) (first_extra 0) tt ps
+rows_first m (Some end) ps = rows_let m (opening (Some end)) (first_extra end) tt ps
 
 pub deeds_let : DeedsAreLet
-unfolding first_extra
 deeds_let = record {
-  rows = λ m ps. rows_let m opening first_extra tt ps;
-  deeds = λ m ps. rows_deeds m opening ps;
-  moments = λ m ps. rows_moments m opening ps;
+  rows = rows_first;
+  deeds = λ m left ps. rows_deeds m (opening left) ps;
+  moments = λ m left ps. rows_moments m (opening left) ps;
 }

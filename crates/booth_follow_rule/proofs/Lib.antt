@@ -1,4 +1,6 @@
 pub mod KnownLemmas
 pub mod TimeLemmas
 pub mod HeardLemmas
+pub mod RowLemmas
+pub mod EndLemmas
 pub mod PlainLemmas

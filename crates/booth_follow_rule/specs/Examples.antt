@@ -1,5 +1,5 @@
 -- Stories that were worked out by hand: what comes before each reading, and what is done.
-use Rattle.std.specs.Prelude.{◌≡◌, ℕ, List, [], ◌∷◌, map}
+use Rattle.std.specs.Prelude.{◌≡◌, ℕ, List, [], ◌∷◌, map, Option, Some, None}
 use Rattle.booth_follow_rule.specs.declared.margins.Margins.{Margins}
 use Rattle.booth_follow_rule.specs.declared.news.News.{News}
 use Rattle.booth_follow_rule.specs.declared.news.News.TheVariants as n
@@ -7,7 +7,7 @@ use Rattle.booth_follow_rule.specs.declared.news.RunEnd.TheVariants.{Done, Faile
 use Rattle.booth_follow_rule.specs.declared.news.Shown.TheVariants.{Here, Elsewhere}
 use Rattle.booth_follow_rule.specs.declared.state.FollowDeed.{FollowDeed}
 use Rattle.booth_follow_rule.specs.declared.state.FollowDeed.TheVariants as deeds
-use Rattle.booth_follow_rule.specs.declared.state.Word.TheVariants.{Start, Stop, Kill}
+use Rattle.booth_follow_rule.specs.declared.state.Word.TheVariants.{Check, Renew, Start, Stop, Kill}
 use Rattle.booth_follow_rule.specs.Known.{Row}
 use Rattle.booth_follow_rule.specs.Rule.{follow_deeds}
 
@@ -18,38 +18,43 @@ times = record { margin = 20000; kill = 5000; pause = 5000 }
 abbrev pub row : ℕ → News → FollowDeed → Row
 row reading heard deed = record { at = record { reading = reading; heard = heard }; deed = deed }
 
--- the deeds of a story are those of the rule
-abbrev pub IsFollowed : List Row → Type 0
-IsFollowed rows = follow_deeds times (map (λ r. r.at) rows) ≡ map (λ r. r.deed) rows
+-- the deeds of a story are those of the rule, for a follower to which an earlier one left such an end
+abbrev pub IsFollowed : Option ℕ → List Row → Type 0
+IsFollowed left rows = follow_deeds times left (map (λ r. r.at) rows) ≡ map (λ r. r.deed) rows
 
--- A service through a whole life of a ticket: what an earlier follower left is stopped, it is started, its lease
--- renewed and then not, it is killed; and started again, until another site is shown, and the end is asked for.
+-- A service through a whole life of a ticket: what an earlier follower left is stopped; an end is armed, and it is
+-- started; its lease is renewed and then not, and it is killed; it is started again, until another site is shown, and
+-- the end is asked for.
 abbrev pub a_whole_life : List Row
 a_whole_life =
     row 1000 n.Nothing (deeds.Run Stop 1 0)
     ∷ row 1100 (n.End 1 Done) deeds.Nothing
     ∷ row 2000 (n.List (Here 60000)) deeds.Nothing
     ∷ row 6099 n.Nothing deeds.Nothing
-    ∷ row 6100 n.Nothing (deeds.Run Start 2 60000)
-    ∷ row 6200 (n.End 2 Done) deeds.Nothing
-    ∷ row 31000 (n.List (Here 90000)) deeds.Nothing
+    ∷ row 6100 n.Nothing (deeds.Run Renew 2 60000)
+    ∷ row 6200 (n.End 2 Done) (deeds.Run Start 3 60000)
+    ∷ row 6300 (n.End 3 Done) deeds.Nothing
+    ∷ row 31000 (n.List (Here 90000)) (deeds.Run Renew 4 90000)
+    ∷ row 31100 (n.End 4 Done) deeds.Nothing
     ∷ row 69999 n.Nothing deeds.Nothing
-    ∷ row 70000 n.Nothing (deeds.Run Stop 3 90000)
+    ∷ row 70000 n.Nothing (deeds.Run Stop 5 90000)
     ∷ row 84999 n.Nothing deeds.Nothing
-    ∷ row 85000 n.Nothing (deeds.Run Kill 4 90000)
-    ∷ row 85100 (n.End 3 Failed) deeds.Nothing
-    ∷ row 85200 (n.End 4 Done) deeds.Nothing
+    ∷ row 85000 n.Nothing (deeds.Run Kill 6 90000)
+    ∷ row 85100 (n.End 5 Failed) deeds.Nothing
+    ∷ row 85200 (n.End 6 Done) deeds.Nothing
     ∷ row 86000 (n.List Elsewhere) deeds.Nothing
     ∷ row 95000 n.Nothing deeds.Nothing
-    ∷ row 96000 (n.List (Here 200000)) (deeds.Run Start 5 200000)
-    ∷ row 97000 (n.List Elsewhere) (deeds.Run Stop 6 200000)
-    ∷ row 98000 (n.End 6 Done) deeds.Nothing
+    ∷ row 96000 (n.List (Here 200000)) (deeds.Run Renew 7 200000)
+    ∷ row 96100 (n.End 7 Done) (deeds.Run Start 8 200000)
+    ∷ row 97000 (n.List Elsewhere) (deeds.Run Stop 9 200000)
+    ∷ row 98000 (n.End 9 Done) deeds.Nothing
     ∷ row 99000 n.Stop deeds.Leave
     ∷ row 99100 (n.List (Here 300000)) deeds.Nothing
     ∷ []
 
--- What fails: a stop that fails is followed by a kill, and a kill that fails by another after a pause; a start that
--- fails is cleared up and made again; where readings stood still for too long there is no time to stop.
+-- What fails: a stop that fails is followed by a kill, and a kill that fails by another after a pause; a renewal that
+-- fails is made again after a pause; a start that fails is cleared up, and made again behind a renewal; where readings
+-- stood still for too long there is no time to stop.
 abbrev pub what_fails : List Row
 what_fails =
     row 1000 n.Nothing (deeds.Run Stop 1 0)
@@ -58,19 +63,25 @@ what_fails =
     ∷ row 6199 n.Nothing deeds.Nothing
     ∷ row 6200 n.Nothing (deeds.Run Kill 3 0)
     ∷ row 6300 (n.End 3 Done) deeds.Nothing
-    ∷ row 12000 (n.List (Here 60000)) (deeds.Run Start 4 60000)
-    ∷ row 12100 (n.End 4 Failed) (deeds.Run Stop 5 60000)
-    ∷ row 12200 (n.End 5 Done) deeds.Nothing
-    ∷ row 17199 n.Nothing deeds.Nothing
-    ∷ row 17200 n.Nothing (deeds.Run Start 6 60000)
-    ∷ row 56000 n.Nothing (deeds.Run Kill 7 60000)
+    ∷ row 12000 (n.List (Here 60000)) (deeds.Run Renew 4 60000)
+    ∷ row 12100 (n.End 4 Failed) deeds.Nothing
+    ∷ row 16999 n.Nothing deeds.Nothing
+    ∷ row 17000 n.Nothing (deeds.Run Renew 5 60000)
+    ∷ row 17100 (n.End 5 Done) (deeds.Run Start 6 60000)
+    ∷ row 17200 (n.End 6 Failed) (deeds.Run Stop 7 60000)
+    ∷ row 17300 (n.End 7 Done) deeds.Nothing
+    ∷ row 18000 (n.List (Here 60000)) deeds.Nothing
+    ∷ row 22299 n.Nothing deeds.Nothing
+    ∷ row 22300 n.Nothing (deeds.Run Renew 8 60000)
+    ∷ row 22400 (n.End 8 Done) (deeds.Run Start 9 60000)
+    ∷ row 56000 n.Nothing (deeds.Run Kill 10 60000)
     ∷ row 56100 n.Stop deeds.Nothing
-    ∷ row 56200 (n.End 7 Done) deeds.Nothing
+    ∷ row 56200 (n.End 10 Done) deeds.Nothing
     ∷ row 56300 n.Nothing deeds.Leave
     ∷ []
 
--- No start: a stop that does not end is followed by a kill; a lease that has no more than the margin left starts
--- nothing; nor does an end of a run that is none of the last.
+-- No start: a stop that does not end is followed by a kill; a lease, or an armed end, that has no more than the margin
+-- left starts nothing; nor does an end of a run that is none of the last.
 abbrev pub no_start : List Row
 no_start =
     row 1000 n.Nothing (deeds.Run Stop 1 0)
@@ -81,7 +92,31 @@ no_start =
     ∷ row 18000 (n.End 2 Done) deeds.Nothing
     ∷ row 23000 (n.List (Here 43000)) deeds.Nothing
     ∷ row 23001 (n.List (Here 43001)) deeds.Nothing
-    ∷ row 23001 (n.List (Here 43002)) (deeds.Run Start 3 43002)
+    ∷ row 23001 (n.List (Here 43002)) (deeds.Run Renew 3 43002)
+    ∷ row 23002 (n.End 3 Done) deeds.Nothing
+    ∷ row 24000 (n.List (Here 50000)) (deeds.Run Renew 4 50000)
+    ∷ row 24100 (n.End 4 Done) (deeds.Run Start 5 50000)
+    ∷ []
+
+-- A renewal that fails leaves the end before in force: the service is stopped in time for that; one that is done while
+-- it stops gives the stop more time.
+abbrev pub a_renewal_fails : List Row
+a_renewal_fails =
+    row 1000 n.Nothing (deeds.Run Stop 1 0)
+    ∷ row 1100 (n.End 1 Done) deeds.Nothing
+    ∷ row 7000 (n.List (Here 60000)) (deeds.Run Renew 2 60000)
+    ∷ row 7100 (n.End 2 Done) (deeds.Run Start 3 60000)
+    ∷ row 30000 (n.List (Here 90000)) (deeds.Run Renew 4 90000)
+    ∷ row 30100 (n.End 4 Failed) deeds.Nothing
+    ∷ row 34999 n.Nothing deeds.Nothing
+    ∷ row 35000 n.Nothing (deeds.Run Renew 5 90000)
+    ∷ row 35100 (n.List (Here 91000)) deeds.Nothing
+    ∷ row 39999 n.Nothing deeds.Nothing
+    ∷ row 40000 n.Nothing (deeds.Run Stop 6 60000)
+    ∷ row 41000 n.Nothing (deeds.Run Renew 7 91000)
+    ∷ row 41100 (n.End 7 Done) deeds.Nothing
+    ∷ row 55000 n.Nothing deeds.Nothing
+    ∷ row 56000 (n.End 6 Done) deeds.Nothing
     ∷ []
 
 -- A stop has longer where the lease is renewed meanwhile, as when the end was asked for.
@@ -89,18 +124,85 @@ abbrev pub a_stop_has_longer : List Row
 a_stop_has_longer =
     row 1000 n.Nothing (deeds.Run Stop 1 0)
     ∷ row 1100 (n.End 1 Done) deeds.Nothing
-    ∷ row 7000 (n.List (Here 60000)) (deeds.Run Start 2 60000)
-    ∷ row 8000 n.Stop (deeds.Run Stop 3 60000)
-    ∷ row 50000 (n.List (Here 90000)) deeds.Nothing
+    ∷ row 7000 (n.List (Here 60000)) (deeds.Run Renew 2 60000)
+    ∷ row 7100 (n.End 2 Done) (deeds.Run Start 3 60000)
+    ∷ row 8000 n.Stop (deeds.Run Stop 4 60000)
+    ∷ row 50000 (n.List (Here 90000)) (deeds.Run Renew 5 90000)
+    ∷ row 50100 (n.End 5 Done) deeds.Nothing
     ∷ row 84999 n.Nothing deeds.Nothing
-    ∷ row 85000 n.Nothing (deeds.Run Kill 4 90000)
-    ∷ row 85001 (n.End 4 Done) deeds.Nothing
+    ∷ row 85000 n.Nothing (deeds.Run Kill 6 90000)
+    ∷ row 85001 (n.End 6 Done) deeds.Nothing
     ∷ row 85002 n.Nothing deeds.Leave
+    ∷ []
+
+-- A service that an earlier follower left with an end is taken over, if it runs: it goes on beyond that end where a
+-- list tells a later one.
+abbrev pub taken_over : List Row
+taken_over =
+    row 1000 n.Nothing (deeds.Run Check 1 60000)
+    ∷ row 1100 (n.End 1 Done) deeds.Nothing
+    ∷ row 2000 (n.List (Here 60000)) deeds.Nothing
+    ∷ row 31000 (n.List (Here 90000)) (deeds.Run Renew 2 90000)
+    ∷ row 31100 (n.End 2 Done) deeds.Nothing
+    ∷ row 69999 n.Nothing deeds.Nothing
+    ∷ row 70000 n.Nothing (deeds.Run Stop 3 90000)
+    ∷ []
+
+-- If it does not run, it is stopped, and started where a list then shows this site.
+abbrev pub not_running : List Row
+not_running =
+    row 1000 n.Nothing (deeds.Run Check 1 60000)
+    ∷ row 1100 (n.End 1 Failed) (deeds.Run Stop 2 60000)
+    ∷ row 1200 (n.End 2 Done) deeds.Nothing
+    ∷ row 7000 n.Nothing deeds.Nothing
+    ∷ row 8000 (n.List (Here 60000)) (deeds.Run Renew 3 60000)
+    ∷ row 8100 (n.End 3 Done) (deeds.Run Start 4 60000)
+    ∷ []
+
+-- Without an answer the service that was taken over is stopped the margin before the end that was left.
+abbrev pub nobody_answers : List Row
+nobody_answers =
+    row 1000 n.Nothing (deeds.Run Check 1 60000)
+    ∷ row 1100 (n.End 1 Done) deeds.Nothing
+    ∷ row 39999 n.Nothing deeds.Nothing
+    ∷ row 40000 n.Nothing (deeds.Run Stop 2 60000)
+    ∷ row 54999 n.Nothing deeds.Nothing
+    ∷ row 55000 n.Nothing (deeds.Run Kill 3 60000)
+    ∷ []
+
+-- Where a list shows another site, it is stopped, whether or not the check is done.
+abbrev pub shown_elsewhere : List Row
+shown_elsewhere =
+    row 1000 n.Nothing (deeds.Run Check 1 60000)
+    ∷ row 1050 (n.List Elsewhere) (deeds.Run Stop 2 60000)
+    ∷ row 1100 (n.End 2 Done) deeds.Nothing
+    ∷ []
+
+-- A follower that begins within the margin of that end stops the service.
+abbrev pub begun_late : List Row
+begun_late =
+    row 40000 n.Nothing (deeds.Run Stop 1 60000)
+    ∷ row 55000 n.Nothing (deeds.Run Kill 2 60000)
+    ∷ []
+
+-- One that begins within the time of a kill kills it.
+abbrev pub begun_too_late : List Row
+begun_too_late =
+    row 55000 n.Nothing (deeds.Run Kill 1 60000)
+    ∷ row 55100 (n.End 1 Done) deeds.Nothing
+    ∷ row 56000 n.Stop deeds.Leave
     ∷ []
 
 -- All these stories are followed.
 pub record StoriesAreFollowed : Type 0 where
-  pub a_whole_life_is : IsFollowed a_whole_life
-  pub what_fails_is : IsFollowed what_fails
-  pub no_start_is : IsFollowed no_start
-  pub a_stop_has_longer_is : IsFollowed a_stop_has_longer
+  pub a_whole_life_is : IsFollowed None a_whole_life
+  pub what_fails_is : IsFollowed None what_fails
+  pub no_start_is : IsFollowed None no_start
+  pub a_renewal_fails_is : IsFollowed None a_renewal_fails
+  pub a_stop_has_longer_is : IsFollowed None a_stop_has_longer
+  pub taken_over_is : IsFollowed (Some 60000) taken_over
+  pub not_running_is : IsFollowed (Some 60000) not_running
+  pub nobody_answers_is : IsFollowed (Some 60000) nobody_answers
+  pub shown_elsewhere_is : IsFollowed (Some 60000) shown_elsewhere
+  pub begun_late_is : IsFollowed (Some 60000) begun_late
+  pub begun_too_late_is : IsFollowed (Some 60000) begun_too_late

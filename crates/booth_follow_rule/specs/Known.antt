@@ -7,9 +7,10 @@ use Rattle.booth_follow_rule.specs.declared.news.RunEnd.TheVariants.{Done, Faile
 use Rattle.booth_follow_rule.specs.declared.news.Shown.TheVariants.{Here, Elsewhere}
 use Rattle.booth_follow_rule.specs.declared.state.FollowDeed.{FollowDeed}
 use Rattle.booth_follow_rule.specs.declared.state.FollowDeed.TheVariants as deeds
+use Rattle.booth_follow_rule.specs.declared.state.Renewal.{Renewal}
 use Rattle.booth_follow_rule.specs.declared.state.State.{State}
 use Rattle.booth_follow_rule.specs.declared.state.Word.{Word}
-use Rattle.booth_follow_rule.specs.declared.state.Word.TheVariants.{Start, Stop, Kill}
+use Rattle.booth_follow_rule.specs.declared.state.Word.TheVariants.{Check, Renew, Start, Stop, Kill}
 use Rattle.booth_follow_rule.specs.Rule.{Moment, follow_step, opening, state_after}
 
 -- a moment, and the deed that followed it
@@ -17,22 +18,26 @@ pub record Row : Type 0 where
   pub at : Moment
   pub deed : FollowDeed
 
--- The service was started, and no stop or kill was done since; or one was, and no start was made since.
+-- The service was started or taken over, and no stop or kill was done since; or one was, and no start was made since.
 pub data Service : Type 0 where
   Unknown : Service
   Started : Service
   Over : Service
 
--- What the last list shows, with the end that the last list of this site told and the latest end that one told;
--- whether the end was asked for; what the program was run for last, and that run's number; the service, and the
--- reading at which it was over; the reading of the first of the kills that were made last; the last reading; whether
--- the follower left.
+-- What the last list since the service was over shows, with the end that the last list of this site told; the armed
+-- end, which the last renewal that was done told, or 0 where the service was over since, and the latest of those; the
+-- last renewal that is not done; whether the end was asked for; what the program was run for last but for renewals,
+-- and that run's number; the number of the last run; the service, and the reading at which it was over; the reading
+-- of the first of the kills that were made last; the last reading; whether the follower left.
 pub record Known : Type 0 where
   pub here : Bool
   pub end : ℕ
+  pub armed : ℕ
   pub latest : ℕ
+  pub renewal : Option Renewal
   pub asked : Bool
   pub last : Option Word
+  pub run : ℕ
   pub number : ℕ
   pub service : Service
   pub over_at : ℕ
@@ -40,13 +45,17 @@ pub record Known : Type 0 where
   pub seen : ℕ
   pub left : Bool
 
+-- What is known at first. An end that an earlier follower left counts as told and armed.
 abbrev pub nothing_known : Known
 nothing_known = record {
   here = false;
   end = 0;
+  armed = 0;
   latest = 0;
+  renewal = None;
   asked = false;
   last = None;
+  run = 0;
   number = 0;
   service = Unknown;
   over_at = 0;
@@ -55,19 +64,37 @@ nothing_known = record {
   left = false;
 }
 
+abbrev pub known_first : Option ℕ → Known
+known_first None = nothing_known
+known_first (Some end) = record nothing_known { here = true; end = end; armed = end; latest = end }
+
 -- ---- what news tell
+
+-- a renewal is done: its end is armed
+abbrev pub told_armed : Known → ℕ → Option Renewal → Known
+told_armed k run (Some r) =
+    if run == r.run then record k { armed = r.end; latest = max k.latest r.end; renewal = None } else k
+told_armed k run None = k
+
+-- the service is over
+abbrev pub told_over : Known → ℕ → Known
+told_over k reading = record k { here = false; armed = 0; renewal = None; service = Over; over_at = reading }
 
 -- the last run was done: where it was a stop or a kill, the service is over
 abbrev pub told_done : Known → ℕ → Service → Option Word → Known
 told_done k reading Over last = k
-told_done k reading service (Some Stop) = record k { service = Over; over_at = reading }
-told_done k reading service (Some Kill) = record k { service = Over; over_at = reading }
+told_done k reading service (Some Stop) = told_over k reading
+told_done k reading service (Some Kill) = told_over k reading
 told_done k reading service last = k
 
+-- a run was done, once its renewal is known
+abbrev pub told_ended : Known → ℕ → ℕ → Known
+told_ended k reading run = if run == k.run then told_done k reading k.service k.last else k
+
 abbrev pub told : Known → ℕ → News → Known
-told k reading (news.List (Here until)) = record k { here = true; end = until; latest = max k.latest until }
+told k reading (news.List (Here until)) = record k { here = true; end = until }
 told k reading (news.List Elsewhere) = record k { here = false }
-told k reading (news.End run Done) = if run == k.number then told_done k reading k.service k.last else k
+told k reading (news.End run Done) = told_ended (told_armed k run k.renewal) reading run
 told k reading (news.End run Failed) = k
 told k reading news.Stop = record k { asked = true }
 told k reading news.Nothing = k
@@ -80,11 +107,24 @@ killed_from (Some Kill) before reading = before
 killed_from last before reading = reading
 
 abbrev pub done_at : Known → ℕ → FollowDeed → Known
+done_at k reading (deeds.Run Check number until) =
+    record k { last = Some Check; run = number; number = number; service = Started; seen = reading }
+done_at k reading (deeds.Run Renew number until) = record k {
+  renewal = Some (record { run = number; end = until; since = reading });
+  number = number;
+  seen = reading;
+}
 done_at k reading (deeds.Run Start number until) =
-    record k { last = Some Start; number = number; service = Started; seen = reading }
-done_at k reading (deeds.Run Stop number until) = record k { last = Some Stop; number = number; seen = reading }
-done_at k reading (deeds.Run Kill number until) =
-    record k { last = Some Kill; number = number; killed_at = killed_from k.last k.killed_at reading; seen = reading }
+    record k { last = Some Start; run = number; number = number; service = Started; seen = reading }
+done_at k reading (deeds.Run Stop number until) =
+    record k { last = Some Stop; run = number; number = number; seen = reading }
+done_at k reading (deeds.Run Kill number until) = record k {
+  last = Some Kill;
+  run = number;
+  number = number;
+  killed_at = killed_from k.last k.killed_at reading;
+  seen = reading;
+}
 done_at k reading deeds.Leave = record k { left = true; seen = reading }
 done_at k reading deeds.Nothing = record k { seen = reading }
 
@@ -107,6 +147,6 @@ unfoldable pub rows_from : Margins → State → List Moment → List Row
 rows_from m s [] = []
 rows_from m s (p ∷ ps) = record { at = p; deed = (follow_step m s p).deed } ∷ rows_from m (state_after m s p) ps
 
--- all rows of a follower
-abbrev pub rows_of : Margins → List Moment → List Row
-rows_of m moments = rows_from m opening moments
+-- all rows of a follower to which an earlier one left such an end
+abbrev pub rows_of : Margins → Option ℕ → List Moment → List Row
+rows_of m left moments = rows_from m (opening left) moments

@@ -4,14 +4,15 @@ use Rattle.booth_follow_rule.specs.declared.margins.Margins.{Margins}
 use Rattle.booth_follow_rule.specs.declared.news.News.{News}
 use Rattle.booth_follow_rule.specs.declared.news.News.TheVariants as news
 use Rattle.booth_follow_rule.specs.declared.news.RunEnd.{RunEnd}
-use Rattle.booth_follow_rule.specs.declared.news.RunEnd.TheVariants.{Failed}
+use Rattle.booth_follow_rule.specs.declared.news.RunEnd.TheVariants.{Done, Failed}
 use Rattle.booth_follow_rule.specs.declared.news.Shown.{Shown}
 use Rattle.booth_follow_rule.specs.declared.news.Shown.TheVariants.{Here}
 use Rattle.booth_follow_rule.specs.declared.state.FollowDeed.{FollowDeed}
 use Rattle.booth_follow_rule.specs.declared.state.FollowDeed.TheVariants as deeds
+use Rattle.booth_follow_rule.specs.declared.state.Renewal.{Renewal}
 use Rattle.booth_follow_rule.specs.declared.state.Word.{Word}
-use Rattle.booth_follow_rule.specs.declared.state.Word.TheVariants.{Start, Stop, Kill}
-use Rattle.booth_follow_rule.specs.Known.{AllRows, Known, Row, Service, Unknown, Started, Over, known_after, known_at, nothing_known, rows_of}
+use Rattle.booth_follow_rule.specs.declared.state.Word.TheVariants.{Check, Renew, Start, Stop, Kill}
+use Rattle.booth_follow_rule.specs.Known.{AllRows, Known, Row, Service, Unknown, Started, Over, known_after, known_at, known_first, rows_of}
 use Rattle.booth_follow_rule.specs.Rule.{Moment, end_of, follow_deeds, next_number}
 
 -- ---- which deeds are let
@@ -21,73 +22,129 @@ pub record IsHeld (m : Margins) (reading : ℕ) (now : Known) : Type 0 where
   pub here : now.here ≡ true
   pub in_time : reading + m.margin < now.end
 
--- why a service that was started is ended: the end was asked for, its run told that it is none, or the ticket is not
--- held
-abbrev pub IsDue : Margins → ℕ → Option RunEnd → Known → Type 0
-IsDue m reading how now = (now.asked ≡ true) ⊎ ((how ≡ Some Failed) ⊎ (IsHeld m reading now → ⊥))
-
--- A start: the service was over before, for a pause, and the ticket is held.
-pub record IsStartLet (m : Margins) (reading : ℕ) (was : Service) (now : Known) : Type 0 where
-  pub over : was ≡ Over
-  pub rested : now.over_at + m.pause ≤ reading
-  pub not_asked : now.asked ≡ false
+-- and so the armed end is more than the margin away
+pub record IsKept (m : Margins) (reading : ℕ) (now : Known) : Type 0 where
   pub held : IsHeld m reading now
+  pub armed : reading + m.margin < now.armed
 
--- A stop: the first deed of all, or of a service that was started, where there is time before the kill.
-abbrev pub IsStopLet : Margins → ℕ → Option RunEnd → Known → Option Word → Type 0
-IsStopLet m reading how now None = Unit {0}
-IsStopLet m reading how now (Some Start) = IsDue m reading how now × (reading + m.kill < now.end)
-IsStopLet m reading how now last = ⊥
+-- why a service is ended: the end was asked for, its run told that there is none, or it is not kept
+abbrev pub IsDue : Margins → ℕ → Option RunEnd → Known → Type 0
+IsDue m reading how now = (now.asked ≡ true) ⊎ ((how ≡ Some Failed) ⊎ (IsKept m reading now → ⊥))
 
--- A kill: there is no time to stop; or the stop failed, or its time is over; or a kill is made once more. What an
--- earlier follower may have left has no end that was told.
-abbrev pub IsKillLet : Margins → ℕ → Option RunEnd → Known → Option Word → Type 0
-IsKillLet m reading how now (Some Start) = IsDue m reading how now × (now.end ≤ reading + m.kill)
-IsKillLet m reading how now (Some Stop) =
-    (how ≡ Some Failed) ⊎ ((now.service ≡ Unknown) ⊎ (now.end ≤ reading + m.kill))
-IsKillLet m reading how now (Some Kill) = Unit {0}
-IsKillLet m reading how now None = ⊥
-
-abbrev pub IsRunLet : Margins → ℕ → Option RunEnd → Service → Known → Word → Type 0
-IsRunLet m reading how was now Start = IsStartLet m reading was now
-IsRunLet m reading how was now Stop = IsStopLet m reading how now now.last
-IsRunLet m reading how was now Kill = (now.service ≢ Over) × IsKillLet m reading how now now.last
-
--- a service that was started may go on
+-- a service that was started, or taken over, may go on
 pub record GoesOn (m : Margins) (reading : ℕ) (how : Option RunEnd) (now : Known) : Type 0 where
   pub not_asked : now.asked ≡ false
   pub not_failed : how ≢ Some Failed
+  pub kept : IsKept m reading now
+
+-- no renewal is under way, or it was run a pause ago
+abbrev pub IsRenewalRested : Margins → ℕ → Option Renewal → Type 0
+IsRenewalRested m reading None = Unit {0}
+IsRenewalRested m reading (Some r) = r.since + m.pause ≤ reading
+
+-- the last list shows this site until an end behind the armed one, which may be renewed
+pub record IsRenewable (m : Margins) (reading : ℕ) (now : Known) : Type 0 where
+  pub here : now.here ≡ true
+  pub later : now.armed < now.end
+  pub rested : IsRenewalRested m reading now.renewal
+
+-- a service that is over is to start: the end was not asked for, it was over for a pause, and the ticket is held
+pub record IsAwaited (m : Margins) (reading : ℕ) (now : Known) : Type 0 where
+  pub not_asked : now.asked ≡ false
+  pub rested : now.over_at + m.pause ≤ reading
   pub held : IsHeld m reading now
 
--- No deed: the follower left; or the service is over, and no start is let nor the end asked for, or it is over at this
--- very reading; or it goes on; or there is time left for its stop; or it is being killed.
+-- A check: the first deed of all, where the end that was left is more than the margin away.
+pub record IsCheckLet (m : Margins) (reading : ℕ) (now : Known) : Type 0 where
+  pub first : now.last ≡ None
+  pub not_asked : now.asked ≡ false
+  pub kept : IsKept m reading now
+
+-- A start: the service was over before and is to start, and an end is armed that is more than the margin away.
+pub record IsStartLet (m : Margins) (reading : ℕ) (was : Service) (now : Known) : Type 0 where
+  pub over : was ≡ Over
+  pub awaited : IsAwaited m reading now
+  pub armed : reading + m.margin < now.armed
+
+-- What a renewal is run beside: a service that goes on; or one that is stopped, in time; or one that is to start, for
+-- which no end is armed.
+abbrev pub IsRenewedBeside : Margins → ℕ → Option RunEnd → Known → Service → Option Word → Type 0
+IsRenewedBeside m reading how now Over last = IsAwaited m reading now × (now.armed ≤ reading + m.margin)
+IsRenewedBeside m reading how now service (Some Check) = GoesOn m reading how now
+IsRenewedBeside m reading how now service (Some Start) = GoesOn m reading how now
+IsRenewedBeside m reading how now service (Some Stop) = service ≡ Started → reading + m.kill < now.armed
+IsRenewedBeside m reading how now service last = ⊥
+
+-- A stop: the first deed of all, where no end was left; or of a service, where there is time before the kill.
+abbrev pub IsStopLet : Margins → ℕ → Option RunEnd → Known → Option Word → Type 0
+IsStopLet m reading how now None = (now.armed ≡ 0) ⊎ (IsDue m reading how now × (reading + m.kill < now.armed))
+IsStopLet m reading how now (Some Check) = IsDue m reading how now × (reading + m.kill < now.armed)
+IsStopLet m reading how now (Some Start) = IsDue m reading how now × (reading + m.kill < now.armed)
+IsStopLet m reading how now last = ⊥
+
+-- A kill: there is no time to stop; or the stop failed, or its time is over; or a kill is made once more. What an
+-- earlier follower left without an end has no time that was told.
+abbrev pub IsKillLet : Margins → ℕ → Option RunEnd → Known → Option Word → Type 0
+IsKillLet m reading how now None = (now.armed ≢ 0) × (IsDue m reading how now × (now.armed ≤ reading + m.kill))
+IsKillLet m reading how now (Some Check) = IsDue m reading how now × (now.armed ≤ reading + m.kill)
+IsKillLet m reading how now (Some Start) = IsDue m reading how now × (now.armed ≤ reading + m.kill)
+IsKillLet m reading how now (Some Stop) =
+    (how ≡ Some Failed) ⊎ ((now.service ≡ Unknown) ⊎ (now.armed ≤ reading + m.kill))
+IsKillLet m reading how now (Some Kill) = Unit {0}
+IsKillLet m reading how now (Some Renew) = ⊥
+
+-- The end that a run is told: a renewal that of the last list of this site, and another run the armed one.
+abbrev pub end_for : Known → Word → ℕ
+end_for now Renew = now.end
+end_for now word = now.armed
+
+abbrev pub IsRunLet : Margins → ℕ → Option RunEnd → Service → Known → Word → Type 0
+IsRunLet m reading how was now Check = IsCheckLet m reading now
+IsRunLet m reading how was now Renew =
+    IsRenewable m reading now × IsRenewedBeside m reading how now now.service now.last
+IsRunLet m reading how was now Start = IsStartLet m reading was now
+IsRunLet m reading how was now Stop = (now.service ≢ Over) × IsStopLet m reading how now now.last
+IsRunLet m reading how was now Kill = (now.service ≢ Over) × IsKillLet m reading how now now.last
+
+-- No deed: the follower left; or the service is over, and neither the end was asked for nor is a start or a renewal
+-- for it let, or it is over at this very reading; or it goes on, or there is time left for its stop, and no renewal is
+-- let; or it is being killed.
 abbrev pub IsQuietLet : Margins → ℕ → Option RunEnd → Service → Known → Bool → Service → Option Word → Type 0
 IsQuietLet m reading how was now true service last = Unit {0}
 IsQuietLet m reading how was now false Over last =
-    was ≡ Over → (now.asked ≡ false) × (now.over_at + m.pause ≤ reading → IsHeld m reading now → ⊥)
+    was ≡ Over → (now.asked ≡ false) × (IsAwaited m reading now →
+    (now.armed ≤ reading + m.margin) × (IsRenewable m reading now → ⊥))
 IsQuietLet m reading how was now false service None = ⊥
-IsQuietLet m reading how was now false service (Some Start) = GoesOn m reading how now
-IsQuietLet m reading how was now false service (Some Stop) = service ≡ Started → reading + m.kill < now.end
+IsQuietLet m reading how was now false service (Some Check) =
+    GoesOn m reading how now × (IsRenewable m reading now → ⊥)
+IsQuietLet m reading how was now false service (Some Start) =
+    GoesOn m reading how now × (IsRenewable m reading now → ⊥)
+IsQuietLet m reading how was now false service (Some Stop) =
+    (service ≡ Started → reading + m.kill < now.armed) × (IsRenewable m reading now → ⊥)
 IsQuietLet m reading how was now false service (Some Kill) = Unit {0}
+IsQuietLet m reading how was now false service (Some Renew) = ⊥
 
 -- Which deeds are let at a reading: by how the last run ended, if that came, the service before, and what is known now.
 abbrev pub IsLet : Margins → ℕ → Option RunEnd → Service → Known → FollowDeed → Type 0
 IsLet m reading how was now (deeds.Run word number until) =
-    (now.left ≡ false) × (number ≡ next_number now.number) × (until ≡ now.end) × IsRunLet m reading how was now word
+    (now.left ≡ false) × (number ≡ next_number now.number) × (until ≡ end_for now word)
+    × IsRunLet m reading how was now word
 IsLet m reading how was now deeds.Leave = (now.left ≡ false) × (was ≡ Over) × (now.asked ≡ true)
 IsLet m reading how was now deeds.Nothing = IsQuietLet m reading how was now now.left now.service now.last
 
 abbrev pub IsRowLet : Margins → Known → Row → Type 0
-IsRowLet m k row =
-    IsLet m row.at.reading (end_of k.number row.at.heard) k.service (known_at k row) row.deed
+IsRowLet m k row = IsLet m row.at.reading (end_of k.run row.at.heard) k.service (known_at k row) row.deed
 
 -- Each deed of a follower is let by what is known, and where one is due it is not left out. So a start is made only
--- where the last list shows this site, for longer than the margin, and a stop or a kill was done and no start made
--- since.
+-- where the last list since the service was over shows this site, for longer than the margin, where a renewal since
+-- then armed such an end, and where a stop or a kill was done and no start made since.
 pub record DeedsAreLet : Type 0 where
-  pub rows : (m : Margins) (moments : List Moment) → AllRows (IsRowLet m) nothing_known (rows_of m moments)
-  pub deeds : (m : Margins) (moments : List Moment) → map (λ row. row.deed) (rows_of m moments) ≡ follow_deeds m moments
-  pub moments : (m : Margins) (moments : List Moment) → map (λ row. row.at) (rows_of m moments) ≡ moments
+  pub rows : (m : Margins) (left : Option ℕ) (moments : List Moment) →
+      AllRows (IsRowLet m) (known_first left) (rows_of m left moments)
+  pub deeds : (m : Margins) (left : Option ℕ) (moments : List Moment) →
+      map (λ row. row.deed) (rows_of m left moments) ≡ follow_deeds m left moments
+  pub moments : (m : Margins) (left : Option ℕ) (moments : List Moment) →
+      map (λ row. row.at) (rows_of m left moments) ≡ moments
 
 -- ---- in time
 
@@ -98,16 +155,17 @@ pub record IsPrompt (gap quick : ℕ) (k : Known) (row : Row) : Type 0 where
   pub killed : (known_after k row).service ≡ Started → (known_after k row).last ≡ Some Kill →
       row.at.reading ≤ (known_after k row).killed_at + quick
 
--- While the service is started, and up to the next reading, the clock is below the latest end that a list told.
+-- While the service is started, and up to the next reading, the clock is below the latest end that was armed.
 abbrev pub IsCovered : ℕ → Known → Row → Type 0
 IsCovered gap k row = (known_after k row).service ≡ Started → row.at.reading + gap < (known_after k row).latest
 
--- Between a start and the end of its stop or kill the clock is below an end that a list told, as far as the outside is
--- prompt: a kill begins at the first reading past its time, and is done before that end.
+-- Between a start, or its check where it was taken over, and the end of its stop or kill the clock is below an armed
+-- end, as far as the outside is prompt: a kill begins at the first reading past its time, and is done before that end.
 abbrev pub ServesInTime : Type 0
-ServesInTime = (m : Margins) (moments : List Moment) (gap quick : ℕ) →
-    2 * gap + quick ≤ m.kill → m.kill ≤ m.margin → AllRows (IsPrompt gap quick) nothing_known (rows_of m moments) →
-    AllRows (IsCovered gap) nothing_known (rows_of m moments)
+ServesInTime = (m : Margins) (left : Option ℕ) (moments : List Moment) (gap quick : ℕ) →
+    2 * gap + quick ≤ m.kill → m.kill ≤ m.margin →
+    AllRows (IsPrompt gap quick) (known_first left) (rows_of m left moments) →
+    AllRows (IsCovered gap) (known_first left) (rows_of m left moments)
 
 -- ---- what is known is what was heard
 
@@ -130,26 +188,59 @@ abbrev pub HasTold : ℕ → List Row → Type 0
 HasTold until [] = ⊥
 HasTold until (row ∷ rows) = (row.at.heard ≡ news.List (Here until)) ⊎ HasTold until rows
 
--- This site is known as the holder where the last list shows it, until that end; and the latest end, where there is
--- one, is one that a list told.
-pub record KnowsWhatIsHeard : Type 0 where
-  pub last : (rows : List Row) → (known_from nothing_known rows).here ≡ true →
-      last_shown None rows ≡ Some (Here (known_from nothing_known rows).end)
-  pub latest : (rows : List Row) → (known_from nothing_known rows).latest ≢ 0 →
-      HasTold (known_from nothing_known rows).latest rows
+-- the run of this number ended with 0 in one of the rows
+abbrev pub HasDone : ℕ → List Row → Type 0
+HasDone number [] = ⊥
+HasDone number (row ∷ rows) = (row.at.heard ≡ news.End number Done) ⊎ HasDone number rows
+
+-- a renewal for this end was run in one of the rows, and ended with 0 in a later one
+abbrev pub HasArmed : ℕ → List Row → Type 0
+HasArmed end [] = ⊥
+HasArmed end (row ∷ rows) =
+    ((number : ℕ) × (row.deed ≡ deeds.Run Renew number end) × HasDone number rows) ⊎ HasArmed end rows
+
+-- what counts as shown before any list: the end that an earlier follower left
+abbrev pub shown_first : Option ℕ → Option Shown
+shown_first None = None
+shown_first (Some end) = Some (Here end)
+
+-- This site is known as the holder where the last list shows it, until that end.
+abbrev pub KnowsWhatIsHeard : Type 0
+KnowsWhatIsHeard = (left : Option ℕ) (rows : List Row) → (known_from (known_first left) rows).here ≡ true →
+    last_shown (shown_first left) rows ≡ Some (Here (known_from (known_first left) rows).end)
 
 -- ---- in plain words
 
--- At each start the last list shows this site, until an end to which more than the margin is left.
-abbrev pub StartsAreHeld : Type 0
-StartsAreHeld = (m : Margins) (moments : List Moment) (before after : List Row) (row : Row) (number until : ℕ) →
-    rows_of m moments ≡ before ++ row ∷ after → row.deed ≡ deeds.Run Start number until →
-    (last_shown None (before ++ row ∷ []) ≡ Some (Here until)) × (row.at.reading + m.margin < until)
+-- At each start the last list shows this site, until an end to which more than the margin is left; and the end that
+-- the program is told is one for which a renewal ended with 0 before, and more than the margin is left to it too.
+pub record IsStartHeld (m : Margins) (before : List Row) (row : Row) (until : ℕ) : Type 0 where
+  pub end : ℕ
+  pub shown : last_shown None (before ++ row ∷ []) ≡ Some (Here end)
+  pub held : row.at.reading + m.margin < end
+  pub armed : HasArmed until (before ++ row ∷ [])
+  pub in_time : row.at.reading + m.margin < until
 
--- At each moment at which the service is started, and a gap longer, the clock is below an end that a list told.
+abbrev pub StartsAreHeld : Type 0
+StartsAreHeld = (m : Margins) (left : Option ℕ) (moments : List Moment) (before after : List Row) (row : Row)
+    (number until : ℕ) → rows_of m left moments ≡ before ++ row ∷ after → row.deed ≡ deeds.Run Start number until →
+    IsStartHeld m before row until
+
+-- At each renewal the last list shows this site, until the end that the program is told.
+abbrev pub RenewalsAreTold : Type 0
+RenewalsAreTold = (m : Margins) (left : Option ℕ) (moments : List Moment) (before after : List Row) (row : Row)
+    (number until : ℕ) → rows_of m left moments ≡ before ++ row ∷ after → row.deed ≡ deeds.Run Renew number until →
+    last_shown None (before ++ row ∷ []) ≡ Some (Here until)
+
+-- an end that a list told and a renewal armed, or that an earlier follower left
+abbrev pub IsEnd : Option ℕ → List Row → ℕ → Type 0
+IsEnd left rows end = (left ≡ Some end) ⊎ (HasTold end rows × HasArmed end rows)
+
+-- At each moment at which the service is started or taken over, and a gap longer, the clock is below an end that a list
+-- told and a renewal armed, or that an earlier follower left.
 abbrev pub ServesBelowAnEnd : Type 0
-ServesBelowAnEnd = (m : Margins) (moments : List Moment) (gap quick : ℕ) →
-    2 * gap + quick ≤ m.kill → m.kill ≤ m.margin → AllRows (IsPrompt gap quick) nothing_known (rows_of m moments) →
-    (before after : List Row) (row : Row) → rows_of m moments ≡ before ++ row ∷ after →
-    (known_from nothing_known (before ++ row ∷ [])).service ≡ Started →
-    (until : ℕ) × HasTold until (before ++ row ∷ []) × (row.at.reading + gap < until)
+ServesBelowAnEnd = (m : Margins) (left : Option ℕ) (moments : List Moment) (gap quick : ℕ) →
+    2 * gap + quick ≤ m.kill → m.kill ≤ m.margin →
+    AllRows (IsPrompt gap quick) (known_first left) (rows_of m left moments) → (before after : List Row) (row : Row) →
+    rows_of m left moments ≡ before ++ row ∷ after →
+    (known_from (known_first left) (before ++ row ∷ [])).service ≡ Started →
+    (until : ℕ) × IsEnd left (before ++ row ∷ []) until × (row.at.reading + gap < until)

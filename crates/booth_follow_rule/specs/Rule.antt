@@ -8,11 +8,12 @@ use Rattle.booth_follow_rule.specs.declared.news.RunEnd.TheVariants.{Done, Faile
 use Rattle.booth_follow_rule.specs.declared.news.Shown.TheVariants.{Here, Elsewhere}
 use Rattle.booth_follow_rule.specs.declared.state.FollowDeed.{FollowDeed}
 use Rattle.booth_follow_rule.specs.declared.state.FollowDeed.TheVariants as deeds
+use Rattle.booth_follow_rule.specs.declared.state.Renewal.{Renewal}
 use Rattle.booth_follow_rule.specs.declared.state.Stage.{Stage}
 use Rattle.booth_follow_rule.specs.declared.state.Stage.TheVariants.{Opening, Down, Up, Stopping, Killing, Ended}
 use Rattle.booth_follow_rule.specs.declared.state.State.{State}
 use Rattle.booth_follow_rule.specs.declared.state.Word.{Word}
-use Rattle.booth_follow_rule.specs.declared.state.Word.TheVariants.{Start, Stop, Kill}
+use Rattle.booth_follow_rule.specs.declared.state.Word.TheVariants.{Check, Renew, Start, Stop, Kill}
 use Rattle.booth_follow_rule.specs.declared.steps.Step.{Step}
 
 -- a reading, and what came before it
@@ -22,18 +23,27 @@ pub record Moment : Type 0 where
 
 -- ---- what is heard
 
--- a list that shows this site moves the end by which a service is to have stopped
+-- an end that is armed moves the one by which a service is to have stopped
 abbrev pub moved : Stage → ℕ → Stage
-moved (Stopping by) until = Stopping until
-moved stage until = stage
+moved (Stopping by) end = Stopping end
+moved stage end = stage
+
+-- from now on the service may run until this end
+abbrev pub arms : State → ℕ → State
+arms s end = record s { armed = end; renewal = None; stage = moved s.stage end }
+
+-- the run of this number ended with 0: if it was the renewal's, its end is armed
+abbrev pub renewed : State → ℕ → Option Renewal → State
+renewed s run (Some r) = if run == r.run then arms s r.end else s
+renewed s run None = s
 
 abbrev pub hears : State → News → State
-hears s (news.List (Here until)) =
-    record { here = true; until = until; asked = s.asked; run = s.run; stage = moved s.stage until }
-hears s (news.List Elsewhere) = record { here = false; until = s.until; asked = s.asked; run = s.run; stage = s.stage }
-hears s news.Stop = record { here = s.here; until = s.until; asked = true; run = s.run; stage = s.stage }
+hears s (news.List (Here until)) = record s { here = true; until = until }
+hears s (news.List Elsewhere) = record s { here = false }
+hears s news.Stop = record s { asked = true }
 hears s news.Nothing = s
-hears s (news.End run how) = s
+hears s (news.End run Done) = renewed s run s.renewal
+hears s (news.End run Failed) = s
 
 -- how the run of this number ended, where that came
 abbrev pub end_of : ℕ → News → Option RunEnd
@@ -42,16 +52,39 @@ end_of number heard = None
 
 -- ---- what is done
 
-abbrev pub no_deed : Stage → Step
-no_deed stage = record { deed = deeds.Nothing; stage = stage }
+abbrev pub no_deed : State → Stage → Step
+no_deed s stage = record { deed = deeds.Nothing; state = record s { stage = stage } }
+
+abbrev pub leaves : State → Step
+leaves s = record { deed = deeds.Leave; state = record s { stage = Ended } }
 
 -- the number after this one, which is 0 after the last
 abbrev pub next_number : ℕ → ℕ
 next_number number = (number + 1) % 2 ^ 64
 
--- the program is run for this
+-- the program is run for this, with the armed end
 abbrev pub runs : State → Word → Stage → Step
-runs s word stage = record { deed = deeds.Run word (next_number s.run) s.until; stage = stage }
+runs s word stage = record {
+  deed = deeds.Run word (next_number s.number) s.armed;
+  state = record s { number = next_number s.number; run = next_number s.number; stage = stage };
+}
+
+-- it is run for a renewal, with the end that was told last
+abbrev pub renews : ℕ → State → Step
+renews reading s = record {
+  deed = deeds.Run Renew (next_number s.number) s.until;
+  state = record s {
+    number = next_number s.number;
+    renewal = Some (record { run = next_number s.number; end = s.until; since = reading });
+  };
+}
+
+-- The service is stopped since this reading. What was heard before lets no start, and no end is armed.
+abbrev pub rests : ℕ → State → Step
+rests reading s = record {
+  deed = deeds.Nothing;
+  state = record s { here = false; armed = 0; renewal = None; stage = Down reading };
+}
 
 -- more than this time is left at a reading until an end
 abbrev pub leaves_more : ℕ → ℕ → ℕ → Bool
@@ -61,87 +94,126 @@ leaves_more time reading end = nat_lt (reading + time) end
 abbrev pub after : ℕ → ℕ → ℕ
 after reading time = min (reading + time) (2 ^ 64 - 1)
 
--- The service is to have stopped by an end, less the time of a kill. Where that time has come, it is killed.
+-- The service is to have stopped by the armed end, less the time of a kill. If that time has come, it is killed.
 abbrev pub ends_service : Margins → ℕ → State → Step
 ends_service m reading s =
-    if leaves_more m.kill reading s.until then runs s Stop (Stopping s.until) else runs s Kill (Killing None)
+    if leaves_more m.kill reading s.armed then runs s Stop (Stopping s.armed) else runs s Kill (Killing None)
 
 -- this site holds the ticket for longer than the margin
 abbrev pub is_held : Margins → ℕ → State → Bool
 is_held m reading s = s.here && leaves_more m.margin reading s.until
 
--- a service that is stopped since a reading was left so for a pause
+-- and the service may run for longer than the margin
+abbrev pub is_kept : Margins → ℕ → State → Bool
+is_kept m reading s = is_held m reading s && leaves_more m.margin reading s.armed
+
+-- a pause is over since a reading
 abbrev pub is_rested : Margins → ℕ → ℕ → Bool
 is_rested m since reading = nat_le (since + m.pause) reading
 
+-- a renewal may be run: none is under way, or it was run a pause ago
+abbrev pub may_renew : Margins → ℕ → Option Renewal → Bool
+may_renew m reading None = true
+may_renew m reading (Some r) = is_rested m r.since reading
+
+-- a list of this site told a later end than the armed one
+abbrev pub is_renewable : Margins → ℕ → State → Bool
+is_renewable m reading s = s.here && (nat_lt s.armed s.until && may_renew m reading s.renewal)
+
+-- where no other deed is due, a renewal is
+abbrev pub goes_on : Margins → ℕ → State → Step
+goes_on m reading s = if is_renewable m reading s then renews reading s else no_deed s s.stage
+
 -- ---- the stages
+
+-- What an earlier follower left without an end is stopped, which has as long as a stop has before an end.
+abbrev pub stops_first : Margins → ℕ → State → Step
+stops_first m reading s =
+    if s.armed == 0 then runs s Stop (Stopping (after reading m.margin)) else ends_service m reading s
+
+-- What an earlier follower left with an end goes on, if it runs.
+abbrev pub opens : Margins → ℕ → State → Step
+opens m reading s =
+    if s.asked || not (is_kept m reading s) then stops_first m reading s else runs s Check Up
+
+-- a start comes behind a renewal
+abbrev pub starts : Margins → ℕ → State → Step
+starts m reading s = if leaves_more m.margin reading s.armed then runs s Start Up else goes_on m reading s
 
 abbrev pub while_down : Margins → ℕ → ℕ → State → Step
 while_down m reading since s =
-    if s.asked then record { deed = deeds.Leave; stage = Ended }
-    else (if is_held m reading s && is_rested m since reading then runs s Start Up else no_deed (Down since))
+    if s.asked then leaves s
+    else (if is_held m reading s && is_rested m since reading then starts m reading s else no_deed s s.stage)
 
--- the run that started the service ended so that there is none
+-- the run for the service ended so that there is none
 abbrev pub has_failed : Option RunEnd → Bool
 has_failed (Some Failed) = true
 has_failed how = false
 
 abbrev pub while_up : Margins → ℕ → Option RunEnd → State → Step
 while_up m reading how s =
-    if s.asked || (has_failed how || not (is_held m reading s)) then ends_service m reading s else no_deed Up
+    if s.asked || (has_failed how || not (is_kept m reading s)) then ends_service m reading s else goes_on m reading s
 
 abbrev pub while_stopping : Margins → ℕ → Option RunEnd → ℕ → State → Step
-while_stopping m reading (Some Done) by s = no_deed (Down reading)
+while_stopping m reading (Some Done) by s = rests reading s
 while_stopping m reading (Some Failed) by s = runs s Kill (Killing None)
 while_stopping m reading None by s =
-    if leaves_more m.kill reading by then no_deed (Stopping by) else runs s Kill (Killing None)
+    if leaves_more m.kill reading by then goes_on m reading s else runs s Kill (Killing None)
 
 abbrev pub kills_on : Margins → ℕ → Option ℕ → State → Step
-kills_on m reading None s = no_deed (Killing None)
+kills_on m reading None s = no_deed s s.stage
 kills_on m reading (Some since) s =
-    if is_rested m since reading then runs s Kill (Killing None) else no_deed (Killing (Some since))
+    if is_rested m since reading then runs s Kill (Killing None) else no_deed s s.stage
 
 abbrev pub while_killing : Margins → ℕ → Option RunEnd → Option ℕ → State → Step
-while_killing m reading (Some Done) failed s = no_deed (Down reading)
-while_killing m reading (Some Failed) failed s = no_deed (Killing (Some reading))
+while_killing m reading (Some Done) failed s = rests reading s
+while_killing m reading (Some Failed) failed s = no_deed s (Killing (Some reading))
 while_killing m reading None failed s = kills_on m reading failed s
 
--- What follows a reading, by the stage, once the news before it was heard. At first the service is stopped, since an
--- earlier follower may have left it running; that has as long as a stop has before an end.
+-- What follows a reading, by the stage, once the news before it was heard.
 abbrev pub step_at : Margins → ℕ → Option RunEnd → State → Stage → Step
-step_at m reading how s Opening = runs s Stop (Stopping (after reading m.margin))
+step_at m reading how s Opening = opens m reading s
 step_at m reading how s (Down since) = while_down m reading since s
 step_at m reading how s Up = while_up m reading how s
 step_at m reading how s (Stopping by) = while_stopping m reading how by s
 step_at m reading how s (Killing failed) = while_killing m reading how failed s
-step_at m reading how s Ended = no_deed Ended
+step_at m reading how s Ended = no_deed s s.stage
 
 -- ---- one moment and all
 
 abbrev pub follow_step : Margins → State → Moment → Step
 follow_step m s p = step_at m p.reading (end_of s.run p.heard) (hears s p.heard) (hears s p.heard).stage
 
--- the number of the last run, after a deed
-abbrev pub run_after : ℕ → FollowDeed → ℕ
-run_after run (deeds.Run word number until) = number
-run_after run deed = run
-
--- where a follower stands that heard of this, and then did a step
-abbrev pub stands : State → Step → State
-stands s step =
-    record { here = s.here; until = s.until; asked = s.asked; run = run_after s.run step.deed; stage = step.stage }
-
 abbrev pub state_after : Margins → State → Moment → State
-state_after m s p = stands (hears s p.heard) (follow_step m s p)
+state_after m s p = (follow_step m s p).state
 
--- a follower that has heard nothing
-abbrev pub opening : State
-opening = record { here = false; until = 0; asked = false; run = 0; stage = Opening }
+-- A follower that has heard nothing. If an earlier one left the service running until an end, it holds to that.
+abbrev pub opening : Option ℕ → State
+opening None = record {
+  here = false;
+  until = 0;
+  armed = 0;
+  renewal = None;
+  asked = false;
+  number = 0;
+  run = 0;
+  stage = Opening;
+}
+opening (Some end) = record {
+  here = true;
+  until = end;
+  armed = end;
+  renewal = None;
+  asked = false;
+  number = 0;
+  run = 0;
+  stage = Opening;
+}
 
 -- the deeds that these moments lead to, one for each
 unfoldable pub deeds_from : Margins → State → List Moment → List FollowDeed
 deeds_from m s [] = []
 deeds_from m s (p ∷ ps) = (follow_step m s p).deed ∷ deeds_from m (state_after m s p) ps
 
-abbrev pub follow_deeds : Margins → List Moment → List FollowDeed
-follow_deeds m moments = deeds_from m opening moments
+abbrev pub follow_deeds : Margins → Option ℕ → List Moment → List FollowDeed
+follow_deeds m left moments = deeds_from m (opening left) moments

@@ -5,7 +5,7 @@ ghost use Rattle.booth_follow_rule.specs.Rule.{follow_step, opening, state_after
 use crate::margins::Margins;
 use crate::news::News;
 use crate::state::{FollowDeed, Stage, State};
-use crate::steps::{end_of, hears, run_after, step_at};
+use crate::steps::{end_of, hears, step_at};
 
 /// A follower of one ticket. No call takes memory.
 #[derive(Clone, Copy)]
@@ -15,16 +15,24 @@ pub struct Follower {
 }
 
 impl Follower {
-    /// A follower that has heard nothing.
-    pub fn new(margins: Margins) -> Follower
-        ensures { result ≡ (record { margins = margins; state = opening }) }
+    /// A follower that has heard nothing. If an earlier one left the service running until an end, in milliseconds, it
+    /// holds to that.
+    pub fn new(margins: Margins, left: Option<u64>) -> Follower
+        ensures { result ≡ (record { margins = margins; state = opening left }) }
     {
+        let (here, end) = match left {
+            Some(end) => (true, end),
+            None => (false, 0),
+        };
         Follower {
             margins,
             state: State {
-                here: false,
-                until: 0,
+                here,
+                until: end,
+                armed: end,
+                renewal: None,
                 asked: false,
+                number: 0,
                 run: 0,
                 stage: Stage::Opening,
             },
@@ -51,11 +59,7 @@ impl Follower {
         let how = end_of(self.state.run, news);
         let heard = hears(self.state, news);
         let step = step_at(&self.margins, reading, how, heard);
-        self.state = State {
-            run: run_after(heard.run, step.deed),
-            stage: step.stage,
-            ..heard
-        };
+        self.state = step.state;
         step.deed
     }
 }

@@ -12,4 +12,4 @@ mod steps;
 pub use follower::Follower;
 pub use margins::{MarginFault, Margins};
 pub use news::{News, RunEnd, Shown};
-pub use state::{FollowDeed, Stage, State, Word};
+pub use state::{FollowDeed, Renewal, Stage, State, Word};

@@ -1,28 +1,54 @@
 //! What follows a reading at each stage.
 ghost use Rattle.std.specs.Prelude.{◌≡◌, MatchBool, ◌<◌, ◌≤◌, ◌+◌};
-ghost use Rattle.booth_follow_rule.specs.Rule.{after, end_of, ends_service, has_failed, hears, is_held, is_rested, kills_on, leaves_more, moved, next_number, no_deed, run_after, runs, step_at, while_down, while_killing, while_stopping, while_up};
+ghost use Rattle.booth_follow_rule.specs.Rule.{after, arms, end_of, ends_service, goes_on, has_failed, hears, is_held, is_kept, is_renewable, is_rested, kills_on, leaves, leaves_more, may_renew, moved, next_number, no_deed, opens, renewed, renews, rests, runs, starts, step_at, stops_first, while_down, while_killing, while_stopping, while_up};
 
 use crate::margins::Margins;
 use crate::news::{News, RunEnd, Shown};
-use crate::state::{FollowDeed, Stage, State, Word};
+use crate::state::{FollowDeed, Renewal, Stage, State, Word};
 
-/// What is done, and where the follower then stands.
+/// What is done, and what the follower then knows.
 #[derive(Clone, Copy)]
 pub(crate) struct Step {
     pub deed: FollowDeed,
-    pub stage: Stage,
+    pub state: State,
 }
 
 // ---- what is heard
 
-// Where a follower stands that heard of this end.
-fn moved(stage: Stage, until: u64) -> Stage
-    ensures { result ≡ moved stage until }
+// Where a follower stands that had this end armed.
+fn moved(stage: Stage, end: u64) -> Stage
+    ensures { result ≡ moved stage end }
 {
     match stage {
-        Stage::Stopping { by: _ } => Stage::Stopping { by: until },
+        Stage::Stopping { by: _ } => Stage::Stopping { by: end },
         Stage::Opening | Stage::Down { .. } | Stage::Up | Stage::Killing { .. } | Stage::Ended =>
             stage,
+    }
+}
+
+fn arms(state: State, end: u64) -> State
+    ensures { result ≡ arms state end }
+{
+    State {
+        armed: end,
+        renewal: None,
+        stage: moved(state.stage, end),
+        ..state
+    }
+}
+
+fn renewed(state: State, run: u64) -> State
+    ensures { result ≡ renewed state run state.renewal }
+{
+    match state.renewal {
+        Some(renewal) => {
+            if run == renewal.run {
+                arms(state, renewal.end)
+            } else {
+                state
+            }
+        }
+        None => state,
     }
 }
 
@@ -33,13 +59,21 @@ fn shows(state: State, shown: Shown) -> State
         Shown::Here { until } => State {
             here: true,
             until,
-            stage: moved(state.stage, until),
             ..state
         },
         Shown::Elsewhere => State {
             here: false,
             ..state
         },
+    }
+}
+
+fn ends(state: State, run: u64, how: RunEnd) -> State
+    ensures { result ≡ hears state (News.End run how) }
+{
+    match how {
+        RunEnd::Done => renewed(state, run),
+        RunEnd::Failed => state,
     }
 }
 
@@ -53,7 +87,8 @@ pub(crate) fn hears(state: State, news: News) -> State
             asked: true,
             ..state
         },
-        News::Nothing | News::End { .. } => state,
+        News::End { run, how } => ends(state, run, how),
+        News::Nothing => state,
     }
 }
 
@@ -69,12 +104,24 @@ pub(crate) fn end_of(number: u64, news: News) -> Option<RunEnd>
 
 // ---- what is done
 
-fn no_deed(stage: Stage) -> Step
-    ensures { result ≡ no_deed stage }
+fn no_deed(state: State, stage: Stage) -> Step
+    ensures { result ≡ no_deed state stage }
 {
     Step {
         deed: FollowDeed::Nothing,
-        stage,
+        state: State { stage, ..state },
+    }
+}
+
+fn leaves(state: State) -> Step
+    ensures { result ≡ leaves state }
+{
+    Step {
+        deed: FollowDeed::Leave,
+        state: State {
+            stage: Stage::Ended,
+            ..state
+        },
     }
 }
 
@@ -90,23 +137,57 @@ fn next_number(number: u64) -> u64
 fn runs(state: State, word: Word, stage: Stage) -> Step
     ensures { result ≡ runs state word stage }
 {
+    let number = next_number(state.number);
     Step {
         deed: FollowDeed::Run {
             word,
-            number: next_number(state.run),
-            until: state.until,
+            number,
+            until: state.armed,
         },
-        stage,
+        state: State {
+            number,
+            run: number,
+            stage,
+            ..state
+        },
     }
 }
 
-/// The number of the last run, after a deed.
-pub(crate) fn run_after(run: u64, deed: FollowDeed) -> u64
-    ensures { result ≡ run_after run deed }
+fn renews(reading: u64, state: State) -> Step
+    ensures { result ≡ renews reading state }
 {
-    match deed {
-        FollowDeed::Run { number, .. } => number,
-        FollowDeed::Nothing | FollowDeed::Leave => run,
+    let number = next_number(state.number);
+    let renewal = Renewal {
+        run: number,
+        end: state.until,
+        since: reading,
+    };
+    Step {
+        deed: FollowDeed::Run {
+            word: Word::Renew,
+            number,
+            until: state.until,
+        },
+        state: State {
+            number,
+            renewal: Some(renewal),
+            ..state
+        },
+    }
+}
+
+fn rests(reading: u64, state: State) -> Step
+    ensures { result ≡ rests reading state }
+{
+    Step {
+        deed: FollowDeed::Nothing,
+        state: State {
+            here: false,
+            armed: 0,
+            renewal: None,
+            stage: Stage::Down { since: reading },
+            ..state
+        },
     }
 }
 
@@ -130,8 +211,8 @@ fn after(reading: u64, time: u64) -> u64
 fn ends_service(margins: &Margins, reading: u64, state: State) -> Step
     ensures { result ≡ ends_service margins.now reading state }
 {
-    if leaves_more(margins.kill, reading, state.until) {
-        runs(state, Word::Stop, Stage::Stopping { by: state.until })
+    if leaves_more(margins.kill, reading, state.armed) {
+        runs(state, Word::Stop, Stage::Stopping { by: state.armed })
     } else {
         runs(state, Word::Kill, Stage::Killing { failed: None })
     }
@@ -143,6 +224,12 @@ fn is_held(margins: &Margins, reading: u64, state: State) -> bool
     state.here && leaves_more(margins.margin, reading, state.until)
 }
 
+fn is_kept(margins: &Margins, reading: u64, state: State) -> bool
+    ensures { result ≡ is_kept margins.now reading state }
+{
+    is_held(margins, reading, state) && leaves_more(margins.margin, reading, state.armed)
+}
+
 fn is_rested(margins: &Margins, since: u64, reading: u64) -> bool
     ensures { result ≡ is_rested margins.now since reading }
 {
@@ -152,21 +239,74 @@ fn is_rested(margins: &Margins, since: u64, reading: u64) -> bool
     }
 }
 
+fn may_renew(margins: &Margins, reading: u64, renewal: Option<Renewal>) -> bool
+    ensures { result ≡ may_renew margins.now reading renewal }
+{
+    match renewal {
+        Some(renewal) => is_rested(margins, renewal.since, reading),
+        None => true,
+    }
+}
+
+fn is_renewable(margins: &Margins, reading: u64, state: State) -> bool
+    ensures { result ≡ is_renewable margins.now reading state }
+{
+    state.here && state.armed < state.until && may_renew(margins, reading, state.renewal)
+}
+
+fn goes_on(margins: &Margins, reading: u64, state: State) -> Step
+    ensures { result ≡ goes_on margins.now reading state }
+{
+    if is_renewable(margins, reading, state) {
+        renews(reading, state)
+    } else {
+        no_deed(state, state.stage)
+    }
+}
+
 // ---- the stages
+
+fn stops_first(margins: &Margins, reading: u64, state: State) -> Step
+    ensures { result ≡ stops_first margins.now reading state }
+{
+    if state.armed == 0 {
+        let by = after(reading, margins.margin);
+        runs(state, Word::Stop, Stage::Stopping { by })
+    } else {
+        ends_service(margins, reading, state)
+    }
+}
+
+fn opens(margins: &Margins, reading: u64, state: State) -> Step
+    ensures { result ≡ opens margins.now reading state }
+{
+    if state.asked || !is_kept(margins, reading, state) {
+        stops_first(margins, reading, state)
+    } else {
+        runs(state, Word::Check, Stage::Up)
+    }
+}
+
+fn starts(margins: &Margins, reading: u64, state: State) -> Step
+    ensures { result ≡ starts margins.now reading state }
+{
+    if leaves_more(margins.margin, reading, state.armed) {
+        runs(state, Word::Start, Stage::Up)
+    } else {
+        goes_on(margins, reading, state)
+    }
+}
 
 fn while_down(margins: &Margins, reading: u64, since: u64, state: State) -> Step
     ensures { result ≡ while_down margins.now reading since state }
 {
     if state.asked {
-        return Step {
-            deed: FollowDeed::Leave,
-            stage: Stage::Ended,
-        };
+        return leaves(state);
     }
     if is_held(margins, reading, state) && is_rested(margins, since, reading) {
-        runs(state, Word::Start, Stage::Up)
+        starts(margins, reading, state)
     } else {
-        no_deed(Stage::Down { since })
+        no_deed(state, state.stage)
     }
 }
 
@@ -183,10 +323,10 @@ fn has_failed(how: Option<RunEnd>) -> bool
 fn while_up(margins: &Margins, reading: u64, how: Option<RunEnd>, state: State) -> Step
     ensures { result ≡ while_up margins.now reading how state }
 {
-    if state.asked || has_failed(how) || !is_held(margins, reading, state) {
+    if state.asked || has_failed(how) || !is_kept(margins, reading, state) {
         ends_service(margins, reading, state)
     } else {
-        no_deed(Stage::Up)
+        goes_on(margins, reading, state)
     }
 }
 
@@ -200,11 +340,11 @@ fn while_stopping(
     ensures { result ≡ while_stopping margins.now reading how by state }
 {
     match how {
-        Some(RunEnd::Done) => no_deed(Stage::Down { since: reading }),
+        Some(RunEnd::Done) => rests(reading, state),
         Some(RunEnd::Failed) => runs(state, Word::Kill, Stage::Killing { failed: None }),
         None => {
             if leaves_more(margins.kill, reading, by) {
-                no_deed(Stage::Stopping { by })
+                goes_on(margins, reading, state)
             } else {
                 runs(state, Word::Kill, Stage::Killing { failed: None })
             }
@@ -220,10 +360,10 @@ fn kills_on(margins: &Margins, reading: u64, failed: Option<u64>, state: State) 
             if is_rested(margins, since, reading) {
                 runs(state, Word::Kill, Stage::Killing { failed: None })
             } else {
-                no_deed(Stage::Killing { failed })
+                no_deed(state, state.stage)
             }
         }
-        None => no_deed(Stage::Killing { failed }),
+        None => no_deed(state, state.stage),
     }
 }
 
@@ -237,10 +377,13 @@ fn while_killing(
     ensures { result ≡ while_killing margins.now reading how failed state }
 {
     match how {
-        Some(RunEnd::Done) => no_deed(Stage::Down { since: reading }),
-        Some(RunEnd::Failed) => no_deed(Stage::Killing {
-            failed: Some(reading),
-        }),
+        Some(RunEnd::Done) => rests(reading, state),
+        Some(RunEnd::Failed) => no_deed(
+            state,
+            Stage::Killing {
+                failed: Some(reading),
+            },
+        ),
         None => kills_on(margins, reading, failed, state),
     }
 }
@@ -250,14 +393,11 @@ pub(crate) fn step_at(margins: &Margins, reading: u64, how: Option<RunEnd>, stat
     ensures { result ≡ step_at margins.now reading how state state.stage }
 {
     match state.stage {
-        Stage::Opening => {
-            let by = after(reading, margins.margin);
-            runs(state, Word::Stop, Stage::Stopping { by })
-        }
+        Stage::Opening => opens(margins, reading, state),
         Stage::Down { since } => while_down(margins, reading, since, state),
         Stage::Up => while_up(margins, reading, how, state),
         Stage::Stopping { by } => while_stopping(margins, reading, how, by, state),
         Stage::Killing { failed } => while_killing(margins, reading, how, failed, state),
-        Stage::Ended => no_deed(Stage::Ended),
+        Stage::Ended => no_deed(state, state.stage),
     }
 }

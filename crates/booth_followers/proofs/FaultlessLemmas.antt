@@ -65,7 +65,7 @@ not_chosen config asked m faults.KillTooShort c has = unfit_not_chosen config as
 
 -- ---- the stages
 
-module _ (asked : FollowWords) (entries : List Entry) (free : IsUnhindered asked entries) where
+module _ (left : Option ℕ) (asked : FollowWords) (entries : List Entry) (free : IsUnhindered asked entries) where
   unread : (outcome : Outcome) (said : List ℕ) (part : List Entry) → AreAmong part entries → IsUnread asked.conf outcome said part
       → IsFollowedThrough outcome
   unread outs.OutOfMemory said part all u = tt
@@ -113,16 +113,16 @@ module _ (asked : FollowWords) (entries : List Entry) (free : IsUnhindered asked
   roomless outcome said part r = absurd r
 
   keyed : (config : ConfigSays) (ring : Option Ring) (margins : Margins) (outcome : Outcome) (said : List ℕ) (part : List Entry)
-      → AreAmong part entries → FollowsKey asked config ring margins outcome said part → IsFollowedThrough outcome
+      → AreAmong part entries → FollowsKey left asked config ring margins outcome said part → IsFollowedThrough outcome
   keyed config ring margins outcome said part all (Roomless r) = roomless outcome said part r
   keyed config ring margins outcome said part all (SetOut s) = go s.starts
     where
-      go : IsStarted asked.conf s.f outcome said part → IsFollowedThrough outcome
+      go : IsStarted left asked.conf s.f outcome said part → IsFollowedThrough outcome
       go (Socketless k) = socketless outcome said part all k
       go (Serving v) = ended v.serves.end outcome said v.serves.ends
 
   fitted : (text : List ℕ) (config : ConfigSays) (margins : Margins) (outcome : Outcome) (said : List ℕ) (part : List Entry) → Says text config
-      → Contains entries (ReadFile asked.conf (Ok text)) → AreAmong part entries → FollowsMargins asked config margins outcome said part
+      → Contains entries (ReadFile asked.conf (Ok text)) → AreAmong part entries → FollowsMargins left asked config margins outcome said part
       → IsFollowedThrough outcome
   fitted text config margins outcome said part says read all (Keyless k) = keyless text config outcome said part says read all k
   fitted text config margins outcome said part says read all (Keyed k) =
@@ -135,12 +135,12 @@ module _ (asked : FollowWords) (entries : List Entry) (free : IsUnhindered asked
   unfollowed text config outcome said part says read u = absurd u
 
   configured : (text : List ℕ) (config : ConfigSays) (outcome : Outcome) (said : List ℕ) (part : List Entry) → Says text config
-      → Contains entries (ReadFile asked.conf (Ok text)) → AreAmong part entries → FollowsConfig asked config outcome said part
+      → Contains entries (ReadFile asked.conf (Ok text)) → AreAmong part entries → FollowsConfig left asked config outcome said part
       → IsFollowedThrough outcome
   configured text config outcome said part says read all (Unfollowed u) = unfollowed text config outcome said part says read u
   configured text config outcome said part says read all (Fitted f) = fitted text config f.margins outcome said part says read all f.here
 
-  logged : (outcome : Outcome) (said : List ℕ) (part : List Entry) → AreAmong part entries → IsFollowLog asked outcome said part
+  logged : (outcome : Outcome) (said : List ℕ) (part : List Entry) → AreAmong part entries → IsFollowLog left asked outcome said part
       → IsFollowedThrough outcome
   logged outcome said part all (Unread u) = unread outcome said part all u
   logged outcome said part all (Read r) =
@@ -150,12 +150,12 @@ module _ (asked : FollowWords) (entries : List Entry) (free : IsUnhindered asked
       (right_among (read ∷ []) r.rest entries part r.whole all) r.here
 
 pub faultless_services : FaultlessServices
-faultless_services words outcome entries valid run free = go run.made
+faultless_services left words outcome entries valid run free = go run.made
   where
     all : AreAmong run.body entries
     all = λ x here. among x run.body run.last entries here run.whole
 
-    go : IsFollowMade words outcome run.said run.body → IsFollowedThrough outcome
+    go : IsFollowMade left words outcome run.said run.body → IsFollowedThrough outcome
     go (Unasked is) =
         subst IsFollowedThrough (sym (for_memory BoothFollow words verbs.Follow outcome run.said run.body valid is)) tt
-    go (Followed asked asks is) = logged asked entries (free asked asks) outcome run.said run.body all is
+    go (Followed asked asks is) = logged left asked entries (free asked asks) outcome run.said run.body all is

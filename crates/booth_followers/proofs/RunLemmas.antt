@@ -24,27 +24,27 @@ use Rattle.booth_cli.specs.declared.asking.Refusal.{Refusal}
 use Rattle.booth_cli.specs.declared.asking.Refusal.TheVariants.{Untaken}
 use Rattle.std.specs.Prelude.{Err}
 
-pub followed_made : {a b : Option (List Entry)} (words : List (List ℕ)) (asked : FollowWords) (outcome : Outcome) (said : List ℕ) → AsksFollow words asked →
-    GrewSome (IsFollowLog asked outcome said) a b → GrewSome (IsFollowMade words outcome said) a b
-followed_made words asked outcome said asks log =
-    some_weaker (IsFollowLog asked outcome said) (IsFollowMade words outcome said) (λ es is. Followed asked asks is) log
+pub followed_made : {a b : Option (List Entry)} (left : Option ℕ) (words : List (List ℕ)) (asked : FollowWords) (outcome : Outcome) (said : List ℕ) → AsksFollow words asked →
+    GrewSome (IsFollowLog left asked outcome said) a b → GrewSome (IsFollowMade left words outcome said) a b
+followed_made left words asked outcome said asks log =
+    some_weaker (IsFollowLog left asked outcome said) (IsFollowMade left words outcome said) (λ es is. Followed asked asks is) log
 
-pub told_made : {a b : Option (List Entry)} (words : List (List ℕ)) (kind : ErrorKind) (outcome : Outcome) (said : List ℕ) →
-    IsUntakenFor BoothFollow words kind → IsToldOutcome kind outcome → GrewSome (IsTold BoothFollow kind outcome said) a b → GrewSome (IsFollowMade words outcome said) a b
-told_made words kind outcome said un out told =
-    some_weaker (IsTold BoothFollow kind outcome said) (IsFollowMade words outcome said)
+pub told_made : {a b : Option (List Entry)} (left : Option ℕ) (words : List (List ℕ)) (kind : ErrorKind) (outcome : Outcome) (said : List ℕ) →
+    IsUntakenFor BoothFollow words kind → IsToldOutcome kind outcome → GrewSome (IsTold BoothFollow kind outcome said) a b → GrewSome (IsFollowMade left words outcome said) a b
+told_made left words kind outcome said un out told =
+    some_weaker (IsTold BoothFollow kind outcome said) (IsFollowMade left words outcome said)
     (λ es is. Unasked (unasked_of BoothFollow words kind outcome said es un out is)) told
 
 -- the same of a refusal that is such an error
-pub told_asked : {a b : Option (List Entry)} (words : List (List ℕ)) (error : Error) (refusal : Refusal) (outcome : Outcome) (said : List ℕ) →
+pub told_asked : {a b : Option (List Entry)} (left : Option ℕ) (words : List (List ℕ)) (error : Error) (refusal : Refusal) (outcome : Outcome) (said : List ℕ) →
     Asks BoothFollow words (Err refusal) → refusal ≡ Untaken error → IsToldOutcome error.kind outcome → GrewSome (IsTold BoothFollow error.kind outcome said) a b →
-    GrewSome (IsFollowMade words outcome said) a b
-told_asked words error refusal outcome said asks same out told =
-    told_made words error.kind outcome said (subst (λ (x : Refusal). Asks BoothFollow words (Err x)) same asks) out told
+    GrewSome (IsFollowMade left words outcome said) a b
+told_asked left words error refusal outcome said asks same out told =
+    told_made left words error.kind outcome said (subst (λ (x : Refusal). Asks BoothFollow words (Err x)) same asks) out told
 
-pub unasked_made : {a : Option (List Entry)} (words : List (List ℕ)) (outcome : Outcome) (said : List ℕ) → IsUnasked BoothFollow words outcome said [] →
-    GrewSome (IsFollowMade words outcome said) a a
-unasked_made words outcome said is = some_of (IsFollowMade words outcome said) no_entry (Unasked is)
+pub unasked_made : {a : Option (List Entry)} (left : Option ℕ) (words : List (List ℕ)) (outcome : Outcome) (said : List ℕ) → IsUnasked BoothFollow words outcome said [] →
+    GrewSome (IsFollowMade left words outcome said) a a
+unasked_made left words outcome said is = some_of (IsFollowMade left words outcome said) no_entry (Unasked is)
 
 pub fits_untaken : (words : List (List ℕ)) (kind : ErrorKind) (outcome : Outcome) → IsUntakenFor BoothFollow words kind → IsToldOutcome kind outcome →
     FitsFollowWords words outcome
@@ -66,8 +66,8 @@ fits_answered words asked outs.OutOfMemory asks is = taken_named BoothFollow wor
 fits_answered words asked outcome asks is = (record { asked = asked; asks = asks }, is)
 
 -- the calls up to the outcome, and then what is said
-pub follow_run_of : {a b c : Option (List Entry)} (words : List (List ℕ)) (outcome : Outcome) (said : List ℕ) →
-    GrewSome (IsFollowMade words outcome said) a b → GrewSome (IsText BoothFollow said) b c → GrewSome (IsFollowRun words outcome) a c
-follow_run_of words outcome said body last =
-    some_joined (IsFollowMade words outcome said) (IsText BoothFollow said) (IsFollowRun words outcome)
+pub follow_run_of : {a b c : Option (List Entry)} (left : Option ℕ) (words : List (List ℕ)) (outcome : Outcome) (said : List ℕ) →
+    GrewSome (IsFollowMade left words outcome said) a b → GrewSome (IsText BoothFollow said) b c → GrewSome (IsFollowRun left words outcome) a c
+follow_run_of left words outcome said body last =
+    some_joined (IsFollowMade left words outcome said) (IsText BoothFollow said) (IsFollowRun left words outcome)
     (λ xs ys made told. record { said = said; body = xs; last = ys; whole = refl; made = made; told = told }) body last

@@ -40,41 +40,41 @@ keyless_answered outcome keyless = absurd keyless
 
 -- ---- the service and the socket
 
-pub served : (f : Following) (end : FollowEnd) (outcome : Outcome) (said : List ℕ) {a b : Option (List Entry)} → EndsAs end outcome said →
-    GrewSome (IsFollowed f end) a b → GrewSome (IsService f outcome said) a b
-served f end outcome said ends followed =
-    some_weaker (IsFollowed f end) (IsService f outcome said) (λ es h. record { end = end; followed = h; ends = ends }) followed
+pub served : (left : Option ℕ) (f : Following) (end : FollowEnd) (outcome : Outcome) (said : List ℕ) {a b : Option (List Entry)} → EndsAs end outcome said →
+    GrewSome (IsFollowed f left end) a b → GrewSome (IsService left f outcome said) a b
+served left f end outcome said ends followed =
+    some_weaker (IsFollowed f left end) (IsService left f outcome said) (λ es h. record { end = end; followed = h; ends = ends }) followed
 
-pub opened : (conf : List ℕ) (f : Following) (outcome : Outcome) (said : List ℕ) {a b c : Option (List Entry)} →
-    GrewBy a b (Open None 0 [] conf (Ok tt) ∷ []) → GrewSome (IsService f outcome said) b c → GrewSome (IsStarted conf f outcome said) a c
-opened conf f outcome said socket serves =
-    then_some (IsService f outcome said) (IsStarted conf f outcome said) socket
+pub opened : (left : Option ℕ) (conf : List ℕ) (f : Following) (outcome : Outcome) (said : List ℕ) {a b c : Option (List Entry)} →
+    GrewBy a b (Open None 0 [] conf (Ok tt) ∷ []) → GrewSome (IsService left f outcome said) b c → GrewSome (IsStarted left conf f outcome said) a c
+opened left conf f outcome said socket serves =
+    then_some (IsService left f outcome said) (IsStarted left conf f outcome said) socket
     (λ ys h. Serving (record { rest = ys; whole = refl; serves = h })) serves
 
 -- ---- the memory
 
-module _ (asked : FollowWords) (config : ConfigSays) (ring : Option Ring) (margins : Margins) where
+module _ (left : Option ℕ) (asked : FollowWords) (config : ConfigSays) (ring : Option Ring) (margins : Margins) where
   pub no_room : (ended : Ended) {a : Option (List Entry)} → ended.outcome ≡ outs.OutOfMemory → ended.said ≡ out_of_memory_text →
-      GrewSome (FollowsKey asked config ring margins ended.outcome ended.said) a a
+      GrewSome (FollowsKey left asked config ring margins ended.outcome ended.said) a a
   no_room ended out is =
-      some_of (FollowsKey asked config ring margins ended.outcome ended.said) no_entry
-      (subst (λ outcome. FollowsKey asked config ring margins outcome ended.said []) (sym out) (Roomless (is, refl)))
+      some_of (FollowsKey left asked config ring margins ended.outcome ended.said) no_entry
+      (subst (λ outcome. FollowsKey left asked config ring margins outcome ended.said []) (sym out) (Roomless (is, refl)))
 
   pub set_out : (f : Following) (outcome : Outcome) (said : List ℕ) {a b : Option (List Entry)} →
       IsFollowing ring asked.ticket (daemon_of asked config) asked.program margins f →
-      GrewSome (IsStarted asked.conf f outcome said) a b → GrewSome (FollowsKey asked config ring margins outcome said) a b
+      GrewSome (IsStarted left asked.conf f outcome said) a b → GrewSome (FollowsKey left asked config ring margins outcome said) a b
   set_out f outcome said is starts =
-      some_weaker (IsStarted asked.conf f outcome said) (FollowsKey asked config ring margins outcome said)
+      some_weaker (IsStarted left asked.conf f outcome said) (FollowsKey left asked config ring margins outcome said)
       (λ es h. SetOut (record { f = f; is = is; starts = h })) starts
 
 -- ---- the key
 
-module _ (asked : FollowWords) (config : ConfigSays) (margins : Margins) where
+module _ (left : Option ℕ) (asked : FollowWords) (config : ConfigSays) (margins : Margins) where
   pub with_key : (ring : Option Ring) (outcome : Outcome) (said : List ℕ) {a b c : Option (List Entry)} →
-      GrewSome (IsRingRead config (Ok ring)) a b → GrewSome (FollowsKey asked config ring margins outcome said) b c →
-      GrewSome (FollowsMargins asked config margins outcome said) a c
+      GrewSome (IsRingRead config (Ok ring)) a b → GrewSome (FollowsKey left asked config ring margins outcome said) b c →
+      GrewSome (FollowsMargins left asked config margins outcome said) a c
   with_key ring outcome said read follows =
-      some_joined (IsRingRead config (Ok ring)) (FollowsKey asked config ring margins outcome said) (FollowsMargins asked config margins outcome said)
+      some_joined (IsRingRead config (Ok ring)) (FollowsKey left asked config ring margins outcome said) (FollowsMargins left asked config margins outcome said)
       (λ xs ys h k. Keyed (record {
         ring = ring;
         texts = h.0;
@@ -85,30 +85,30 @@ module _ (asked : FollowWords) (config : ConfigSays) (margins : Margins) where
       })) read follows
 
   pub without_key : (ended : Ended) {a b : Option (List Entry)} → GrewSome (IsRingRead config (Err ended)) a b →
-      GrewSome (FollowsMargins asked config margins ended.outcome ended.said) a b
+      GrewSome (FollowsMargins left asked config margins ended.outcome ended.said) a b
   without_key ended read =
-      some_weaker (IsRingRead config (Err ended)) (FollowsMargins asked config margins ended.outcome ended.said) (λ es h. Keyless h) read
+      some_weaker (IsRingRead config (Err ended)) (FollowsMargins left asked config margins ended.outcome ended.said) (λ es h. Keyless h) read
 
 -- ---- the margins and the configuration
 
-module _ (asked : FollowWords) (config : ConfigSays) where
+module _ (left : Option ℕ) (asked : FollowWords) (config : ConfigSays) where
   pub fitted : (margins : Margins) (outcome : Outcome) (said : List ℕ) {a b : Option (List Entry)} →
       IsChosen config asked.ticket asked.site asked.margin asked.kill margins →
-      GrewSome (FollowsMargins asked config margins outcome said) a b → GrewSome (FollowsConfig asked config outcome said) a b
+      GrewSome (FollowsMargins left asked config margins outcome said) a b → GrewSome (FollowsConfig left asked config outcome said) a b
   fitted margins outcome said chosen follows =
-      some_weaker (FollowsMargins asked config margins outcome said) (FollowsConfig asked config outcome said)
+      some_weaker (FollowsMargins left asked config margins outcome said) (FollowsConfig left asked config outcome said)
       (λ es h. Fitted (record { margins = margins; chosen = chosen; here = h })) follows
 
   pub unfollowed : (fault : FollowFault) (said : List ℕ) {a : Option (List Entry)} →
       HasFault config asked.ticket asked.site asked.margin asked.kill fault → said ≡ not_followed_text asked.ticket fault →
-      GrewSome (FollowsConfig asked config (outs.NotFollowed fault) said) a a
+      GrewSome (FollowsConfig left asked config (outs.NotFollowed fault) said) a a
   unfollowed fault said has is =
-      some_of (FollowsConfig asked config (outs.NotFollowed fault) said) no_entry (Unfollowed (has, is, refl))
+      some_of (FollowsConfig left asked config (outs.NotFollowed fault) said) no_entry (Unfollowed (has, is, refl))
 
   pub read_all : (outcome : Outcome) (said : List ℕ) {a b c : Option (List Entry)} → GrewSome (IsConfigRead asked.conf (Ok config)) a b →
-      GrewSome (FollowsConfig asked config outcome said) b c → GrewSome (IsFollowLog asked outcome said) a c
+      GrewSome (FollowsConfig left asked config outcome said) b c → GrewSome (IsFollowLog left asked outcome said) a c
   read_all outcome said read follows =
-      some_joined (IsConfigRead asked.conf (Ok config)) (FollowsConfig asked config outcome said) (IsFollowLog asked outcome said)
+      some_joined (IsConfigRead asked.conf (Ok config)) (FollowsConfig left asked config outcome said) (IsFollowLog left asked outcome said)
       (λ xs ys h k. Read (record {
         text = h.0;
         config = config;
@@ -118,6 +118,6 @@ module _ (asked : FollowWords) (config : ConfigSays) where
         here = k;
       })) read follows
 
-pub not_read : (asked : FollowWords) (ended : Ended) {a b : Option (List Entry)} → GrewSome (IsConfigRead asked.conf (Err ended)) a b →
-    GrewSome (IsFollowLog asked ended.outcome ended.said) a b
-not_read asked ended read = some_weaker (IsConfigRead asked.conf (Err ended)) (IsFollowLog asked ended.outcome ended.said) (λ es h. Unread h) read
+pub not_read : (left : Option ℕ) (asked : FollowWords) (ended : Ended) {a b : Option (List Entry)} → GrewSome (IsConfigRead asked.conf (Err ended)) a b →
+    GrewSome (IsFollowLog left asked ended.outcome ended.said) a b
+not_read left asked ended read = some_weaker (IsConfigRead asked.conf (Err ended)) (IsFollowLog left asked ended.outcome ended.said) (λ es h. Unread h) read

@@ -47,6 +47,7 @@ IsFollowedThrough outcome = T (is_followed_through outcome)
 -- turns give Done, TurnsSpent or OutOfMemory, and no other outcome.
 abbrev pub FaultlessServices : Type 0
 FaultlessServices =
-    (words : List (List ℕ)) (outcome : Outcome) (entries : List Entry) → AreValid BoothFollow words verbs.Follow
-    → IsFollowRun words outcome entries
+    (left : Option ℕ) (words : List (List ℕ)) (outcome : Outcome) (entries : List Entry)
+    → AreValid BoothFollow words verbs.Follow
+    → IsFollowRun left words outcome entries
     → ((asked : FollowWords) → AsksFollow words asked → IsUnhindered asked entries) → IsFollowedThrough outcome

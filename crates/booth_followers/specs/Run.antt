@@ -1,5 +1,5 @@
 -- The calls of a whole run of booth-follow.
-use Rattle.std.specs.Prelude.{◌≡◌, ◌++◌, ℕ, List, Some, None}
+use Rattle.std.specs.Prelude.{◌≡◌, ◌++◌, ℕ, List, Option, Some, None}
 use Rattle.booth_host.specs.declared.entry.Entry.{Entry}
 use Rattle.booth_cli.specs.declared.asking.FollowWords.{FollowWords}
 use Rattle.booth_cli.specs.declared.program.Program.TheVariants.{BoothFollow}
@@ -12,18 +12,20 @@ use Rattle.booth_outcomes.specs.Unasked.{IsRequest, IsUnasked}
 use Rattle.booth_followers.specs.Service.{IsFollowAnswered, IsFollowLog}
 
 -- the calls up to where the outcome is decided, by what the words ask for
-pub data IsFollowMade (words : List (List ℕ)) (outcome : Outcome) (said : List ℕ) (entries : List Entry) : Type 0 where
-  Unasked : IsUnasked BoothFollow words outcome said entries → IsFollowMade words outcome said entries
-  Followed : (asked : FollowWords) → AsksFollow words asked → IsFollowLog asked outcome said entries →
-      IsFollowMade words outcome said entries
+pub data IsFollowMade (left : Option ℕ) (words : List (List ℕ)) (outcome : Outcome) (said : List ℕ)
+    (entries : List Entry) : Type 0 where
+  Unasked : IsUnasked BoothFollow words outcome said entries → IsFollowMade left words outcome said entries
+  Followed : (asked : FollowWords) → AsksFollow words asked → IsFollowLog left asked outcome said entries →
+      IsFollowMade left words outcome said entries
 
--- all calls of a run on these words, the last of which says how it ended
-pub record IsFollowRun (words : List (List ℕ)) (outcome : Outcome) (entries : List Entry) : Type 0 where
+-- All calls of a run on these words, to which an earlier one left such an end, the last of which says how it ended.
+pub record IsFollowRun (left : Option ℕ) (words : List (List ℕ)) (outcome : Outcome)
+    (entries : List Entry) : Type 0 where
   pub said : List ℕ
   pub body : List Entry
   pub last : List Entry
   pub whole : entries ≡ body ++ last
-  pub made : IsFollowMade words outcome said body
+  pub made : IsFollowMade left words outcome said body
   pub told : IsText BoothFollow said last
 
 -- the words ask for a service that follows its ticket, whatever they say of it

@@ -30,9 +30,10 @@ EndsAs Spent outs.TurnsSpent said = said ≡ codes "turns spent"
 EndsAs end outcome said = ⊥
 
 -- the service follows its ticket up to an end
-pub record IsService (f : Following) (outcome : Outcome) (said : List ℕ) (entries : List Entry) : Type 0 where
+pub record IsService (left : Option ℕ) (f : Following) (outcome : Outcome) (said : List ℕ)
+    (entries : List Entry) : Type 0 where
   pub end : FollowEnd
-  pub followed : IsFollowed f end entries
+  pub followed : IsFollowed f left end entries
   pub ends : EndsAs end outcome said
 
 -- ---- the socket
@@ -44,16 +45,16 @@ IsSocketless conf outs.OpenFault said entries = (said ≡ unopened_text)
 IsSocketless conf outcome said entries = ⊥
 
 -- it was opened at any address and port, under this configuration, and then the service followed its ticket
-pub record IsServing (conf : List ℕ) (f : Following) (outcome : Outcome) (said : List ℕ) (entries : List Entry)
-    : Type 0 where
+pub record IsServing (left : Option ℕ) (conf : List ℕ) (f : Following) (outcome : Outcome) (said : List ℕ)
+    (entries : List Entry) : Type 0 where
   pub rest : List Entry
   pub whole : entries ≡ Open None 0 [] conf (Ok tt) ∷ rest
-  pub serves : IsService f outcome said rest
+  pub serves : IsService left f outcome said rest
 
-pub data IsStarted (conf : List ℕ) (f : Following) (outcome : Outcome) (said : List ℕ) (entries : List Entry)
-    : Type 0 where
-  Socketless : IsSocketless conf outcome said entries → IsStarted conf f outcome said entries
-  Serving : IsServing conf f outcome said entries → IsStarted conf f outcome said entries
+pub data IsStarted (left : Option ℕ) (conf : List ℕ) (f : Following) (outcome : Outcome) (said : List ℕ)
+    (entries : List Entry) : Type 0 where
+  Socketless : IsSocketless conf outcome said entries → IsStarted left conf f outcome said entries
+  Serving : IsServing left conf f outcome said entries → IsStarted left conf f outcome said entries
 
 -- ---- the key and the memory
 
@@ -62,11 +63,11 @@ abbrev pub daemon_of : FollowWords → ConfigSays → Peer
 daemon_of asked config = record { address = asked.site; port = config.port }
 
 -- a following of what was asked for, and its calls
-pub record IsSetOut (asked : FollowWords) (config : ConfigSays) (ring : Option Ring) (margins : Margins)
-    (outcome : Outcome) (said : List ℕ) (entries : List Entry) : Type 0 where
+pub record IsSetOut (left : Option ℕ) (asked : FollowWords) (config : ConfigSays) (ring : Option Ring)
+    (margins : Margins) (outcome : Outcome) (said : List ℕ) (entries : List Entry) : Type 0 where
   pub f : Following
   pub is : IsFollowing ring asked.ticket (daemon_of asked config) asked.program margins f
-  pub starts : IsStarted asked.conf f outcome said entries
+  pub starts : IsStarted left asked.conf f outcome said entries
 
 -- there was no memory
 abbrev pub IsRoomless : Outcome → List ℕ → List Entry → Type 0
@@ -74,27 +75,28 @@ IsRoomless outs.OutOfMemory said entries = (said ≡ out_of_memory_text) × (ent
 IsRoomless outcome said entries = ⊥
 
 -- what follows the key
-pub data FollowsKey (asked : FollowWords) (config : ConfigSays) (ring : Option Ring) (margins : Margins)
-    (outcome : Outcome) (said : List ℕ) (entries : List Entry) : Type 0 where
-  Roomless : IsRoomless outcome said entries → FollowsKey asked config ring margins outcome said entries
-  SetOut : IsSetOut asked config ring margins outcome said entries →
-      FollowsKey asked config ring margins outcome said entries
+pub data FollowsKey (left : Option ℕ) (asked : FollowWords) (config : ConfigSays) (ring : Option Ring)
+    (margins : Margins) (outcome : Outcome) (said : List ℕ) (entries : List Entry) : Type 0 where
+  Roomless : IsRoomless outcome said entries → FollowsKey left asked config ring margins outcome said entries
+  SetOut : IsSetOut left asked config ring margins outcome said entries →
+      FollowsKey left asked config ring margins outcome said entries
 
 -- the key was read, where one is set, and then these calls were made
-pub record IsKeyed (asked : FollowWords) (config : ConfigSays) (margins : Margins) (outcome : Outcome) (said : List ℕ)
-    (entries : List Entry) : Type 0 where
+pub record IsKeyed (left : Option ℕ) (asked : FollowWords) (config : ConfigSays) (margins : Margins)
+    (outcome : Outcome) (said : List ℕ) (entries : List Entry) : Type 0 where
   pub ring : Option Ring
   pub texts : KeyTexts
   pub holds : HasRing config texts ring
   pub rest : List Entry
   pub whole : entries ≡ key_calls config texts ++ rest
-  pub here : FollowsKey asked config ring margins outcome said rest
+  pub here : FollowsKey left asked config ring margins outcome said rest
 
 -- what follows margins that fit
-pub data FollowsMargins (asked : FollowWords) (config : ConfigSays) (margins : Margins) (outcome : Outcome)
-    (said : List ℕ) (entries : List Entry) : Type 0 where
-  Keyless : IsKeyless config outcome said entries → FollowsMargins asked config margins outcome said entries
-  Keyed : IsKeyed asked config margins outcome said entries → FollowsMargins asked config margins outcome said entries
+pub data FollowsMargins (left : Option ℕ) (asked : FollowWords) (config : ConfigSays) (margins : Margins)
+    (outcome : Outcome) (said : List ℕ) (entries : List Entry) : Type 0 where
+  Keyless : IsKeyless config outcome said entries → FollowsMargins left asked config margins outcome said entries
+  Keyed : IsKeyed left asked config margins outcome said entries →
+      FollowsMargins left asked config margins outcome said entries
 
 -- ---- the margins
 
@@ -106,33 +108,35 @@ IsUnfollowed asked config (outs.NotFollowed fault) said entries =
 IsUnfollowed asked config outcome said entries = ⊥
 
 -- the margins fit, and then these calls were made
-pub record IsFitted (asked : FollowWords) (config : ConfigSays) (outcome : Outcome) (said : List ℕ)
+pub record IsFitted (left : Option ℕ) (asked : FollowWords) (config : ConfigSays) (outcome : Outcome) (said : List ℕ)
     (entries : List Entry) : Type 0 where
   pub margins : Margins
   pub chosen : IsChosen config asked.ticket asked.site asked.margin asked.kill margins
-  pub here : FollowsMargins asked config margins outcome said entries
+  pub here : FollowsMargins left asked config margins outcome said entries
 
 -- What follows the configuration: NotFollowed without a call exactly where the ticket has that fault first.
-pub data FollowsConfig (asked : FollowWords) (config : ConfigSays) (outcome : Outcome) (said : List ℕ)
+pub data FollowsConfig (left : Option ℕ) (asked : FollowWords) (config : ConfigSays) (outcome : Outcome) (said : List ℕ)
     (entries : List Entry) : Type 0 where
-  Unfollowed : IsUnfollowed asked config outcome said entries → FollowsConfig asked config outcome said entries
-  Fitted : IsFitted asked config outcome said entries → FollowsConfig asked config outcome said entries
+  Unfollowed : IsUnfollowed asked config outcome said entries → FollowsConfig left asked config outcome said entries
+  Fitted : IsFitted left asked config outcome said entries → FollowsConfig left asked config outcome said entries
 
 -- ---- all stages
 
 -- the configuration was read, and then these calls were made
-pub record IsRead (asked : FollowWords) (outcome : Outcome) (said : List ℕ) (entries : List Entry) : Type 0 where
+pub record IsRead (left : Option ℕ) (asked : FollowWords) (outcome : Outcome) (said : List ℕ)
+    (entries : List Entry) : Type 0 where
   pub text : List ℕ
   pub config : ConfigSays
   pub says : Says text config
   pub rest : List Entry
   pub whole : entries ≡ ReadFile asked.conf (Ok text) ∷ rest
-  pub here : FollowsConfig asked config outcome said rest
+  pub here : FollowsConfig left asked config outcome said rest
 
 -- the first stage that did not go on, or the service
-pub data IsFollowLog (asked : FollowWords) (outcome : Outcome) (said : List ℕ) (entries : List Entry) : Type 0 where
-  Unread : IsUnread asked.conf outcome said entries → IsFollowLog asked outcome said entries
-  Read : IsRead asked outcome said entries → IsFollowLog asked outcome said entries
+pub data IsFollowLog (left : Option ℕ) (asked : FollowWords) (outcome : Outcome) (said : List ℕ)
+    (entries : List Entry) : Type 0 where
+  Unread : IsUnread asked.conf outcome said entries → IsFollowLog left asked outcome said entries
+  Read : IsRead left asked outcome said entries → IsFollowLog left asked outcome said entries
 
 -- ---- over every host
 

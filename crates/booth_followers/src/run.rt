@@ -7,20 +7,26 @@ ghost use Rattle.booth_followers.specs.Run.{FitsFollowWords, IsFollowMade, IsFol
 
 use crate::service::follow_ticket;
 use booth_cli::{Asked, Program, Refusal, ask};
+use booth_following::{Setting, Watch};
 use booth_host::{Host, QuietHost};
 use booth_outcomes::{Ended, Outcome, tell, tell_error, texts};
 use std::alloc::Global;
 
 // The calls of a run up to where its outcome is decided.
-fn run_words<H: Host>(alloc: Global, words: &[String], host: &mut H) -> Ended
-    ensures past { GrewSome (IsFollowMade (map string_bytes words.now) result.outcome result.said)
+fn run_words<H: Host, W: Watch>(
+    alloc: Global,
+    words: &[String],
+    setting: &mut Setting<W>,
+    host: &mut H,
+) -> Ended
+    ensures past { GrewSome (IsFollowMade setting.old.left (map string_bytes words.now) result.outcome result.said)
         (H.past host.old) (H.past host.new) }
     ensures words { FitsFollowWords (map string_bytes words.now) result.outcome }
     ensures blame { HasBlame result.outcome (H.faults host.old) (H.faults host.new) }
     ensures later { H.faults host.old ≤ H.faults host.new }
 {
     match ask(alloc, Program::BoothFollow, words) {
-        Ok(Asked::Follow(asked)) => follow_ticket(alloc, asked, host),
+        Ok(Asked::Follow(asked)) => follow_ticket(alloc, asked, setting, host),
         Ok(Asked::Daemon(_)) | Ok(Asked::Status(_)) | Ok(Asked::Simulation(_)) => unreachable!(),
         // (taken out of the words, since its journals own memory)
         Ok(Asked::Audit(_asked)) => unreachable!(),
@@ -41,28 +47,40 @@ fn run_words<H: Host>(alloc: Global, words: &[String], host: &mut H) -> Ended
 ///
 /// It reads the configuration, sees that the ticket can be followed at this site with these margins, reads the key
 /// where `authfile` is set, and opens a socket. Then the service follows its ticket: the daemon of this site is asked
-/// for the list once a second, and the program is run with `start`, `stop` or `kill` behind its arguments, until the
-/// host says `Stop`.
-pub fn booth_follow<H: Host>(alloc: Global, words: &[String], host: &mut H) -> Outcome
+/// for the list once a second, and the program is run with `check`, `renew`, `start`, `stop` or `kill` behind its
+/// arguments, until the host says `Stop`. The setting says whether an earlier follower left the service running until
+/// an end.
+pub fn booth_follow<H: Host, W: Watch>(
+    alloc: Global,
+    words: &[String],
+    setting: &mut Setting<W>,
+    host: &mut H,
+) -> Outcome
     // Where the host tells its calls: exactly these, by how the run ended.
-    ensures past { GrewSome (IsFollowRun (map string_bytes words.now) result) (H.past host.old) (H.past host.new) }
+    ensures past { GrewSome (IsFollowRun setting.old.left (map string_bytes words.now) result)
+        (H.past host.old) (H.past host.new) }
 
     // Over every host.
     ensures words { FitsFollowWords (map string_bytes words.now) result }
     ensures blame { HasBlame result (H.faults host.old) (H.faults host.new) }
     ensures later { H.faults host.old ≤ H.faults host.new }
 {
-    let ended = run_words(alloc, words, host);
+    let ended = run_words(alloc, words, setting, host);
     tell(Program::BoothFollow, &ended.said, host);
     ended.outcome
 }
 
 /// Runs `booth-follow` over a host without failures: no failure is ever answered.
-pub fn quiet_booth_follow(alloc: Global, words: &[String], host: &mut QuietHost) -> Outcome
-    ensures past { GrewSome (IsFollowRun (map string_bytes words.now) result) (quiet_past host.old)
+pub fn quiet_booth_follow<W: Watch>(
+    alloc: Global,
+    words: &[String],
+    setting: &mut Setting<W>,
+    host: &mut QuietHost,
+) -> Outcome
+    ensures past { GrewSome (IsFollowRun setting.old.left (map string_bytes words.now) result) (quiet_past host.old)
         (quiet_past host.new) }
     ensures words { FitsFollowWords (map string_bytes words.now) result }
     ensures blameless { IsBlameless result }
 {
-    booth_follow(alloc, words, host)
+    booth_follow(alloc, words, setting, host)
 }

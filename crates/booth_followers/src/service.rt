@@ -11,7 +11,7 @@ use booth_base::{PathText, Peer};
 use booth_cli::FollowWords;
 use booth_conf::Config;
 use booth_follow_rule::Margins;
-use booth_following::{FollowEnd, Following, Room, follow, margins_for};
+use booth_following::{FollowEnd, Following, Room, Setting, Watch, follow, margins_for};
 use booth_host::{Failed, Host, Place};
 use booth_keys::Ring;
 use booth_outcomes::{Ended, ErrorLine, Outcome, read_config, read_ring, texts};
@@ -34,13 +34,19 @@ fn ended_as(end: FollowEnd) -> Ended
 }
 
 // The service follows its ticket, until the end is asked for.
-fn serve<H: Host>(f: &Following, room: &mut Room, host: &mut H) -> Ended
-    ensures past { GrewSome (IsService f.now result.outcome result.said) (H.past host.old) (H.past host.new) }
+fn serve<H: Host, W: Watch>(
+    f: &Following,
+    setting: &mut Setting<W>,
+    room: &mut Room,
+    host: &mut H,
+) -> Ended
+    ensures past { GrewSome (IsService setting.old.left f.now result.outcome result.said)
+        (H.past host.old) (H.past host.new) }
     ensures served { IsFollowAnswered result.outcome }
     ensures blame { HasBlame result.outcome (H.faults host.old) (H.faults host.new) }
     ensures later { H.faults host.old ≤ H.faults host.new }
 {
-    let end = follow(f, room, host);
+    let end = follow(f, setting, room, host);
     ended_as(end)
 }
 
@@ -68,14 +74,21 @@ fn open_socket<H: Host>(conf: PathText, host: &mut H) -> Result<(), Failed>
 }
 
 // What follows the memory: the socket, and the service.
-fn start<H: Host>(conf: PathText, f: &Following, room: &mut Room, host: &mut H) -> Ended
-    ensures past { GrewSome (IsStarted conf f.now result.outcome result.said) (H.past host.old) (H.past host.new) }
+fn start<H: Host, W: Watch>(
+    conf: PathText,
+    f: &Following,
+    setting: &mut Setting<W>,
+    room: &mut Room,
+    host: &mut H,
+) -> Ended
+    ensures past { GrewSome (IsStarted setting.old.left conf f.now result.outcome result.said)
+        (H.past host.old) (H.past host.new) }
     ensures served { IsFollowAnswered result.outcome }
     ensures blame { HasBlame result.outcome (H.faults host.old) (H.faults host.new) }
     ensures later { H.faults host.old ≤ H.faults host.new }
 {
     match open_socket(conf, host) {
-        Ok(()) => serve(f, room, host),
+        Ok(()) => serve(f, setting, room, host),
         Err(Failed) => Ended {
             outcome: Outcome::OpenFault,
             said: texts::unopened_text(),
@@ -84,15 +97,16 @@ fn start<H: Host>(conf: PathText, f: &Following, room: &mut Room, host: &mut H) 
 }
 
 // What follows the key. All memory is taken before the socket.
-fn set_out<H: Host>(
+fn set_out<H: Host, W: Watch>(
     alloc: Global,
     asked: FollowWords,
     config: Config,
     ring: Option<Ring>,
     margins: Margins,
+    setting: &mut Setting<W>,
     host: &mut H,
 ) -> Ended
-    ensures past { GrewSome (FollowsKey asked config ring margins result.outcome result.said)
+    ensures past { GrewSome (FollowsKey setting.old.left asked config ring margins result.outcome result.said)
         (H.past host.old) (H.past host.new) }
     ensures served { IsFollowAnswered result.outcome }
     ensures blame { HasBlame result.outcome (H.faults host.old) (H.faults host.new) }
@@ -108,32 +122,39 @@ fn set_out<H: Host>(
     let Ok(f) = Following::new(alloc, ring, asked.ticket, to, asked.program, margins) else {
         return Ended::out_of_memory();
     };
-    start(asked.conf, &f, &mut room, host)
+    start(asked.conf, &f, setting, &mut room, host)
 }
 
 // What follows margins that fit: the key, and all behind it.
-fn follow_with<H: Host>(
+fn follow_with<H: Host, W: Watch>(
     alloc: Global,
     asked: FollowWords,
     config: Config,
     margins: Margins,
+    setting: &mut Setting<W>,
     host: &mut H,
 ) -> Ended
-    ensures past { GrewSome (FollowsMargins asked config margins result.outcome result.said)
+    ensures past { GrewSome (FollowsMargins setting.old.left asked config margins result.outcome result.said)
         (H.past host.old) (H.past host.new) }
     ensures served { IsFollowAnswered result.outcome }
     ensures blame { HasBlame result.outcome (H.faults host.old) (H.faults host.new) }
     ensures later { H.faults host.old ≤ H.faults host.new }
 {
     match read_ring(alloc, &config, host) {
-        Ok(ring) => set_out(alloc, asked, config, ring, margins, host),
+        Ok(ring) => set_out(alloc, asked, config, ring, margins, setting, host),
         Err(ended) => ended,
     }
 }
 
 // What follows the configuration.
-fn follow_within<H: Host>(alloc: Global, asked: FollowWords, config: Config, host: &mut H) -> Ended
-    ensures past { GrewSome (FollowsConfig asked config result.outcome result.said)
+fn follow_within<H: Host, W: Watch>(
+    alloc: Global,
+    asked: FollowWords,
+    config: Config,
+    setting: &mut Setting<W>,
+    host: &mut H,
+) -> Ended
+    ensures past { GrewSome (FollowsConfig setting.old.left asked config result.outcome result.said)
         (H.past host.old) (H.past host.new) }
     ensures served { IsFollowAnswered result.outcome }
     ensures blame { HasBlame result.outcome (H.faults host.old) (H.faults host.new) }
@@ -146,7 +167,7 @@ fn follow_within<H: Host>(alloc: Global, asked: FollowWords, config: Config, hos
         asked.margin,
         asked.kill,
     ) {
-        Ok(margins) => follow_with(alloc, asked, config, margins, host),
+        Ok(margins) => follow_with(alloc, asked, config, margins, setting, host),
         Err(fault) => Ended {
             outcome: Outcome::NotFollowed(fault),
             said: texts::not_followed_text(&asked.ticket, fault),
@@ -155,14 +176,20 @@ fn follow_within<H: Host>(alloc: Global, asked: FollowWords, config: Config, hos
 }
 
 /// The calls of the service that was asked for, up to where its outcome is decided.
-pub(crate) fn follow_ticket<H: Host>(alloc: Global, asked: FollowWords, host: &mut H) -> Ended
-    ensures past { GrewSome (IsFollowLog asked result.outcome result.said) (H.past host.old) (H.past host.new) }
+pub(crate) fn follow_ticket<H: Host, W: Watch>(
+    alloc: Global,
+    asked: FollowWords,
+    setting: &mut Setting<W>,
+    host: &mut H,
+) -> Ended
+    ensures past { GrewSome (IsFollowLog setting.old.left asked result.outcome result.said)
+        (H.past host.old) (H.past host.new) }
     ensures served { IsFollowAnswered result.outcome }
     ensures blame { HasBlame result.outcome (H.faults host.old) (H.faults host.new) }
     ensures later { H.faults host.old ≤ H.faults host.new }
 {
     match read_config(alloc, &asked.conf, host) {
-        Ok(config) => follow_within(alloc, asked, config, host),
+        Ok(config) => follow_within(alloc, asked, config, setting, host),
         Err(ended) => ended,
     }
 }

@@ -37,10 +37,10 @@ rule_from seat (t ∷ ts) = ap (λ (ds : List FollowDeed). deed_of seat t ∷ ds
 
 pub follow_rule : TurnsFollowTheRule
 follow_rule = record {
-  deeds = λ f turns. rule_from (first_seat f) turns ∙ sym (deeds_let.deeds f.margins (map (λ (t : Turn). moment_of t) turns));
-  moments = λ f turns. sym (deeds_let.moments f.margins (map (λ (t : Turn). moment_of t) turns));
-  allowed = λ f turns. deeds_let.rows f.margins (map (λ (t : Turn). moment_of t) turns);
-  in_time = λ f turns gap quick quicker short prompt. in_time f.margins (map (λ (t : Turn). moment_of t) turns) gap quick quicker short prompt;
+  deeds = λ f left turns. rule_from (first_seat f left) turns ∙ sym (deeds_let.deeds f.margins left (map (λ (t : Turn). moment_of t) turns));
+  moments = λ f left turns. sym (deeds_let.moments f.margins left (map (λ (t : Turn). moment_of t) turns));
+  allowed = λ f left turns. deeds_let.rows f.margins left (map (λ (t : Turn). moment_of t) turns);
+  in_time = λ f left turns gap quick quicker short prompt. in_time f.margins left (map (λ (t : Turn). moment_of t) turns) gap quick quicker short prompt;
 }
 
 -- what a turn tells, behind others

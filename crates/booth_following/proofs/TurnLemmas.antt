@@ -75,41 +75,41 @@ unfolding AreTurns seat_from
 told_push f seat [] t told last = (last, tt)
 told_push f seat (q ∷ ts) t told last = (told.0, told_push f (seat_after seat q) ts t told.1 last)
 
-pub no_turn : (f : Following) {a : Option (List Entry)} → GrewSome (IsUnderway f (first_seat f) 0) a a
+pub no_turn : (f : Following) (left : Option ℕ) {a : Option (List Entry)} → GrewSome (IsUnderway f left (first_seat f left) 0) a a
 unfolding seat_from calls_from AreTurns
-no_turn f = some_of (IsUnderway f (first_seat f) 0) no_entry (record { turns = []; number = refl; told = tt; stands = refl; whole = refl })
+no_turn f left = some_of (IsUnderway f left (first_seat f left) 0) no_entry (record { turns = []; number = refl; told = tt; stands = refl; whole = refl })
 
-underway_then : (f : Following) (old new : Seat) (count : ℕ) (deed : FollowDeed) (xs ys : List Entry) → IsUnderway f old count xs → IsTurn f old new deed ys →
-    IsUnderway f new (count + 1) (xs ++ ys)
-underway_then f old new count deed xs ys so turn =
-    let at : Seat = seat_from (first_seat f) so.turns in
+underway_then : (f : Following) (left : Option ℕ) (old new : Seat) (count : ℕ) (deed : FollowDeed) (xs ys : List Entry) → IsUnderway f left old count xs → IsTurn f old new deed ys →
+    IsUnderway f left new (count + 1) (xs ++ ys)
+underway_then f left old new count deed xs ys so turn =
+    let at : Seat = seat_from (first_seat f left) so.turns in
     record {
       turns = so.turns ++ turn.t ∷ [];
       number = length-append so.turns (turn.t ∷ []) ∙ ap (λ (n : ℕ). n + 1) so.number;
-      told = told_push f (first_seat f) so.turns turn.t so.told (subst (λ (s : Seat). IsToldIn f s turn.t) (sym so.stands) turn.told);
-      stands = seat_push (first_seat f) so.turns turn.t ∙ ap (λ (s : Seat). seat_after s turn.t) so.stands ∙ sym turn.stands;
-      whole = ap (λ (es : List Entry). es ++ ys) so.whole ∙ ap (λ (es : List Entry). calls_from f (first_seat f) so.turns ++ es) turn.whole
-          ∙ ap (λ (s : Seat). calls_from f (first_seat f) so.turns ++ turn_calls f s turn.t) (sym so.stands)
-          ∙ sym (calls_push f (first_seat f) so.turns turn.t);
+      told = told_push f (first_seat f left) so.turns turn.t so.told (subst (λ (s : Seat). IsToldIn f s turn.t) (sym so.stands) turn.told);
+      stands = seat_push (first_seat f left) so.turns turn.t ∙ ap (λ (s : Seat). seat_after s turn.t) so.stands ∙ sym turn.stands;
+      whole = ap (λ (es : List Entry). es ++ ys) so.whole ∙ ap (λ (es : List Entry). calls_from f (first_seat f left) so.turns ++ es) turn.whole
+          ∙ ap (λ (s : Seat). calls_from f (first_seat f left) so.turns ++ turn_calls f s turn.t) (sym so.stands)
+          ∙ sym (calls_push f (first_seat f left) so.turns turn.t);
     }
 
-pub one_more_turn : (f : Following) (old new : Seat) (count : ℕ) (deed : FollowDeed) {a b c : Option (List Entry)} → GrewSome (IsUnderway f old count) a b →
-    GrewSome (IsTurn f old new deed) b c → GrewSome (IsUnderway f new (count + 1)) a c
-one_more_turn f old new count deed first second =
-    some_joined (IsUnderway f old count) (IsTurn f old new deed) (IsUnderway f new (count + 1)) (underway_then f old new count deed) first second
+pub one_more_turn : (f : Following) (left : Option ℕ) (old new : Seat) (count : ℕ) (deed : FollowDeed) {a b c : Option (List Entry)} → GrewSome (IsUnderway f left old count) a b →
+    GrewSome (IsTurn f old new deed) b c → GrewSome (IsUnderway f left new (count + 1)) a c
+one_more_turn f left old new count deed first second =
+    some_joined (IsUnderway f left old count) (IsTurn f old new deed) (IsUnderway f left new (count + 1)) (underway_then f left old new count deed) first second
 
-left_then : (f : Following) (old new : Seat) (count : ℕ) (xs ys : List Entry) → IsUnderway f old count xs → IsTurn f old new deeds.Leave ys → IsLeft f (xs ++ ys)
-left_then f old new count xs ys so turn = record {
+left_then : (f : Following) (left : Option ℕ) (old new : Seat) (count : ℕ) (xs ys : List Entry) → IsUnderway f left old count xs → IsTurn f old new deeds.Leave ys → IsLeft f left (xs ++ ys)
+left_then f left old new count xs ys so turn = record {
   turns = so.turns;
   last = turn.t;
   told = so.told;
   told_last = subst (λ (s : Seat). IsToldIn f s turn.t) (sym so.stands) turn.told;
-  whole = ap (λ (es : List Entry). es ++ ys) so.whole ∙ ap (λ (es : List Entry). calls_from f (first_seat f) so.turns ++ es) turn.whole
-      ∙ ap (λ (s : Seat). calls_from f (first_seat f) so.turns ++ turn_calls f s turn.t) (sym so.stands);
+  whole = ap (λ (es : List Entry). es ++ ys) so.whole ∙ ap (λ (es : List Entry). calls_from f (first_seat f left) so.turns ++ es) turn.whole
+      ∙ ap (λ (s : Seat). calls_from f (first_seat f left) so.turns ++ turn_calls f s turn.t) (sym so.stands);
   leaves = ap (λ (s : Seat). deed_of s turn.t) so.stands ∙ sym turn.deed_is;
 }
 
-pub left : (f : Following) (old new : Seat) (count : ℕ) {a b c : Option (List Entry)} → GrewSome (IsUnderway f old count) a b →
-    GrewSome (IsTurn f old new deeds.Leave) b c → GrewSome (IsLeft f) a c
-left f old new count first second =
-    some_joined (IsUnderway f old count) (IsTurn f old new deeds.Leave) (IsLeft f) (left_then f old new count) first second
+pub left_by : (f : Following) (left : Option ℕ) (old new : Seat) (count : ℕ) {a b c : Option (List Entry)} → GrewSome (IsUnderway f left old count) a b →
+    GrewSome (IsTurn f old new deeds.Leave) b c → GrewSome (IsLeft f left) a c
+left_by f left old new count first second =
+    some_joined (IsUnderway f left old count) (IsTurn f old new deeds.Leave) (IsLeft f left) (left_then f left old new count) first second

@@ -1,5 +1,5 @@
 -- What holds of all calls of a following.
-use Rattle.std.specs.Prelude.{◌≡◌, ◌<◌, ◌≤◌, ◌+◌, ◌*◌, ◌/◌, ◌^◌, ◌++◌, ◌⊎◌, ℕ, true, List, map, decimal, Some, Ok}
+use Rattle.std.specs.Prelude.{◌≡◌, ◌<◌, ◌≤◌, ◌+◌, ◌*◌, ◌/◌, ◌^◌, ◌++◌, ◌⊎◌, ℕ, true, List, map, decimal, Option, Some, Ok}
 use Rattle.booth_wire.specs.declared.codes.results.TheConstants.{MORE, SUCCESS}
 use Rattle.booth_wire.specs.declared.command.Cmd.TheVariants.{RLst}
 use Rattle.booth_wire.specs.Command.{code_of}
@@ -9,7 +9,7 @@ use Rattle.booth_auth.specs.Verdict.{is_signed}
 use Rattle.booth_follow_rule.specs.declared.news.News.{News}
 use Rattle.booth_follow_rule.specs.declared.news.News.TheVariants as news
 use Rattle.booth_follow_rule.specs.declared.news.Shown.{Shown}
-use Rattle.booth_follow_rule.specs.Known.{AllRows, Row, nothing_known, rows_of}
+use Rattle.booth_follow_rule.specs.Known.{AllRows, Row, known_first, rows_of}
 use Rattle.booth_follow_rule.specs.Laws.{IsCovered, IsPrompt, IsRowLet}
 use Rattle.booth_following.specs.declared.following.Following.{Following}
 use Rattle.booth_following.specs.Asking.{number_of}
@@ -20,21 +20,22 @@ use Rattle.booth_following.specs.Turns.{Turn, deeds_of, first_seat, moment_of}
 -- ---- the rule
 
 -- the moments of turns with the rule's deeds
-abbrev pub rows_in : Following → List Turn → List Row
-rows_in f turns = rows_of f.margins (map (λ t. moment_of t) turns)
+abbrev pub rows_in : Following → Option ℕ → List Turn → List Row
+rows_in f left turns = rows_of f.margins left (map (λ t. moment_of t) turns)
 
 -- The deeds of turns are the rule's for their moments, and so let by what is known; and between a start and the end
--- of its stop or kill the clock is below an end that a list told, as far as the outside is prompt.
+-- of its stop or kill the clock is below an armed end, as far as the outside is prompt.
 pub record TurnsFollowTheRule : Type 0 where
-  pub deeds : (f : Following) (turns : List Turn)
-      → deeds_of (first_seat f) turns ≡ map (λ row. row.deed) (rows_in f turns)
-  pub moments : (f : Following) (turns : List Turn)
-      → map (λ t. moment_of t) turns ≡ map (λ row. row.at) (rows_in f turns)
-  pub allowed : (f : Following) (turns : List Turn) → AllRows (IsRowLet f.margins) nothing_known (rows_in f turns)
-  pub in_time : (f : Following) (turns : List Turn) (gap quick : ℕ) →
+  pub deeds : (f : Following) (left : Option ℕ) (turns : List Turn)
+      → deeds_of (first_seat f left) turns ≡ map (λ row. row.deed) (rows_in f left turns)
+  pub moments : (f : Following) (left : Option ℕ) (turns : List Turn)
+      → map (λ t. moment_of t) turns ≡ map (λ row. row.at) (rows_in f left turns)
+  pub allowed : (f : Following) (left : Option ℕ) (turns : List Turn)
+      → AllRows (IsRowLet f.margins) (known_first left) (rows_in f left turns)
+  pub in_time : (f : Following) (left : Option ℕ) (turns : List Turn) (gap quick : ℕ) →
       2 * gap + quick ≤ f.margins.kill → f.margins.kill ≤ f.margins.margin →
-      AllRows (IsPrompt gap quick) nothing_known (rows_in f turns)
-      → AllRows (IsCovered gap) nothing_known (rows_in f turns)
+      AllRows (IsPrompt gap quick) (known_first left) (rows_in f left turns)
+      → AllRows (IsCovered gap) (known_first left) (rows_in f left turns)
 
 -- ---- lists
 

@@ -17,9 +17,10 @@ use Rattle.booth_following.specs.Asking.{request_bytes}
 use Rattle.booth_following.specs.Hearing.{IsNews, failed_left}
 use Rattle.booth_following.specs.Programs.{program_for}
 
--- where a following begins
-abbrev pub first_seat : Following → Seat
-first_seat f = record { follower = record { margins = f.margins; state = opening }; asked = None; failed = None }
+-- where a following begins to which an earlier one left such an end
+abbrev pub first_seat : Following → Option ℕ → Seat
+first_seat f left =
+    record { follower = record { margins = f.margins; state = opening left }; asked = None; failed = None }
 
 -- An arrival and a reading, what the arrival tells, how the start of a run was answered, and how a request was.
 pub record Turn : Type 0 where
@@ -38,10 +39,10 @@ moment_of t = record { reading = t.reading; heard = t.heard }
 abbrev pub deed_of : Seat → Turn → FollowDeed
 deed_of seat t = (follow_step seat.follower.margins seat.follower.state (moment_of t)).deed
 
--- the run of a deed, with the end that was told last in seconds
+-- the run of a deed, with its end in seconds
 abbrev pub run_calls : Following → FollowDeed → Result (Unit {0}) Failed → List Entry
 run_calls f (deeds.Run word number until) answer =
-    Start number f.ticket (program_for f.programs word) f.to.address (until / 1000) answer ∷ []
+    Start number f.ticket (program_for f.programs f.margins.kill word) f.to.address (until / 1000) answer ∷ []
 run_calls f deed answer = []
 
 -- the run that could not be begun
@@ -119,23 +120,25 @@ deeds_of seat [] = []
 deeds_of seat (t ∷ ts) = deed_of seat t ∷ deeds_of (seat_after seat t) ts
 
 -- so many turns, after which the following stands so
-pub record IsUnderway (f : Following) (seat : Seat) (count : ℕ) (entries : List Entry) : Type 0 where
+pub record IsUnderway (f : Following) (left : Option ℕ) (seat : Seat) (count : ℕ) (entries : List Entry)
+    : Type 0 where
   pub turns : List Turn
   pub number : length turns ≡ count
-  pub told : AreTurns f (first_seat f) turns
-  pub stands : seat_from (first_seat f) turns ≡ seat
-  pub whole : entries ≡ calls_from f (first_seat f) turns
+  pub told : AreTurns f (first_seat f left) turns
+  pub stands : seat_from (first_seat f left) turns ≡ seat
+  pub whole : entries ≡ calls_from f (first_seat f left) turns
 
 -- turns, and a last one in which the follower leaves
-pub record IsLeft (f : Following) (entries : List Entry) : Type 0 where
+pub record IsLeft (f : Following) (left : Option ℕ) (entries : List Entry) : Type 0 where
   pub turns : List Turn
   pub last : Turn
-  pub told : AreTurns f (first_seat f) turns
-  pub told_last : IsToldIn f (seat_from (first_seat f) turns) last
-  pub whole : entries ≡ calls_from f (first_seat f) turns ++ turn_calls f (seat_from (first_seat f) turns) last
-  pub leaves : deed_of (seat_from (first_seat f) turns) last ≡ deeds.Leave
+  pub told : AreTurns f (first_seat f left) turns
+  pub told_last : IsToldIn f (seat_from (first_seat f left) turns) last
+  pub whole : entries ≡ calls_from f (first_seat f left) turns
+      ++ turn_calls f (seat_from (first_seat f left) turns) last
+  pub leaves : deed_of (seat_from (first_seat f left) turns) last ≡ deeds.Leave
 
--- All calls of a following, by how it ended.
-abbrev pub IsFollowed : Following → FollowEnd → List Entry → Type 0
-IsFollowed f Left entries = IsLeft f entries
-IsFollowed f Spent entries = (seat : Seat) × IsUnderway f seat MOST_TURNS entries
+-- All calls of a following to which an earlier one left such an end, by how it ended.
+abbrev pub IsFollowed : Following → Option ℕ → FollowEnd → List Entry → Type 0
+IsFollowed f left Left entries = IsLeft f left entries
+IsFollowed f left Spent entries = (seat : Seat) × IsUnderway f left seat MOST_TURNS entries

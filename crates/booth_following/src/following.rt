@@ -82,12 +82,12 @@ pub(crate) struct Seat {
     pub failed: Option<u64>,
 }
 
-/// Where a following begins.
-pub(crate) fn first_seat(f: &Following) -> Seat
-    ensures { result ≡ first_seat f.now }
+/// Where a following begins to which an earlier one left such an end.
+pub(crate) fn first_seat(f: &Following, left: Option<u64>) -> Seat
+    ensures { result ≡ first_seat f.now left }
 {
     Seat {
-        follower: Follower::new(f.margins),
+        follower: Follower::new(f.margins, left),
         asked: None,
         failed: None,
     }

@@ -9,9 +9,11 @@ pub mod laws;
 mod lines;
 mod programs;
 mod turns;
+mod watching;
 
 pub use choosing::{FollowFault, margins_for};
 pub use following::{Following, Room};
 pub use lines::TicketLine;
 pub use programs::{PATH_BYTES, PROGRAM_BYTES, Programs};
 pub use turns::{FollowEnd, follow};
+pub use watching::{Seen, Setting, Unwatched, Watch};

@@ -1,20 +1,24 @@
 //! The program of a service, with each word that it is run with.
 ghost use Rattle.std.specs.Prelude.{◌≡◌, ◌+◌, ◌<◌, ◌≤◌, ◌↔◌, ◌++◌, codes, length, IfOk, IsErr};
-ghost use Rattle.booth_following.specs.Programs.{program_for, programs_of};
+ghost use Rattle.booth_following.specs.Programs.{program_for, programs_of, renewal_of};
 
 use arrayvec::ArrayString;
 use booth_base::{PathFault, PathText};
 use booth_follow_rule::Word;
+use itoa::Buffer;
 
 /// The most bytes of a path.
 pub const PATH_BYTES: usize = 255;
 
-/// The most bytes of a program with its arguments: a path has them, a blank and the longest word.
-pub const PROGRAM_BYTES: usize = PATH_BYTES - 6;
+/// The most bytes of a program with its arguments: a path has them, a blank and the longest word, and a blank and the
+/// longest number.
+pub const PROGRAM_BYTES: usize = PATH_BYTES - 27;
 
 /// A program with its arguments, between blanks, and behind them one word.
 #[derive(Drop)]
 pub struct Programs {
+    pub check: PathText,
+    pub renew: PathText,
     pub start: PathText,
     pub stop: PathText,
     pub kill: PathText,
@@ -35,6 +39,20 @@ fn joined(text: &str, more: &str) -> Result<PathText, PathFault>
     PathText::read(whole.as_str())
 }
 
+// A renewal with the time of a kill behind it, where there is room for that.
+fn renewal_of(renew: &PathText, kill: u64) -> PathText
+    ensures { result ≡ renewal_of renew.now kill }
+{
+    let mut digits = Buffer::new();
+    let Ok(begun) = joined(renew.as_str(), " ") else {
+        return renew.copy();
+    };
+    match joined(begun.as_str(), digits.format(kill)) {
+        Ok(whole) => whole,
+        Err(_) => renew.copy(),
+    }
+}
+
 impl Programs {
     /// What is run for a service with this program. It is refused exactly where it has more than
     /// `PROGRAM_BYTES` bytes.
@@ -42,21 +60,28 @@ impl Programs {
         ensures same { IfOk result (λ programs. programs ≡ programs_of program.now) }
         ensures too_long { IsErr result ↔ (PROGRAM_BYTES < length program.now) }
     {
+        if program.len() > PROGRAM_BYTES {
+            return Err(PathFault::TooLong);
+        }
         Ok(Programs {
+            check: joined(program, " check")?,
+            renew: joined(program, " renew")?,
             start: joined(program, " start")?,
             stop: joined(program, " stop")?,
             kill: joined(program, " kill")?,
         })
     }
 
-    /// What is run for this word.
-    pub(crate) fn program_for(&self, word: Word) -> &PathText
-        ensures { result.now ≡ program_for self.now word }
+    /// What is run for this word. A renewal is told the time of a kill, in milliseconds.
+    pub(crate) fn program_for(&self, kill: u64, word: Word) -> PathText
+        ensures { result ≡ program_for self.now kill word }
     {
         match word {
-            Word::Start => &self.start,
-            Word::Stop => &self.stop,
-            Word::Kill => &self.kill,
+            Word::Check => self.check.copy(),
+            Word::Renew => renewal_of(&self.renew, kill),
+            Word::Start => self.start.copy(),
+            Word::Stop => self.stop.copy(),
+            Word::Kill => self.kill.copy(),
         }
     }
 }

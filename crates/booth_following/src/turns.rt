@@ -7,8 +7,9 @@ ghost use Rattle.booth_following.specs.Turns.{IsFollowed, IsTurn, ask_calls, ask
 use crate::asking::put_request;
 use crate::following::{Following, Room, Seat, first_seat};
 use crate::hearing::{failed_left, news_of};
+use crate::watching::{Seen, Setting, Watch};
 use booth_follow_rule::{FollowDeed, Word};
-use booth_host::{Failed, Host, Job};
+use booth_host::{Arrival, Failed, Host, Job};
 
 /// How long a list is not asked for again, in milliseconds.
 const ASK_EVERY: u64 = 1_000;
@@ -34,14 +35,14 @@ fn run<H: Host>(f: &Following, deed: FollowDeed, host: &mut H) -> Result<(), Fai
 fn job_of(f: &Following, word: Word, number: u64, until: u64) -> Job
     ensures number { result.number ≡ number }
     ensures ticket { result.ticket ≡ f.now.ticket }
-    ensures handler { result.handler ≡ program_for f.now.programs word }
+    ensures handler { result.handler ≡ program_for f.now.programs f.now.margins.kill word }
     ensures local { result.local ≡ f.now.to.address }
     ensures expires { result.expires ≡ until / 1000 }
 {
     Job {
         number,
         ticket: f.ticket.copy(),
-        handler: f.programs.program_for(word).copy(),
+        handler: f.programs.program_for(f.margins.kill, word),
         local: f.to.address,
         expires: until / 1000,
     }
@@ -104,13 +105,22 @@ fn ask<H: Host>(
     host.send(&f.to, room.frame.bytes())
 }
 
+// The status of a run that ended.
+fn status_of(answer: &Result<Arrival, Failed>) -> Option<i32> {
+    match answer {
+        Ok(Arrival::Handler { status, .. }) => Some(*status),
+        Ok(Arrival::Datagram(_)) | Ok(Arrival::Quiet) | Ok(Arrival::Stop) | Err(_) => None,
+    }
+}
+
 /// One turn: what comes and a reading, the run of what is to be done, and the request for a list where one is due. A
 /// request that cannot be sent is passed over, and a run that cannot be begun is told at the next turn.
-pub(crate) fn turn<H: Host>(
+pub(crate) fn turn<H: Host, W: Watch>(
     f: &Following,
     seat: &mut Seat,
     room: &mut Room,
     host: &mut H,
+    watch: &mut W,
 ) -> FollowDeed
     ensures past { GrewSome (IsTurn f.now seat.old seat.new result) (H.past host.old) (H.past host.new) }
     ensures later { H.faults host.old ≤ H.faults host.new }
@@ -119,12 +129,23 @@ pub(crate) fn turn<H: Host>(
     let reading = host.now();
     let heard = news_of(f, seat, &answer, &room.datagram);
     let left = failed_left(seat.failed, &answer);
+    let before = seat.follower.state();
     let deed = seat.follower.step(reading, heard);
     let started = run(f, deed, host);
     let is_asking = asks(deed, seat.asked, reading);
     let _sent = ask(f, is_asking, reading, room, host);
     seat.failed = failed_after(left, deed, &started);
     seat.asked = asked_after(is_asking, reading, seat.asked);
+    watch.see(&Seen {
+        margins: f.margins,
+        reading,
+        heard,
+        status: status_of(&answer),
+        before,
+        deed,
+        after: seat.follower.state(),
+        is_begun: started.is_ok(),
+    });
     deed
 }
 
@@ -138,13 +159,18 @@ pub enum FollowEnd {
 }
 
 /// Has the service follow its ticket, until the end is asked for.
-pub fn follow<H: Host>(f: &Following, room: &mut Room, host: &mut H) -> FollowEnd
-    ensures past { GrewSome (IsFollowed f.now result) (H.past host.old) (H.past host.new) }
+pub fn follow<H: Host, W: Watch>(
+    f: &Following,
+    setting: &mut Setting<W>,
+    room: &mut Room,
+    host: &mut H,
+) -> FollowEnd
+    ensures past { GrewSome (IsFollowed f.now setting.old.left result) (H.past host.old) (H.past host.new) }
     ensures later { H.faults host.old ≤ H.faults host.new }
 {
-    let mut seat = first_seat(f);
+    let mut seat = first_seat(f, setting.left);
     for _turn in 0..MOST_TURNS {
-        match turn(f, &mut seat, room, host) {
+        match turn(f, &mut seat, room, host, &mut setting.watch) {
             FollowDeed::Leave => return FollowEnd::Left,
             FollowDeed::Nothing | FollowDeed::Run { .. } => {}
         }

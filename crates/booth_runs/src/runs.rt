@@ -2,6 +2,7 @@
 use crate::hindered::{Hindered, Hindrances};
 use booth_daemon::{Outcome, boothd};
 use booth_followers::booth_follow;
+use booth_following::Setting;
 use booth_host_rows::{Given, put_call};
 use booth_rows::{Answer, Player, Unplayed, bytes};
 use booth_tools::{booth, geostore};
@@ -38,7 +39,7 @@ fn run(
         "boothd" => Ok(boothd(alloc, words, host)),
         "booth" => Ok(booth(alloc, words, host)),
         "geostore" => Ok(geostore(alloc, words, host)),
-        "booth-follow" => Ok(booth_follow(alloc, words, host)),
+        "booth-follow" => Ok(booth_follow(alloc, words, &mut Setting::bare(), host)),
         _ => Err(Unplayed::Unread),
     }
 }

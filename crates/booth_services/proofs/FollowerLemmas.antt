@@ -23,7 +23,7 @@ use Rattle.booth_following.specs.Hearing.{IsHeard, IsNews}
 use Rattle.booth_following.specs.Lists.{IsLine, Part, lines_of}
 use Rattle.booth_following.specs.Turns.{AreTurns, IsToldIn, Turn, first_seat, moment_of, seat_from}
 use Rattle.booth_following.proofs.LawLemmas.{lists, told_at}
-use Rattle.booth_services.specs.Services.{HearsItsSite, IsTurnAt, TimedTurn, WasSentBy, asked_after, time_after, turns_of}
+use Rattle.booth_services.specs.Services.{HasHeard, HearsItsSite, IsTurnAt, TimedTurn, WasSentBy, asked_after, time_after, turns_of}
 use Rattle.booth_services.proofs.ListLemmas.{joins}
 
 -- ---- rows
@@ -87,47 +87,38 @@ time_push : (time : ℕ) (before : List TimedTurn) (t : TimedTurn) → time_afte
 time_push time [] t = refl
 time_push time (b ∷ before) t = time_push b.time before t
 
--- A turn that heard of an end, no later than at this time.
-pub record Heard (w : World) (m : ℕ) (f : Following) (until time : ℕ) : Type 0 where
-  pub before : List TimedTurn
-  pub t : TimedTurn
-  pub told : IsToldIn f (seat_from (first_seat f) (turns_of before)) t.turn
-  pub at : IsTurnAt w m f before t
-  pub shown : t.turn.heard ≡ news.List (Here until)
-  pub no_later : t.time ≤ time
-
 -- each turn of a follower is one at its member
-abbrev pub AreAt : World → ℕ → Following → List TimedTurn → Type 0
-AreAt w m f turns = (before after : List TimedTurn) (t : TimedTurn) → turns ≡ before ++ t ∷ after → IsTurnAt w m f before t
+abbrev pub AreAt : World → ℕ → Following → Option ℕ → List TimedTurn → Type 0
+AreAt w m f left turns = (before after : List TimedTurn) (t : TimedTurn) → turns ≡ before ++ t ∷ after → IsTurnAt w m f left before t
 
 -- the times of turns rise
-in_order : (w : World) (m : ℕ) (f : Following) (turns before : List TimedTurn) (t : TimedTurn) (more after : List TimedTurn) → AreAt w m f turns
+in_order : (w : World) (m : ℕ) (f : Following) (left : Option ℕ) (turns before : List TimedTurn) (t : TimedTurn) (more after : List TimedTurn) → AreAt w m f left turns
     → turns ≡ before ++ t ∷ (more ++ after) → t.time ≤ time_after t.time more
-in_order w m f turns before t [] after at whole = omega arith
-in_order w m f turns before t (u ∷ more) after at whole =
+in_order w m f left turns before t [] after at whole = omega arith
+in_order w m f left turns before t (u ∷ more) after at whole =
     let all : turns ≡ (before ++ t ∷ []) ++ u ∷ (more ++ after) = whole ∙ sym (joins before (t ∷ []) (u ∷ (more ++ after))) in
     let next = (at (before ++ t ∷ []) (more ++ after) u all).in_order in
     let here = time_push 0 before t in
-    let rest = in_order w m f turns (before ++ t ∷ []) u more after at all in
+    let rest = in_order w m f left turns (before ++ t ∷ []) u more after at all in
     omega (arith, next, here, rest)
 
 last_of : (time : ℕ) (xs : List TimedTurn) (y : TimedTurn) (ys : List TimedTurn) → time_after time (xs ++ y ∷ ys) ≡ time_after y.time ys
 last_of time [] y ys = refl
 last_of time (x ∷ xs) y ys = last_of x.time xs y ys
 
-pub heard_of : (w : World) (m : ℕ) (f : Following) (turns before : List TimedTurn) (last : TimedTurn) (after : List TimedTurn) (until : ℕ)
-    → turns ≡ before ++ last ∷ after → AreTurns f (first_seat f) (turns_of turns) → AreAt w m f turns
-    → (s : State) (margins : Margins) → HasTold until (rows_from margins s (moments_of (before ++ last ∷ []))) → Heard w m f until last.time
-heard_of w m f turns before last after until whole told at s margins has = record {
+pub heard_of : (w : World) (m : ℕ) (f : Following) (left : Option ℕ) (turns before : List TimedTurn) (last : TimedTurn) (after : List TimedTurn) (until : ℕ)
+    → turns ≡ before ++ last ∷ after → AreTurns f (first_seat f left) (turns_of turns) → AreAt w m f left turns
+    → (s : State) (margins : Margins) → HasTold until (rows_from margins s (moments_of (before ++ last ∷ []))) → HasHeard w m f left until last.time
+heard_of w m f left turns before last after until whole told at s margins has = record {
   before = q.before;
   t = q.t;
-  told = told_at f (first_seat f) (turns_of q.before) q.t.turn (turns_of (q.after ++ after))
-      (subst (λ (ts : List Turn). AreTurns f (first_seat f) ts)
+  told = told_at f (first_seat f left) (turns_of q.before) q.t.turn (turns_of (q.after ++ after))
+      (subst (λ (ts : List Turn). AreTurns f (first_seat f left) ts)
       (ap (λ (ts : List TimedTurn). turns_of ts) split ∙ turns_append q.before (q.t ∷ (q.after ++ after))) told);
   at = at q.before (q.after ++ after) q.t split;
   shown = q.shown;
   no_later =
-      let rest = in_order w m f turns q.before q.t q.after after at split in
+      let rest = in_order w m f left turns q.before q.t q.after after at split in
       let ends : last.time ≡ time_after q.t.time q.after =
       sym (time_push 0 before last) ∙ ap (λ (ts : List TimedTurn). time_after 0 ts) q.whole ∙ last_of 0 q.before q.t q.after in
       omega (arith, rest, ends);
@@ -183,7 +174,7 @@ is_list_command Revk e = absurd (omega (arith, e))
 is_list_command Rjc e = absurd (omega (arith, e))
 
 -- A line of a list of its site, which that site sent.
-pub record ToldLine (w : World) (m : ℕ) (f : Following) (until time : ℕ) : Type 0 where
+pub record ToldLine (w : World) (m : ℕ) (start : List ℕ) (until time : ℕ) : Type 0 where
   pub message : PlainMessage
   pub text : List ℕ
   pub place : ℕ
@@ -191,7 +182,7 @@ pub record ToldLine (w : World) (m : ℕ) (f : Following) (until time : ℕ) : T
   pub command : message.head.cmd ≡ RLst
   pub content : message.content ≡ Text text
   pub there : place < length (lines_of text)
-  pub line : IsLine f.line (get_or (lines_of text) place []) until
+  pub line : IsLine start (get_or (lines_of text) place []) until
 
 later_sent : (w : World) (m early late : ℕ) (message : PlainMessage) → early ≤ late → WasSentBy w m early message → WasSentBy w m late message
 later_sent w m early late message on s = record {
@@ -204,12 +195,12 @@ later_sent w m early late message on s = record {
   same = s.same;
 }
 
-pub told_line : (w : World) (m : ℕ) (f : Following) (until time : ℕ) → Heard w m f until time → ToldLine w m f until time
-told_line w m f until time h =
-    by_asked (asked_after f h.before) h.at.hears (is_heard f (asked_after f h.before) (seat_from (first_seat f) (turns_of h.before)).failed h.t.turn.answer h.t.turn.bytes h.t.turn.heard (Here until) h.told h.shown)
+pub told_line : (w : World) (m : ℕ) (f : Following) (left : Option ℕ) (until time : ℕ) → HasHeard w m f left until time → ToldLine w m f.line until time
+told_line w m f left until time h =
+    by_asked (asked_after f left h.before) h.at.hears (is_heard f (asked_after f left h.before) (seat_from (first_seat f left) (turns_of h.before)).failed h.t.turn.answer h.t.turn.bytes h.t.turn.heard (Here until) h.told h.shown)
   where
     by_asked : (asked : Option ℕ) → HearsItsSite w m f asked h.t → IsHeard f asked h.t.turn.bytes (news.List (Here until))
-        → ToldLine w m f until time
+        → ToldLine w m f.line until time
     by_asked None hears is = let e : news.List (Here until) ≡ news.Nothing = is in absurd cc
     by_asked (Some asked) hears is =
         let shows = lists.shows f asked h.t.turn.bytes (Here until) is in
@@ -224,3 +215,16 @@ told_line w m f until time h =
           there = shows.3.1;
           line = shows.3.2;
         }
+
+-- the same of a later time
+pub later_line : (w : World) (m : ℕ) (start : List ℕ) (until early late : ℕ) → early ≤ late → ToldLine w m start until early → ToldLine w m start until late
+later_line w m start until early late on line = record {
+  message = line.message;
+  text = line.text;
+  place = line.place;
+  sent = later_sent w m early late line.message on line.sent;
+  command = line.command;
+  content = line.content;
+  there = line.there;
+  line = line.line;
+}

@@ -15,59 +15,63 @@ use Rattle.booth_world.specs.Tellers.{BearsOut, HasLine, IsListed, Tells, addres
 use Rattle.booth_world.specs.Worlds.{IsLater, ReleasedIn}
 use Rattle.booth_world.proofs.TellerWorlds.{who_tells_has_kept}
 use Rattle.booth_world.proofs.WorldLaws.{worlds_are_apart}
-use Rattle.booth_follow_rule.specs.Known.{Row, Started, nothing_known, rows_of}
-use Rattle.booth_follow_rule.specs.Laws.{HasTold, known_from}
+use Rattle.booth_follow_rule.specs.Known.{Row, Started, known_first, rows_of}
+use Rattle.booth_follow_rule.specs.Laws.{HasTold, IsEnd, known_from}
 use Rattle.booth_follow_rule.proofs.PlainLemmas.{serves}
 use Rattle.booth_following.specs.declared.following.Following.{Following}
 use Rattle.booth_following.specs.Lists.{lines_of}
 use Rattle.booth_following.specs.Turns.{first_seat}
-use Rattle.booth_services.specs.Services.{Follower, GaveBack, IsFollowerAt, MayServe, ServesUnderALease, ServicesAreApart, TimedTurn}
+use Rattle.booth_services.specs.Services.{Follower, GaveBack, IsFollowerAt, IsLeftAt, MayServe, ServesUnderALease, ServicesAreApart, TimedTurn}
 use Rattle.booth_services.proofs.ListLemmas.{IsBehind, Place, last_join, place_of, rises, two_places}
 use Rattle.booth_services.proofs.LineLemmas.{line_at, no_earlier, ticket_line}
-use Rattle.booth_services.proofs.FollowerLemmas.{Heard, RowsCut, ToldLine, cut_rows, heard_of, moments_of, told_line}
+use Rattle.booth_services.proofs.FollowerLemmas.{RowsCut, ToldLine, cut_rows, heard_of, later_line, moments_of, told_line}
 
 some_more : (o : Option Lease) (P Q : Lease → Type 0) → ((l : Lease) → P l → Q l) → IsSomeAnd o P → IsSomeAnd o Q
 some_more None P Q gives h = absurd h
 some_more (Some l) P Q gives h = gives l h
 
 -- The end that was told last covers the time at which a service may run.
-record Covered (w : World) (m : ℕ) (f : Following) (time : ℕ) : Type 0 where
+record Covered (w : World) (m : ℕ) (start : List ℕ) (time : ℕ) : Type 0 where
   pub until : ℕ
-  pub line : ToldLine w m f until time
+  pub line : ToldLine w m start until time
   pub below : clock_at w m time < until
 
 covered : (w : World) (ticket : TicketConf) (m : ℕ) (x : Follower) → IsFollowerAt w ticket m x → (time : ℕ) → MayServe w m x time
-    → Covered w m x.following time
+    → Covered w m x.following.line time
 covered w ticket m x is time serving = record {
   until = told.0;
-  line = told_line w m x.following told.0 time (record {
-    before = found.before;
-    t = found.t;
-    told = found.told;
-    at = found.at;
-    shown = found.shown;
-    no_later = let n = found.no_later in let l = serving.since in omega (arith, n, l);
-  });
+  line = later_line w m x.following.line told.0 serving.last.time time serving.since (by_end told.1);
   below = let soon = serving.soon in let above = told.2 in let same = cut.reading in omega (arith, soon, above, same);
 }
   where
-    cut : RowsCut x.following.margins (first_seat x.following).follower.state serving.before serving.last serving.after
-    cut = cut_rows x.following.margins (first_seat x.following).follower.state serving.before serving.last serving.after
+    cut : RowsCut x.following.margins (first_seat x.following x.left).follower.state serving.before serving.last serving.after
+    cut = cut_rows x.following.margins (first_seat x.following x.left).follower.state serving.before serving.last serving.after
 
-    up_to : List TimedTurn
-    up_to = serving.before ++ serving.last ∷ []
-
-    told : (until : ℕ) × HasTold until (cut.first ++ cut.row ∷ []) × (cut.row.at.reading + x.gap < until)
+    told : (until : ℕ) × IsEnd x.left (cut.first ++ cut.row ∷ []) until × (cut.row.at.reading + x.gap < until)
     told =
-        serves x.following.margins (moments_of x.turns) x.gap x.quick is.room is.margin is.prompt cut.first cut.rest cut.row
-        (ap (λ (turns : List TimedTurn). rows_of x.following.margins (moments_of turns)) serving.whole ∙ cut.whole)
-        (subst (λ (rows : List Row). (known_from nothing_known rows).service ≡ Started) cut.up_to serving.started)
+        serves x.following.margins x.left (moments_of x.turns) x.gap x.quick is.room is.margin is.prompt cut.first cut.rest cut.row
+        (ap (λ (turns : List TimedTurn). rows_of x.following.margins x.left (moments_of turns)) serving.whole ∙ cut.whole)
+        (subst (λ (rows : List Row). (known_from (known_first x.left) rows).service ≡ Started) cut.up_to serving.started)
 
-    found : Heard w m x.following told.0 serving.last.time
-    found =
-        heard_of w m x.following x.turns serving.before serving.last serving.after told.0 serving.whole is.told is.at
-        (first_seat x.following).follower.state x.following.margins
-        (subst (λ (rows : List Row). HasTold told.0 rows) (sym cut.up_to) told.1)
+    -- an earlier follower heard of an end that it left
+    by_left : (left : Option ℕ) (until : ℕ) → left ≡ Some until → IsLeftAt w m x.following.line left x.turns →
+        ToldLine w m x.following.line until serving.last.time
+    by_left None until same was = absurd cc
+    by_left (Some end) until same was =
+        let this : end ≡ until = cc in
+        let line = told_line w m was.following was.left end was.time was.heard in
+        let before = was.no_later serving.before serving.after serving.last serving.whole in
+        subst (λ (n : ℕ). ToldLine w m x.following.line n serving.last.time) this
+        (later_line w m x.following.line end was.time serving.last.time before
+        (subst (λ (start : List ℕ). ToldLine w m start end was.time) was.same_line line))
+
+    by_end : IsEnd x.left (cut.first ++ cut.row ∷ []) told.0 → ToldLine w m x.following.line told.0 serving.last.time
+    by_end (inl left) = by_left x.left told.0 left is.left
+    by_end (inr known) =
+        told_line w m x.following x.left told.0 serving.last.time
+        (heard_of w m x.following x.left x.turns serving.before serving.last serving.after told.0 serving.whole is.told is.at
+        (first_seat x.following x.left).follower.state x.following.margins
+        (subst (λ (rows : List Row). HasTold told.0 rows) (sym cut.up_to) known.0))
 
 module _ (w : World) (is_world : IsWorld w) (ticket : TicketConf) (automatic : IsAutomatic w ticket) where
   abbrev moment_at : (before : List WorldEntry) (entry : WorldEntry) (after : List WorldEntry) → w.entries ≡ before ++ entry ∷ after → Moment w
@@ -127,10 +131,10 @@ module _ (w : World) (is_world : IsWorld w) (ticket : TicketConf) (automatic : I
     in_force = in_force;
   }
     where
-      c : Covered w m x.following time
+      c : Covered w m x.following.line time
       c = covered w ticket m x is time serving
 
-      line : ToldLine w m x.following c.until time
+      line : ToldLine w m x.following.line c.until time
       line = c.line
 
       entry : WorldEntry

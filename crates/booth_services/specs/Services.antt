@@ -10,12 +10,14 @@ use Rattle.booth_node.specs.World.{WorldEntry, World, members_of, clock_at, last
 use Rattle.booth_node.specs.Held.{Moment, IsAutomatic, HoldsBy}
 use Rattle.booth_world.specs.Tellers.{address_at}
 use Rattle.booth_world.specs.Worlds.{ReleasedIn}
-use Rattle.booth_follow_rule.specs.Known.{AllRows, Started, nothing_known}
+use Rattle.booth_follow_rule.specs.declared.news.News.TheVariants as news
+use Rattle.booth_follow_rule.specs.declared.news.Shown.TheVariants.{Here}
+use Rattle.booth_follow_rule.specs.Known.{AllRows, Started, known_first}
 use Rattle.booth_follow_rule.specs.Laws.{IsPrompt, known_from}
 use Rattle.booth_following.specs.declared.following.Following.{Following}
 use Rattle.booth_following.specs.Laws.{IsAuthentic, rows_in}
 use Rattle.booth_following.specs.Lists.{Part, line_start}
-use Rattle.booth_following.specs.Turns.{AreTurns, Turn, first_seat, seat_from}
+use Rattle.booth_following.specs.Turns.{AreTurns, IsToldIn, Turn, first_seat, seat_from}
 
 -- ---- followers
 
@@ -27,10 +29,11 @@ pub record TimedTurn : Type 0 where
 abbrev pub turns_of : List TimedTurn → List Turn
 turns_of turns = map (λ t. t.turn) turns
 
--- A follower, its turns, and what the outside takes at most: while its service runs, between two readings; and for a
--- kill. In ms.
+-- A follower, the end until which an earlier one left the service running, its turns, and what the outside takes at
+-- most: while its service runs, between two readings; and for a kill. In ms.
 pub record Follower : Type 0 where
   pub following : Following
+  pub left : Option ℕ
   pub turns : List TimedTurn
   pub gap : ℕ
   pub quick : ℕ
@@ -57,39 +60,65 @@ time_after time [] = time
 time_after time (t ∷ turns) = time_after t.time turns
 
 -- when the list was asked for last, after these turns
-abbrev pub asked_after : Following → List TimedTurn → Option ℕ
-asked_after f before = (seat_from (first_seat f) (turns_of before)).asked
+abbrev pub asked_after : Following → Option ℕ → List TimedTurn → Option ℕ
+asked_after f left before = (seat_from (first_seat f left) (turns_of before)).asked
 
 -- A turn of a follower at a member, behind others: its clock is that member's, and it hears that member.
-pub record IsTurnAt (w : World) (m : ℕ) (f : Following) (before : List TimedTurn) (t : TimedTurn) : Type 0 where
+pub record IsTurnAt (w : World) (m : ℕ) (f : Following) (left : Option ℕ) (before : List TimedTurn) (t : TimedTurn)
+    : Type 0 where
   pub in_order : time_after 0 before ≤ t.time
   pub within : t.time < w.span
   pub reads : t.turn.reading ≡ clock_at w m t.time
-  pub hears : HearsItsSite w m f (asked_after f before) t
+  pub hears : HearsItsSite w m f (asked_after f left before) t
 
--- A follower of the ticket at a member of the world, whose turns are those of a following. The outside is prompt, and
--- the margins have room for that.
+-- A turn of a follower at a member that heard of an end, no later than at this time.
+pub record HasHeard (w : World) (m : ℕ) (f : Following) (left : Option ℕ) (until time : ℕ) : Type 0 where
+  pub before : List TimedTurn
+  pub t : TimedTurn
+  pub told : IsToldIn f (seat_from (first_seat f left) (turns_of before)) t.turn
+  pub at : IsTurnAt w m f left before t
+  pub shown : t.turn.heard ≡ news.List (Here until)
+  pub no_later : t.time ≤ time
+
+-- An earlier follower of the ticket at the member heard of this end, no later than these turns.
+pub record WasHeard (w : World) (m : ℕ) (line : List ℕ) (until : ℕ) (turns : List TimedTurn) : Type 0 where
+  pub following : Following
+  pub left : Option ℕ
+  pub same_line : following.line ≡ line
+  pub time : ℕ
+  pub heard : HasHeard w m following left until time
+  pub no_later : (before after : List TimedTurn) (t : TimedTurn) → turns ≡ before ++ t ∷ after → time ≤ t.time
+
+abbrev pub IsLeftAt : World → ℕ → List ℕ → Option ℕ → List TimedTurn → Type 0
+IsLeftAt w m line (Some until) turns = WasHeard w m line until turns
+IsLeftAt w m line None turns = Unit {0}
+
+-- A follower of the ticket at a member of the world, whose turns are those of a following. The end that an earlier one
+-- left is one that it heard of. The outside is prompt, and the margins have room for that.
 pub record IsFollowerAt (w : World) (ticket : TicketConf) (m : ℕ) (x : Follower) : Type 0 where
   pub below : m < members_of w
   pub line : x.following.line ≡ line_start ticket.name (address_at w m)
-  pub told : AreTurns x.following (first_seat x.following) (turns_of x.turns)
+  pub left : IsLeftAt w m x.following.line x.left x.turns
+  pub told : AreTurns x.following (first_seat x.following x.left) (turns_of x.turns)
   pub at : (before after : List TimedTurn) (t : TimedTurn) → x.turns ≡ before ++ t ∷ after
-      → IsTurnAt w m x.following before t
+      → IsTurnAt w m x.following x.left before t
   pub room : 2 * x.gap + x.quick ≤ x.following.margins.kill
   pub margin : x.following.margins.kill ≤ x.following.margins.margin
-  pub prompt : AllRows (IsPrompt x.gap x.quick) nothing_known (rows_in x.following (turns_of x.turns))
+  pub prompt :
+      AllRows (IsPrompt x.gap x.quick) (known_first x.left) (rows_in x.following x.left (turns_of x.turns))
 
 -- ---- their services
 
--- The service may run at a true time. After some turn it was started, and no stop or kill is known to be done; and no
--- more than the gap is over since that turn's reading.
+-- The service may run at a true time. After some turn it was started or taken over, and no stop or kill is known to be
+-- done; and no more than the gap is over since that turn's reading.
 pub record MayServe (w : World) (m : ℕ) (x : Follower) (time : ℕ) : Type 0 where
   pub before : List TimedTurn
   pub last : TimedTurn
   pub after : List TimedTurn
   pub whole : x.turns ≡ before ++ last ∷ after
   pub started :
-      (known_from nothing_known (rows_in x.following (turns_of (before ++ last ∷ [])))).service ≡ Started
+      (known_from (known_first x.left) (rows_in x.following x.left (turns_of (before ++ last ∷ [])))).service
+      ≡ Started
   pub since : last.time ≤ time
   pub within : time < w.span
   pub soon : clock_at w m time ≤ last.turn.reading + x.gap

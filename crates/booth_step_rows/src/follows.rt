@@ -6,7 +6,7 @@ use booth_following::margins_for;
 use booth_rows::{Answer, Player, Unplayed, bytes, moment};
 use std::alloc::Global;
 
-/// Plays `new MARGIN KILL PAUSE`, `step READING NEWS`, `choose EXPIRE RENEWAL MARGIN KILL` and
+/// Plays `new MARGIN KILL PAUSE LEFT`, `step READING NEWS`, `choose EXPIRE RENEWAL MARGIN KILL` and
 /// `margins CONFIGURATION TICKET ADDRESS MARGIN KILL`.
 #[derive(Drop)]
 pub struct Follows {
@@ -53,6 +53,8 @@ fn put_deed(answer: &mut Answer, deed: FollowDeed) -> Result<(), Unplayed> {
             until,
         } => {
             answer.word(match word {
+                Word::Check => "check",
+                Word::Renew => "renew",
                 Word::Start => "start",
                 Word::Stop => "stop",
                 Word::Kill => "kill",
@@ -120,11 +122,14 @@ impl Follows {
     /// A follower without margins.
     pub fn new() -> Follows {
         Follows {
-            follower: Follower::new(Margins {
-                margin: 0,
-                kill: 0,
-                pause: 0,
-            }),
+            follower: Follower::new(
+                Margins {
+                    margin: 0,
+                    kill: 0,
+                    pause: 0,
+                },
+                None,
+            ),
         }
     }
 }
@@ -133,12 +138,13 @@ impl Player for Follows {
     fn play(&mut self, alloc: Global, line: &str, answer: &mut Answer) -> Result<(), Unplayed> {
         let words: Vec<&str> = line.split(' ').collect(alloc)?;
         match words.as_slice() {
-            ["new", margin, kill, pause] => {
-                self.follower = Follower::new(Margins {
+            ["new", margin, kill, pause, left] => {
+                let margins = Margins {
                     margin: moment(margin)?,
                     kill: moment(kill)?,
                     pause: moment(pause)?,
-                });
+                };
+                self.follower = Follower::new(margins, given(left)?);
                 Ok(())
             }
             ["step", reading, news @ ..] => {

@@ -3,4 +3,4 @@ use Rattle.booth_followers.proofs.service.follow_within.Goals as goal
 
 pub returns-in-Err-clause-past : goal.returns-in-Err-clause-past
 returns-in-Err-clause-past g c =
-    unfollowed c.args.asked c.args.config c.in-Err.fault c.not_followed_text.result c.in-Err.ensures c.not_followed_text.ensures
+    unfollowed c.args.setting.now.left c.args.asked c.args.config c.in-Err.fault c.not_followed_text.result c.in-Err.ensures c.not_followed_text.ensures

@@ -3,4 +3,4 @@ use Rattle.booth_followers.proofs.service.start.Goals as goal
 
 pub returns-in-Ok-clause-past : goal.returns-in-Ok-clause-past
 returns-in-Ok-clause-past g c =
-    opened c.args.conf c.args.f.now c.serve.result.outcome c.serve.result.said c.in-Ok.ensures.past c.serve.ensures.past
+    opened c.args.setting.now.left c.args.conf c.args.f.now c.serve.result.outcome c.serve.result.said c.in-Ok.ensures.past c.serve.ensures.past
