@@ -1,5 +1,5 @@
 #!/usr/bin/env python3
-"""Calls the real host: datagrams on loopback, files, the clock, records, locks and handlers.
+"""Calls the real host: datagrams on loopback, files, the clock, records, locks, handlers, and what it says to whom.
 
 Run it as `python3 tests/host.py`, over what the gate leaves at crates/trials/out/trials. It takes half a minute, prints
 a line for each check, and has the status 1 if one failed.
@@ -17,6 +17,7 @@ TOP = os.path.dirname(os.path.dirname(os.path.abspath(__file__)))
 sys.path.insert(0, f"{TOP}/tests")
 
 from host_handlers import CHECKS as HANDLER_CHECKS
+from host_lines import CHECKS as LINE_CHECKS
 from host_peers import CHECKS as PEER_CHECKS
 from real_host import FILE, Host, Wrong, first, plain, require
 from row_driver import Unplayed
@@ -295,7 +296,7 @@ CHECKS = (
 def main() -> int:
     """Runs each check in a directory of its own, and returns the status."""
     wrong: List[str] = []
-    for check in CHECKS + PEER_CHECKS + HANDLER_CHECKS:
+    for check in CHECKS + PEER_CHECKS + HANDLER_CHECKS + LINE_CHECKS:
         name = check.__name__.replace("_", " ")
         with tempfile.TemporaryDirectory(prefix="booth-host-") as folder:
             try:

@@ -8,6 +8,8 @@ from typing import Callable, Iterator, Tuple
 from real_host import Host, Wrong, require
 
 CONF = "/etc/booth/cluster-a.conf"
+# a program that notes its process under its arguments, and runs on
+RUNS_ON = 'echo $$ >"new" && mv new "$*.pid"; exec sleep 30'
 
 
 @contextlib.contextmanager
@@ -89,15 +91,92 @@ def a_directory_without_programs_refuses_nothing(folder: str) -> None:
 
 
 def a_program_knows_what_it_is_run_for(folder: str) -> None:
-    """Five variables, the arguments, an empty standard input, and no other descriptor."""
+    """Six variables, the arguments, an empty standard input, and no other descriptor."""
     script = "env | grep '^BOOTH_' | sort > seen; echo $# $1 $2 >> seen; cat; ls /proc/self/fd | wc -l >> seen"
     write_script(f"{folder}/sees", script)
     require(status(folder, "sees\tone   two ") == 0, "another status")
     wanted = (
         "BOOTH_CONF_NAME=cluster-a\nBOOTH_CONF_PATH=/etc/booth/cluster-a.conf\nBOOTH_LOCAL=192.168.201.100\n"
-        "BOOTH_TICKET=ticket-db8\nBOOTH_TICKET_EXPIRES=1700000600\n2 one two\n4\n"
+        "BOOTH_TICKET=ticket-db8\nBOOTH_TICKET_EXPIRES=1700000600\nBOOTH_TICKET_LEFT=0\n2 one two\n4\n"
     )
     require(content(f"{folder}/seen") == wanted, content(f"{folder}/seen"))
+
+
+def a_program_knows_how_long_its_lease_runs(folder: str) -> None:
+    """By the clock of the host, when the program is started: in a directory the second has less than the first."""
+    os.mkdir(f"{folder}/programs")
+    for name in ("1", "2"):
+        write_script(f"{folder}/programs/{name}", "echo $BOOTH_TICKET_LEFT >>left; sleep 0.3")
+    with opened(folder) as host:
+        for number, expires in ((1, int(time.time()) + 60), (2, 0)):
+            require(host.start(number, "programs", expires) and over(host) == (number, 0), "it is not run")
+    told = content(f"{folder}/left").split()
+    require(len(told) == 4, f"they are told {told}")
+    first, second, *others = map(int, told)
+    require(58_000 < first <= 60_000, f"{first} ms are left of a minute")
+    require(250 <= first - second < 10_000, f"{first} ms are left, and then {second}")
+    require(others == [0, 0], f"{others} ms are left of no lease")
+
+
+def process(folder: str, words: str) -> int:
+    """Returns the process of the program that was started with these arguments, once it has noted that."""
+    path = f"{folder}/{words}.pid"
+    for _ in range(500):
+        if os.path.exists(path):
+            return int(content(path))
+        time.sleep(0.01)
+    raise Wrong(f"the program with {words} does not run")
+
+
+def runs(process_id: int) -> bool:
+    """Returns whether a process runs: one that was ended and not waited for has no words."""
+    try:
+        with open(f"/proc/{process_id}/cmdline", "rb") as file:
+            return file.read() != b""
+    except OSError:
+        return False
+
+
+def ends(process_id: int) -> bool:
+    """Returns whether a process ends in five seconds."""
+    for _ in range(500):
+        if not runs(process_id):
+            return True
+        time.sleep(0.01)
+    return False
+
+
+def begun(folder: str, host: Host, number: int, words: str) -> int:
+    """Starts a program that runs on with these arguments, and returns its process."""
+    require(host.start(number, f"./program {words}"), f"{words} is not started")
+    return process(folder, words)
+
+
+def a_program_of_a_word_runs_beside_another(folder: str) -> None:
+    """Each of the two ends a former one of its own kind. The word is the last one that is no number."""
+    write_script(f"{folder}/program", RUNS_ON)
+    with opened(folder) as host:
+        host.run_beside()
+        start = begun(folder, host, 1, "a start")
+        first = begun(folder, host, 2, "a renew 1")
+        require(runs(start), "a renew ends a start")
+        second = begun(folder, host, 3, "a renew 2")
+        require(ends(first) and runs(start), "a renew ends the renew before it alone")
+        stop = begun(folder, host, 4, "a renew stop")
+        require(ends(start) and runs(second), "a stop ends the start alone")
+        require(host.start(5, "/bin/true renew") and over(host) == (5, 0), "it is told how a renew ended")
+        require(ends(second) and runs(stop), "it ends the one before it alone")
+        require(host.start(6, "/bin/false") and over(host) == (6, 1) and ends(stop), "the other kind too")
+
+
+def without_such_a_word_each_ends_the_one_before(folder: str) -> None:
+    """As a daemon's handlers do."""
+    write_script(f"{folder}/program", RUNS_ON)
+    with opened(folder) as host:
+        start = begun(folder, host, 1, "start")
+        renew = begun(folder, host, 2, "renew 1")
+        require(ends(start) and runs(renew), "a renew runs beside a start")
+        require(host.start(3, "/bin/true") and over(host) == (3, 0) and ends(renew), "a renew runs on")
 
 
 def a_program_is_not_waited_for(folder: str) -> None:
@@ -137,6 +216,9 @@ CHECKS: Tuple[Callable[[str], None], ...] = (
     programs_of_a_directory_run_until_one_refuses,
     a_directory_without_programs_refuses_nothing,
     a_program_knows_what_it_is_run_for,
+    a_program_knows_how_long_its_lease_runs,
+    a_program_of_a_word_runs_beside_another,
+    without_such_a_word_each_ends_the_one_before,
     a_program_is_not_waited_for,
     what_cannot_be_run_is_a_failure,
     a_later_program_that_cannot_be_run_ends_the_row,

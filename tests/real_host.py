@@ -3,7 +3,8 @@
 It is imported by the programs in tests/, and not run by itself.
 """
 
-from typing import NamedTuple, Optional
+import subprocess
+from typing import IO, Dict, NamedTuple, Optional, Union
 
 from row_driver import Session
 
@@ -60,8 +61,13 @@ def first(term: int) -> str:
 class Host:
     """A real host."""
 
-    def __init__(self, folder: str) -> None:
-        self.session = Session("host", folder=folder)
+    def __init__(
+        self,
+        folder: str,
+        environ: Optional[Dict[str, str]] = None,
+        errors: Union[int, IO[bytes]] = subprocess.DEVNULL,
+    ) -> None:
+        self.session = Session("host", folder=folder, environ=environ, errors=errors)
 
     def __enter__(self) -> "Host":
         return self
@@ -117,10 +123,26 @@ class Host:
         answer = self.session.say(f"read {hexed(path)}")
         return None if answer in ("failed", "no-memory") else bytes.fromhex(answer.replace("-", ""))
 
-    def start(self, number: int, handler: str) -> bool:
-        """Starts the handler of a job of the ticket."""
-        words = f"start {number} {TICKET.hex()} {hexed(handler)} 192.168.201.100 1700000600"
+    def start(self, number: int, handler: str, expires: int = 1_700_000_600) -> bool:
+        """Starts the handler of a job of the ticket, whose lease ends in this second."""
+        words = f"start {number} {TICKET.hex()} {hexed(handler)} 192.168.201.100 {expires}"
         return self.session.say(words) == "ok"
+
+    def run_beside(self) -> None:
+        """Has programs of the word `renew` run beside others."""
+        self.session.say("beside")
+
+    def err(self, text: str) -> bool:
+        """Writes to standard error."""
+        return self.session.say(f"err {hexed(text)}") == "ok"
+
+    def notify(self, text: str) -> None:
+        """Tells the service manager a text."""
+        self.session.say(f"notify {hexed(text)}")
+
+    def beat(self) -> None:
+        """Tells the service manager that turns go on, where that is due."""
+        self.session.say("beat")
 
     def await_clock(self, records: str) -> None:
         """Waits for the clock of a directory of records."""

@@ -5,7 +5,7 @@ It is imported by the programs in tests/, and not run by itself.
 
 import os
 import subprocess
-from typing import IO, List, Optional
+from typing import IO, Dict, List, Optional, Union
 
 TOP = os.path.dirname(os.path.dirname(os.path.abspath(__file__)))
 
@@ -51,10 +51,17 @@ class Driver:
 class Session:
     """A driver that plays line after line: what it plays goes on until the session ends."""
 
-    def __init__(self, player: str, program: str = PROGRAM, folder: Optional[str] = None) -> None:
+    def __init__(
+        self,
+        player: str,
+        program: str = PROGRAM,
+        folder: Optional[str] = None,
+        environ: Optional[Dict[str, str]] = None,
+        errors: Union[int, IO[bytes]] = subprocess.DEVNULL,
+    ) -> None:
         words = [program, "play", player]
-        pipes = {"stdin": subprocess.PIPE, "stdout": subprocess.PIPE, "stderr": subprocess.DEVNULL}
-        self.process = subprocess.Popen(words, cwd=folder, **pipes)
+        pipes = {"stdin": subprocess.PIPE, "stdout": subprocess.PIPE, "stderr": errors}
+        self.process = subprocess.Popen(words, cwd=folder, env=environ, **pipes)
 
     def say(self, line: str) -> str:
         """Plays a line whose answer is one line, or none, and returns that."""

@@ -199,6 +199,26 @@ impl Clocks {
         }
     }
 
+    // The reading that would be told now. Nothing is noted of it.
+    fn reading(&self) -> io::Result<u64> {
+        match self.source {
+            Source::Wall(_) | Source::Unread => reading_of(CLOCK_REALTIME),
+            Source::Awaited(clock, _) | Source::Open(clock) => {
+                let mut clock = clock;
+                Ok(clock.read(since_boot()?))
+            }
+        }
+    }
+
+    /// How many milliseconds are left until this second since 1970, by the clock that is told; 0 if it is over, or if
+    /// the clock cannot be read.
+    pub(crate) fn left_until(&self, second: u64) -> u64 {
+        match self.reading() {
+            Ok(reading) => second.saturating_mul(1000).saturating_sub(reading),
+            Err(_) => 0,
+        }
+    }
+
     // The readings at which a clock of a directory begins: those that were told by, where there are any.
     fn begin_at(&self) -> io::Result<Readings> {
         match self.source {

@@ -1,8 +1,9 @@
-//! The jobs of tickets' handlers: one of a ticket at a time, whose programs run one after the other.
+//! The jobs of tickets' handlers: one in a lane of a ticket at a time, whose programs run one after the other.
 //!
 //! Nothing here waits for a program.
 
-use crate::programs::{FileName, is_directory, next_in_directory, start};
+use crate::clocks::Clocks;
+use crate::programs::{FileName, is_directory, is_run_for, next_in_directory, start};
 use crate::streams::ErrorStream;
 use booth_base::{Name, PathText};
 use booth_host::Job;
@@ -14,10 +15,20 @@ use std::process::Child;
 /// The status of a program that a signal ended.
 pub(crate) const SIGNALLED: i32 = 255;
 
+/// Which jobs of a ticket end one another: those of one lane.
+#[derive(Clone, Copy, PartialEq, Eq)]
+enum Lane {
+    /// The lane of every job, unless there are two lanes.
+    Main,
+    /// The lane of jobs that run beside those of the first one.
+    Beside,
+}
+
 // A job, and what runs of it.
 #[derive(Drop)]
 struct Running {
     job: Job,
+    lane: Lane,
     /// The path of the configuration that the job was started under.
     conf_path: PathText,
     error_stream: ErrorStream,
@@ -36,12 +47,14 @@ pub(crate) struct Ended {
     pub(crate) status: io::Result<i32>,
 }
 
-/// The jobs that run, at most one of a ticket, and programs that were ended and not yet seen to be over.
+/// The jobs that run, at most one in a lane of a ticket, and programs that were ended and not yet seen to be over.
 #[derive(Drop)]
 pub(crate) struct Jobs {
     running: Vec<Running>,
-    /// By their tickets, at most one of each.
-    killed: Vec<(Name, Child)>,
+    /// By their tickets and lanes, at most one of each.
+    killed: Vec<(Name, Lane, Child)>,
+    /// The word of the programs whose jobs run beside others. There is one lane if there is no such word.
+    beside: Option<&'static str>,
     error_stream: ErrorStream,
 }
 
@@ -56,44 +69,50 @@ fn copy_of(job: &Job) -> Job {
 }
 
 impl Running {
-    // Starts the first program of a job.
-    fn start(
-        rt: &HostRuntime,
-        job: &Job,
-        conf_path: &PathText,
-        error_stream: ErrorStream,
-    ) -> io::Result<Running> {
-        let mut running = Running {
+    // A job of which no program was started.
+    fn new(job: &Job, lane: Lane, conf_path: &PathText, error_stream: ErrorStream) -> Running {
+        Running {
             job: copy_of(job),
+            lane,
             conf_path: conf_path.copy(),
             error_stream,
             program: None,
             child: None,
-        };
-        if is_directory(rt, &job.handler)? {
-            running.start_next(rt)?;
-        } else {
-            running.child = Some(running.run(rt, None)?);
         }
-        Ok(running)
+    }
+
+    // Whether it is the job of this ticket in this lane.
+    fn is_in(&self, ticket: &Name, lane: Lane) -> bool {
+        self.job.ticket == *ticket && self.lane == lane
+    }
+
+    // Starts the first program.
+    fn begin(&mut self, rt: &HostRuntime, clocks: &Clocks) -> io::Result<()> {
+        if is_directory(rt, &self.job.handler)? {
+            self.start_next(rt, clocks)?;
+        } else {
+            self.child = Some(self.run(rt, clocks, None)?);
+        }
+        Ok(())
     }
 
     // Starts the next program of the handler's directory; none runs where none is left.
-    fn start_next(&mut self, rt: &HostRuntime) -> io::Result<()> {
+    fn start_next(&mut self, rt: &HostRuntime, clocks: &Clocks) -> io::Result<()> {
         self.child = None;
         let next = next_in_directory(rt, &self.job.handler, self.program.as_ref())?;
         if next.is_some() {
-            self.child = Some(self.run(rt, next.as_ref())?);
+            self.child = Some(self.run(rt, clocks, next.as_ref())?);
             self.program = next;
         }
         Ok(())
     }
 
-    // Starts the handler itself, or the program of this name in its directory.
-    fn run(&self, rt: &HostRuntime, name: Option<&FileName>) -> io::Result<Child> {
+    // Starts the handler itself, or the program of this name in its directory. It is told how long the lease runs yet.
+    fn run(&self, rt: &HostRuntime, clocks: &Clocks, name: Option<&FileName>) -> io::Result<Child> {
         start(
             rt,
             &self.job,
+            clocks.left_until(self.job.expires),
             name,
             self.conf_path.as_str(),
             self.error_stream,
@@ -109,15 +128,15 @@ impl Running {
     }
 
     // Starts the next program of a directory. Where none is left, the job ended with 0.
-    fn go_on(&mut self, rt: &HostRuntime) -> io::Result<Option<i32>> {
-        self.start_next(rt)?;
+    fn go_on(&mut self, rt: &HostRuntime, clocks: &Clocks) -> io::Result<Option<i32>> {
+        self.start_next(rt, clocks)?;
         Ok(if self.child.is_some() { None } else { Some(0) })
     }
 
     // The status of the job, once it is over. Where a program of a directory ended with 0, the next one is started.
-    fn poll(&mut self, rt: &HostRuntime) -> io::Result<Option<i32>> {
+    fn poll(&mut self, rt: &HostRuntime, clocks: &Clocks) -> io::Result<Option<i32>> {
         match self.status() {
-            Ok(Some(0)) if self.program.is_some() => self.go_on(rt),
+            Ok(Some(0)) if self.program.is_some() => self.go_on(rt, clocks),
             status => status,
         }
     }
@@ -137,7 +156,27 @@ impl Jobs {
         Jobs {
             running: Vec::new(alloc),
             killed: Vec::new(alloc),
+            beside: None,
             error_stream,
+        }
+    }
+
+    /// Has the jobs of programs that are run for this word run beside the other ones of their tickets.
+    pub(crate) fn run_beside(&mut self, word: &'static str) {
+        self.beside = Some(word);
+    }
+
+    // The lane of a job.
+    fn lane_of(&self, job: &Job) -> Lane {
+        match self.beside {
+            Some(word) => {
+                if is_run_for(&job.handler, word) {
+                    Lane::Beside
+                } else {
+                    Lane::Main
+                }
+            }
+            None => Lane::Main,
         }
     }
 
@@ -149,20 +188,23 @@ impl Jobs {
     // Lets go of the ended programs that are over.
     fn reap(&mut self) {
         self.killed
-            .retain_mut(|(_, child)| matches!(child.try_wait(), Ok(None)));
+            .retain_mut(|(_, _, child)| matches!(child.try_wait(), Ok(None)));
     }
 
-    // Ends the program of a ticket's job that runs on. The job is forgotten.
-    fn end(&mut self, ticket: &Name) -> io::Result<()> {
-        if self.killed.iter().any(|(name, _)| name == ticket) {
+    // Whether a program of this ticket's lane was ended and is not over.
+    fn is_ending(&self, ticket: &Name, lane: Lane) -> bool {
+        self.killed
+            .iter()
+            .any(|(name, of, _)| name == ticket && *of == lane)
+    }
+
+    // Ends the program of the job in a ticket's lane that runs on. The job is forgotten.
+    fn end(&mut self, ticket: &Name, lane: Lane) -> io::Result<()> {
+        if self.is_ending(ticket, lane) {
             return Err(io::Error::from(ErrorKind::ResourceBusy));
         }
         self.killed.reserve(1)?;
-        let Some(place) = self
-            .running
-            .iter()
-            .position(|one| one.job.ticket == *ticket)
-        else {
+        let Some(place) = self.running.iter().position(|one| one.is_in(ticket, lane)) else {
             return Ok(());
         };
         let running = self.running.remove(place);
@@ -171,32 +213,35 @@ impl Jobs {
         };
         // One that became another user's, as by sudo, cannot be ended: it is kept in sight until it is over.
         let ended = child.kill();
-        self.killed.push_reserved((ticket.copy(), child));
+        self.killed.push_reserved((ticket.copy(), lane, child));
         ended
     }
 
-    /// Starts a job. A program of its ticket that runs on is ended before.
+    /// Starts a job. A program in its lane of its ticket that runs on is ended before.
     pub(crate) fn start(
         &mut self,
         rt: &HostRuntime,
+        clocks: &Clocks,
         job: &Job,
         conf_path: &PathText,
     ) -> io::Result<()> {
         self.reap();
-        self.end(&job.ticket)?;
+        let lane = self.lane_of(job);
+        self.end(&job.ticket, lane)?;
         self.running.reserve(1)?;
-        let running = Running::start(rt, job, conf_path, self.error_stream)?;
+        let mut running = Running::new(job, lane, conf_path, self.error_stream);
+        running.begin(rt, clocks)?;
         self.running.push_reserved(running);
         Ok(())
     }
 
     /// Looks at each job once, up to the first that is over, which is forgotten.
-    pub(crate) fn poll(&mut self, rt: &HostRuntime) -> Option<Ended> {
+    pub(crate) fn poll(&mut self, rt: &HostRuntime, clocks: &Clocks) -> Option<Ended> {
         self.reap();
         for place in 0..self.running.len() {
             let running = self.running.get_mut(place)?;
             let job = running.job.number;
-            let status = match running.poll(rt) {
+            let status = match running.poll(rt, clocks) {
                 Ok(None) => continue,
                 Ok(Some(status)) => Ok(status),
                 Err(error) => Err(error),

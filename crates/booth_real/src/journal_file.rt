@@ -3,16 +3,13 @@ ghost use Rattle.std.specs.Prelude.{◌≡◌};
 ghost use Rattle.booth_host.specs.Causes.{HasCause};
 
 use crate::journal_opening::open;
-use crate::outlet::write_at_once;
-use arrayvec::ArrayVec;
+use crate::lines::{Line, line_of};
+use crate::speaker::{Priority, Speaker};
 use booth_host::Failed;
 use booth_journal::Sink;
 use std::fs::File;
 use std::io;
 use std::io::Write;
-
-/// The most bytes of a line on standard error, with its end.
-const LINE_BYTES: usize = 400;
 
 /// What the line of a record's keep begins with.
 const KEEP: &[u8] = b"keep ";
@@ -30,14 +27,9 @@ pub struct JournalFile {
 }
 
 // What is said of an append that failed, which may be cut.
-fn failed_line(path: &str, error: &io::Error) -> ArrayVec<u8, LINE_BYTES> {
-    let mut line = ArrayVec::new();
-    let _ = write!(
-        line,
-        "boothd: the journal {path} is not written any more: {error}"
-    );
-    line.truncate(LINE_BYTES - 1);
-    line.push(b'\n');
+fn failed_line(path: &str, error: &io::Error) -> Line {
+    let mut line = line_of(&[b"the journal ", path.as_bytes()]);
+    let _ = write!(line, " is not written any more: {error}");
     line
 }
 
@@ -88,7 +80,7 @@ impl Sink for JournalFile {
             Ok(()) => Ok(()),
             Err(error) => {
                 let line = failed_line(self.path.as_str(), &error);
-                let _ = write_at_once(&mut self.rt.stderr(), &line);
+                Speaker::new(self.rt, "boothd").say(Priority::Failure, &line);
                 self.faults = self.faults.saturating_add(1);
                 Err(Failed)
             }

@@ -4,6 +4,7 @@
 mod backlog;
 mod clock_file;
 mod clocks;
+mod environment;
 mod files;
 mod jobs;
 mod journal_file;
@@ -11,16 +12,20 @@ mod journal_opening;
 mod lines;
 mod lock;
 mod mail;
+mod notifier;
 mod outlet;
 mod programs;
 mod real_host;
 mod record_disk;
 mod records;
 mod socket;
+mod speaker;
 mod streams;
 mod telling;
 mod wake;
 
 pub use journal_file::JournalFile;
+pub use notifier::Notifier;
 pub use outlet::{Outlet, Unwritten, write_at_once};
 pub use real_host::RealHost;
+pub use speaker::{Priority, Speaker};

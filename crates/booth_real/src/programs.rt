@@ -29,6 +29,22 @@ fn path_of(handler: &PathText) -> io::Result<&str> {
         .ok_or(unfit())
 }
 
+// Whether a word is a number.
+fn is_number(word: &str) -> bool {
+    word.as_bytes().iter().all(|byte| byte.is_ascii_digit())
+}
+
+/// Whether a handler's program is run for this word: whether its last word that is no number is this one.
+pub(crate) fn is_run_for(handler: &PathText, word: &str) -> bool {
+    let mut is_last = false;
+    for own in handler.as_str().split_ascii_whitespace() {
+        if !is_number(own) {
+            is_last = own == word;
+        }
+    }
+    is_last
+}
+
 /// Whether a handler's path names a directory of programs.
 pub(crate) fn is_directory(rt: &HostRuntime, handler: &PathText) -> io::Result<bool> {
     Ok(fs::metadata(rt, path_of(handler)?)?.is_dir())
@@ -98,19 +114,20 @@ fn conf_name(conf_path: &str) -> &str {
     last.strip_suffix(".conf").unwrap_or(last)
 }
 
+// Sets a variable to a number.
+fn tell_number(command: &mut Command, alloc: Global, name: &str, number: u64) -> io::Result<()> {
+    command.env(name, format!(in alloc; "{number}")?.as_str())?;
+    Ok(())
+}
+
 // Says what a program is run for.
 fn tell(command: &mut Command, alloc: Global, job: &Job, conf_path: &str) -> io::Result<()> {
     let ticket = str::from_utf8(job.ticket.bytes()).map_err(|_| unfit())?;
-    let expires = job.expires;
     command.env("BOOTH_TICKET", ticket)?;
     command.env("BOOTH_LOCAL", job.local.print().as_str())?;
     command.env("BOOTH_CONF_PATH", conf_path)?;
     command.env("BOOTH_CONF_NAME", conf_name(conf_path))?;
-    command.env(
-        "BOOTH_TICKET_EXPIRES",
-        format!(in alloc; "{expires}")?.as_str(),
-    )?;
-    Ok(())
+    tell_number(command, alloc, "BOOTH_TICKET_EXPIRES", job.expires)
 }
 
 // What a program prints to: this process's standard error. Where that was closed it prints to nothing, since a write to
@@ -123,11 +140,13 @@ fn printed_to(rt: &HostRuntime, error_stream: ErrorStream) -> Stdio {
 }
 
 /// Starts the handler itself, or the program of this name in its directory. It has the handler's arguments, this
-/// process's environment with five variables more, an empty standard input, and this process's standard error, or
-/// nothing where that was closed, for all that it prints; no other file of this process is open in it.
+/// process's environment with six variables more, an empty standard input, and this process's standard error, or
+/// nothing where that was closed, for all that it prints; no other file of this process is open in it. The lease ends
+/// in so many milliseconds.
 pub(crate) fn start(
     rt: &HostRuntime,
     job: &Job,
+    left_ms: u64,
     name: Option<&FileName>,
     conf_path: &str,
     error_stream: ErrorStream,
@@ -139,6 +158,7 @@ pub(crate) fn start(
         command.arg(word)?;
     }
     tell(&mut command, alloc, job, conf_path)?;
+    tell_number(&mut command, alloc, "BOOTH_TICKET_LEFT", left_ms)?;
     command.stdin(Stdio::null());
     command.stdout(printed_to(rt, error_stream));
     command.stderr(printed_to(rt, error_stream));

@@ -67,7 +67,7 @@ impl RealHost {
             mail: Mail::new(alloc)?,
             records: None,
             clocks: Clocks::new(),
-            telling: Telling::new(alloc),
+            telling: Telling::new(rt, alloc),
             sends: 0,
             conf_path: None,
             jobs,
@@ -96,7 +96,7 @@ impl RealHost {
         ensures mail { self.new.mail ≡ self.old.mail }
     {
         if let Err(error) = self.clocks.await_clock(&self.rt, directory) {
-            self.tell_no_clock(&error);
+            self.telling.no_clock(&error);
         }
     }
 
@@ -109,7 +109,7 @@ impl RealHost {
         match self.clocks.share_clock(&self.rt, directory) {
             Ok(()) => true,
             Err(error) => {
-                self.tell_no_clock(&error);
+                self.telling.no_clock(&error);
                 false
             }
         }
@@ -123,12 +123,14 @@ impl RealHost {
         self.telling.speak_as(name);
     }
 
-    fn tell_no_clock(&mut self, error: &io::Error)
+    /// From now on the programs that are run for this word, their last one that is no number, run beside the other
+    /// programs of their ticket: one ends a former one for this word, and no other. Without this call each program ends
+    /// the former one of its ticket.
+    pub fn run_beside(&mut self, word: &'static str)
         ensures faults { self.new.faults ≡ self.old.faults }
         ensures mail { self.new.mail ≡ self.old.mail }
     {
-        let parts = [b"cannot tell the time of the records".as_slice()];
-        self.telling.failed(&self.rt, &parts, error);
+        self.jobs.run_beside(word);
     }
 
     // Counts a failure, once.
@@ -191,7 +193,7 @@ impl RealHost {
     {
         let begun = self.clocks.begin(&self.rt, directory);
         if let Err(error) = &begun {
-            self.tell_no_clock(error);
+            self.telling.no_clock(error);
             self.records = None;
         }
         begun
@@ -206,7 +208,7 @@ impl RealHost {
             return;
         };
         if let Some(answer) = self.clocks.keep(&self.rt, records.directory()) {
-            self.telling.clock_keep(&self.rt, &answer);
+            self.telling.clock_keep(&answer);
         }
     }
 
@@ -215,7 +217,7 @@ impl RealHost {
         ensures mail { self.new.mail ≡ self.old.mail }
     {
         match &self.conf_path {
-            Some(conf_path) => self.jobs.start(&self.rt, job, conf_path),
+            Some(conf_path) => self.jobs.start(&self.rt, &self.clocks, job, conf_path),
             None => Err(unopened()),
         }
     }
@@ -243,24 +245,12 @@ impl RealHost {
             job,
             ticket,
             status,
-        } = self.jobs.poll(&self.rt)?;
+        } = self.jobs.poll(&self.rt, &self.clocks)?;
         if let Err(error) = &status {
-            self.tell_unstarted(&ticket, error);
+            self.telling.unstarted(&ticket, error);
         }
         let status = self.checked(status).unwrap_or(SIGNALLED);
         Some(Arrival::Handler { job, status })
-    }
-
-    // Says that a program of this ticket's handler could not be started or asked about.
-    fn tell_unstarted(&mut self, ticket: &Name, error: &io::Error)
-        ensures faults { self.new.faults ≡ self.old.faults }
-        ensures mail { self.new.mail ≡ self.old.mail }
-    {
-        let parts = [
-            b"cannot run the handler of ticket ".as_slice(),
-            ticket.bytes(),
-        ];
-        self.telling.failed(&self.rt, &parts, error);
     }
 
     // Says that a receive failed, at a place with records: clients say what they miss themselves.
@@ -269,7 +259,7 @@ impl RealHost {
         ensures mail { self.new.mail ≡ self.old.mail }
     {
         if self.records.is_some() {
-            self.telling.unreceived(&self.rt, error);
+            self.telling.unreceived(error);
         }
     }
 
@@ -279,7 +269,7 @@ impl RealHost {
         ensures mail { self.new.mail ≡ self.old.mail }
     {
         if self.records.is_some() {
-            self.telling.unsent(&self.rt, to, error);
+            self.telling.unsent(to, error);
         }
     }
 
@@ -296,7 +286,7 @@ impl RealHost {
         }
         self.mail.take_in();
         if self.mail.is_full() {
-            self.telling.full(&self.rt);
+            self.telling.full();
         }
     }
 
@@ -369,7 +359,7 @@ impl Host for RealHost {
         match self.clocks.now() {
             Ok(told) => {
                 if let Some(step) = told.step {
-                    self.telling.step(&self.rt, step);
+                    self.telling.step(step);
                 }
                 told.reading
             }
@@ -407,11 +397,7 @@ impl Host for RealHost {
     {
         let answer = read_from(&mut self.records, &self.rt, ticket);
         if let Err(error) = &answer {
-            let parts = [
-                b"cannot read the record of ticket ".as_slice(),
-                ticket.bytes(),
-            ];
-            self.telling.failed(&self.rt, &parts, error);
+            self.telling.unread(ticket, error);
         }
         self.checked(answer)
     }
@@ -427,7 +413,7 @@ impl Host for RealHost {
         self.take_in();
         let answer = write_into(&mut self.records, &self.rt, ticket, rec);
         self.take_in();
-        self.telling.keep(&self.rt, ticket, &answer);
+        self.telling.keep(ticket, &answer);
         self.checked(answer)
     }
 
@@ -441,7 +427,7 @@ impl Host for RealHost {
     {
         let answer = self.start_job(job);
         if let Err(error) = &answer {
-            self.tell_unstarted(&job.ticket, error);
+            self.telling.unstarted(&job.ticket, error);
         }
         self.checked(answer)
     }
@@ -482,12 +468,13 @@ impl Host for RealHost {
         self.checked(answer)
     }
 
+    /// Where the journal reads standard error, each line has the priority of a failure in place of the program's name.
     fn err(&mut self, bytes: &[u8]) -> Result<(), Failed>
         ensures past { GrewBy None None (Entry.Err bytes.now result ∷ []) }
         ensures cause { HasCause self.old.faults self.new.faults result }
         ensures mail { self.new.mail ≡ self.old.mail }
     {
-        let answer = write_to(&self.rt.stderr(), bytes);
+        let answer = self.telling.write(bytes);
         self.checked(answer)
     }
 }

@@ -1,8 +1,10 @@
 //! What is said on standard error of devices that fail, a few lines a minute. None of it is a call of the log.
+//!
+//! What failed for good is a failure, what goes on to fail a warning, and that something goes well again a notice.
 
 use crate::clocks::since_boot;
-use crate::lines::{Line, line_of, put_number, said_by};
-use crate::outlet::write_at_once;
+use crate::lines::{Line, line_of, put_number};
+use crate::speaker::{Priority, Speaker};
 use booth_base::{Name, Peer};
 use booth_clock::Step;
 use std::alloc::Global;
@@ -38,8 +40,7 @@ struct Paced {
 /// Who says it, and what was said, as far as it tells what is said next.
 #[derive(Drop)]
 pub(crate) struct Telling {
-    /// The program's name.
-    name: &'static str,
+    speaker: Speaker,
     /// The tickets whose last keep failed, each of which a line told of.
     unkept: Vec<Name>,
     /// Whether the last keep of the clock failed, and a line told of it.
@@ -97,15 +98,8 @@ fn failed_line(parts: &[&[u8]], error: &io::Error) -> Line {
     line
 }
 
-// What is said of a step of the wall clock.
-fn step_line(step: Step) -> Line {
-    let (amount, way) = match step {
-        Step::Ahead(amount) => (amount, b"ahead of".as_slice()),
-        Step::Behind(amount) => (amount, b"behind".as_slice()),
-    };
-    if amount <= STEP_MS {
-        return line_of(&[b"the wall clock agrees with the daemon's clock again"]);
-    }
+// What is said of a step of the wall clock by more than one that is none.
+fn step_line(amount: u64, way: &[u8]) -> Line {
     let mut line = line_of(&[b"the wall clock is "]);
     put_number(&mut line, amount);
     let _ = line.write_all(b" ms ");
@@ -117,9 +111,9 @@ fn step_line(step: Step) -> Line {
 }
 
 impl Telling {
-    pub(crate) fn new(alloc: Global) -> Telling {
+    pub(crate) fn new(rt: HostRuntime, alloc: Global) -> Telling {
         Telling {
-            name: "boothd",
+            speaker: Speaker::new(rt, "boothd"),
             unkept: Vec::new(alloc),
             is_clock_unkept: false,
             limit: Limit { since: 0, lines: 0 },
@@ -131,90 +125,126 @@ impl Telling {
 
     /// Has each line begin with this name of a program.
     pub(crate) fn speak_as(&mut self, name: &'static str) {
-        self.name = name;
+        self.speaker.speak_as(name);
+    }
+
+    /// Writes the lines of a failure of the program to standard error.
+    pub(crate) fn write(&self, text: &[u8]) -> io::Result<()> {
+        self.speaker.write(text)
     }
 
     // Says this line, where one more may be said. One that cannot be written at once is lost.
-    fn say(&mut self, rt: &HostRuntime, line: Line) {
+    fn say(&mut self, priority: Priority, line: Line) {
         if self.limit.admits(now()) {
-            let _ = write_at_once(&mut rt.stderr(), &said_by(self.name, &line));
+            self.speaker.say(priority, &line);
         }
     }
 
-    // The line on this keep, where it ended in another way than the ticket's one before.
-    fn keep_line(&mut self, ticket: &Name, answer: &io::Result<()>) -> Option<Line> {
-        let place = self.unkept.iter().position(|name| name == ticket);
-        match (answer, place) {
-            // Where there is no memory for the name, nothing is said before a later keep, so that no line comes twice.
-            (Err(error), None) => match self.unkept.push(ticket.copy()) {
-                Ok(()) => Some(failed_line(
-                    &[b"cannot keep the record of ticket ", ticket.bytes()],
-                    error,
-                )),
-                Err(_) => None,
-            },
-            (Ok(()), Some(place)) => {
-                self.unkept.swap_remove(place);
-                Some(line_of(&[b"the record of ticket ", ticket.bytes(), b" is kept again"]))
-            }
-            (Err(_), Some(_)) | (Ok(()), None) => None,
-        }
+    // Says that something failed that is not tried again and again.
+    fn failed(&mut self, parts: &[&[u8]], error: &io::Error) {
+        self.say(Priority::Failure, failed_line(parts, error));
+    }
+
+    // Says that something goes well again.
+    fn mended(&mut self, parts: &[&[u8]]) {
+        self.say(Priority::Notice, line_of(parts));
+    }
+
+    // Says that something goes on to fail, and how many failures no line told of.
+    fn goes_on(&mut self, line: Line, passed: u64) {
+        self.say(Priority::Warning, with_passed(line, passed));
     }
 
     /// Says how a keep of this ticket's record ended, where the one before ended in another way.
-    pub(crate) fn keep(&mut self, rt: &HostRuntime, ticket: &Name, answer: &io::Result<()>) {
-        if let Some(line) = self.keep_line(ticket, answer) {
-            self.say(rt, line);
+    pub(crate) fn keep(&mut self, ticket: &Name, answer: &io::Result<()>) {
+        let place = self.unkept.iter().position(|name| name == ticket);
+        match (answer, place) {
+            // Where there is no memory for the name, nothing is said before a later keep, so that no line comes twice.
+            (Err(error), None) => {
+                if self.unkept.push(ticket.copy()).is_ok() {
+                    self.failed(
+                        &[b"cannot keep the record of ticket ", ticket.bytes()],
+                        error,
+                    );
+                }
+            }
+            (Ok(()), Some(place)) => {
+                self.unkept.swap_remove(place);
+                self.mended(&[b"the record of ticket ", ticket.bytes(), b" is kept again"]);
+            }
+            (Err(_), Some(_)) | (Ok(()), None) => {}
         }
     }
 
     /// Says how a keep of the clock ended, where the one before ended in another way.
-    pub(crate) fn clock_keep(&mut self, rt: &HostRuntime, answer: &io::Result<()>) {
-        let line = match answer {
+    pub(crate) fn clock_keep(&mut self, answer: &io::Result<()>) {
+        match answer {
             Err(error) if !self.is_clock_unkept => {
-                failed_line(&[b"cannot keep what the clock has reached"], error)
+                self.failed(&[b"cannot keep what the clock has reached"], error);
             }
-            Ok(()) if self.is_clock_unkept => line_of(&[
-                b"what the clock has reached is kept again",
-            ]),
-            Err(_) | Ok(()) => return,
-        };
+            Ok(()) if self.is_clock_unkept => {
+                self.mended(&[b"what the clock has reached is kept again"]);
+            }
+            Err(_) | Ok(()) => {}
+        }
         self.is_clock_unkept = answer.is_err();
-        self.say(rt, line);
     }
 
-    /// Says that something failed that is not tried again and again.
-    pub(crate) fn failed(&mut self, rt: &HostRuntime, parts: &[&[u8]], error: &io::Error) {
-        self.say(rt, failed_line(parts, error));
+    /// Says that no clock of records can be had.
+    pub(crate) fn no_clock(&mut self, error: &io::Error) {
+        self.failed(&[b"cannot tell the time of the records"], error);
+    }
+
+    /// Says that the record of this ticket cannot be read.
+    pub(crate) fn unread(&mut self, ticket: &Name, error: &io::Error) {
+        self.failed(
+            &[b"cannot read the record of ticket ", ticket.bytes()],
+            error,
+        );
+    }
+
+    /// Says that a program of this ticket's handler could not be started or asked about.
+    pub(crate) fn unstarted(&mut self, ticket: &Name, error: &io::Error) {
+        self.failed(
+            &[b"cannot run the handler of ticket ", ticket.bytes()],
+            error,
+        );
     }
 
     /// Says by how much the wall clock is off.
-    pub(crate) fn step(&mut self, rt: &HostRuntime, step: Step) {
-        self.say(rt, step_line(step));
+    pub(crate) fn step(&mut self, step: Step) {
+        let (amount, way) = match step {
+            Step::Ahead(amount) => (amount, b"ahead of".as_slice()),
+            Step::Behind(amount) => (amount, b"behind".as_slice()),
+        };
+        if amount <= STEP_MS {
+            self.mended(&[b"the wall clock agrees with the daemon's clock again"]);
+        } else {
+            self.say(Priority::Warning, step_line(amount, way));
+        }
     }
 
     /// Says that sends fail, where that goes on.
-    pub(crate) fn unsent(&mut self, rt: &HostRuntime, to: &Peer, error: &io::Error) {
+    pub(crate) fn unsent(&mut self, to: &Peer, error: &io::Error) {
         if let Some(passed) = self.sends.due(now()) {
             let address = to.address.print();
             let line = failed_line(&[b"cannot send to ", address.as_bytes()], error);
-            self.say(rt, with_passed(line, passed));
+            self.goes_on(line, passed);
         }
     }
 
     /// Says that receives fail, where that goes on.
-    pub(crate) fn unreceived(&mut self, rt: &HostRuntime, error: &io::Error) {
+    pub(crate) fn unreceived(&mut self, error: &io::Error) {
         if let Some(passed) = self.receives.due(now()) {
-            let line = failed_line(&[b"cannot receive"], error);
-            self.say(rt, with_passed(line, passed));
+            self.goes_on(failed_line(&[b"cannot receive"], error), passed);
         }
     }
 
     /// Says that more comes than there is room for, where that goes on.
-    pub(crate) fn full(&mut self, rt: &HostRuntime) {
+    pub(crate) fn full(&mut self) {
         if let Some(passed) = self.fulls.due(now()) {
             let line = line_of(&[b"more datagrams come than there is room for"]);
-            self.say(rt, with_passed(line, passed));
+            self.goes_on(line, passed);
         }
     }
 }

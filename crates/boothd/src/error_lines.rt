@@ -1,8 +1,8 @@
 //! The log's lines on standard error.
 
 use booth_log::Lines;
-use booth_real::write_at_once;
-use std::env;
+use booth_real::{Priority, Speaker};
+use std::{env, str};
 
 /// The variable of the environment that turns the log off, where it is `off`.
 const SWITCH: &str = "BOOTH_LOG";
@@ -10,8 +10,39 @@ const SWITCH: &str = "BOOTH_LOG";
 /// Standard error as what takes lines. It tells none of them, and loses one that would have to wait for a reader.
 #[derive(Drop)]
 pub(crate) struct ErrorLines {
-    rt: HostRuntime,
+    speaker: Speaker,
     is_on: bool,
+}
+
+// How much it matters what the log says of a ticket.
+fn ticket_priority(text: &str) -> Priority {
+    if text.starts_with("fails to ") || text.starts_with("its handler cannot ") {
+        Priority::Failure
+    } else if text.starts_with("its handler ended ") {
+        Priority::Warning
+    } else if text.starts_with("begins ") {
+        Priority::Info
+    } else {
+        Priority::Notice
+    }
+}
+
+// How much it matters what a line of the log says.
+fn priority_of(line: &str) -> Priority {
+    match line.strip_prefix("boothd: ticket ") {
+        // (a ticket's name has no blank)
+        Some(of_ticket) => match of_ticket.split_once(": ") {
+            Some((_, text)) => ticket_priority(text),
+            None => Priority::Notice,
+        },
+        None => {
+            if line.starts_with("boothd: the handler ") {
+                Priority::Warning
+            } else {
+                Priority::Info
+            }
+        }
+    }
 }
 
 impl ErrorLines {
@@ -21,7 +52,8 @@ impl ErrorLines {
             Ok(value) => value.as_str() != "off",
             Err(_) => true,
         };
-        ErrorLines { rt, is_on }
+        let speaker = Speaker::new(rt, "boothd");
+        ErrorLines { speaker, is_on }
     }
 }
 
@@ -32,7 +64,8 @@ impl Lines for ErrorLines {
 
     fn say(&mut self, line: &[u8]) {
         if self.is_on {
-            let _ = write_at_once(&mut self.rt.stderr(), line);
+            let priority = priority_of(str::from_utf8(line).unwrap_or(""));
+            self.speaker.say_line(priority, line);
         }
     }
 }

@@ -11,13 +11,13 @@ use booth_host::Host;
 use booth_journal::JournalHost;
 use booth_links::RealLinks;
 use booth_log::LogHost;
-use booth_real::{JournalFile, RealHost};
+use booth_real::{JournalFile, Priority, RealHost, Speaker};
 use booth_stream::StreamHost;
 use error_lines::ErrorLines;
 use journal_path::journal_path;
 use std::alloc::{AllocError, Global};
 use std::env;
-use std::io::{ErrorKind, Write};
+use std::io::ErrorKind;
 use std::process::ExitCode;
 
 // The words behind the program's name. Those that are no UTF-8 are none that are taken.
@@ -68,12 +68,11 @@ fn run(rt: HostRuntime, alloc: Global) -> Result<Outcome, AllocError> {
 
 fn main(rt: HostRuntime) -> ExitCode {
     let alloc = rt.alloc();
-    let mut stderr = rt.stderr();
     let outcome = match run(rt, alloc) {
         Ok(outcome) => outcome,
         Err(AllocError) => {
             // There is no host yet that would say it.
-            let _ = stderr.write_all(b"boothd: out of memory\n");
+            Speaker::new(rt, "boothd").say(Priority::Failure, b"out of memory");
             Outcome::OutOfMemory
         }
     };

@@ -4,7 +4,7 @@ use crate::clock::Clock;
 use crate::real::Real;
 use booth_byte_rows::{Bytes, Configuration, Gate, RecordFile};
 use booth_line_rows::{MemoryHosts, Texts};
-use booth_real::RealHost;
+use booth_real::{Notifier, RealHost};
 use booth_rows::{Answer, Player};
 use booth_rule_rows::{CorePlayer, ManualPlayer, TicketPlayer};
 use booth_runs::Runs;
@@ -39,7 +39,8 @@ fn play_by_name(rt: HostRuntime, alloc: Global, name: &str) -> Option<io::Result
         "gate" => Some(play_lines(rt, Gate::new())),
         "host" => {
             let host = RealHost::new(rt.clone().ok()?, alloc).ok()?;
-            Some(play_lines(rt, Real::over(host)))
+            let notifier = Notifier::new(rt.clone().ok()?, "trials");
+            Some(play_lines(rt, Real::over(host, notifier)))
         }
         "manual" => Some(play_lines(rt, ManualPlayer::new())),
         "memory" => Some(play_lines(rt, MemoryHosts::new(alloc))),

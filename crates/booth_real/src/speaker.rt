@@ -1,0 +1,150 @@
+//! Standard error, for the lines of a program: with the program's name in front, or as the journal of systemd has them.
+//!
+//! The journal puts the program's name in front of a line itself, and takes a priority from the line's beginning, as
+//! `<4>` (sd-daemon(3)). Whether it reads standard error is told by the environment (systemd.exec(5)).
+
+use crate::environment::variable;
+use crate::outlet::write_at_once;
+use crate::streams::write_to;
+use arrayvec::ArrayVec;
+use std::io::Write;
+use std::os::unix::fs::MetadataExt;
+use std::{fs, io};
+
+/// The variable that names the device and the number of the file that the journal reads, with a colon between.
+const JOURNAL: &str = "JOURNAL_STREAM";
+
+/// Standard error as a file of this process.
+const STANDARD_ERROR: &str = "/proc/self/fd/2";
+
+/// The most bytes of a line, with its end.
+const LINE_BYTES: usize = 1_024;
+
+/// A whole line.
+type Line = ArrayVec<u8, LINE_BYTES>;
+
+/// How much a line matters.
+#[derive(Clone, Copy)]
+pub enum Priority {
+    /// Something failed: `<3>`.
+    Failure,
+    /// Something is not as it should be, and the program goes on: `<4>`.
+    Warning,
+    /// Something happened that an operator looks for: `<5>`.
+    Notice,
+    /// Anything else: `<6>`.
+    Info,
+}
+
+/// Standard error, for the lines of a program.
+#[derive(Drop)]
+pub struct Speaker {
+    rt: HostRuntime,
+    /// The program's name.
+    name: &'static str,
+    /// Whether the journal reads standard error.
+    is_journal: bool,
+}
+
+impl Priority {
+    // What a line of this priority begins with in the journal.
+    fn mark(self) -> &'static str {
+        match self {
+            Priority::Failure => "<3>",
+            Priority::Warning => "<4>",
+            Priority::Notice => "<5>",
+            Priority::Info => "<6>",
+        }
+    }
+}
+
+// The number in a text.
+fn number(text: &str) -> Option<u64> {
+    text.parse().ok()
+}
+
+// Whether the journal reads standard error. A program that a service starts may have the service's environment, and
+// another standard error.
+fn is_journal(rt: &HostRuntime) -> bool {
+    let Some(told) = variable(rt, JOURNAL) else {
+        return false;
+    };
+    let Some((device, file)) = told.as_str().split_once(':') else {
+        return false;
+    };
+    match fs::metadata(rt, STANDARD_ERROR) {
+        Ok(own) => number(device) == Some(own.dev()) && number(file) == Some(own.ino()),
+        Err(_) => false,
+    }
+}
+
+impl Speaker {
+    /// Standard error for the lines of the program of this name.
+    pub fn new(rt: HostRuntime, name: &'static str) -> Speaker {
+        let is_journal = is_journal(&rt);
+        Speaker {
+            rt,
+            name,
+            is_journal,
+        }
+    }
+
+    /// Has each line begin with this name of a program.
+    pub(crate) fn speak_as(&mut self, name: &'static str) {
+        self.name = name;
+    }
+
+    // The line of this text, with its end, which stands in the place of its last byte where there is no room.
+    fn line_of(&self, priority: Priority, text: &[u8]) -> Line {
+        let mut line = Line::new();
+        if self.is_journal {
+            let _ = line.write_all(priority.mark().as_bytes());
+        } else {
+            let _ = line.write_all(self.name.as_bytes());
+            let _ = line.write_all(b": ");
+        }
+        let _ = line.write_all(text);
+        line.truncate(LINE_BYTES - 1);
+        line.push(b'\n');
+        line
+    }
+
+    // What a line says: without the program's name in front, and without its end.
+    fn text_of<'a>(&self, line: &'a [u8]) -> &'a [u8] {
+        let line = line.strip_suffix(b"\n").unwrap_or(line);
+        match line.strip_prefix(self.name.as_bytes()) {
+            Some(rest) => rest.strip_prefix(b": ").unwrap_or(line),
+            None => line,
+        }
+    }
+
+    /// Says this text as a line. It is lost if it cannot be written at once.
+    pub fn say(&self, priority: Priority, text: &[u8]) {
+        let line = self.line_of(priority, text);
+        let _ = write_at_once(&mut self.rt.stderr(), &line);
+    }
+
+    /// Says a line that has the program's name in front and ends with a line feed. It is lost if it cannot be written
+    /// at once.
+    pub fn say_line(&self, priority: Priority, line: &[u8]) {
+        if self.is_journal {
+            self.say(priority, self.text_of(line));
+        } else {
+            let _ = write_at_once(&mut self.rt.stderr(), line);
+        }
+    }
+
+    /// Writes the lines of a failure, which may have the program's name in front, and waits for whoever reads them.
+    pub(crate) fn write(&self, text: &[u8]) -> io::Result<()> {
+        if !self.is_journal {
+            return write_to(&self.rt.stderr(), text);
+        }
+        for line in text.split(|byte| *byte == b'\n') {
+            if !line.is_empty() {
+                let line = self.line_of(Priority::Failure, self.text_of(line));
+                write_to(&self.rt.stderr(), &line)?;
+            }
+        }
+        Ok(())
+    }
+}

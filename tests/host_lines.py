@@ -1,0 +1,172 @@
+"""Checks of what the real host says: lines on standard error, and what the service manager is told."""
+
+import contextlib
+import os
+import socket
+import time
+from typing import Callable, Dict, Iterator, List, Tuple
+
+from host_handlers import content, over, write
+from real_host import Host, require
+
+# what systemd puts into a service's environment
+OF_SYSTEMD = ("JOURNAL_STREAM", "NOTIFY_SOCKET", "WATCHDOG_USEC")
+NO_FILE = "No such file or directory (os error 2)"
+TEXTS = ("boothd: bad site\n", "error: one\n\nusage: two\n", "boothd: ends without a line feed")
+UNRUN = f"cannot run the handler of ticket ticket-db8: {NO_FILE}\n"
+
+
+def surroundings(**variables: str) -> Dict[str, str]:
+    """Returns the environment with these variables of systemd's alone."""
+    others = {name: value for name, value in os.environ.items() if name not in OF_SYSTEMD}
+    return {**others, **variables}
+
+
+def said(folder: str, journal: str) -> str:
+    """Returns what a host says of a program that is missing and of some texts. `{}` stands for its standard error."""
+    path = f"{folder}/said"
+    with open(path, "wb") as errors:
+        own = os.fstat(errors.fileno())
+        stream = journal.format(f"{own.st_dev}:{own.st_ino}")
+        environ = surroundings(JOURNAL_STREAM=stream) if stream else surroundings()
+        with Host(folder, environ, errors) as host:
+            require(host.open(), "it is not opened")
+            require(not host.start(1, "/booth/missing"), "it is started")
+            for text in TEXTS:
+                require(host.err(text), "it is not written")
+    return content(path)
+
+
+def a_line_begins_with_the_programs_name(folder: str) -> None:
+    """If the journal does not read it: no variable, or one that names another file, or none."""
+    wanted = f"boothd: {UNRUN}{''.join(TEXTS)}"
+    for journal in ("", "1:2", "{}0", "{}:", "{}:1", ":", "no journal", "x" * 500):
+        got = said(folder, journal)
+        require(got == wanted, f"with {journal!r}: {got!r}")
+
+
+def a_line_for_the_journal_begins_with_its_priority(folder: str) -> None:
+    """Each line of a text has it, and none has the program's name."""
+    got = said(folder, "{}")
+    lines = "<3>bad site\n<3>error: one\n<3>usage: two\n<3>ends without a line feed\n"
+    require(got == f"<3>{UNRUN}{lines}", repr(got))
+
+
+def a_long_line_is_cut_for_the_journal_alone(folder: str) -> None:
+    """At 1,024 bytes with its end."""
+    path, text = f"{folder}/said", "x" * 120
+    for is_journal in (False, True):
+        with open(path, "wb") as errors:
+            own = os.fstat(errors.fileno())
+            stream = f"{own.st_dev}:{own.st_ino}" if is_journal else "1:2"
+            with Host(folder, surroundings(JOURNAL_STREAM=stream), errors) as host:
+                require(host.err(text * 10 + "\n"), "it is not written")
+        got = content(path)
+        wanted = f"<3>{(text * 10)[:1020]}\n" if is_journal else f"{text * 10}\n"
+        require(got == wanted, f"{len(got)} bytes")
+
+
+class Manager:
+    """A service manager's socket."""
+
+    def __init__(self, name: str) -> None:
+        self.socket = socket.socket(socket.AF_UNIX, socket.SOCK_DGRAM)
+        self.socket.bind(name)
+        self.socket.settimeout(5)
+
+    def told(self) -> str:
+        """Returns what it is told next, in five seconds."""
+        return self.socket.recv(4096).decode()
+
+    def all_told(self) -> List[str]:
+        """Returns what it was told, and did not take yet."""
+        told = []
+        self.socket.settimeout(0)
+        with contextlib.suppress(BlockingIOError):
+            while True:
+                told.append(self.told())
+        self.socket.settimeout(5)
+        return told
+
+
+@contextlib.contextmanager
+def manager(name: str) -> Iterator[Manager]:
+    """Gives a service manager whose socket has this name. One that begins with a zero is abstract."""
+    made = Manager(name)
+    with made.socket:
+        yield made
+
+
+def the_service_manager_is_told(folder: str) -> None:
+    """By a socket that is a file, and by one that has an abstract name; also of the longest path."""
+    long = f"{folder}/{'m' * (107 - len(folder) - 1)}"
+    for name, variable in ((f"{folder}/m", f"{folder}/m"), (long, long), (f"\0{folder}", f"@{folder}")):
+        with manager(name) as systemd, Host(folder, surroundings(NOTIFY_SOCKET=variable)) as host:
+            host.notify("READY=1")
+            host.notify("STATUS=it runs")
+            told = [systemd.told(), systemd.told()]
+            require(told == ["READY=1", "STATUS=it runs"], f"{variable}: {told}")
+
+
+def nobody_is_told_without_a_socket(folder: str) -> None:
+    """And nothing is said of that."""
+    path = f"{folder}/said"
+    with open(path, "wb") as errors, Host(folder, surroundings(), errors) as host:
+        host.notify("READY=1")
+        host.beat()
+    require(os.path.getsize(path) == 0, "something is said")
+
+
+def turns_are_told_once_a_second(folder: str) -> None:
+    """Or twice in the time that the environment says, if that is more often."""
+    for usec, often in (("", 1), ("60000000", 1), ("400000", 0.2)):
+        with manager(f"{folder}/{usec}m") as systemd:
+            names = {"NOTIFY_SOCKET": f"{folder}/{usec}m", **({"WATCHDOG_USEC": usec} if usec else {})}
+            with Host(folder, surroundings(**names)) as host:
+                end, told = time.monotonic() + 2.5 * often, []
+                while time.monotonic() < end:
+                    host.beat()
+                    told += systemd.all_told()
+                    time.sleep(0.02)
+        require(set(told) == {"WATCHDOG=1"} and len(told) in (2, 3), f"at {usec or 'no time'}: {told}")
+
+
+def a_service_manager_that_cannot_be_told_is_said_once(folder: str) -> None:
+    """One that is gone, one of another kind, and one that takes no more. Nobody waits for it."""
+    rows = (
+        (f"{folder}/gone", NO_FILE),
+        ("vsock:2:1", "NOTIFY_SOCKET names no socket"),
+        (f"{folder}/{'m' * (107 - len(folder))}", "NOTIFY_SOCKET names no socket"),
+        (f"{folder}/full", "Resource temporarily unavailable (os error 11)"),
+    )
+    path, started = f"{folder}/said", time.monotonic()
+    with manager(f"{folder}/full"):
+        for name, why in rows:
+            with open(path, "wb") as errors, Host(folder, surroundings(NOTIFY_SOCKET=name), errors) as host:
+                for _ in range(600):
+                    host.notify("READY=1")
+            got = content(path)
+            require(got == f"trials: cannot tell the service manager: {why}\n", f"{name}: {got!r}")
+    require(time.monotonic() - started < 30, "it is waited for")
+
+
+def a_program_has_no_socket_of_the_host(folder: str) -> None:
+    """A program of a handler has its three standard streams alone, also beside a service manager."""
+    write(f"{folder}/script", "ls /proc/self/fd | wc -l >seen\n")
+    with manager(f"{folder}/m"), Host(folder, surroundings(NOTIFY_SOCKET=f"{folder}/m")) as host:
+        require(host.open(), "it is not opened")
+        host.notify("READY=1")
+        require(host.start(1, "/bin/sh script") and over(host) == (1, 0), "it is not run")
+    require(content(f"{folder}/seen") == "4\n", "it has other files")
+
+
+CHECKS: Tuple[Callable[[str], None], ...] = (
+    a_line_begins_with_the_programs_name,
+    a_line_for_the_journal_begins_with_its_priority,
+    a_long_line_is_cut_for_the_journal_alone,
+    the_service_manager_is_told,
+    nobody_is_told_without_a_socket,
+    turns_are_told_once_a_second,
+    a_service_manager_that_cannot_be_told_is_said_once,
+    a_program_has_no_socket_of_the_host,
+)
