@@ -2,15 +2,21 @@
 # make build   proves boothd, booth, geostore and booth-follow, and leaves the programs below out/
 # make run     builds it, and shows three members on loopback and a service that follows its ticket: a crash, a takeover, a move
 # make check   the gate
+# make machines   as root, boots three machines with PostgreSQL and the package, and brings faults about on them
 # make install PREFIX=/usr/local DESTDIR=    programs, manual pages, completion, units, examples; and make uninstall
 # make deb     a Debian package of the same, at out/booth-proved_VERSION_amd64.deb
 
 PROGRAMS := boothd booth geostore booth-follow
 # what is written in Python, the modules of it, and what is run as python3 MODULE
-TOOLS := booth-status booth-record
-TOOL_MODULES := changes checking configuration ending exporting frames judging key_file lists looking problems \
-  record_file showing state_file timeline ways wording
-SERVICES := booth@.service booth-follow@.service
+TOOLS := booth-status booth-record booth-switchover booth-postgresql
+TOOL_MODULES := changes checking configuration ending exporting follow_checks frames judging key_file lists looking \
+  postgresql_finding postgresql_promotion postgresql_rebuilding postgresql_server postgresql_setup postgresql_showing \
+  postgresql_watching problems record_file service_problems service_state services showing state_file switching \
+  takeovers timeline ways wording
+# what is written in the shell, for operators; and what units, followers and daemons run
+SCRIPTS := booth-keygen booth-service
+HELPERS := $(notdir $(wildcard packaging/follow-*)) handler-follow clock-wait
+SERVICES := booth@.service booth-follow@.service booth-postgresql@.service
 VERSION := 0.2.0
 PREFIX ?= /usr/local
 SBIN := $(PREFIX)/sbin
@@ -20,6 +26,8 @@ USERS := $(PREFIX)/lib/sysusers.d
 COMPLETIONS := $(PREFIX)/share/bash-completion/completions
 DOCS := $(PREFIX)/share/doc/booth-proved
 MODULES := $(PREFIX)/share/booth-proved
+# (needrestart reads no other folder; below a prefix of one's own nothing is put there)
+SYSCONF ?= $(if $(filter /usr /usr/local,$(PREFIX)),/etc,$(PREFIX)/etc)
 PACKAGE := out/booth-proved_$(VERSION)_amd64.deb
 SOURCES := crates.txt HANDLES $(shell find crates/*/src crates/*/specs crates/*/proofs 2>/dev/null)
 # from the programs to the modules, so that what is installed below DESTDIR runs there too
@@ -29,7 +37,7 @@ NEEDS_RT := command -v rt >/dev/null || { echo 'make: $(NO_RT)' >&2; exit 1; }
 
 NEEDS_PYTHON := command -v python3 >/dev/null || { echo 'make: the command python3 is missing' >&2; exit 1; }
 
-.PHONY: try build run check install uninstall deb
+.PHONY: try build run check machines install uninstall deb
 
 build: $(PROGRAMS:%=out/%)
 
@@ -49,14 +57,20 @@ check:
 	@$(NEEDS_RT)
 	rt ci
 
+machines: $(PACKAGE)
+	@$(NEEDS_PYTHON)
+	@python3 tests/machines.py
+
 # what is installed, as TARGET:SOURCE:MODE
 INSTALLED := $(foreach program,$(PROGRAMS),$(SBIN)/$(program):out/$(program):755) \
-  $(foreach name,booth-keygen $(TOOLS),$(SBIN)/$(name):packaging/$(name):755) \
+  $(foreach name,$(SCRIPTS) $(TOOLS),$(SBIN)/$(name):packaging/$(name):755) \
   $(foreach name,$(TOOL_MODULES),$(MODULES)/$(name).py:tools/$(name).py:644) \
-  $(MODULES)/follow-unit:packaging/follow-unit:755 \
+  $(foreach name,$(HELPERS),$(MODULES)/$(name):packaging/$(name):755) \
+  $(MODULES)/service-state.sh:packaging/service-state.sh:644 \
+  $(SYSCONF)/needrestart/conf.d/booth.conf:packaging/needrestart.conf:644 \
   $(MODULES)/journal.conf:packaging/journal.conf:644 \
   $(foreach page,$(wildcard man/*.5 man/*.8),$(MAN)/man$(subst .,,$(suffix $(page)))/$(notdir $(page)):$(page):644) \
-  $(foreach program,$(PROGRAMS) $(TOOLS),$(COMPLETIONS)/$(program):packaging/booth.bash:644) \
+  $(foreach program,$(PROGRAMS) $(TOOLS) booth-service,$(COMPLETIONS)/$(program):packaging/booth.bash:644) \
   $(USERS)/booth.conf:packaging/booth.sysusers:644 \
   $(DOCS)/README.md:README.md:644 \
   $(DOCS)/copyright:packaging/copyright:644 \
@@ -70,15 +84,16 @@ install: build
 	  target=$${each%%:*}; rest=$${each#*:}; \
 	  install -D -m $${rest##*:} $${rest%%:*} "$(DESTDIR)$$target" || exit 1; \
 	  case $$target in \
-	    *.5 | *.8 | *.md) sed -i 's|/usr/share/doc/booth-proved|$(DOCS)|; s|/usr/share/booth-proved|$(MODULES)|' \
+	    *.5 | *.8 | *.md) sed -i 's|/usr/share/doc/booth-proved|$(DOCS)|g; s|/usr/share/booth-proved|$(MODULES)|g' \
 	      "$(DESTDIR)$$target" || exit 1 ;; \
-	    $(SBIN)/booth-status | $(SBIN)/booth-record) \
+	    $(SBIN)/booth-status | $(SBIN)/booth-record | $(SBIN)/booth-switchover | $(SBIN)/booth-postgresql) \
 	      sed -i 's|^MODULES = .*|MODULES = "$(TO_MODULES)"|' "$(DESTDIR)$$target" || exit 1 ;; \
+	    $(SBIN)/booth-service) sed -i 's|^SHARE=.*|SHARE="$(TO_MODULES)"|' "$(DESTDIR)$$target" || exit 1 ;; \
 	  esac; \
 	done
 	@install -d -m 755 "$(DESTDIR)$(UNITS)"
 	@for unit in $(SERVICES); do \
-	  sed 's|@SBIN@|$(SBIN)|; s|@SHARE@|$(MODULES)|' packaging/$$unit > "$(DESTDIR)$(UNITS)/$$unit" && \
+	  sed 's|@SBIN@|$(SBIN)|g; s|@SHARE@|$(MODULES)|g' packaging/$$unit > "$(DESTDIR)$(UNITS)/$$unit" && \
 	  chmod 644 "$(DESTDIR)$(UNITS)/$$unit" || exit 1; \
 	done
 
@@ -99,6 +114,7 @@ $(PACKAGE): build $(wildcard packaging/*)
 	@sed 's|@VERSION@|$(VERSION)|' packaging/control > out/deb/DEBIAN/control
 	@chmod 644 out/deb/DEBIAN/control
 	@install -m 755 packaging/postinst packaging/prerm packaging/postrm out/deb/DEBIAN
+	@install -m 644 packaging/conffiles out/deb/DEBIAN
 	@find out/deb/usr/share/man out/deb/usr/share/doc/booth-proved/changelog -type f -exec gzip -9n {} +
 	@dpkg-deb --root-owner-group --build out/deb $@
 

@@ -1,4 +1,4 @@
-# Completion in bash for boothd, booth, geostore, booth-follow, booth-status and booth-record.
+# Completion in bash for boothd, booth, geostore, booth-follow, booth-status, booth-record, booth-service and booth-switchover.
 
 # the file that -c names on this command line
 _booth_conf() {
@@ -82,16 +82,16 @@ _booth_offer_follow() {
   case $before in
     -c) _booth_configurations "$word"; return ;;
     -s) _booth_reply "$(_booth_values site)" "$word"; return ;;
-    -d) _booth_files -f -- "$word"; return ;;
+    -d | -e) _booth_files -f -- "$word"; return ;;
     -m | -k) return ;;
   esac
   if [[ $word == -* ]]; then
-    _booth_reply $'-c\n-s\n-d\n-m\n-k\n--help\n--version' "$word"
+    _booth_reply $'-c\n-s\n-d\n-e\n-m\n-k\n--help\n--version' "$word"
     return
   fi
   for ((i = 1; i < cword; i++)); do
     case ${words[i]} in
-      -[csdmk]) ((i++)) ;;
+      -[csdemk]) ((i++)) ;;
       -*) ;;
       *) ((plain++)) ;;
     esac
@@ -99,6 +99,43 @@ _booth_offer_follow() {
   case $plain in
     0) _booth_reply "$(_booth_values ticket)" "$word" ;;
     1) _booth_files -f -- "$word" ;;
+  esac
+}
+
+# What is offered for a word of booth-service: a command, and behind it a ticket of the cluster booth.
+_booth_offer_service() {
+  local word=${words[cword]}
+  if [[ $word == -* ]]; then
+    _booth_reply $'-h\n--help\n-V\n--version' "$word"
+  elif ((cword == 1)); then
+    _booth_reply $'pause\nresume\nclear\nshow' "$word"
+  elif ((cword == 2)); then
+    _booth_reply "$(_booth_values ticket)" "$word"
+  fi
+}
+
+# What is offered for a word of booth-switchover: a ticket, and behind it a site.
+_booth_offer_switchover() {
+  local i plain=0 word=${words[cword]} before=${words[cword - 1]}
+  case $before in
+    -c | --conf) _booth_configurations "$word"; return ;;
+    -s | --site) _booth_reply "$(_booth_values site)" "$word"; return ;;
+    -t | --timeout) return ;;
+  esac
+  if [[ $word == -* ]]; then
+    _booth_reply $'-c\n--conf\n-s\n--site\n-t\n--timeout\n-h\n--help\n-V\n--version' "$word"
+    return
+  fi
+  for ((i = 1; i < cword; i++)); do
+    case ${words[i]} in
+      -[cst] | --conf | --site | --timeout) ((i++)) ;;
+      -*) ;;
+      *) ((plain++)) ;;
+    esac
+  done
+  case $plain in
+    0) _booth_reply "$(_booth_values ticket)" "$word" ;;
+    1) _booth_reply "$(_booth_values site)" "$word" ;;
   esac
 }
 
@@ -170,6 +207,8 @@ _booth_complete() {
   case ${1##*/} in
     booth-status | booth-record) _booth_offer_tool "$1" ;;
     booth-follow) _booth_offer_follow ;;
+    booth-service) _booth_offer_service ;;
+    booth-switchover) _booth_offer_switchover ;;
     *) _booth_offer "$1" ;;
   esac
   # one goes on after a directory
@@ -178,4 +217,4 @@ _booth_complete() {
   return 0
 }
 
-complete -F _booth_complete boothd booth geostore booth-follow booth-status booth-record
+complete -F _booth_complete boothd booth geostore booth-follow booth-status booth-record booth-service booth-switchover

@@ -5,12 +5,15 @@ It is imported by tests/status.py, and not run by itself.
 
 import os
 import pwd
+import re
 import socket
 
+import follow_checks
 import key_file
 from look_stories import KEY, PORT, Three, all_of, well
+from service_stories import Machine
 from serving import built_program
-from status_runs import document, first_text, problems_of, require, require_same, run_apart, story
+from status_runs import TOP, document, first_text, problems_of, require, require_same, run_apart, story
 
 ROOT = 0
 # of a file without faults; a key comes with each
@@ -101,7 +104,9 @@ def what_is_in_the_file(folder):
     """defaults that are none, addresses that do not meet, a port that is too low, and times that leave no room"""
     checked, key = Checked(folder), f"authfile = {key_in(folder)}\n"
     many = "".join(f"ticket = t{number}\nexpire = 12\ntimeout = 1\nretries = 3\n" for number in range(64))
-    handler = "before-acquire-handler = /bin/true\n"
+    handler, short = "before-acquire-handler = /bin/true\n", "timeout = 1\nretries = 3\n"
+    # (for all tickets that a service here does not follow)
+    late = ("notice", "restart", None)
     cases = [
         (PLAIN + key + "ticket = __defaults__\nexpire = 60\n" + TICKET, {("critical", "defaults", "__defaults__")}),
         (PLAIN + key + "ticket = __default__\nexpire = 120\n" + TICKET, set()),
@@ -114,21 +119,28 @@ def what_is_in_the_file(folder):
         ("site = 224.0.0.9\nsite = 192.0.2.10\n" + key + TICKET, {("critical", "address", "224.0.0.9")}),
         ("site = 0.0.0.0\nsite = 192.0.2.10\n" + key + TICKET, {("critical", "address", "0.0.0.0")}),
         (PLAIN + key + "port = 929\n" + TICKET, {("warning", "port", None)}),
-        (PLAIN + key + TICKET + "expire = 62\nrenewal-freq = 57\n", {("warning", "tries", "db8")}),
-        (PLAIN + key + TICKET + "expire = 63\nrenewal-freq = 57\n", set()),
+        (PLAIN + key + TICKET + "expire = 62\nrenewal-freq = 57\n", {("warning", "tries", "db8"), late}),
+        (PLAIN + key + TICKET + "expire = 63\nrenewal-freq = 57\n", {late}),
+        # (from a renewal 10 s and 9 s of a lease are left; half of that is the margin, and a restart takes 5 s)
+        (PLAIN + key + TICKET + "expire = 70\nrenewal-freq = 60\n", set()),
+        (PLAIN + key + TICKET + "expire = 69\nrenewal-freq = 60\n", {late}),
+        (PLAIN + key + TICKET + short + "expire = 11\nrenewal-freq = 8\n", {late}),
+        (PLAIN + key + TICKET + short + "expire = 10\nrenewal-freq = 8\n", {("warning", "restart", "db8")}),
         (PLAIN + key + TICKET + "mode = manual\nexpire = 62\nrenewal-freq = 57\n", set()),
         (PLAIN + key + TICKET + handler + "expire = 110\nrenewal-freq = 56\n", {("warning", "handler", "db8")}),
         (PLAIN + key + TICKET + handler + "expire = 112\nrenewal-freq = 56\n", set()),
         # 64 renewals of six syncs of 10 ms take 3.84 s: more than a timeout, less than the 6 s that a lease runs on
-        (PLAIN + key + many, {("warning", "syncs", "t0")}),
+        (PLAIN + key + many, {("warning", "syncs", "t0"), late}),
         (PLAIN + TICKET, {("warning", "no-key", None)}),
     ]
     for text, wanted in cases:
         require_same(checked.kinds(text), wanted, f"{text!r}: ")
     # (those of 16 ms take 6.144 s, of 2.5 ms 0.96 s, and of 5.5 ms 2.112 s, where a lease runs on for 2 s)
-    late = many.replace("expire = 12", "expire = 14\nrenewal-freq = 12")
-    too_long = {("critical", "syncs", "t0")}
-    for text, millis, wanted in ((many, 16, too_long), (many, 2.5, set()), (late, 5.5, too_long)):
+    longer = many.replace("expire = 12", "expire = 14\nrenewal-freq = 12")
+    too_long = ("critical", "syncs", "t0")
+    restarts = {("warning", "restart", f"t{number}") for number in range(64)}
+    cases = ((many, 16, {too_long, late}), (many, 2.5, {late}), (longer, 5.5, {too_long, *restarts}))
+    for text, millis, wanted in cases:
         require_same(checked.kinds(PLAIN + key + text, "--sync", millis), wanted, f"syncs of {millis} ms: ")
 
 
@@ -206,3 +218,49 @@ def the_members_of_the_file(folder):
         require_same(found, keyless | {(severity, "clock", two), ("warning", "silent", third)})
         with well(three, key=key, ahead=15):
             require_same(checked.kinds(text, "--members"), keyless)
+
+
+@story
+def what_follows_a_ticket_here(folder):
+    """what follows a ticket here outlives a restart of daemon and follower, and its unit does not start by itself"""
+    for name in ("booth", "booth-follow"):
+        with open(f"{TOP}/packaging/{name}@.service", encoding="utf-8") as file:
+            seconds = re.search(r"^RestartSec=(\d+)$", file.read(), re.M)
+        require_same(seconds and int(seconds[1]), follow_checks.RESTART, f"RestartSec of {name}@: ")
+    machine, checked = Machine(folder), Checked(folder)
+    checked.path = os.path.join(folder, "booth.conf")
+    text = f"{PLAIN}authfile = {key_in(folder)}\n{TICKET}"
+    short = f"{text}expire = 69\nrenewal-freq = 60\n"
+    late, enabled = ("warning", "restart", "db8"), ("warning", "enabled", "db8")
+    unit = "/usr/share/booth-proved/follow-unit"
+    # the file's text, the follower's unit and its variables, which units the system starts, and what is told
+    cases = [
+        (short, None, None, {}, {("notice", "restart", None)}),
+        (short, "loaded inactive dead", None, {}, {late}),
+        (short, None, "", {}, {late}),
+        (short, None, "OPTIONS=-m 4 -k 2\n", {}, set()),
+        (short, None, "OPTIONS=-k 2 -m 5\n", {}, {late}),
+        (text, None, "OPTIONS=-m 296\n", {}, {late}),
+        (short, None, "CLUSTER=other\n", {"db8.service": "enabled"}, {("notice", "restart", None)}),
+        (text, None, None, {"db8.service": "enabled"}, set()),
+        (text, "loaded active running", None, {"db8.service": "enabled"}, {enabled}),
+        (text, None, "", {"db8.service": "disabled"}, set()),
+        (text, None, "", {"db8.service": "static"}, set()),
+        (text, None, f"PROGRAM={unit} web.service\n", {"db8.service": "enabled"}, set()),
+        (text, None, f'PROGRAM="{unit} web.service"\n', {"web.service": "enabled-runtime"}, {enabled}),
+        (text, None, "PROGRAM=/usr/bin/other web.service\n", {"web.service": "enabled"}, set()),
+    ]
+    for lines, follower, variables, starts, wanted in cases:
+        machine.unit(follower, "db8")
+        machine.drop("etc/follow/db8.env", "start.db8.service", "start.web.service")
+        if variables is not None:
+            machine.put("etc/follow/db8.env", variables)
+        for name, start in starts.items():
+            machine.put(f"start.{name}", f"{start}\n")
+        with machine.here():
+            found = checked.kinds(lines, programs=f"{checked.programs}:{machine.bin}")
+        require_same(found, wanted, f"{follower}, {variables}, {starts}: ")
+    machine.put("fails")
+    with machine.here():
+        found = checked.kinds(text, programs=f"{checked.programs}:{machine.bin}")
+    require_same(found, set(), "where systemd does not answer: ")

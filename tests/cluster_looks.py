@@ -13,6 +13,7 @@ import time
 import frames
 from cut_ways import CannotCut, cut
 from members import MANUAL, TICKET, Cluster, Times, remember, wait_for
+from service_stories import Machine
 from serving import boothd, own_addresses
 from status_runs import (
     SECONDS_OF_PYTHON,
@@ -384,6 +385,54 @@ def the_way_that_a_takeover_needs(clusters):
     return None
 
 
+def a_service_without_its_ticket(clusters):
+    """a holder whose service is stopped is critical, and so is a ticket that was held and was revoked"""
+    cluster = clusters.mute
+    one = cluster.members[0]
+    look, state = ["-c", cluster.path], f"{cluster.folder}/state"
+    machine = Machine(f"{cluster.folder}/machine", one.address)
+    machine.unit("loaded active running", NAME)
+    with machine.here():
+        machine.state("running", NAME)
+        require_same(shows(look, state=state)["tickets"][0]["service"]["shown"], "running here")
+        machine.state("stopped", NAME)
+        shows(look, critical("service-down", one.address, ticket=NAME), state=state)
+        require_same(one.about("CRvk"), "ok")
+        told = shows(look, critical("free", ticket=NAME), state=state)
+    require_same(first_text(told), f"{NAME}: nobody holds it, and {one.address} gave it back")
+
+
+def a_takeover(clusters):
+    """of a holder that ended it is told when its ticket is free and who is next, and that site takes it over then"""
+    cluster = clusters.mute
+    one, two, _ = cluster.members
+    look, state = ["-c", cluster.path, "-t", "0.8"], f"{cluster.folder}/state"
+    grants(cluster, 0, SECONDS_TO_BE_SO)
+    # (a site that was granted it again is believed by all from its first renewal on)
+    until = one.record().until
+    require(wait_for(lambda: one.record().until > until, SECONDS_TO_BE_SO), "it is not renewed")
+    shows(look, state=state)
+    one.kill()
+    told = document(*look, "-s", state)
+    form = f"{NAME}: its holder {one.address} does not answer: free at .*, {two.address} is next.*"
+    found = [each["text"] for each in told["problems"] if each["kind"] == "silent-owner"]
+    require(found and re.fullmatch(form, found[0]), told["summary"])
+    takeover, severities = told["tickets"][0]["takeover"], set()
+
+    def is_taken():
+        told = document(*look, "-s", state)
+        severities.update(each["severity"] for each in told["problems"] if each["kind"] == "free")
+        return told["tickets"][0]["owner"] == two.address
+
+    require(wait_for(is_taken, SECONDS_TO_BE_SO), "it is not taken over")
+    require(severities <= {"critical"}, f"while nobody held it: {severities}")
+    # (it is free by whole seconds, rounded up)
+    took = two.record().until - cluster.times.expire
+    require(takeover["free_at"] - 1 <= took, f"taken over at {took}, and {takeover}")
+    one.start(cluster.program, cluster.conf)
+    shows(look, notice("restarted", one.address), state=state)
+
+
 def nobody_held_twice(clusters):
     """no automatic ticket was held at two sites at one moment meanwhile"""
     for cluster in (clusters.plain, clusters.deaf, clusters.mute):
@@ -402,6 +451,8 @@ STORIES = (
     a_member_that_stopped_or_started,
     a_cut_link_of_a_holder,
     the_way_that_a_takeover_needs,
+    a_service_without_its_ticket,
+    a_takeover,
     nobody_held_twice,
 )
 

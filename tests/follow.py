@@ -14,7 +14,6 @@ import functools
 import io
 import multiprocessing
 import os
-import re
 import signal
 import stat
 import subprocess
@@ -143,13 +142,13 @@ def a_stop_that_hangs(cluster, services):
 
 @story
 def a_follower_that_is_killed(cluster, services):
-    """a follower that is killed"""
+    """a follower that is killed, and one that knows no end after it"""
     one, _ = begun(cluster, services)
     first = services.process(one)
     services.kill(one)
     time.sleep(1)
     require(services.process(one) == first, "the service ended with its follower")
-    passed("a follower that is killed leaves its service running, which is why the unit stops it then")
+    passed("a follower that is killed leaves its service running, which is why an end is armed for it")
     runs = len(services.words(one))
     services.follow(one)
     require(wait_for(lambda: len(services.words(one)) > runs, PATIENCE), "the program is not run")
@@ -161,6 +160,45 @@ def a_follower_that_is_killed(cluster, services):
     one_by_one = at_one()
     require(len(one_by_one) == 2 and one_by_one[1].first - one_by_one[0].last >= PAUSE, f"the service ran {one_by_one}")
     passed("the next follower finds it running, stops it first, and starts it anew after the pause")
+
+
+@story
+def a_service_that_is_taken_over(cluster, services):
+    """a follower that is killed, and one that takes the service over"""
+    one, two = begun(cluster, services)
+    first = services.process(one)
+    services.kill(one)
+    ends = lambda: [end for _, end in services.runs(one)]
+    services.follow(one, takes_over=True)
+    require(wait_for(lambda: "check" in services.words(one), PATIENCE), "the service is not looked for")
+    last = max(ends())
+    require(wait_for(lambda: max(ends()) > last, TIMES.expire), "no later end is armed")
+    time.sleep(TIMES.expire)
+    require(services.process(one) == first, "the service was not left running")
+    require(services.words(one) == ["stop", "start", "check"], f"it was run with {services.words(one)}")
+    passed("the next follower finds it running, and takes it over without a stop")
+    services.kill(one)
+    one.kill()
+    until = one.record().until
+    services.follow(one, takes_over=True)
+    left = stops_in_time(services, one, until)
+    passed(f"one that hears no list stops what it has taken over {left:.2f} s before the lease's end")
+    require(services.await_up(two, until - now() + PATIENCE), "the other site's service does not start")
+
+
+@story
+def an_end_that_cannot_be_armed(cluster, services):
+    """a service for which no later end can be armed"""
+    one, two = begun(cluster, services)
+    services.set("unarmed", one)
+    until = services.runs(one)[-1][1]
+    require(services.await_down(one, TIMES.expire + PATIENCE), "the service runs on")
+    last = max(spell.last for spell in services.spells() if spell.site == one.address)
+    require(last < until, f"the service wrote {last - until:.3f} s after the end that was armed")
+    passed(f"a service whose lease is renewed, and for which no end can be armed, is stopped {until - last:.2f} s before the last one")
+    require(not services.is_up(two), "the other site's service starts while the lease is renewed")
+    os.remove(services.path("unarmed", one))
+    require(services.await_up(one, PAUSE + PATIENCE), "it is not started once an end can be armed")
 
 
 @story
@@ -183,18 +221,8 @@ def a_ticket_that_is_moved(cluster, services):
 # ---- what is refused, and examples
 
 STAND_INS = {
-    "systemctl": '#!/bin/sh\necho "systemctl $*" >>{notes}\n',
-    "crm_ticket": '#!/bin/sh\necho "crm_ticket $*" >>{notes}\n',
+    "crm_ticket": '#!/bin/sh\necho "crm_ticket $*" >>{notes}\n[ "$3" != --get-attr ] || cat {granted}\n',
     "crm_resource": '#!/bin/sh\necho "crm_resource $*" >>{notes}\n',
-    # (a server of which only its files are seen: it runs where postmaster.pid is there)
-    "pg_ctl": """#!/bin/sh
-echo "pg_ctl $*" >>{notes}
-case $3 in
-  status) [ -e "$2/postmaster.pid" ] || exit 3 ;;
-  promote) rm "$2/standby.signal" ;;
-  stop) rm "$2/postmaster.pid" ;;
-esac
-""",
 }
 
 
@@ -203,79 +231,41 @@ class Examples:
 
     def __init__(self, folder):
         self.folder = folder
-        self.notes = f"{folder}/notes"
+        self.notes, self.granted = f"{folder}/notes", f"{folder}/granted"
         for name, text in STAND_INS.items():
             path = f"{folder}/{name}"
             with open(path, "w", encoding="ascii") as file:
-                file.write(text.format(notes=self.notes))
+                file.write(text.format(notes=self.notes, granted=self.granted))
             os.chmod(path, stat.S_IRWXU)
 
     def run(self, script, *words):
         """The status of a script with these words, and what it called."""
         with open(self.notes, "w", encoding="ascii"):
             pass
-        env = {**os.environ, "PATH": f"{self.folder}:{os.environ['PATH']}", "AS_POSTGRES": "", "BOOTH_TICKET": "db8"}
+        env = {**os.environ, "PATH": f"{self.folder}:{os.environ['PATH']}", "BOOTH_TICKET": "db8"}
         status = subprocess.run([f"{TOP}/{script}", *words], env=env, capture_output=True).returncode
         with open(self.notes, encoding="ascii") as file:
             return status, file.read().splitlines()
 
 
-def unit_and_pacemaker(examples):
-    """the programs for a unit and for Pacemaker do what they say"""
+def pacemaker(examples):
+    """the program for Pacemaker does what it says"""
     settles = ["crm_ticket --ticket db8 --revoke --force", "crm_resource --wait --timeout=300s"]
-    kills = ["--no-block stop db8.service", "kill --signal=SIGKILL db8.service", "stop db8.service"]
+    asks = ["crm_ticket --ticket db8 --get-attr granted"]
     rows = [
-        ("packaging/follow-unit", ("db8.service", "start"), ["systemctl start db8.service"]),
-        ("packaging/follow-unit", ("db8.service", "stop"), ["systemctl stop db8.service"]),
-        ("packaging/follow-unit", ("db8.service", "kill"), [f"systemctl {words}" for words in kills]),
-        ("examples/follow-pacemaker", ("start",), ["crm_ticket --ticket db8 --grant --force"]),
-        ("examples/follow-pacemaker", ("stop",), settles),
-        ("examples/follow-pacemaker", ("kill",), settles),
+        ("true", "check", 0, asks),
+        ("false", "check", 3, asks),
+        ("", "check", 1, asks),
+        ("", "start", 0, ["crm_ticket --ticket db8 --grant --force"]),
+        ("", "stop", 0, settles),
+        ("", "kill", 0, settles),
+        ("", "go", 2, []),
     ]
-    for script, words, calls in rows:
-        got = examples.run(script, *words)
-        require(got == (0, calls), f"{script} {words}: {got}")
-    for script, words in (("packaging/follow-unit", ("db8.service", "go")), ("examples/follow-pacemaker", ("go",))):
-        require(examples.run(script, *words)[0] == 2, f"{script} takes another word")
-
-
-def postgresql(examples):
-    """a server of PostgreSQL is promoted once, shut down, and not promoted again before it is rewound"""
-    script, data = "examples/follow-postgresql", f"{examples.folder}/data"
-    os.makedirs(data)
-    for name in ("standby.signal", "postmaster.pid"):
-        with open(f"{data}/{name}", "w", encoding="ascii"):
-            pass
-    require(examples.run(script, data, "stop") == (0, []), "a standby is stopped")
-    status, calls = examples.run(script, data, "start")
-    require(status == 0 and calls[-1] == f"pg_ctl -D {data} promote -w -t 3600", f"a start: {status}, {calls}")
-    status, calls = examples.run(script, data, "stop")
-    require(status == 0 and calls[-1] == f"pg_ctl -D {data} stop -m fast -w -t 3600", f"a stop: {status}, {calls}")
-    again = examples.run(script, data, "stop")
-    require(again == (0, [f"pg_ctl -D {data} status"]), f"a server that is down is stopped again: {again}")
-    require(examples.run(script, data, "start") == (1, []), "a server that was the primary is promoted again")
-    with open(f"{data}/postmaster.pid", "w", encoding="ascii"):
-        pass
-    status, calls = examples.run(script, data, "kill")
-    require(status == 0 and calls[-1] == f"pg_ctl -D {data} stop -m immediate -w -t 3600", f"a kill: {status}, {calls}")
-
-
-def unit_stops(folder):
-    """what the unit runs after each end stops the service, and kills it where that fails or hangs"""
-    with open(f"{TOP}/packaging/booth-follow@.service", encoding="utf-8") as file:
-        line = re.search(r"^ExecStopPost=/bin/sh -c '(.*)'$", file.read(), re.M)[1].replace("$$", "$")
-    program, notes = f"{folder}/service", f"{folder}/ran"
-    killed = "fast stop fast kill"
-    for how, words in (("exit 0", "fast stop"), ("exit 1", killed), ("exec sleep 100", killed)):
-        with open(program, "w", encoding="ascii") as file:
-            file.write(f'#!/bin/sh\necho "$*" >>{notes}\n[ "$2" = kill ] || {how}\n')
-        os.chmod(program, stat.S_IRWXU)
-        env = {**os.environ, "PROGRAM": f"{program} fast", "STOP_SECONDS": "1"}
-        status = subprocess.run(["/bin/sh", "-c", line], env=env, timeout=PATIENCE).returncode
-        with open(notes, encoding="ascii") as file:
-            ran = " ".join(file.read().split())
-        require((status, ran) == (0, words), f"a program with {how}: {status}, {ran}")
-        os.remove(notes)
+    for granted, word, status, calls in rows:
+        with open(examples.granted, "w", encoding="ascii") as file:
+            file.write(granted)
+        got = examples.run("examples/follow-pacemaker", word)
+        require(got == (status, calls), f"{word} where the ticket is granted: {granted}: {got}")
 
 
 # words, and what is said of them
@@ -339,7 +329,9 @@ def outcome(place, programs):
                     function(cluster, services)
                     require(not services.overlaps(), f"two services overlapped: {services.overlaps()}")
                     require(not cluster.watch.wrong, f"two held at one moment: {cluster.watch.wrong[:3]}")
-                    require(not (said := services.said()), f"a follower said {said}")
+                    said = services.said().splitlines()
+                strange = [line for line in said if not line.startswith(b"booth-follow: ")]
+                require(said and not strange, f"the followers said {strange or said}")
             passed(f"no two services overlapped ({function.__doc__})")
             passes = True
         except Exception as why:  # (whatever it is, the other stories are told)
@@ -363,9 +355,7 @@ def run(programs):
     failed, started = 0, time.monotonic()
     with tempfile.TemporaryDirectory(prefix="booth-examples-") as folder:
         examples = Examples(folder)
-        failed += not checked(unit_and_pacemaker, examples)
-        failed += not checked(postgresql, examples)
-        failed += not checked(unit_stops, folder)
+        failed += not checked(pacemaker, examples)
     with tempfile.TemporaryDirectory(prefix="booth-refused-") as folder:
         failed += not checked(words_are_refused, programs[2], folder)
     with multiprocessing.get_context("fork").Pool(len(stories)) as pool:
@@ -374,7 +364,7 @@ def run(programs):
             failed += not passes
         pool.close()
         pool.join()
-    took, all_checks = time.monotonic() - started, len(stories) + 4
+    took, all_checks = time.monotonic() - started, len(stories) + 2
     print(f"follow: {all_checks - failed} passed, {failed} failed, in {took:.1f} s ({programs[2]})")
     return failed
 

@@ -39,9 +39,12 @@ PROGRAMS = {
 }
 SERVICES = ("booth@.service", "booth-follow@.service")
 # what starts and stops a service that is no unit
-EXAMPLES = ("postgresql", "pacemaker")
-# how exposed the service may be at most, as `systemd-analyze security` counts it
-MOST_EXPOSED = 2.0
+EXAMPLES = ("pacemaker",)
+# what units, followers and daemons run
+HELPERS = ("follow-service", "follow-unit", "follow-postgresql", "handler-follow", "clock-wait")
+NEEDRESTART = "etc/needrestart/conf.d/booth.conf"
+# how exposed each service may be at most, as `systemd-analyze security` counts it, in the order of OPERATING.md
+MOST_EXPOSED = {"booth-follow@": 4.9, "booth@": 2.0}
 # how long the walk through the first cluster may take
 SECONDS_OF_A_WALK = 120
 
@@ -154,7 +157,8 @@ def installs_and_uninstalls(room):
     named += [f"usr/lib/systemd/system/{name}" for name in SERVICES]
     named += ["usr/share/booth-proved/journal.conf", "usr/share/booth-proved/timeline.py"]
     named += [f"usr/share/doc/booth-proved/{name}" for name in ("AUDIT.md", "JOURNAL.md", "incident.svg")]
-    named += ["usr/share/booth-proved/follow-unit", *(f"usr/share/doc/booth-proved/examples/follow-{name}" for name in EXAMPLES)]
+    named += [NEEDRESTART, *(f"usr/share/booth-proved/{name}" for name in HELPERS)]
+    named += [f"usr/share/doc/booth-proved/examples/follow-{name}" for name in EXAMPLES]
     for name in (*named, "usr/lib/sysusers.d/booth.conf"):
         need(name in there, f"{name} is missing")
     version = re.search(r"^VERSION := (\S+)$", read(f"{TOP}/Makefile"), re.M)[1]
@@ -169,7 +173,14 @@ def installs_and_uninstalls(room):
     for name in SERVICES:
         unit = read(f"{room}/root/usr/lib/systemd/system/{name}")
         need(not re.search("@[A-Z]+@", unit), f"{name} has a word that is not replaced")
-    need(os.access(f"{room}/root/usr/share/booth-proved/follow-unit", os.X_OK), "follow-unit is no program")
+    for name in HELPERS:
+        need(os.access(f"{room}/root/usr/share/booth-proved/{name}", os.X_OK), f"{name} is no program")
+    state = {**os.environ, "BOOTH_FOLLOW_RUN": f"{room}/state"}
+    os.makedirs(state["BOOTH_FOLLOW_RUN"])
+    with open(f"{room}/state/db8.state", "w", encoding="ascii") as file:
+        file.write("service=failed\nfailed_starts=3\n")
+    done = run(f"{room}/root/usr/sbin/booth-service", "clear", "db8", env=state)
+    need(done.returncode == 0 and "service=stopped" in read(f"{room}/state/db8.state"), f"the installed booth-service: {done.stderr}")
     shutil.copytree(f"{room}/root", f"{room}/kept")
     make("uninstall", f"DESTDIR={room}/root", "PREFIX=/usr")
     need(not files_below(f"{room}/root"), f"left: {files_below(f'{room}/root')}")
@@ -228,18 +239,22 @@ def unit_is_sound(room):
 
 
 def unit_is_confined(room):
-    """the service is as little exposed as OPERATING.md says"""
+    """the daemon and the follower are as little exposed as OPERATING.md says"""
     if not shutil.which("systemd-analyze"):
         return "systemd-analyze is not here"
-    done = run("systemd-analyze", "security", "--offline=true", "--no-pager", unit_in(room, "confined"))
-    if "offline" in done.stderr:
-        return "this systemd-analyze judges no file"
-    found = re.search(r"exposure level for \S+: ([0-9.]+)", done.stdout)
-    need(found, done.stderr.strip() or "it tells no exposure")
-    need(float(found[1]) <= MOST_EXPOSED, f"its exposure is {found[1]}")
-    written = re.search(r"exposure of \*\*([0-9.]+)\*\*", read(f"{TOP}/docs/OPERATING.md"))
-    # (another version of systemd may count a little differently)
-    need(written and abs(float(written[1]) - float(found[1])) <= 0.3, f"{found[1]}, and not what OPERATING.md says")
+    unit = unit_in(room, "confined")
+    written = re.findall(r"exposure of \*\*([0-9.]+)\*\*", read(f"{TOP}/docs/OPERATING.md"))
+    for number, (name, most) in enumerate(MOST_EXPOSED.items()):
+        path = unit.replace("booth@", name)
+        done = run("systemd-analyze", "security", "--offline=true", "--no-pager", path)
+        if "offline" in done.stderr:
+            return "this systemd-analyze judges no file"
+        found = re.search(r"exposure level for \S+: ([0-9.]+)", done.stdout)
+        need(found, done.stderr.strip() or "it tells no exposure")
+        need(float(found[1]) <= most, f"the exposure of {name} is {found[1]}")
+        # (another version of systemd may count a little differently)
+        is_told = number < len(written) and abs(float(written[number]) - float(found[1])) <= 0.3
+        need(is_told, f"{found[1]} of {name}, and not what OPERATING.md says")
     return None
 
 
@@ -296,6 +311,7 @@ def package_is_whole(room):
     need(run("dpkg-deb", "-e", built, f"{room}/scripts").returncode == 0, "its scripts are not unpacked")
     for name in ("postinst", "prerm", "postrm"):
         need(run("sh", "-n", f"{room}/scripts/{name}").returncode == 0, f"{name} is no program of the shell")
+    need(read(f"{room}/scripts/conffiles") == f"/{NEEDRESTART}\n", "what is below /etc is no file of a configuration")
     wanted = re.search(r"^ *Depends: libc6 \(>= 2\.(\d+)\)$", told, re.M)
     need(wanted, f"it does not say which C library it needs: {told}")
     for program in PROGRAMS:
@@ -345,7 +361,8 @@ def package_comes_and_goes(room):
     need(os.path.isdir(f"{root}/etc/booth"), "/etc/booth was not made")
     need(re.search("^booth:", read(f"{root}/etc/passwd"), re.M), "the user booth was not made")
     asks_in(f"{root}/usr", f"{room}/asked")
-    done = run(*dpkg, "--remove", "booth-proved", env=env)
+    # (to remove it leaves the file of needrestart, as any configuration)
+    done = run(*dpkg, "--purge", "booth-proved", env=env)
     need(done.returncode == 0, done.stdout + done.stderr)
     left = [name for name in files_below(root) if "booth" in name and not name.startswith("var/lib/dpkg/")]
     need(not left, f"left: {left}")

@@ -1,4 +1,4 @@
-"""What tests/installed.py holds booth-status and booth-record to: their pages, and that they run where they are put.
+"""What tests/installed.py holds the programs in Python and in the shell to: their pages, and that they run where they are put.
 
 It is imported by tests/installed.py, and not run by itself. tests/status.py has what they show.
 """
@@ -11,12 +11,12 @@ from records import slot
 from shells import need, read, run
 
 TOP = os.path.dirname(os.path.dirname(os.path.abspath(__file__)))
-# what is written in Python: all of it is there whatever is built
-TOOLS = ("booth-status", "booth-record")
+# what is written in Python, and in the shell: all of it is there whatever is built
+TOOLS = ("booth-status", "booth-record", "booth-switchover", "booth-service")
 
 
 def pages_have_all_options_of_tools(room):
-    """the page of booth-status and of booth-record has each option of its help, and no other, and both fit a screen"""
+    """the page of each program that is not proved has each option of its help, and no other, and each help fits a screen"""
     version = re.search(r"^VERSION := (\S+)$", read(f"{TOP}/Makefile"), re.M)[1]
     for name in TOOLS:
         path = f"{TOP}/packaging/{name}"
@@ -36,7 +36,8 @@ def pages_have_all_options_of_tools(room):
 def run_alone(folder):
     """The tools in this folder run with nothing of the repository, from another directory."""
     for name in TOOLS:
-        need("../tools" not in read(f"{folder}/{name}"), f"the installed {name} names the repository")
+        is_moved = not any(place in read(f"{folder}/{name}") for place in ("../tools", "\nSHARE=.\n"))
+        need(is_moved, f"the installed {name} names the repository")
         done = run(f"{folder}/{name}", "--version", cwd="/", env={"PATH": "/usr/bin"})
         need(done.returncode == 0 and not done.stderr, f"the installed {name}: {done.stderr}")
 

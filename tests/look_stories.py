@@ -42,13 +42,13 @@ ADDRESSES = itertools.cycle(own_addresses())
 class Three:
     """Two sites and an arbitrator that are arranged, with `web`, which moves by itself, and `db`, which does not."""
 
-    def __init__(self, folder, addresses=None, authfile="", skew=600):
+    def __init__(self, folder, addresses=None, authfile="", skew=600, name=None, more=""):
         self.one, self.two, self.third = self.addresses = addresses or [next(ADDRESSES) for _ in range(3)]
-        self.path = os.path.join(folder, f"{self.one}.conf")
+        self.path = os.path.join(folder, f"{name or self.one}.conf")
         with open(self.path, "w", encoding="ascii") as file:
             file.write(f"port = {PORT}\nsite = {self.one}\nsite = {self.two}\narbitrator = {self.third}\n{authfile}")
             file.write(f"maxtimeskew = {skew}\n")
-            file.write("ticket = web\nexpire = 60\ntimeout = 5\nretries = 3\nticket = db\nmode = manual\n")
+            file.write(f"ticket = web\nexpire = 60\ntimeout = 5\nretries = 3\n{more}ticket = db\nmode = manual\n")
         self.now = int(time.time())
 
     def roles(self):
@@ -139,7 +139,7 @@ def about(value, low, high):
     return value is not None and low <= value <= high
 
 
-FIELDS = "version configuration time seconds status summary members tickets problems".split()
+FIELDS = "version configuration time seconds status summary members site tickets problems".split()
 
 
 def due_member(three, address, never, web, until):
@@ -217,9 +217,11 @@ def every_field_of_the_document(folder):
     require_same([seen.pop("seconds_left") is None for seen in web["seen"]], [False, True])
     seen = [{"owner": one, "until": three.now + 50, "members": [one, third]}]
     seen.append({"owner": None, "until": None, "members": [two]})
-    require_same(web, {"name": "web", "mode": "auto", "owner": one, "owners": [one], "seen": seen})
+    unknown = {"takeover": None, "service": None}
+    require_same(web, {"name": "web", "mode": "auto", "owner": one, "owners": [one], "seen": seen, **unknown})
     seen = [{"owner": two, "until": None, "seconds_left": None, "members": [two, one, third]}]
-    require_same(db, {"name": "db", "mode": "manual", "owner": two, "owners": [two], "seen": seen})
+    require_same(db, {"name": "db", "mode": "manual", "owner": two, "owners": [two], "seen": seen, **unknown})
+    require_same(told["site"], None)
     # (the third was sent nothing by the second, which never heard it)
     require_problems(told, warning("differ", ticket="web"), warning("one-way", two, third))
     require_same(told["summary"], f"BOOTH WARNING: {'; '.join(problem['text'] for problem in told['problems'])}")

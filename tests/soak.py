@@ -36,8 +36,8 @@ TAKEOVERS, CLUSTERS, SEED = 200, 8, 1
 # as short as a follower takes them: `renewal-freq`, 2 seconds and the margin are `expire`
 TIMES = Times(expire=9, timeout=1, retries=3, renewal=5)
 MARGIN, KILL = 2, 1
-# what the unit does: a stop, a kill where that takes longer, and the next follower
-STOP_SECONDS, SECONDS_TO_FOLLOW = 1, 2
+# how long after its end the unit starts a follower again
+SECONDS_TO_FOLLOW = 1
 # (many clusters run side by side, and each look takes a processor)
 members.SECONDS_BETWEEN_LOOKS = 0.03
 
@@ -128,12 +128,11 @@ class Scene:
         return kind, lambda: self.mend(holder)
 
     def unit_follows_anew(self, holder):
-        """The follower dies, and its unit stops the service, and starts another one two seconds later."""
+        """The follower dies, and its unit starts another one a second later, which takes the service over."""
         time.sleep(self.draw.uniform(0, 1))
         self.services.kill(holder)
-        self.services.run(holder, "stop")
         time.sleep(SECONDS_TO_FOLLOW)
-        self.services.follow(holder)
+        self.services.follow(holder, takes_over=True)
 
     def mend(self, holder):
         for name in ("slow", "hangs"):

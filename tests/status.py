@@ -21,6 +21,7 @@ import cluster_looks
 import configuration_stories
 import look_stories
 import record_stories
+import service_stories
 import way_stories
 from serving import NotServing, built_program, end_by_signals
 from status_runs import Wrong, in_time, stories

@@ -1,11 +1,11 @@
-"""Which counters rose since the last look.
+"""Which counters rose since the last look, and who held a ticket then.
 
 It is imported by what booth-status is made of, and not run by itself.
 """
 
-from typing import Dict, NamedTuple
+from typing import Dict, NamedTuple, Optional
 
-from lists import Peer
+from lists import Counts, Peer
 
 
 class Rise(NamedTuple):
@@ -22,6 +22,21 @@ class Change(NamedTuple):
     restarted: bool
     dropped: Dict[str, int]
     peers: Dict[str, Rise]
+
+
+class Holding(NamedTuple):
+    """Who held a ticket when it was last held, the second in which that lease ends, and whether it was given back."""
+
+    owner: str
+    end: Optional[int]
+    gave_back: bool = False
+
+
+class Memory(NamedTuple):
+    """What is remembered of looks: the counters of members by their addresses, and the holders of tickets."""
+
+    counts: Dict[str, Counts]
+    held: Dict[str, Holding]
 
 
 def counters(peer):
@@ -49,11 +64,13 @@ def since(before, answers):
     changed = {}
     for answer in answers:
         address = answer.member.address
-        if before and answer.counts and address in before:
-            changed[address] = change_of(before[address], answer.counts)
+        if before and answer.counts and address in before.counts:
+            changed[address] = change_of(before.counts[address], answer.counts)
     return changed
 
 
-def remembered(before, answers):
-    """What is remembered of this look; of a member that does not answer, what was remembered."""
-    return {**(before or {}), **{answer.member.address: answer.counts for answer in answers if answer.counts}}
+def remembered(before: Optional[Memory], answers, held: Dict[str, Holding]) -> Memory:
+    """What is remembered of this look, in which these are held; of what is silent now, what was remembered."""
+    counts, known = before or Memory({}, {})
+    new = {answer.member.address: answer.counts for answer in answers if answer.counts}
+    return Memory({**counts, **new}, {**known, **held})

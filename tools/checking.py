@@ -13,6 +13,7 @@ import sys
 import tempfile
 
 import configuration
+import follow_checks
 import key_file
 import looking
 from problems import CRITICAL, NOTICE, WARNING, WORDS, Problem
@@ -40,6 +41,7 @@ def status_of(options):
     try:
         conf = configuration.read(path)
         found += [*defaults(conf), *families(conf), *times(conf, options.sync or SYNC_MILLIS), *key_file.problems(conf)]
+        found += follow_checks.problems(conf)
         if options.members:
             found += of_members(conf, options.timeout)
     except configuration.Unreadable as why:

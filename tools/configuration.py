@@ -8,7 +8,7 @@ import ipaddress
 import os
 import re
 import stat
-from typing import List, NamedTuple, Optional
+from typing import List, NamedTuple, Optional, Tuple
 
 import frames
 
@@ -65,6 +65,8 @@ class Ticket(NamedTuple):
     retries: int
     renewal: float
     handler: Optional[str]
+    # of the members, in their order; a missing one is 0
+    weights: Tuple[int, ...] = ()
 
     def promise(self):
         """How long a member keeps a promise, and answers no election after a start."""
@@ -120,6 +122,11 @@ def key_of(path):
         return frames.key_in(bytes_of(path, KEY_FILE_BYTES))
     except ValueError as why:
         raise Unreadable(f"{path}: {why}") from why
+
+
+def weight_of(text: str) -> int:
+    """One of the weights of a ticket. (boothd refuses what is none.)"""
+    return int(text) if NUMBER.fullmatch(text.strip()) else 0
 
 
 class Reading:
@@ -186,7 +193,8 @@ class Reading:
         expire = said["expire"]
         renewal = expire / 2 if said["renewal-freq"] is None else said["renewal-freq"]
         times = (expire, said["acquire-after"], said["timeout"], said["retries"], renewal)
-        return Ticket(name, said.get("mode", False), *times, said.get("before-acquire-handler"))
+        weights = tuple(map(weight_of, said["weights"].split(","))) if "weights" in said else ()
+        return Ticket(name, said.get("mode", False), *times, said.get("before-acquire-handler"), weights)
 
 
 def read(path):

@@ -5,8 +5,14 @@ booth-status(8) states both forms. It is imported by booth-status, and not run b
 
 import json
 
+from typing import Any, Dict, Iterator, Optional, Tuple
+
 import looking
-from problems import WORDS
+from problems import NOTICE, WORDS
+from service_problems import seconds_to_kill, shown
+from service_state import RUNNING
+from services import Service
+from takeovers import Takeover
 
 # the version of the document: a field more leaves it as it is, and any other change raises it
 VERSION = 1
@@ -51,13 +57,37 @@ def of_held(answer, held):
     return {"name": held.ticket, "owner": held.owner, "until": held.end or None, "seconds_left": left}
 
 
-def of_ticket(view):
+def of_service(service: Optional[Service]) -> Optional[Dict[str, Any]]:
+    """The service of a ticket on this machine, or None where nothing follows it here."""
+    if service is None:
+        return None
+    told = {"shown": shown(service), "follower": service.lives, "why": service.why or None}
+    state = service.state
+    return {
+        **told,
+        "state": state and state.service,
+        "seconds": state and seconds(service.now - state.since),
+        "paused": state and state.is_paused,
+        "failed_starts": state and state.failed_starts,
+        "until": (state.ends or None) if state else None,
+        "seconds_to_kill": seconds(seconds_to_kill(service)),
+    }
+
+
+def of_takeover(takeover: Optional[Takeover]) -> Optional[Dict[str, Any]]:
+    """The takeover of a ticket that may come, or None."""
+    return takeover and {"free_at": takeover.free_at, "next": takeover.next, "due": takeover.is_due}
+
+
+def of_ticket(view, whole):
     seen = []
     for each in view.seen:
         left = None if each.left is None else seconds(max(0, each.left))
         seen.append({"owner": each.owner, "until": each.end, "seconds_left": left, "members": each.members})
-    mode = "manual" if view.ticket.is_manual else "auto"
-    return {"name": view.ticket.name, "mode": mode, "owner": view.owner(), "owners": view.owners(), "seen": seen}
+    name, mode = view.ticket.name, "manual" if view.ticket.is_manual else "auto"
+    told = {"name": name, "mode": mode, "owner": view.owner(), "owners": view.owners(), "seen": seen}
+    told["takeover"] = of_takeover(whole.takeovers.get(name))
+    return {**told, "service": of_service(whole.here.services.get(name))}
 
 
 def of_problem(problem):
@@ -74,7 +104,8 @@ def document(view, line):
         "status": view.status(),
         "summary": line,
         "members": [of_member(answer, view.changed) for answer in view.answers],
-        "tickets": [of_ticket(ticket) for ticket in view.tickets],
+        "site": view.here.site,
+        "tickets": [of_ticket(ticket, view) for ticket in view.tickets],
         "problems": [of_problem(problem) for problem in view.problems],
     }
     return json.dumps(told)
@@ -100,6 +131,15 @@ HELP = {
     "booth_ticket_views": ("gauge", "In how many ways the members that answer see the ticket"),
     "booth_ticket_holder": ("gauge", "1 for the holder that a member sees"),
     "booth_ticket_left_seconds": ("gauge", "How long the lease runs on as a member sees it"),
+    "booth_ticket_takeover_seconds": ("gauge", "In how long another site may take over what is not renewed"),
+    "booth_ticket_problem": ("gauge", "1 for a warning about the ticket, 2 where it is critical, by what is wrong"),
+    "booth_follower_up": ("gauge", "1 where a follower of the ticket lives on this machine"),
+    "booth_service_running": ("gauge", "1 where the service of the ticket runs on this machine"),
+    "booth_service_state": ("gauge", "1 for the state of the ticket's service on this machine"),
+    "booth_service_state_seconds": ("gauge", "For how long the service has been in that state"),
+    "booth_service_paused": ("gauge", "1 where the service is paused on this machine"),
+    "booth_service_failed_starts": ("gauge", "How many starts of the service in a row have failed on this machine"),
+    "booth_service_kill_seconds": ("gauge", "In how long the service is killed, unless the lease is renewed"),
 }
 
 
@@ -146,6 +186,34 @@ def samples_of_ticket(view, answers):
                     yield sample("booth_ticket_left_seconds", seconds(max(0, held.end - answer.clock)), **labels)
 
 
+def samples_of_service(service: Service) -> Iterator[Tuple[str, str]]:
+    """What is measured of a service of this machine."""
+    name, state = service.ticket, service.state
+    if service.lives is not None:
+        yield sample("booth_follower_up", int(service.lives), ticket=name)
+    if state is None:
+        return
+    yield sample("booth_service_running", int(state.service == RUNNING), ticket=name)
+    yield sample("booth_service_state", 1, ticket=name, state=state.service)
+    yield sample("booth_service_state_seconds", seconds(service.now - state.since), ticket=name)
+    yield sample("booth_service_paused", int(state.is_paused), ticket=name)
+    yield sample("booth_service_failed_starts", state.failed_starts, ticket=name)
+    left = seconds_to_kill(service)
+    if left is not None:
+        yield sample("booth_service_kill_seconds", seconds(left), ticket=name)
+
+
+def samples_of_problems(view) -> Iterator[Tuple[str, str]]:
+    """What is wrong with tickets, the worst of each kind."""
+    worst: Dict[Tuple[str, str], int] = {}
+    for problem in view.problems:
+        if problem.ticket is not None and problem.severity > NOTICE:
+            key = problem.ticket, problem.kind
+            worst[key] = max(problem.severity, worst.get(key, NOTICE))
+    for (name, kind), severity in worst.items():
+        yield sample("booth_ticket_problem", severity, ticket=name, kind=kind)
+
+
 def metrics(view):
     """The text for the node exporter, each metric with its lines together."""
     samples = [
@@ -158,6 +226,11 @@ def metrics(view):
         samples.append(sample("booth_problems", count, severity=word))
     samples += [each for answer in view.answers for each in samples_of_member(answer)]
     samples += [each for ticket in view.tickets for each in samples_of_ticket(ticket, view.answers)]
+    for name, takeover in view.takeovers.items():
+        left = seconds(max(0, takeover.free_at - view.moment))
+        samples.append(sample("booth_ticket_takeover_seconds", left, ticket=name))
+    samples += samples_of_problems(view)
+    samples += [each for service in view.here.services.values() for each in samples_of_service(service)]
     lines = []
     for name, (kind, what) in HELP.items():
         of_name = [line for found, line in samples if found == name]

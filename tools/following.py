@@ -14,7 +14,8 @@ from members import TICKET, wait_for
 from serving import written
 
 # A service: a line with its time, its site and its process, ten times a second, into a file of all sites. What is to go
-# wrong with it a file says: how long a stop takes, or that it never ends.
+# wrong with it a file says: how long a stop takes, or that it never ends, or that no end can be armed. The end that is
+# armed stands in a file until the service is over.
 SERVICE = """#!/bin/sh
 cd {folder} || exit 1
 site=$BOOTH_LOCAL
@@ -23,6 +24,11 @@ echo "$1 $BOOTH_TICKET $BOOTH_TICKET_EXPIRES" >>"runs.$site"
 # file may be gone)
 runs() {{ pid=$(cat "pid.$site" 2>/dev/null) && grep -q . "/proc/$pid/cmdline" 2>/dev/null; }}
 case $1 in
+  check) runs && exit 0; exit 3 ;;
+  renew)
+    [ ! -e "unarmed.$site" ] || exit 1
+    echo "$BOOTH_TICKET_EXPIRES" >"end.$site.new" && exec mv "end.$site.new" "end.$site"
+    ;;
   start)
     [ ! -e "fails.$site" ] || exit 1
     runs && exit 0
@@ -37,7 +43,7 @@ case $1 in
     ;;
   kill) runs && kill -9 "$pid" 2>/dev/null ;;
 esac
-[ "$1" = start ] || {{ while runs; do sleep 0.01; done; rm -f "pid.$site"; }}
+[ "$1" = start ] || {{ while runs; do sleep 0.01; done; rm -f "pid.$site" "end.$site"; }}
 """
 
 
@@ -73,11 +79,14 @@ class Services:
         with open(self.path(name, member), "w", encoding="ascii") as file:
             file.write(text)
 
-    def follow(self, member):
-        """Starts a follower of the ticket at this site."""
+    def follow(self, member, takes_over=False):
+        """Starts a follower of the ticket at this site, which may be told of the end that an earlier one left."""
+        env = dict(os.environ)
+        if takes_over:
+            env["BOOTH_FOLLOW_END"] = self.path("end", member)
         words = [self.program, "-c", self.cluster.conf, "-s", member.address, "-d", member.records, *self.options]
         streams = {"stdin": subprocess.DEVNULL, "stdout": self.printed, "stderr": self.printed}
-        self.followers[member.address] = subprocess.Popen([*words, self.ticket, self.script], **streams)
+        self.followers[member.address] = subprocess.Popen([*words, self.ticket, self.script], env=env, **streams)
 
     def said(self):
         """What the followers have printed, on either stream."""
@@ -95,7 +104,7 @@ class Services:
         return subprocess.run([self.script, word], env={**os.environ, **told}, stdin=subprocess.DEVNULL).returncode
 
     def runs(self, member):
-        """The words that the program was run with at a site, in order, and the end of the lease that each was told."""
+        """The words that the program was run with at a site, in order, and the end that each was told."""
         try:
             with open(self.path("runs", member), encoding="ascii") as file:
                 runs = [line.split() for line in file]
@@ -104,7 +113,8 @@ class Services:
         return [(word, int(expires)) for word, _, expires in runs]
 
     def words(self, member):
-        return [word for word, _ in self.runs(member)]
+        """The words that the program was run with at a site but for renewals, in order."""
+        return [word for word, _ in self.runs(member) if word != "renew"]
 
     def lines(self):
         """The lines of all services, in order: the time, the site and the process of each."""

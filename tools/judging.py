@@ -3,13 +3,18 @@
 It is imported by booth-status and the tests, and not run by itself. It asks nobody and reads no clock.
 """
 
-from typing import List, NamedTuple, Optional
+from typing import Dict, List, NamedTuple, Optional
 
 import changes
 import looking
+import service_problems
+import takeovers
 import ways
-from configuration import Ticket
+from changes import Holding
+from configuration import Configuration, Ticket
 from problems import CRITICAL, NOTICE, WARNING, Problem
+from services import Here
+from takeovers import Takeover
 from wording import date, several, span
 
 # how far apart two members' ends of one lease may be, in seconds: they are rounded, and were some time on their way
@@ -18,7 +23,8 @@ SAME_END = 3
 # how many problems the one line tells, the worst first
 MOST_IN_A_LINE = 8
 # what may be so for a moment: it is told where a second look has it too
-FLEETING = {"two-owners", "differ", "ends-differ", "free", "one-way", "no-way"}
+FLEETING = {"two-owners", "differ", "ends-differ", "free", "unrenewed", "one-way", "no-way"}
+FLEETING |= {"service-down", "no-follower", "service-unknown"}
 # what a lost datagram may be
 LOST = {looking.SILENT, looking.NO_DAEMON, looking.UNREACHABLE, looking.PARTLY, looking.BAD}
 LOST |= {"silent-owner", "no-majority"}
@@ -48,6 +54,16 @@ class TicketView(NamedTuple):
         named = {seen.owner for seen in self.seen if seen.owner}
         return named.pop() if len(named) == 1 else None
 
+    def holding(self) -> Optional[Holding]:
+        """The one holder that members know of, with the latest end that they name."""
+        owner = self.owner()
+        ends = [seen.end for seen in self.seen if seen.owner and seen.end]
+        return None if owner is None else Holding(owner, max(ends, default=None))
+
+    def is_free(self) -> bool:
+        """Whether members list the ticket, and none of them knows of a holder."""
+        return bool(self.seen) and not any(seen.owner for seen in self.seen)
+
 
 class View(NamedTuple):
     """What a look shows. `moment` is when it ended, in seconds since 1970, and `took` how long it lasted."""
@@ -59,6 +75,11 @@ class View(NamedTuple):
     tickets: List[TicketView]
     changed: dict
     problems: List[Problem]
+    # the takeover that may come of a ticket, by its name; and the services of this machine
+    takeovers: Dict[str, Takeover]
+    here: Here
+    # who holds which ticket, or held it when it was last held
+    held: Dict[str, Holding]
 
     def status(self):
         return max((problem.severity for problem in self.problems), default=NOTICE)
@@ -92,20 +113,58 @@ def is_same_end(one, other):
     return abs(one - other) <= SAME_END
 
 
-def judged(configuration, answers, moment, took, before=None, may_be_free=()):
-    """The view of these answers. `before` is what was remembered of the last look, by the members' addresses."""
+def judged(configuration, answers, moment, took, before=None, may_be_free=(), here=Here()):
+    """The view of these answers. `before` is what is remembered, and `here` what is known of this machine."""
     tickets = [views_of(ticket, answers) for ticket in configuration.tickets]
     changed = changes.since(before, answers)
+    now = takeovers.members_now(answers, moment)
+    held = held_last(tickets, before, now)
+    due = takeovers_of(configuration, tickets, answers, held, now)
     problems = [
         *of_members(configuration, answers),
         *of_files(configuration, answers),
         *of_clocks(configuration, answers),
         *of_changes(configuration, answers, changed, moment),
         *ways.problems(configuration, answers, changed),
-        *(problem for view in tickets for problem in of_ticket(view, answers, may_be_free)),
     ]
+    for view in tickets:
+        name = view.ticket.name
+        is_held_here = here.site is not None and here.site in (view.owner(), *view.owners())
+        problems += of_ticket(view, answers, may_be_free, held.get(name), due.get(name), now)
+        problems += service_problems.problems(here, view.ticket, is_held_here)
     problems.sort(key=lambda problem: -problem.severity)
-    return View(configuration.path, moment, took, answers, tickets, changed, problems)
+    return View(configuration.path, moment, took, answers, tickets, changed, problems, due, here, held)
+
+
+def held_last(tickets: List[TicketView], before: Optional[changes.Memory], now: float) -> Dict[str, Holding]:
+    """Who holds each ticket, or held it when it was last held, as far as is known."""
+    held = dict(before.held) if before else {}
+    for view in tickets:
+        name, holding = view.ticket.name, view.holding()
+        if holding is not None:
+            held[name] = holding
+        elif name in held and view.is_free() and takeovers.is_given_back(held[name], now):
+            held[name] = held[name]._replace(gave_back=True)
+    return held
+
+
+def takeovers_of(
+    configuration: Configuration,
+    tickets: List[TicketView],
+    answers: List[looking.Answer],
+    held: Dict[str, Holding],
+    now: float,
+) -> Dict[str, Takeover]:
+    """The takeovers that may come: of tickets whose holder is silent or did not renew, or whose lease is over."""
+    silent, due = {answer.member.address for answer in answers if answer.held is None}, {}
+    for view in tickets:
+        name, holding = view.ticket.name, held.get(view.ticket.name)
+        if view.ticket.is_manual or holding is None or holding.end is None or holding.gave_back:
+            continue
+        is_late = takeovers.is_late(view.ticket, holding.end - now)
+        if view.is_free() or view.owner() is not None and (is_late or holding.owner in silent):
+            due[name] = takeovers.after(configuration, view.ticket, holding, answers, is_late or view.is_free())
+    return due
 
 
 def confirmed(first, second):
@@ -209,8 +268,8 @@ def of_changes(configuration, answers, changed, moment):
                 yield Problem(WARNING, "send-errors", text, address, other)
 
 
-def of_ticket(view, answers, may_be_free):
-    """What is wrong with who holds a ticket."""
+def of_ticket(view, answers, may_be_free, held, takeover, now):
+    """What is wrong with who holds a ticket. `held` is who held it last, and `takeover` what may come."""
     name, owners = view.ticket.name, view.owners()
     silent = {answer.member.address for answer in answers if answer.held is None}
     named = sorted({seen.owner for seen in view.seen if seen.owner})
@@ -224,11 +283,14 @@ def of_ticket(view, answers, may_be_free):
         apart = (first.left or 0) - (other.left or 0)
         how = f"{span(round(abs(apart)))} {'before' if apart > 0 else 'after'} that of {first.members[0]}"
         yield Problem(WARNING, "ends-differ", f"{name}: its end at {', '.join(other.members)} is {how}", ticket=name)
-    if view.seen and not named and not view.ticket.is_manual and name not in may_be_free:
-        yield Problem(WARNING, "free", f"{name}: nobody holds it", ticket=name)
+    if view.is_free() and not view.ticket.is_manual and name not in may_be_free:
+        yield takeovers.of_free(name, held, takeover, now)
     for owner in named:
         if owner in silent:
-            yield Problem(WARNING, "silent-owner", f"{name}: its holder {owner} does not answer", owner, ticket=name)
+            text = f"{name}: its holder {owner} does not answer{takeovers.told(takeover, now)}"
+            yield Problem(WARNING, "silent-owner", text, owner, ticket=name)
+        elif takeover is not None:
+            yield takeovers.of_late(name, owner, held.end - now, takeover, now)
 
 
 def counted(view):

@@ -6,6 +6,7 @@ It is imported by booth-status, and not run by itself.
 import looking
 from judging import counted
 from problems import WORDS
+from service_problems import shown
 from wording import aligned, date, span
 
 STATES = {looking.NO_DAEMON: "no daemon", looking.PARTLY: "in part"}
@@ -51,17 +52,20 @@ def tickets(view):
     """A row for each ticket, and a further one for each way in which members see it otherwise."""
     numbers = {answer.member.address: str(place) for place, answer in enumerate(view.answers, 1)}
     there = [answer.member.address for answer in view.answers if answer.held is not None]
-    rows = [("TICKET", "MODE", "HOLDER", "LEFT", "UNTIL (UTC)", "SEEN BY")]
+    # (a machine on which nothing follows a ticket has no column of services)
+    services = view.here.services
+    rows = [("TICKET", "MODE", "HOLDER", "LEFT", "UNTIL (UTC)", "SEEN BY", *(["SERVICE"] if services else []))]
     for ticket_view in view.tickets:
         name, mode = ticket_view.ticket.name, "manual" if ticket_view.ticket.is_manual else "auto"
+        service = [shown(services.get(name))] if services else []
         if not ticket_view.seen:
-            rows.append((name, mode, "?", "-", "-", "none"))
+            rows.append((name, mode, "?", "-", "-", "none", *service))
         for seen in ticket_view.seen:
             left = "-" if seen.left is None else f"{max(0, seen.left):.0f} s"
             until = date(seen.end) if seen.end else "-"
             by = "all" if sorted(seen.members) == sorted(there) else " ".join(numbers[each] for each in seen.members)
-            rows.append((name, mode, seen.owner or "none", left, until, by))
-            name = mode = ""
+            rows.append((name, mode, seen.owner or "none", left, until, by, *service))
+            name, mode, service = "", "", [""] * len(service)
     return aligned(rows)
 
 

@@ -7,11 +7,12 @@ import json
 import os
 import time
 
+from changes import Holding, Memory
 from configuration import Unreadable, bytes_of
 from lists import Counts, Peer
 
 FORM = "booth-status state 1"
-STATE_BYTES = 1_048_576
+STATE_BYTES = 4_194_304
 
 
 def load(path, configuration):
@@ -28,16 +29,22 @@ def load(path, configuration):
         if told["configuration"] != os.path.abspath(configuration.path):
             raise Unreadable(f"{path}: is the state of {told['configuration']}: each configuration has one of its own")
         peers = {name: [Peer(*peer) for peer in counts["peers"]] for name, counts in told["members"].items()}
-        return {name: Counts(counts["dropped"], peers[name]) for name, counts in told["members"].items()}
+        counts = {name: Counts(counts["dropped"], peers[name]) for name, counts in told["members"].items()}
+        # (an earlier booth-status remembered no holders)
+        holders = told.get("held", {})
+        held = {name: Holding(str(owner), end and int(end), bool(gave)) for name, (owner, end, gave) in holders.items()}
+        return Memory(counts, held)
     except (ValueError, TypeError, KeyError, AttributeError) as why:
         raise Unreadable(f"{path}: is no state of booth-status: name another file, or remove it") from why
 
 
-def save(path, configuration, members):
-    """Remembers a look in this file."""
-    told = {name: {"dropped": counts.dropped, "peers": counts.peers} for name, counts in members.items()}
-    text = json.dumps({"form": FORM, "configuration": os.path.abspath(configuration.path), "members": told})
-    write_whole(path, text + "\n")
+def save(path, configuration, memory):
+    """Remembers looks in this file."""
+    told = {"form": FORM, "configuration": os.path.abspath(configuration.path)}
+    told["members"] = {name: {"dropped": each.dropped, "peers": each.peers} for name, each in memory.counts.items()}
+    names = {ticket.name for ticket in configuration.tickets}
+    told["held"] = {name: each for name, each in memory.held.items() if name in names}
+    write_whole(path, json.dumps(told) + "\n")
 
 
 def write_whole(path, text):

@@ -1,0 +1,219 @@
+"""Two sites with PostgreSQL under a ticket and an arbitrator, each a booted machine, set up from the package.
+
+It is imported by tests/machines.py, and not run by itself. What it runs in the machines is what README.md, OPERATING.md
+and POSTGRESQL.md tell an operator to run.
+"""
+
+import contextlib
+import os
+import shutil
+import sys
+import time
+from typing import Callable, Dict, Iterator, List, Optional, Set
+
+TOP = os.path.dirname(os.path.dirname(os.path.abspath(__file__)))
+sys.path.insert(0, f"{TOP}/tools")
+
+import booted
+import machine_writers
+from booted import Machine, NotBooted
+from machine_writers import Writers
+
+TICKET, SERVER, NAME = "db8", "15/main", "15-main"
+UNIT = f"postgresql@{NAME}.service"
+FOLLOWER, DAEMON, WATCH = f"booth-follow@{TICKET}.service", "booth@booth.service", f"booth-postgresql@{NAME}.service"
+ADDRESSES = {"one": "10.77.0.1", "two": "10.77.0.2", "third": "10.77.0.3"}
+# (on a machine that does much else, nothing is done in its time with less)
+EXPIRE = int(os.environ.get("BOOTH_MACHINES_EXPIRE", "20"))
+AFTER, TIMEOUT, RETRIES = 5, 1, 3
+# what a first start is silent for, a takeover takes at most from the holder's end, and a steady state is waited for
+SECONDS_OF_SILENCE = EXPIRE + AFTER + 1
+SECONDS_OF_A_TAKEOVER = EXPIRE + AFTER + 20
+SECONDS_TO_SETTLE = 100 + EXPIRE
+PATIENCE = 40 + EXPIRE
+# (a look costs processes in the machines)
+SECONDS_BETWEEN_LOOKS = 0.5
+CONF = f"""\
+authfile   = /etc/booth/authkey
+authhash   = sha256
+site       = "{ADDRESSES["one"]}"
+site       = "{ADDRESSES["two"]}"
+arbitrator = "{ADDRESSES["third"]}"
+
+ticket = "{TICKET}"
+  expire        = {EXPIRE}
+  acquire-after = {AFTER}
+  timeout       = {TIMEOUT}
+  retries       = {RETRIES}
+"""
+HANDLER = "  before-acquire-handler = /usr/share/booth-proved/handler-follow\n"
+IS_PRIMARY = "SELECT NOT pg_is_in_recovery()"
+STREAMS = "SELECT count(*) FROM pg_stat_wal_receiver WHERE status = 'streaming'"
+
+
+class Unlike(Exception):
+    """What was to come did not come; the text says what."""
+
+
+class World:
+    """The machines, with the writers at the sites."""
+
+    def __init__(self, machines: Dict[str, Machine], package: str) -> None:
+        self.machines, self.package = machines, package
+        self.one, self.two, self.third = machines["one"], machines["two"], machines["third"]
+        self.sites = [self.one, self.two]
+        self.writers = Writers(self.sites)
+
+    # ---- looks
+
+    def sql(self, site: Machine, statement: str) -> str:
+        """Returns what a site's server answers, and nothing if it does not."""
+        as_owner = ("timeout", "-s", "KILL", "5", "runuser", "-u", "postgres", "--")
+        done = site.run(*as_owner, "psql", "-XAtqc", statement, "postgres")
+        return done.stdout.decode().strip() if done.returncode == 0 else ""
+
+    def is_primary(self, site: Machine) -> bool:
+        """Returns whether the site's server is a primary."""
+        return site.is_up() and self.sql(site, IS_PRIMARY) == "t"
+
+    def is_replica(self, site: Machine) -> bool:
+        """Returns whether the site's server follows the other one."""
+        return site.is_up() and self.sql(site, STREAMS) == "1"
+
+    def other(self, site: Machine) -> Machine:
+        """Returns the other site."""
+        return self.two if site is self.one else self.one
+
+    def holder(self) -> Optional[Machine]:
+        """Returns the site whose server takes writes and that lists itself, or nothing."""
+        for site in self.sites:
+            if site.is_up() and self.writers.takes(site) and self.leader(site) == site.address:
+                return site
+        return None
+
+    def leader(self, site: Machine) -> str:
+        """Returns which site a site's daemon lists as the holder."""
+        listed = site.run("timeout", "5", "booth", "list", "-s", site.address).stdout.decode()
+        for line in listed.splitlines():
+            if line.startswith(f"ticket: {TICKET},"):
+                return line.split("leader: ")[1].split(",")[0].strip()
+        return ""
+
+    def rows(self, site: Machine) -> Set[int]:
+        """Returns the numbers of the rows that a site's server has."""
+        return {int(each) for each in self.sql(site, "SELECT number FROM booth_rows").split()}
+
+    # ---- waits
+
+    def await_that(self, what: str, check: Callable[[], object], seconds: float = PATIENCE) -> float:
+        """Waits until something is so, and returns how long it took. Raises `Unlike` if it does not come."""
+        began = time.monotonic()
+        while not check():
+            if time.monotonic() - began > seconds:
+                raise Unlike(f"{what}: not after {seconds:.0f} s")
+            time.sleep(SECONDS_BETWEEN_LOOKS)
+        return time.monotonic() - began
+
+    def settle(self) -> Machine:
+        """Waits until one site is the primary and the other one follows it, and returns the first."""
+        self.await_that("a primary and a replica", self.is_settled, SECONDS_TO_SETTLE)
+        holder = self.holder()
+        if holder is None:
+            raise Unlike("the primary ended again")
+        return holder
+
+    def is_settled(self) -> bool:
+        """Returns whether a site is the primary and holds the ticket, and the other one follows it."""
+        holder = self.holder()
+        return holder is not None and self.is_replica(self.other(holder))
+
+    # ---- what a scenario does
+
+    def boot(self, site: Machine, wait: bool = True) -> None:
+        """Boots a machine again. Its writer begins by itself."""
+        site.boot(wait)
+
+    def repair(self) -> None:
+        """Boots what is off and puts each cable in again, after a scenario that ended before it did so."""
+        for machine in self.machines.values():
+            machine.cut(False)
+            if not machine.is_up():
+                self.boot(machine)
+
+    def pid(self, site: Machine, unit: str) -> str:
+        """Returns the first process of a unit of a machine."""
+        number = site.must("systemctl", "show", "-P", "MainPID", unit).strip()
+        if number in ("", "0"):
+            raise Unlike(f"{site.name}: {unit} does not run")
+        return number
+
+    def send(self, site: Machine, signal: str, *units: str) -> None:
+        """Sends a signal to the first process of each unit, all of them at once."""
+        site.must("kill", f"-{signal}", *(self.pid(site, unit) for unit in units))
+
+    def told(self, site: Machine, unit: str, since: float) -> str:
+        """Returns the lines of a unit in a machine's journal since a moment of this process's clock."""
+        seconds = int(time.monotonic() - since) + 1
+        done = site.run("journalctl", "-u", unit, "-o", "cat", f"--since=-{seconds}s")
+        return done.stdout.decode(errors="replace")
+
+
+def install(world: World, machine: Machine, address: str) -> None:
+    """Installs the package and the cluster's configuration, as README.md says."""
+    shutil.copy(world.package, f"{machine.root}/root/booth.deb")
+    machine.must("dpkg", "-i", "/root/booth.deb")
+    has_handler = os.path.exists(f"{machine.root}/usr/share/booth-proved/handler-follow")
+    machine.write("/etc/booth/booth.conf", CONF + (HANDLER if has_handler else ""))
+    machine.write("/etc/booth/booth.env", f"ADDRESS={address}\n")
+
+
+def copy_file(path: str, source: Machine, targets: List[Machine]) -> None:
+    """Copies a file of a machine to others, as scp -p does."""
+    for target in targets:
+        os.makedirs(os.path.dirname(target.root + path), exist_ok=True)
+        shutil.copy2(source.root + path, target.root + path)
+
+
+def set_up_cluster(world: World) -> None:
+    """Boots the machines and sets the cluster up."""
+    machines = list(world.machines.values())
+    for machine in machines:
+        machine.boot(wait=False)
+    for machine in machines:
+        world.await_that(f"{machine.name} is booted", machine.is_booted)
+        install(world, machine, ADDRESSES[machine.name])
+    machines[0].must("booth-keygen")
+    copy_file("/etc/booth/authkey", machines[0], machines[1:])
+    for machine in machines:
+        machine.must("chown", "booth:", "/etc/booth/authkey")
+        machine.must("systemctl", "enable", "--now", "booth@booth")
+
+
+def set_up_postgresql(world: World) -> None:
+    """Puts the two servers under the ticket, as POSTGRESQL.md says."""
+    one, two = world.sites
+    for site in world.sites:
+        world.await_that(f"{site.name} has a server", lambda site=site: world.sql(site, "SELECT 1") == "1")
+    world.sql(one, machine_writers.TABLE)
+    one.must("booth-postgresql", "setup", TICKET, SERVER, "--primary", "--restart", "--allow-basebackup")
+    copy_file(f"/etc/booth/postgresql/{NAME}.pgpass", one, [two])
+    two.must("booth-postgresql", "setup", TICKET, SERVER, "--standby", "--allow-basebackup", timeout=180)
+    granted = time.monotonic() + SECONDS_OF_SILENCE + PATIENCE
+    while one.run("timeout", "10", "booth", "grant", "-w", "-s", one.address, TICKET).returncode != 0:
+        if time.monotonic() > granted:
+            raise NotBooted("the ticket is not granted")
+        time.sleep(0.5)
+    for site in world.sites:
+        site.must("systemctl", "enable", "--now", FOLLOWER)
+        world.writers.begin(site)
+    world.settle()
+
+
+@contextlib.contextmanager
+def worlds(package: str, folder: str, setting_up: Callable[[World], None] = set_up_postgresql) -> Iterator[World]:
+    """Gives a cluster whose servers follow their ticket."""
+    with booted.machines(f"booth-{os.getpid()}", folder, ADDRESSES) as machines:
+        world = World(machines, package)
+        set_up_cluster(world)
+        setting_up(world)
+        yield world

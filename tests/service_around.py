@@ -1,0 +1,117 @@
+"""Stories of what stands around follow-service: the handler, follow-unit, clock-wait and the unit's times.
+
+It is imported by tests/service_words.py, and not run by itself.
+"""
+
+import os
+import re
+import time
+from typing import List
+
+from service_room import KILL, PACKAGING, SLACK, TICKET, UNIT, Room, Story, same, since_boot
+from shells import need, read
+
+stories: List[Story] = []
+
+
+def story(function: Story) -> Story:
+    """Adds a story to those that are told."""
+    stories.append(function)
+    return function
+
+
+@story
+def the_handler_refuses_what_failed(room: Room) -> None:
+    """the handler refuses while the state says failed, until its time is over or it is cleared"""
+    handler = lambda: room.call("handler-follow", BOOTH_TICKET=TICKET)
+    same((handler().status, handler().printed), (0, ""), "where nothing is known")
+    room.word("renew", str(KILL))
+    room.put("start.status", "1")
+    room.word("start", FAILED_STARTS="1", FAILED_SECONDS="8")
+    same(handler().status, 0, "before what it left is stopped")
+    room.word("stop", FAILED_STARTS="1")
+    done = handler()
+    need(done.status == 1 and TICKET in done.printed and "booth-service clear" in done.printed, f"{done}")
+    shown = room.call("booth-service", "show", TICKET)
+    need(shown.status == 0 and "failed" in shown.printed, f"{shown}")
+    until = float(room.state()["failed_until"])
+    time.sleep(max(0, until - since_boot() + 0.1))
+    same(handler().status, 0, "once its time is over")
+    room.word("renew", str(KILL))
+    room.word("start", FAILED_STARTS="1")
+    room.word("stop", FAILED_STARTS="1")
+    same(handler().status, 1, "once it failed again")
+    same(room.call("booth-service", "clear", TICKET).status, 0, "to clear it")
+    same((handler().status, room.state()["failed_starts"]), (0, "0"), "once it is cleared")
+
+
+@story
+def units_are_checked_stopped_and_killed(room: Room) -> None:
+    """follow-unit tells what runs, stops a unit only where nothing of it is left, and kills until it is over"""
+    unit = "db8.service"
+    rows = [("active", 0), ("reloading", 0), ("inactive", 3), ("failed", 3)]
+    rows += [("activating", 1), ("deactivating", 1), ("", 1)]
+    for state, status in rows:
+        room.put(f"units/{unit}", f"{state}\n")
+        same(room.call("follow-unit", unit, "check").status, status, f"a unit that is {state}")
+    room.put("systemctl.fails")
+    same(room.call("follow-unit", unit, "check").status, 1, "where systemd does not answer")
+    room.drop("systemctl.fails")
+    same(room.call("follow-unit", unit, "start").status, 0, "a start")
+    same(room.call("follow-unit", unit, "stop").status, 0, "a stop")
+    room.put("stop.fails")
+    same(room.call("follow-unit", unit, "stop").status, 1, "a stop that fails")
+    room.drop("stop.fails")
+    room.put(f"units/{unit}", "active\n")
+    room.drop("calls")
+    same(room.call("follow-unit", unit, "kill").status, 0, "a kill")
+    asked = [call for call in room.calls() if " show " not in call]
+    wanted = [f"--no-block stop {unit}", f"kill --signal=SIGKILL {unit}", f"is-active {unit}"]
+    same(asked, [f"systemctl {words}" for words in wanted], "the calls of a kill")
+    room.put(f"units/{unit}", "active\n")
+    room.put("kill.hangs")
+    done = room.call("follow-unit", unit, "kill")
+    need(done.status == 1 and "not over" in done.printed, f"a kill that does nothing: {done}")
+    same(room.call("follow-unit", unit, "go").status, 2, "another word")
+
+
+@story
+def the_first_start_of_a_boot_waits_for_the_clock(room: Room) -> None:
+    """clock-wait waits in vain no longer than it may, says so, and waits for nothing after the first start of a boot"""
+    given = {"BOOTH_BOOT_ID": f"{room.folder}/boot", "BOOTH_TIMESYNC": f"{room.folder}/timesync", "CLOCK_SECONDS": "1"}
+    boot = "0123abcd-" * 4
+    room.put("boot", f"{boot}\n")
+    os.makedirs(f"{room.folder}/records")
+    wait = lambda: room.call("clock-wait", "booth", f"{room.folder}/records", **given)
+    done = wait()
+    is_told = done.status == 0 and "neither chrony" in done.printed
+    need(is_told and done.took < SLACK, f"nothing keeps the clock: {done}")
+    room.put("chrony")
+    done = wait()
+    need(done.status == 0 and "waits until chrony" in done.printed and "gives up after 1 s" in done.printed, f"{done}")
+    room.put("chrony.right")
+    same((wait().status, wait().printed), (0, ""), "where the clock is right")
+    room.drop("chrony.right", "chrony")
+    os.makedirs(f"{room.folder}/timesync")
+    need("gives up" in wait().printed, "systemd-timesyncd is not waited for")
+    room.put("timesync/synchronized")
+    same(wait().printed, "", "where systemd-timesyncd has set it")
+    room.drop("timesync/synchronized")
+    with open(f"{room.folder}/records/booth.clock", "wb") as file:
+        file.write(bytes(24) + boot.encode())
+    same(wait().printed, "", "a later start of the boot")
+
+
+@story
+def times_of_the_unit_fit(room: Room) -> None:
+    """the unit leaves what runs before and after the follower its time, and restarts it soon"""
+    unit = read(f"{PACKAGING}/booth-follow@.service")
+    value = lambda key: re.search(rf"^{key}=(.*)$", unit, re.M)[1]
+    limits = dict(re.findall(r"\b([A-Z]+_LIMIT)=(\d+)", read(f"{PACKAGING}/follow-service")))
+    stop = int(re.search(r"STOP_SECONDS=(\d+)", unit)[1])
+    most = stop + 3 * int(limits["KILL_LIMIT"]) + 6 * int(limits["LONG_LIMIT"])
+    for key in ("TimeoutStartSec", "TimeoutStopSec"):
+        need(most < int(value(key)), f"{key} is {value(key)}, and a stop and its kills may take {most}")
+    same((value("Type"), value("NotifyAccess"), value("RestartSec")), ("notify", "main", "1"), "the unit")
+    need(1 < int(value("WatchdogSec")) <= 3, f"WatchdogSec is {value('WatchdogSec')}")
+    need("chrony" not in unit and "network-online" not in unit and "\nAfter=" not in unit, "the unit waits for others")

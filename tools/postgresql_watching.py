@@ -1,0 +1,207 @@
+"""Keeps a server under Booth a standby that follows the primary: what `booth-postgresql watch` does.
+
+It is imported by booth-postgresql, and not run by itself. It never promotes: the follower of the ticket does.
+"""
+
+import os
+import sys
+import time
+from typing import Dict, Optional
+
+import postgresql_rebuilding as rebuilding
+import postgresql_server as pg
+from postgresql_rebuilding import COPY, REWIND, WAIT
+from postgresql_server import Failed, Place, Server
+
+SECONDS_BETWEEN_LOOKS = 2
+# after so many looks at which a standby gets nothing its place is compared with that of the primary
+LOOKS_WITHOUT_STREAM = 2
+# after so many looks at which the ticket's service does not run although its follower started it, that one starts again
+LOOKS_WITHOUT_SERVICE = 3
+# each so many looks it is noted that a standby is in step
+LOOKS_BETWEEN_NOTES = 5
+SECONDS_BETWEEN_RESTARTS = 30
+SECONDS_BETWEEN_REBUILDS = 20
+SECONDS_BETWEEN_STARTS = 30
+SECONDS_OF_A_CHECKPOINT, SECONDS_OF_A_STOP = 3_600, 600
+# while the follower does one of these, the server is its
+BUSY = ("starting", "stopping", "killing")
+
+
+class Watch:
+    """What the looks before have seen."""
+
+    def __init__(self, server: Server) -> None:
+        self.server = server
+        self.without_stream = self.without_service = self.without_follower = self.in_step = 0
+        self.restarted = self.rebuilt = self.started = -float("inf")
+        self.said: Dict[str, str] = {}
+
+    def say(self, text: str, about: str = "") -> None:
+        """Prints a line on standard error, and about one thing no line twice in a row."""
+        if not about or self.said.get(about) != text:
+            print(f"booth-postgresql: {self.server.name}: {text}", file=sys.stderr, flush=True)
+        if about:
+            self.said[about] = text
+
+    def look(self) -> None:
+        """Looks once, and does what is to be done."""
+        server = self.server
+        if pg.is_kept(server, "rebuilding"):
+            self.resume()
+            return
+        service = pg.follower_state(server).get("service", "")
+        recovers = pg.psql(server, pg.spot(server), "SELECT pg_is_in_recovery()")
+        if recovers == "f":
+            self.without_service = self.without_stream = 0
+            self.write_checkpoint()
+            self.demote(service)
+            return
+        self.without_follower = 0
+        if service == "running":
+            self.without_service += not self.is_paused()
+            if self.without_service >= LOOKS_WITHOUT_SERVICE:
+                self.start_follower_again()
+            return
+        self.without_service = 0
+        if service in BUSY or pg.is_kept(server, "primary"):
+            return
+        if recovers is None:
+            if not pg.processes(server):
+                self.start()
+            return
+        self.follow()
+
+    def start(self) -> None:
+        """Starts a server that failed, as a standby. One that an operator stopped stays so."""
+        now = time.monotonic()
+        if now - self.started >= SECONDS_BETWEEN_STARTS and pg.units("is-failed", "-q", self.server.unit).status == 0:
+            self.started = now
+            self.say(f"starts {self.server.unit}, which failed")
+            done = pg.units("start", "--no-block", self.server.unit)
+            if done.status != 0:
+                self.say(f"cannot start {self.server.unit}: {rebuilding.last_line(done.err)}", "start")
+
+    def start_follower_again(self) -> None:
+        """Has the follower of the ticket find that its service does not run, stop and start it."""
+        now = time.monotonic()
+        if now - self.restarted >= SECONDS_BETWEEN_RESTARTS:
+            self.restarted = now
+            self.without_service = 0
+            self.say("the primary ended by itself: has its follower start it again")
+            pg.units("restart", "--no-block", f"booth-follow@{self.server.ticket}.service")
+
+    def is_paused(self) -> bool:
+        """Returns whether an operator paused the ticket's service."""
+        return os.path.exists(f"{pg.STATE_FOLDER}/{self.server.ticket}.paused")
+
+    def demote(self, service: str) -> None:
+        """Stops a primary that the follower did not start, as one that was promoted manually."""
+        is_strange = service in ("stopped", "failed") and not self.is_paused()
+        self.without_follower = self.without_follower + 1 if is_strange else 0
+        if self.without_follower >= LOOKS_WITHOUT_SERVICE:
+            self.without_follower = 0
+            self.say("is a primary that its follower did not start: has it stopped")
+            done = pg.run(pg.PROGRAM, self.server.name, "stop", seconds=SECONDS_OF_A_STOP)
+            if done.status != 0:
+                self.say(f"the stop ended with status {done.status}: {rebuilding.last_line(done.err)}")
+
+    def write_checkpoint(self) -> None:
+        """Writes the first checkpoint of a timeline at once: no other server can be rewound to it before."""
+        line = "('x' || substr(pg_walfile_name(pg_current_wal_lsn()), 1, 8))::bit(32)::int"
+        sql = f"SELECT timeline_id, {line} FROM pg_control_checkpoint()"
+        told = (pg.psql(self.server, pg.spot(self.server), sql) or "").split("|")
+        if len(told) == 2 and told[0] != told[1]:
+            pg.psql(self.server, pg.spot(self.server), "CHECKPOINT", SECONDS_OF_A_CHECKPOINT)
+
+    def follow(self) -> None:
+        """Sees whether the standby gets the log of a primary, and why not."""
+        server = self.server
+        if pg.psql(server, pg.spot(server), "SELECT status FROM pg_stat_wal_receiver") == "streaming":
+            self.without_stream = 0
+            self.is_in_step()
+            return
+        self.in_step = 0
+        self.without_stream += 1
+        if self.without_stream < LOOKS_WITHOUT_STREAM:
+            return
+        own = pg.place_of(server)
+        primaries = [(address, place) for address, place in pg.answered(server) if not place.is_standby]
+        if own is None or len(primaries) != 1:
+            self.say("no primary answers" if not primaries else "more than one peer is a primary", "stream")
+            return
+        self.compare(own, *primaries[0])
+
+    def is_in_step(self) -> None:
+        """Notes when the standby was in step last, and once it follows a primary that it was none last."""
+        server = self.server
+        self.in_step += 1
+        if self.in_step % LOOKS_BETWEEN_NOTES != 1:
+            return
+        primaries = [(address, place) for address, place in pg.answered(server) if not place.is_standby]
+        if len(primaries) != 1:
+            return
+        own = pg.place_of(server)
+        if own is None or own.timeline != primaries[0][1].timeline:
+            return
+        self.say(f"follows {primaries[0][0]} on timeline {own.timeline}", "stream")
+        pg.keep(server, "in-step", str(int(time.time())))
+        if pg.is_kept(server, "former"):
+            pg.forget(server, "former")
+
+    def compare(self, own: Place, address: str, peer: Place) -> None:
+        """Finds out what the standby needs to follow this primary, and does it."""
+        server = self.server
+        if own.system != peer.system:
+            self.say(f"{address} has another database: booth-postgresql setup --standby copies it", "stream")
+            return
+        history = pg.history_of(server, address, peer.timeline)
+        how = rebuilding.parted(own, pg.history_of(server, None, own.timeline), peer, history)
+        if how == WAIT and rebuilding.lacks_log(server, own, address, peer):
+            self.say(f"{address} has removed the log that is needed here", "stream")
+            how = COPY
+        if how == WAIT:
+            self.say(f"does not get the log of {address} yet", "stream")
+            return
+        lost = rebuilding.lost_bytes(own, history)
+        if how == REWIND and not rebuilding.has_checkpoint(server, address, peer):
+            self.say(f"waits for the first checkpoint of {address}", "stream")
+            return
+        if how == REWIND and lost is not None:
+            self.say(f"its data parted from those of {address}: {lost} bytes of its log are dropped")
+        self.rebuild(address, how)
+
+    def rebuild(self, address: str, how: str) -> None:
+        """Brings the data up to those of the primary, unless that was tried just now."""
+        now = time.monotonic()
+        if now - self.rebuilt >= SECONDS_BETWEEN_REBUILDS:
+            self.rebuilt = now
+            self.without_stream = 0
+            rebuilding.rebuild(self.server, address, how, self.say)
+            self.rebuilt = time.monotonic()
+
+    def resume(self) -> None:
+        """Goes on with what was begun before."""
+        _, _, address = (pg.kept_value(self.server, "rebuilding") or "").partition(" ")
+        peers = [peer for peer in ([address] if address in self.server.peers else self.server.peers)]
+        for peer in peers:
+            place: Optional[Place] = pg.place_of(self.server, peer)
+            if place is not None and not place.is_standby:
+                self.rebuild(peer, REWIND)
+                return
+        self.say(f"waits for a primary at {' or '.join(peers)}: its data are half brought up", "stream")
+
+
+def watch(server: Server) -> None:
+    """Looks again and again, until a signal ends it."""
+    looks = Watch(server)
+    looks.say("watches: it is a standby unless its ticket is held here")
+    while True:
+        started = time.monotonic()
+        try:
+            looks.look()
+        except Failed as why:
+            looks.say(str(why), "failed")
+        except OSError as why:
+            looks.say(f"cannot look: {why}", "failed")
+        time.sleep(max(0.2, started + SECONDS_BETWEEN_LOOKS - time.monotonic()))

@@ -1,0 +1,101 @@
+"""What is shown of the services of this machine, and what is wrong with them.
+
+It is imported by what booth-status is made of, and not run by itself. It asks nobody and reads no clock.
+"""
+
+from typing import Iterator, Optional
+
+from configuration import Ticket
+from problems import CRITICAL, WARNING, Problem
+from service_state import FAILED, KILLING, RUNNING, STARTING, STOPPED, STOPPING, State
+from services import Here, Service
+from wording import count, span
+
+# how the table names a state
+SHOWN = {RUNNING: "running here"}
+NO_FOLLOWER, PAUSED, UNKNOWN = "no follower", "paused", "unknown"
+# the service does not run yet, or not for long any more
+CHANGES = (STARTING, STOPPING, KILLING)
+# something of the service may run
+RUNS = (STARTING, RUNNING, STOPPING, KILLING)
+
+
+def shown(service: Optional[Service]) -> str:
+    """What the table has of a service."""
+    if service is None:
+        return "-"
+    if service.lives is False:
+        return NO_FOLLOWER
+    if service.state is None:
+        return UNKNOWN
+    if service.state.is_paused:
+        return PAUSED
+    return SHOWN.get(service.state.service, service.state.service)
+
+
+def seconds_to_kill(service: Service) -> Optional[float]:
+    """In how long the switch kills the service, unless the lease is renewed; None where no end is armed."""
+    state = service.state
+    return None if state is None or not state.kill_at else max(0.0, state.kill_at - service.now)
+
+
+def problems(here: Here, ticket: Ticket, is_held_here: bool) -> Iterator[Problem]:
+    """What is wrong with the service of a ticket, which this site holds or does not."""
+    name = ticket.name
+    service = here.services.get(name)
+    if service is None:
+        return
+    if service.why:
+        yield Problem(WARNING, "service-unknown", f"{name}: {service.why}", here.site, ticket=name)
+    yield from of_follower(here, service, is_held_here)
+    if service.state is None:
+        return
+    state = service.state
+    if state.is_paused:
+        runs = "runs" if state.service in RUNS else "does not run"
+        text = f"{name}: its service is paused here, and {runs}: booth-service resume {name}"
+        yield Problem(WARNING, "paused", text, here.site, ticket=name)
+    if state.service == FAILED:
+        yield Problem(CRITICAL, "service-failed", failed(service), here.site, ticket=name)
+    elif is_held_here and not state.is_paused and is_down(state, service.now, ticket):
+        lasts = span(service.now - state.since)
+        text = f"{name}: this site holds it, and its service has been {state.service} for {lasts}"
+        if service.lives is not False:
+            text += f": journalctl -u booth-follow@{name} says why"
+        yield Problem(CRITICAL, "service-down", text, here.site, ticket=name)
+
+
+def is_down(state: State, now: float, ticket: Ticket) -> bool:
+    """Whether the service does not run: it is stopped, or its start or its stop takes longer than a lease."""
+    return state.service == STOPPED or state.service in CHANGES and now - state.since > ticket.expire
+
+
+def of_follower(here: Here, service: Service, is_held_here: bool) -> Iterator[Problem]:
+    """What is said where no follower lives."""
+    if service.lives is not False:
+        return
+    name, start = service.ticket, f"systemctl start booth-follow@{service.ticket}"
+    if service.state is not None and service.state.service in RUNS:
+        left = seconds_to_kill(service)
+        killed = "" if left is None else f", and is killed in {span(left)}"
+        text = f"{name}: no follower lives, and its service runs here{killed}: {start}"
+    elif is_held_here:
+        text = f"{name}: this site holds it, and no follower lives: {start}"
+    elif service.has_unit:
+        # (one that is stopped and disabled is to be so)
+        text = f"{name}: no follower lives here, so nothing starts its service if this site gets it: {start}"
+        yield Problem(WARNING, "no-follower", text, here.site, ticket=name)
+        return
+    else:
+        return
+    yield Problem(CRITICAL, "no-follower", text, here.site, ticket=name)
+
+
+def failed(service: Service) -> str:
+    """What is said of a service that failed to start."""
+    state, name = service.state, service.ticket
+    assert state is not None
+    text = f"{name}: its service failed to start here, {count(state.failed_starts, 'time')} in a row"
+    if state.failed_until > service.now:
+        text += f", and handler-follow refuses the ticket for {span(state.failed_until - service.now)} more"
+    return f"{text}: booth-service clear {name}"

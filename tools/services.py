@@ -1,0 +1,213 @@
+"""The services that follow a ticket of a configuration on this machine: their states, and whether a follower lives.
+
+It is imported by booth-status, and not run by itself. What it finds tools/service_problems.py judges.
+"""
+
+import contextlib
+import ipaddress
+import os
+import re
+import shutil
+import socket
+import subprocess
+from typing import Dict, Iterator, List, NamedTuple, Optional
+
+import configuration
+import service_state
+from configuration import Configuration, Unreadable
+from service_state import State
+
+# where systemctl lies, beside PATH
+PLACES = "/usr/bin:/bin:/usr/sbin:/sbin"
+UNIT = re.compile(r"booth-follow@(.+)\.service")
+# a unit in one of these states has a follower that runs, comes or goes
+LIVE = ("active", "activating", "reloading", "deactivating")
+# the options of booth-follow that have a value
+VALUED = ("-c", "-s", "-d", "-e", "-m", "-k")
+PROGRAM = "booth-follow"
+
+
+class Service(NamedTuple):
+    """What is known of a service here. `now` is the time since the boot, in seconds."""
+
+    ticket: str
+    # None where nothing is known of it in this boot, or what is known cannot be read, which `why` says
+    state: Optional[State]
+    why: str
+    # whether a follower lives, or None where that cannot be told
+    lives: Optional[bool]
+    # whether systemd has a unit of the follower, as one that is enabled
+    has_unit: bool
+    now: float
+
+
+class Here(NamedTuple):
+    """The site that this machine is, where that can be told, and its services by their tickets."""
+
+    site: Optional[str] = None
+    services: Dict[str, Service] = {}
+
+
+def systemctl() -> Optional[str]:
+    """The path of systemctl, or None."""
+    return shutil.which("systemctl", path=f"{os.environ.get('PATH', '')}{os.pathsep}{PLACES}")
+
+
+class Units:
+    """What systemd says of the followers' units. It is asked at once, and says so meanwhile."""
+
+    def __init__(self) -> None:
+        found = systemctl()
+        words = "list-units --all --full --plain --no-legend --no-pager booth-follow@*.service".split()
+        streams = {"stdin": subprocess.DEVNULL, "stdout": subprocess.PIPE, "stderr": subprocess.DEVNULL}
+        self.process: Optional["subprocess.Popen[bytes]"] = None
+        if found is not None:
+            with contextlib.suppress(OSError):
+                self.process = subprocess.Popen([found, *words], **streams)
+
+    def answer(self, seconds: float) -> Optional[Dict[str, bool]]:
+        """Whether each ticket's follower lives, within so many seconds; None where systemd does not say."""
+        if self.process is None:
+            return None
+        try:
+            said, _ = self.process.communicate(timeout=seconds)
+        except subprocess.TimeoutExpired:
+            self.process.kill()
+            self.process.communicate()
+            return None
+        return units_in(said.decode("ascii", "backslashreplace")) if self.process.returncode == 0 else None
+
+
+def units_in(text: str) -> Dict[str, bool]:
+    """Whether each ticket's follower lives, by a list of units."""
+    lives = {}
+    for line in text.splitlines():
+        # (older versions have a mark before a unit that failed)
+        fields = [field for field in line.split() if field not in ("*", "●", "\\u25cf")]
+        found = UNIT.fullmatch(fields[0]) if len(fields) >= 4 else None
+        if found and fields[1] != "not-found":
+            # (one that waits to be started again is none)
+            lives[found[1]] = fields[2] in LIVE and not fields[3].startswith("auto-restart")
+    return lives
+
+
+def followers() -> Optional[List[str]]:
+    """The tickets of the followers that run as processes here; None where others' processes are hidden."""
+    if not os.path.exists("/proc/1/cmdline"):
+        return None
+    found = []
+    for number in filter(str.isdigit, os.listdir("/proc")):
+        with contextlib.suppress(OSError):
+            with open(f"/proc/{number}/cmdline", "rb") as file:
+                words = file.read(service_state.FILE_BYTES).decode("ascii", "backslashreplace").split("\0")
+            if os.path.basename(words[0]) == PROGRAM:
+                found += followed_by(words[1:])
+    return found
+
+
+def followed_by(words: List[str]) -> List[str]:
+    """The ticket on a command line of booth-follow."""
+    rest = iter(words)
+    for word in rest:
+        if word in VALUED:
+            next(rest, None)
+        elif word and not word.startswith("-"):
+            return [word]
+    return []
+
+
+def lives_here(ticket: str, units: Optional[Dict[str, bool]], processes: Optional[List[str]]) -> Optional[bool]:
+    """Whether a follower of the ticket lives: a unit's, or one that was started without a unit."""
+    if units is not None and units.get(ticket):
+        return True
+    if processes is not None:
+        return ticket in processes
+    # (no process can be seen: then systemd knows alone)
+    return None if units is None else False
+
+
+def cluster_of(conf: Configuration) -> str:
+    """The name of the cluster, as the units have it."""
+    return os.path.basename(conf.path).rsplit(".conf", 1)[0]
+
+
+def variable(name: str, path: str) -> Optional[str]:
+    """The value of this name in a file of variables; None where there is none, or the file cannot be read."""
+    try:
+        return service_state.variable_in(f"{configuration.FOLDER}/{path}.env", name) or None
+    except Unreadable:
+        return None
+
+
+def variable_of(ticket: str, name: str) -> Optional[str]:
+    """A variable of the unit that follows this ticket."""
+    return variable(name, f"follow/{ticket}") if is_file_name(ticket) else None
+
+
+def is_file_name(ticket: str) -> bool:
+    """Whether files of the folder can have the ticket's name, and so a service can follow it."""
+    return not ticket.startswith(".") and "/" not in ticket
+
+
+def is_of(conf: Configuration, ticket: str) -> bool:
+    """Whether the unit that follows this ticket is one of this configuration's cluster."""
+    return (variable_of(ticket, "CLUSTER") or "booth") == cluster_of(conf)
+
+
+def is_own(address: str) -> bool:
+    """Whether this machine has the address."""
+    family = socket.AF_INET6 if ":" in address else socket.AF_INET
+    try:
+        with socket.socket(family, socket.SOCK_DGRAM) as own:
+            own.bind((address, 0))
+    except OSError:
+        return False
+    return True
+
+
+def spelled(address: Optional[str]) -> Optional[str]:
+    """An address as a configuration has it; None where it is none."""
+    with contextlib.suppress(ValueError):
+        return address and str(ipaddress.ip_address(address))
+    return None
+
+
+def own_site(conf: Configuration, tickets: List[str]) -> Optional[str]:
+    """The site that this machine is: by ADDRESS= of the units, else by the one address that it has."""
+    sites = [member.address for member in conf.members if member.role == "site"]
+    named = [variable("ADDRESS", cluster_of(conf)), *(variable_of(ticket, "ADDRESS") for ticket in tickets)]
+    for found in (set(map(spelled, named)) & set(sites), set(filter(is_own, sites))):
+        if len(found) == 1:
+            return found.pop()
+    return None
+
+
+def followed(conf: Configuration, units: Optional[Dict[str, bool]]) -> Iterator[str]:
+    """The tickets of the configuration that are followed here: they have a state in this boot, or a unit."""
+    folder = service_state.folder()
+    states = set()
+    with contextlib.suppress(OSError):
+        states = set(os.listdir(folder))
+    for ticket in conf.tickets:
+        is_here = f"{ticket.name}.state" in states or ticket.name in (units or {})
+        if is_here and not ticket.is_manual and is_file_name(ticket.name) and is_of(conf, ticket.name):
+            yield ticket.name
+
+
+def look(conf: Configuration, asked: Units, seconds: float) -> Here:
+    """What is known of the services here. Systemd may answer for so many seconds more."""
+    units = asked.answer(seconds)
+    tickets = list(followed(conf, units))
+    if not tickets:
+        return Here()
+    processes = followers()
+    services = {}
+    for ticket in tickets:
+        state, why = None, ""
+        try:
+            state = service_state.read(ticket)
+        except Unreadable as fault:
+            why = str(fault)
+        lives = lives_here(ticket, units, processes)
+        services[ticket] = Service(ticket, state, why, lives, ticket in (units or {}), service_state.since_boot())
+    return Here(own_site(conf, tickets), services)
