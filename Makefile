@@ -66,7 +66,7 @@ INSTALLED := $(foreach program,$(PROGRAMS),$(SBIN)/$(program):out/$(program):755
   $(foreach name,$(SCRIPTS) $(TOOLS),$(SBIN)/$(name):packaging/$(name):755) \
   $(foreach name,$(TOOL_MODULES),$(MODULES)/$(name).py:tools/$(name).py:644) \
   $(foreach name,$(HELPERS),$(MODULES)/$(name):packaging/$(name):755) \
-  $(MODULES)/service-state.sh:packaging/service-state.sh:644 \
+  $(foreach name,service-state.sh service-switch.sh,$(MODULES)/$(name):packaging/$(name):644) \
   $(SYSCONF)/needrestart/conf.d/booth.conf:packaging/needrestart.conf:644 \
   $(MODULES)/journal.conf:packaging/journal.conf:644 \
   $(foreach page,$(wildcard man/*.5 man/*.8),$(MAN)/man$(subst .,,$(suffix $(page)))/$(notdir $(page)):$(page):644) \

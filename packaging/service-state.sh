@@ -1,8 +1,9 @@
-# The state of a service that follows its ticket, for the shell: follow-service, booth-service and handler-follow read this file, and
-# say before which `ticket` they mean. booth-follow(8) lists the files and keys. Times are in hundredths of a second since the boot.
+# The state of a service that follows its ticket, for the shell: follow-service, booth-service and handler-follow read
+# this file, and say before which `ticket` they mean. booth-follow(8) lists the files and keys. Times are in hundredths
+# of a second since the boot.
 #
-# BOOTH_FOLLOW_RUN names another folder than /run/booth-follow, for tests. Root reads it too: it comes from whoever runs the program, as
-# PATH does, since nothing runs one of these with rights that its caller has not.
+# BOOTH_FOLLOW_RUN names another folder than /run/booth-follow, for tests. Root reads it too: it comes from whoever runs
+# the program, as PATH does, since nothing runs one of these with rights that its caller has not.
 # shellcheck shell=sh disable=SC2034,SC2154 # (who reads this file sets `ticket`, and uses what it sets)
 run=${BOOTH_FOLLOW_RUN:-/run/booth-follow}
 state=$run/$ticket.state end=$run/$ticket.end paused=$run/$ticket.paused
@@ -38,7 +39,8 @@ look_at_clock() {
 
 # Reads the state of this boot. There is none before the first run.
 load() {
-  service=stopped since=0 ends=0 end_at=0 kill_at=0 failed_starts=0 failed_until=0 releases=0 last_word='' last_status=''
+  service=stopped since=0 ends=0 end_at=0 kill_at=0 failed_starts=0 failed_until=0 releases=0
+  last_word='' last_status=''
   [ -r "$state" ] || return 0
   while IFS='=' read -r key value; do
     case $key in
@@ -78,8 +80,8 @@ status=$last_status
 END
 }
 
-# Changes the state by this function, one run at a time: a renewal runs beside a start or a stop. What ends a service waits for no
-# run that holds the lock for long.
+# Changes the state by this function, one run at a time: a renewal runs beside a start or a stop. What ends a service
+# waits for no run that holds the lock for long.
 change() {
   {
     flock -w 3 9

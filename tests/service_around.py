@@ -8,7 +8,7 @@ import re
 import time
 from typing import List
 
-from service_room import KILL, PACKAGING, SLACK, TICKET, UNIT, Room, Story, same, since_boot
+from service_room import ENDS, KILL, PACKAGING, SLACK, TICKET, UNIT, Room, Story, same, since_boot
 from shells import need, read
 
 stories: List[Story] = []
@@ -115,3 +115,50 @@ def times_of_the_unit_fit(room: Room) -> None:
     same((value("Type"), value("NotifyAccess"), value("RestartSec")), ("notify", "main", "1"), "the unit")
     need(1 < int(value("WatchdogSec")) <= 3, f"WatchdogSec is {value('WatchdogSec')}")
     need("chrony" not in unit and "network-online" not in unit and "\nAfter=" not in unit, "the unit waits for others")
+
+
+def await_service(room: Room, wanted: str, what: str) -> None:
+    """Waits until the state says this of the service."""
+    until = time.monotonic() + SLACK
+    while room.state()["service"] != wanted and time.monotonic() < until:
+        time.sleep(0.05)
+    same(room.state()["service"], wanted, what)
+
+
+@story
+def what_ended_by_itself_is_told(room: Room) -> None:
+    """a renewal has the service looked for, and the state says that it ended by itself, and that it runs again"""
+    room.begun()
+    for number, (status, wanted) in enumerate((("0", "running"), ("1", "running"), ("3", "ended"), ("1", "ended"))):
+        room.put("check.status", status)
+        room.drop("ran")
+        done = room.word("renew", str(KILL), ends=ENDS + 5 * number)
+        need(done.status == 0 and not done.printed, f"a renewal beside a check of {status}: {done}")
+        until = time.monotonic() + SLACK
+        while room.words() != "check" and time.monotonic() < until:
+            time.sleep(0.05)
+        time.sleep(0.3)
+        state = room.state()
+        same((room.words(), state["service"], state["word"]), ("check", wanted, "renew"), f"a check of {status}")
+    shown = room.call("booth-service", "show", TICKET)
+    need(shown.status == 0 and "service   ended for " in shown.printed, f"{shown}")
+    # (what ended is under its switch as before: its unit may start it again)
+    room.put("jobs", f"7 {UNIT} restart waiting\n")
+    room.drop("ran")
+    done = room.by_unit("ended")
+    need(done.status == 0 and "runs on" in done.printed and not room.words(), f"after the follower: {done}")
+    room.put("check.status", "0")
+    room.word("renew", str(KILL), ends=ENDS + 50)
+    await_service(room, "running", "a service that runs again")
+    # a look that ends after a stop says nothing, and a renewal waits for none
+    room.put("check.status", "3")
+    room.put("check.slow")
+    done = room.word("renew", str(KILL), ends=ENDS + 55)
+    need(done.status == 0 and done.took < 2, f"a renewal beside a slow check: {done}")
+    room.word("stop")
+    time.sleep(2.5)
+    same(room.state()["service"], "stopped", "after a stop beside a look")
+    room.drop("ran")
+    room.word("renew", str(KILL), ends=ENDS + 60)
+    time.sleep(0.5)
+    same(room.words(), "", "the runs for a service that is stopped")

@@ -144,6 +144,8 @@ def each_state_of_a_service(folder):
         ("stopping", False, LIVE, "stopping", [], []),
         ("killing", False, LIVE, "killing", [], []),
         ("stopped", False, LIVE, "stopped", [down], []),
+        ("ended", False, LIVE, "ended", [down], []),
+        ("ended", True, LIVE, "paused", [paused], [paused]),
         ("stopped", True, LIVE, "paused", [paused], [paused]),
         ("running", True, LIVE, "paused", [paused], [paused]),
         ("failed", False, LIVE, "failed", [failed], [failed]),
@@ -153,6 +155,7 @@ def each_state_of_a_service(folder):
         ("running", False, "loaded activating start-pre", "running here", [], []),
         ("running", False, "loaded failed failed", "no follower", [gone], [gone]),
         ("stopped", False, GONE, "no follower", [down, gone], [idle]),
+        ("ended", False, GONE, "no follower", [down, gone], [idle]),
         # (a follower that was stopped and disabled)
         ("stopped", False, None, "no follower", [down, gone], []),
         (None, False, GONE, "no follower", [gone], [idle]),
@@ -186,6 +189,9 @@ def what_is_said_of_a_service(folder):
         machine.state("stopped")
         down = "web: this site holds it, and its service has been"
         says(document("-c", three.path), rf"{down} stopped for 4\d s: journalctl -u booth-follow@web says why")
+        machine.state("ended")
+        ended = "web: this site holds it, and its service ended by itself, which was seen 4\\d s ago"
+        says(document("-c", three.path), rf"{ended}: systemctl restart booth-follow@web has it started again")
         # (longer than a lease)
         machine.state("starting", lasts=130)
         says(document("-c", three.path), f"{down} starting for 2 min: journalctl -u booth-follow@web says why")

@@ -199,7 +199,7 @@ def renew_that_fails_changes_nothing(room: Room) -> None:
     room.drop("systemctl.hangs")
     room.drop("ran")
     same(room.word("renew", str(KILL), ends=ENDS + 9, RENEWS="yes").status, 0, "the program renews")
-    (run,) = room.ran()
+    run = room.ran()[0]
     same((run.word, run.more, run.expires), ("renew", [str(KILL)], ENDS + 9), "the program's run")
 
 

@@ -26,6 +26,8 @@ SECONDS_BETWEEN_STARTS = 30
 SECONDS_OF_A_CHECKPOINT, SECONDS_OF_A_STOP = 3_600, 600
 # while the follower does one of these, the server is its
 BUSY = ("starting", "stopping", "killing")
+# it has started it, and looks now and then whether it runs
+FOLLOWED = ("running", "ended")
 
 
 class Watch:
@@ -58,7 +60,7 @@ class Watch:
             self.demote(service)
             return
         self.without_follower = 0
-        if service == "running":
+        if service in FOLLOWED:
             self.without_service += not self.is_paused()
             if self.without_service >= LOOKS_WITHOUT_SERVICE:
                 self.start_follower_again()

@@ -7,7 +7,7 @@ from typing import Iterator, Optional
 
 from configuration import Ticket
 from problems import CRITICAL, WARNING, Problem
-from service_state import FAILED, KILLING, RUNNING, STARTING, STOPPED, STOPPING, State
+from service_state import ENDED, FAILED, KILLING, RUNNING, STARTING, STOPPED, STOPPING, State
 from services import Here, Service
 from wording import count, span
 
@@ -58,16 +58,24 @@ def problems(here: Here, ticket: Ticket, is_held_here: bool) -> Iterator[Problem
     if state.service == FAILED:
         yield Problem(CRITICAL, "service-failed", failed(service), here.site, ticket=name)
     elif is_held_here and not state.is_paused and is_down(state, service.now, ticket):
-        lasts = span(service.now - state.since)
-        text = f"{name}: this site holds it, and its service has been {state.service} for {lasts}"
-        if service.lives is not False:
-            text += f": journalctl -u booth-follow@{name} says why"
-        yield Problem(CRITICAL, "service-down", text, here.site, ticket=name)
+        yield Problem(CRITICAL, "service-down", down(service), here.site, ticket=name)
 
 
 def is_down(state: State, now: float, ticket: Ticket) -> bool:
-    """Whether the service does not run: it is stopped, or its start or its stop takes longer than a lease."""
-    return state.service == STOPPED or state.service in CHANGES and now - state.since > ticket.expire
+    """Whether the service does not run: it is over, or its start or its stop takes longer than a lease."""
+    return state.service in (STOPPED, ENDED) or state.service in CHANGES and now - state.since > ticket.expire
+
+
+def down(service: Service) -> str:
+    """What is said of a service that does not run where it has to."""
+    state, name = service.state, service.ticket
+    assert state is not None
+    lasts = span(service.now - state.since)
+    if state.service == ENDED:
+        text = f"{name}: this site holds it, and its service ended by itself, which was seen {lasts} ago"
+        return f"{text}: systemctl restart booth-follow@{name} has it started again"
+    text = f"{name}: this site holds it, and its service has been {state.service} for {lasts}"
+    return text if service.lives is False else f"{text}: journalctl -u booth-follow@{name} says why"
 
 
 def of_follower(here: Here, service: Service, is_held_here: bool) -> Iterator[Problem]:

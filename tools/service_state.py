@@ -11,7 +11,7 @@ import configuration
 
 FOLDER = "/run/booth-follow"
 FILE_BYTES = 65_536
-STOPPED, STARTING, RUNNING = "stopped", "starting", "running"
+STOPPED, STARTING, RUNNING, ENDED = "stopped", "starting", "running", "ended"
 STOPPING, KILLING, FAILED = "stopping", "killing", "failed"
 # nothing of the service runs
 OVER = (STOPPED, FAILED)
