@@ -331,6 +331,7 @@ def restart_without_the_replica(world: World, holder: Machine) -> Optional[str]:
     other.lose_power()
     try:
         holder.must("kill", "-KILL", postmaster(holder))
+        world.await_that("the primary ends", lambda: not world.writers.takes(holder), 5)
         stays(world, holder)
     finally:
         world.boot(other, wait=False)

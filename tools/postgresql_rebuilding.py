@@ -14,14 +14,15 @@ from postgresql_server import Failed, Place, Server
 SECONDS_TO_STOP, SECONDS_TO_REWIND, SECONDS_TO_COPY = 300, 21_600, 172_800
 # the configuration of a server that is in its directory, as where Debian did not make it
 OWN_FILES = ("postgresql.conf", "pg_hba.conf", "pg_ident.conf")
-WAIT, REWIND, COPY = "wait", "rewind", "copy"
+# what a server needs to follow a primary; what has parted is of no use until it is copied, and is not started
+WAIT, REWIND, COPY, PARTED = "wait", "rewind", "copy", "parted"
 Say = Callable[[str], None]
 # the timelines before a server's own, with the position at which each ended
 History = List[Tuple[int, int]]
 
 
 def parted(own: Place, own_history: Optional[History], peer: Place, history: Optional[History]) -> str:
-    """Returns what a standby needs to follow the primary `peer`: to wait, to be rewound or to be copied again."""
+    """Returns what a standby needs to follow the primary `peer`."""
     if own_history is None or history is None:
         return WAIT
     theirs, ours = [*history, (peer.timeline, 0)], [*own_history, (own.timeline, 0)]
@@ -31,14 +32,14 @@ def parted(own: Place, own_history: Optional[History], peer: Place, history: Opt
         is_our_last, is_their_last = our_line == own.timeline, their_line == peer.timeline
         if is_our_last and is_their_last:
             # (a standby is never ahead of its primary, and no tool tells two timelines of one number apart)
-            return COPY if own.position > peer.position else WAIT
+            return PARTED if own.position > peer.position else WAIT
         if is_our_last:
             return REWIND if own.position > their_end else WAIT
         if is_their_last:
             return REWIND
         if their_end != our_end:
             # two timelines of one number begin behind it
-            return COPY
+            return PARTED
     return WAIT
 
 
@@ -182,8 +183,14 @@ def rebuild(server: Server, address: str, how: str, say: Say) -> bool:
     is_changed = (pg.kept_value(server, "rebuilding") or "").startswith("changing")
     if not done and server.copies:
         done = copy(server, address, say)
-    elif not done and how == COPY:
+    elif not done and how in (COPY, PARTED):
         say("pg_basebackup is needed, and setup was run without --allow-basebackup")
+    if not done and how == PARTED:
+        pg.keep(server, "rebuilding", f"{PARTED} {address}")
+        return False
+    if done:
+        # (its timelines are those of the primary now)
+        pg.forget(server, "timeline")
     if done or not is_changed:
         pg.forget(server, "rebuilding")
         pg.units("start", "--no-block", server.unit)

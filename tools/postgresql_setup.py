@@ -217,7 +217,14 @@ def write_units(steps: Steps, server: Server, at: Found) -> None:
     steps.units("daemon-reload")
     if at.is_unit_ours:
         steps.units("enable", server.unit)
-    steps.units("enable", "--now", f"booth-postgresql@{server.name}.service")
+    # (one that runs has the values of before)
+    for word in ("enable", "restart"):
+        steps.units(word, watch_of(server))
+
+
+def watch_of(server: Server) -> str:
+    """Returns the unit that watches the server."""
+    return f"booth-postgresql@{server.name}.service"
 
 
 def must(done: pg.Ended, what: str) -> None:
@@ -327,7 +334,8 @@ def set_up_standby(server: Server, at: Found, choices: Choices) -> None:
     write_common(steps, server, at, choices)
     system = local_system(server)
     # (a machine that was cloned has the same system, and is no standby of the other one by that)
-    if system == place.system and os.path.exists(f"{server.data}/standby.signal"):
+    is_standby = system == place.system and os.path.exists(f"{server.data}/standby.signal")
+    if is_standby and not pg.is_kept(server, "rebuilding"):
         steps.note(f"{server.data} has the database of {address} already")
     else:
         fault = rebuilding.fault_of_copy(server)
@@ -336,7 +344,7 @@ def set_up_standby(server: Server, at: Found, choices: Choices) -> None:
         if at.is_unit_ours:
             steps.file(f"{UNITS_FOLDER}/{server.unit}", UNIT.format(**server._asdict()))
             steps.units("daemon-reload")
-        steps.units("stop", server.unit)
+        steps.units("stop", watch_of(server), server.unit)
         steps.do(f"copy the data of {address} to {server.data}", lambda: copied(server, address))
     write_units(steps, server, at)
     steps.units("restart", server.unit)
@@ -376,6 +384,8 @@ def copied(server: Server, address: str) -> None:
     reasons: List[str] = []
     if not rebuilding.copy(server, address, reasons.append):
         raise Failed("; ".join(reasons))
+    for what in ("rebuilding", "timeline", "former"):
+        pg.forget(server, what)
 
 
 def is_streaming(server: Server) -> bool:

@@ -15,6 +15,7 @@ FOLLOW_FOLDER = "/etc/booth/follow"
 KEPT = {
     "primary": "a primary runs, or may run: it was promoted by its follower",
     "former": "it was the primary last, under the lease of term {}",
+    "timeline": "it began timeline {}",
     "rebuilding": "its data are being brought up to those of another site ({})",
     "accepted": "the next promotion asks no peer",
 }

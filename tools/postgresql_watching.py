@@ -10,7 +10,7 @@ from typing import Dict, Optional
 
 import postgresql_rebuilding as rebuilding
 import postgresql_server as pg
-from postgresql_rebuilding import COPY, REWIND, WAIT
+from postgresql_rebuilding import COPY, PARTED, REWIND, WAIT
 from postgresql_server import Failed, Place, Server
 
 SECONDS_BETWEEN_LOOKS = 2
@@ -56,7 +56,7 @@ class Watch:
         recovers = pg.psql(server, pg.spot(server), "SELECT pg_is_in_recovery()")
         if recovers == "f":
             self.without_service = self.without_stream = 0
-            self.write_checkpoint()
+            self.see_timeline()
             self.demote(service)
             return
         self.without_follower = 0
@@ -108,12 +108,16 @@ class Watch:
             if done.status != 0:
                 self.say(f"the stop ended with status {done.status}: {rebuilding.last_line(done.err)}")
 
-    def write_checkpoint(self) -> None:
-        """Writes the first checkpoint of a timeline at once: no other server can be rewound to it before."""
+    def see_timeline(self) -> None:
+        """Notes the timeline of a primary, and writes its first checkpoint: no server can be rewound to it before."""
         line = "('x' || substr(pg_walfile_name(pg_current_wal_lsn()), 1, 8))::bit(32)::int"
         sql = f"SELECT timeline_id, {line} FROM pg_control_checkpoint()"
         told = (pg.psql(self.server, pg.spot(self.server), sql) or "").split("|")
-        if len(told) == 2 and told[0] != told[1]:
+        if len(told) != 2:
+            return
+        if pg.kept_value(self.server, "timeline") != told[1]:
+            pg.keep(self.server, "timeline", told[1])
+        if told[0] != told[1]:
             pg.psql(self.server, pg.spot(self.server), "CHECKPOINT", SECONDS_OF_A_CHECKPOINT)
 
     def follow(self) -> None:
@@ -135,21 +139,38 @@ class Watch:
         self.compare(own, *primaries[0])
 
     def is_in_step(self) -> None:
-        """Notes when the standby was in step last, and once it follows a primary that it was none last."""
+        """Notes when the standby last had all that its primary had, and that it is no former primary any more."""
         server = self.server
         self.in_step += 1
-        if self.in_step % LOOKS_BETWEEN_NOTES != 1:
+        # (a former primary may be needed as the next one at once)
+        if self.in_step % LOOKS_BETWEEN_NOTES != 1 and not pg.is_kept(server, "former"):
             return
+        before = pg.place_of(server)
         primaries = [(address, place) for address, place in pg.answered(server) if not place.is_standby]
-        if len(primaries) != 1:
-            return
         own = pg.place_of(server)
-        if own is None or own.timeline != primaries[0][1].timeline:
+        if before is None or own is None or len(primaries) != 1:
             return
-        self.say(f"follows {primaries[0][0]} on timeline {own.timeline}", "stream")
+        address, peer = primaries[0]
+        if self.is_own_timeline(peer) or before.timeline == peer.timeline and before.position > peer.position:
+            self.say(f"gets a log of {address} that is no continuation of its own", "stream")
+            self.rebuild(address, PARTED)
+            return
+        if own.timeline != peer.timeline or own.position < peer.position:
+            # (it gets up: the next look is at that too)
+            self.in_step = 0
+            return
+        self.say(f"follows {address} on timeline {own.timeline}", "stream")
         pg.keep(server, "in-step", str(int(time.time())))
-        if pg.is_kept(server, "former"):
-            pg.forget(server, "former")
+        for what in ("former", "timeline"):
+            if pg.is_kept(server, what):
+                pg.forget(server, what)
+
+    def is_own_timeline(self, peer: Place) -> bool:
+        """Returns whether the primary's timeline is one that this server began: then the two share its number alone.
+
+        A server gets no other log of a timeline that it began, and each promotion begins one.
+        """
+        return pg.kept_value(self.server, "timeline") == str(peer.timeline)
 
     def compare(self, own: Place, address: str, peer: Place) -> None:
         """Finds out what the standby needs to follow this primary, and does it."""
@@ -159,6 +180,8 @@ class Watch:
             return
         history = pg.history_of(server, address, peer.timeline)
         how = rebuilding.parted(own, pg.history_of(server, None, own.timeline), peer, history)
+        if self.is_own_timeline(peer):
+            how = PARTED
         if how == WAIT and rebuilding.lacks_log(server, own, address, peer):
             self.say(f"{address} has removed the log that is needed here", "stream")
             how = COPY
@@ -179,19 +202,20 @@ class Watch:
         if now - self.rebuilt >= SECONDS_BETWEEN_REBUILDS:
             self.rebuilt = now
             self.without_stream = 0
-            rebuilding.rebuild(self.server, address, how, self.say)
+            rebuilding.rebuild(self.server, address, how, lambda text: self.say(text, "rebuild"))
             self.rebuilt = time.monotonic()
 
     def resume(self) -> None:
         """Goes on with what was begun before."""
-        _, _, address = (pg.kept_value(self.server, "rebuilding") or "").partition(" ")
-        peers = [peer for peer in ([address] if address in self.server.peers else self.server.peers)]
+        kind, _, address = (pg.kept_value(self.server, "rebuilding") or "").partition(" ")
+        # (what is half rewound is so by the data of one site)
+        peers = (address,) if address in self.server.peers and kind != PARTED else self.server.peers
         for peer in peers:
             place: Optional[Place] = pg.place_of(self.server, peer)
             if place is not None and not place.is_standby:
-                self.rebuild(peer, REWIND)
+                self.rebuild(peer, PARTED if kind == PARTED else REWIND)
                 return
-        self.say(f"waits for a primary at {' or '.join(peers)}: its data are half brought up", "stream")
+        self.say(f"waits for a primary at {' or '.join(peers)}, whose data are needed here", "stream")
 
 
 def watch(server: Server) -> None:
