@@ -20,7 +20,7 @@ IMAGE_PACKAGES = (
 )  # fmt: skip
 SUITE = "bookworm"
 MIRROR = "http://deb.debian.org/debian"
-NEEDED = ("systemd-nspawn", "nsenter", "ip", "mount")
+NEEDED = ("systemd-nspawn", "nsenter", "unshare", "ip", "mount")
 SECONDS_TO_BOOT, SECONDS_TO_END, SECONDS_OF_A_COMMAND = 60, 30, 60
 SECONDS_OF_AN_IMAGE = 1800
 ENV = {"PATH": "/usr/local/sbin:/usr/local/bin:/usr/sbin:/usr/bin:/sbin:/bin", "LC_ALL": "C.UTF-8"}
@@ -35,13 +35,21 @@ class NotBooted(Exception):
     """A machine did not boot, or what it takes is missing."""
 
 
+class NoImage(NotBooted):
+    """The image cannot be made."""
+
+
 def missing() -> List[str]:
     """Returns what is missing to boot machines here."""
     lacks = [name for name in NEEDED if shutil.which(name) is None]
-    if os.geteuid() != 0:
-        lacks.append("the rights of root")
     if not os.path.isdir(IMAGE) and shutil.which("debootstrap") is None:
         lacks.append("debootstrap")
+    if os.geteuid() != 0:
+        return [*lacks, "the rights of root"]
+    if not lacks:
+        probe = ["unshare", "--mount", "--net", "--pid", "--fork", "true"]
+        done = subprocess.run(probe, stdin=subprocess.DEVNULL, capture_output=True, check=False)
+        lacks += ["namespaces of its own"] if done.returncode != 0 else []
     return lacks
 
 
@@ -57,7 +65,9 @@ def make_image() -> None:
             words, stdin=subprocess.DEVNULL, stdout=log, stderr=log, timeout=SECONDS_OF_AN_IMAGE, check=False
         )
         if done.returncode != 0:
-            raise NotBooted(f"debootstrap failed: {FOLDER}/image.log")
+            # (what it has mounted there stays as it is)
+            subprocess.run(["rm", "-rf", "--one-file-system", begun], check=False)
+            raise NoImage(f"debootstrap failed: {FOLDER}/image.log")
     os.rename(begun, IMAGE)
 
 

@@ -29,7 +29,7 @@ sys.path[:0] = [HERE, f"{TOP}/tools"]
 import booted
 import machine_sites
 import machine_writers
-from booted import NotBooted
+from booted import NoImage, NotBooted
 from machine_scenarios import SCENARIOS, Scenario
 from machine_sites import Unlike, World
 
@@ -139,6 +139,10 @@ def main(arguments: List[str]) -> int:
     ]
     try:
         booted.make_image()
+    except (NoImage, subprocess.TimeoutExpired) as why:
+        print(f"machines: not tried here, since {why}")
+        return NOT_HERE
+    try:
         return 0 if try_all(package, chosen, options.keep) else 1
     except (NotBooted, Unlike) as why:
         print(f"FAILED machines: {why}")

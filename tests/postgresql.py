@@ -43,8 +43,8 @@ def refused(done: object, text: str) -> None:
 
 def write(site: Site, first: int, last: int) -> None:
     """Writes rows of these numbers."""
-    done = site.ask(f"INSERT INTO booth_rows SELECT '{site.name}', n FROM generate_series({first}, {last}) n RETURNING 1")
-    need(done, f"{site.name} takes no rows")
+    rows = f"SELECT '{site.name}', n FROM generate_series({first}, {last}) n"
+    need(site.ask(f"INSERT INTO booth_rows {rows} RETURNING 1"), f"{site.name} takes no rows")
 
 
 def postmaster(site: Site) -> str:
@@ -107,7 +107,7 @@ def setup_refuses(pair: Pair) -> None:
 
 @story
 def a_pair_is_set_up(pair: Pair) -> None:
-    """the primary runs on, the other server becomes a copy of it beside what it had, and a second run changes nothing"""
+    """the primary runs on, the other server becomes a copy of it, and a second run changes nothing"""
     one, two = pair.sites
     before = postmaster(one)
     one.ask(machine_writers.TABLE)
@@ -195,6 +195,23 @@ def kill_of_what_hangs(pair: Pair) -> None:
     await_that("the former primary follows", two.streams)
 
 
+@story
+def what_ended_by_itself_is_started_again(pair: Pair) -> None:
+    """a primary that ends by itself is seen in seconds, and its follower is started again; no row is lost"""
+    one, two = pair.sites
+    follower = f"booth-follow@{TICKET}.service"
+    one.write(f"/etc/systemd/system/{follower}", "[Service]\nExecStart=/bin/sleep 1000\n")
+    write(one, 51, 60)
+    one.must("kill", "-KILL", postmaster(one))
+    took = await_that("its follower is started", lambda: one.run("systemctl", "is-active", follower).status == 0)
+    need(took < 5 and "the primary ended by itself" in one.told(), f"it took {took:.1f} s, and says {one.told()}")
+    need(one.word("check").status == 3, "a primary that ended is checked as one")
+    demote(one)
+    promote(one)
+    need({*range(1, 61)} <= one.rows(), "rows are lost by a crash")
+    await_that("the standby follows", lambda: two.streams() and 60 in two.rows())
+
+
 # ---- a former primary
 
 
@@ -204,8 +221,13 @@ def alone_it_is_not_promoted(pair: Pair) -> None:
     one, two = pair.sites
     await_that("it is noted that it follows", lambda: not os.path.exists(f"{two.root}{KEPT}/{NAME}.former"))
     turn_off(two)
-    write(one, 51, 60)
+    write(one, 71, 80)
+    # (its lease got a later term while it ran; then another site's may have run)
+    one.hold(11)
+    await_that("the later term is noted", lambda: one.read(f"{KEPT}/{NAME}.former") == "11\n")
     demote(one)
+    one.must("booth-postgresql", "may-promote", NAME)
+    one.hold(13)
     refused(one.word("start"), "it was a primary before, no peer answers")
     turn_off(one)
     turn_on(two)
@@ -216,8 +238,8 @@ def alone_it_is_not_promoted(pair: Pair) -> None:
     refused(two.word("start"), "it never was in step")
     two.must("booth-postgresql", "accept", NAME)
     promote(two)
-    need(60 not in two.rows(), "it has rows that it cannot have")
-    write(two, 61, 70)
+    need(80 not in two.rows(), "it has rows that it cannot have")
+    write(two, 81, 90)
 
 
 @story
@@ -226,8 +248,8 @@ def a_former_primary_is_rewound(pair: Pair) -> None:
     one, two = pair.sites
     turn_on(one)
     await_that("the former primary follows", one.streams)
-    await_that("it has the rows", lambda: 70 in one.rows())
-    need(60 not in one.rows(), "it has rows that were dropped")
+    await_that("it has the rows", lambda: 90 in one.rows())
+    need(80 not in one.rows(), "it has rows that were dropped")
     need("bytes of its log are dropped" in one.told() and "pg_rewind" in one.told(), f"it says: {one.told()}")
 
 
@@ -246,7 +268,7 @@ def what_cannot_be_rewound_is_copied(pair: Pair) -> None:
     promote(two)
     turn_on(one)
     await_that("it says what is needed", lambda: "setup was run without --allow-basebackup" in one.told())
-    need(not one.streams() and one.word("start").status == 1, "it goes on with other data")
+    need(not one.ask("SELECT 1") and one.word("start").status == 1, "it goes on with other data")
     done = one.set_up("--standby", "--allow-basebackup")
     need(done.status == 0, f"setup again: {done}")
     await_that("it is copied, and follows", one.streams)
@@ -272,12 +294,13 @@ def half_rebuilt_data_are_not_started(pair: Pair) -> None:
 
 @story
 def synchronous_loses_nothing(pair: Pair) -> None:
-    """with --synchronous no write that was answered is lost by a takeover, and one waits while the other site is away"""
+    """with --synchronous no answered write is lost by a takeover, and writes wait while the other site is away"""
     one, two = pair.sites
     for site, kind in ((two, "--primary"), (one, "--standby")):
         done = site.set_up(kind, "--synchronous", "--allow-basebackup")
         need(done.status == 0, f"setup --synchronous: {done}")
-    await_that("the standby is a synchronous one", lambda: "sync" in two.ask("SELECT sync_state FROM pg_stat_replication"))
+    state = "SELECT sync_state FROM pg_stat_replication"
+    await_that("the standby is a synchronous one", lambda: two.ask(state) in ("sync", "quorum"))
     began = time.monotonic()
     time.sleep(2)
     await_that("it was in step", lambda: one.read(f"{KEPT}/{NAME}.in-step"))

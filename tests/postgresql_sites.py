@@ -10,12 +10,14 @@ import os
 import shutil
 import signal
 import socket
+import struct
 import subprocess
 import sys
 import tempfile
 import time
 from typing import Callable, Dict, List, NamedTuple, Optional, Set
 
+import record_file
 from shells import Wrong, need
 
 TOP = os.path.dirname(os.path.dirname(os.path.abspath(__file__)))
@@ -184,6 +186,15 @@ class Site:
     def tell(self, service: str) -> None:
         """Has the follower's state say this of the service."""
         self.write(f"/run/booth-follow/{TICKET}.state", f"service={service}\n")
+
+    def hold(self, term: int) -> None:
+        """Has the daemon's record say that this site holds a lease of this term."""
+        fields = (record_file.OPEN, 1, 2, term, record_file.HAS_LEASE, term, 1, *[0] * 7)
+        content = bytes(128) + struct.pack(">B7xQ" + record_file.SECOND_FORM.format[1:], *fields)
+        path = f"{self.root}/var/lib/booth/booth/{TICKET.encode().hex()}.rec"
+        os.makedirs(os.path.dirname(path), exist_ok=True)
+        with open(path, "wb") as file:
+            file.write(content)
 
     def set_up(self, *options: str, ticket: str = TICKET) -> Ended:
         """Runs `booth-postgresql setup`."""

@@ -16,7 +16,7 @@ from postgresql_server import Failed, Place, Server
 SECONDS_BETWEEN_LOOKS = 2
 # after so many looks at which a standby gets nothing its place is compared with that of the primary
 LOOKS_WITHOUT_STREAM = 2
-# after so many looks at which the ticket's service does not run although its follower started it, that one starts again
+# after so many looks at which no primary answers although the follower started one, that follower starts again
 LOOKS_WITHOUT_SERVICE = 3
 # each so many looks it is noted that a standby is in step
 LOOKS_BETWEEN_NOTES = 5
@@ -53,17 +53,17 @@ class Watch:
             self.resume()
             return
         service = pg.follower_state(server).get("service", "")
+        term = pg.lease_term(server)
         recovers = pg.psql(server, pg.spot(server), "SELECT pg_is_in_recovery()")
         if recovers == "f":
             self.without_service = self.without_stream = 0
             self.see_timeline()
+            self.see_term(term)
             self.demote(service)
             return
         self.without_follower = 0
         if service in FOLLOWED:
-            self.without_service += not self.is_paused()
-            if self.without_service >= LOOKS_WITHOUT_SERVICE:
-                self.start_follower_again()
+            self.see_no_primary(service, recovers == "t" or not pg.processes(server))
             return
         self.without_service = 0
         if service in BUSY or pg.is_kept(server, "primary"):
@@ -83,6 +83,25 @@ class Watch:
             done = pg.units("start", "--no-block", self.server.unit)
             if done.status != 0:
                 self.say(f"cannot start {self.server.unit}: {rebuilding.last_line(done.err)}", "start")
+
+    def see_term(self, term: Optional[int]) -> None:
+        """Notes the term of the lease under which a primary runs on: it may have risen since the promotion.
+
+        The term was read before the primary answered, so no other site had a primary since that lease began.
+        """
+        noted = pg.kept_value(self.server, "former")
+        if term is not None and noted is not None and (not noted.isdigit() or int(noted) < term):
+            pg.keep(self.server, "former", str(term))
+
+    def see_no_primary(self, service: str, is_certain: bool) -> None:
+        """Has the follower look, if the server is no primary for certain, or none answered at some looks in a row."""
+        if self.is_paused():
+            return
+        self.without_service += LOOKS_WITHOUT_SERVICE if is_certain else 1
+        # (a stop may have begun meanwhile)
+        is_still_so = pg.follower_state(self.server).get("service") == service
+        if self.without_service >= LOOKS_WITHOUT_SERVICE and is_still_so:
+            self.start_follower_again()
 
     def start_follower_again(self) -> None:
         """Has the follower of the ticket find that its service does not run, stop and start it."""
