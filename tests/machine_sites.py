@@ -123,9 +123,13 @@ class World:
         return holder
 
     def is_settled(self) -> bool:
-        """Returns whether a site is the primary and holds the ticket, and the other one follows it."""
+        """Returns whether a site is the primary and holds the ticket, and the other one follows it and is in step."""
         holder = self.holder()
-        return holder is not None and self.is_replica(self.other(holder))
+        return holder is not None and self.is_replica(self.other(holder)) and not self.is_former(self.other(holder))
+
+    def is_former(self, site: Machine) -> bool:
+        """Returns whether a site's server was the primary last, as far as it knows, and so is not promoted alone."""
+        return bool(site.read(f"/var/lib/booth-postgresql/{NAME}.former"))
 
     # ---- what a scenario does
 

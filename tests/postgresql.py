@@ -17,7 +17,20 @@ sys.path[:0] = [HERE, f"{HERE}/../tools"]
 
 import machine_writers
 from machine_writers import Try
-from postgresql_sites import MANUAL, NAME, OWNER, SOCKETS, TICKET, UNIT, WATCH, Pair, Site, await_that, missing
+from postgresql_sites import (
+    MANUAL,
+    NAME,
+    OWNER,
+    SOCKETS,
+    TICKET,
+    UNIT,
+    WATCH,
+    Ended,
+    Pair,
+    Site,
+    await_that,
+    missing,
+)
 from serving import end_by_signals
 from shells import Wrong, need
 
@@ -36,7 +49,7 @@ def story(function: Story) -> Story:
     return function
 
 
-def refused(done: object, text: str) -> None:
+def refused(done: Ended, text: str) -> None:
     """Holds a run to one that is refused with this text."""
     need(done.status == 1 and text in done.printed, f"not refused with {text!r}: {done}")
 

@@ -14,13 +14,15 @@ from postgresql_rebuilding import COPY, PARTED, REWIND, WAIT
 from postgresql_server import Failed, Place, Server
 
 SECONDS_BETWEEN_LOOKS = 2
+# while a former primary comes back: until it was in step it is not promoted if no other site answers
+SECONDS_BETWEEN_HURRIED_LOOKS = 0.5
 # after so many looks at which a standby gets nothing its place is compared with that of the primary
 LOOKS_WITHOUT_STREAM = 2
 # after so many looks at which no primary answers although the follower started one, that follower starts again
 LOOKS_WITHOUT_SERVICE = 3
 # each so many looks it is noted that a standby is in step
 LOOKS_BETWEEN_NOTES = 5
-SECONDS_BETWEEN_RESTARTS = 30
+SECONDS_BETWEEN_RESTARTS = 10
 SECONDS_BETWEEN_REBUILDS = 20
 SECONDS_BETWEEN_STARTS = 30
 SECONDS_OF_A_CHECKPOINT, SECONDS_OF_A_STOP = 3_600, 600
@@ -37,6 +39,7 @@ class Watch:
         self.server = server
         self.without_stream = self.without_service = self.without_follower = self.in_step = 0
         self.restarted = self.rebuilt = self.started = -float("inf")
+        self.is_coming_back = False
         self.said: Dict[str, str] = {}
 
     def say(self, text: str, about: str = "") -> None:
@@ -70,6 +73,7 @@ class Watch:
             return
         if recovers is None:
             if not pg.processes(server):
+                self.is_coming_back = False
                 self.start()
             return
         self.follow()
@@ -142,7 +146,9 @@ class Watch:
     def follow(self) -> None:
         """Sees whether the standby gets the log of a primary, and why not."""
         server = self.server
+        self.is_coming_back = False
         if pg.psql(server, pg.spot(server), "SELECT status FROM pg_stat_wal_receiver") == "streaming":
+            self.is_coming_back = pg.is_kept(server, "former")
             self.without_stream = 0
             self.is_in_step()
             return
@@ -221,7 +227,8 @@ class Watch:
         if now - self.rebuilt >= SECONDS_BETWEEN_REBUILDS:
             self.rebuilt = now
             self.without_stream = 0
-            rebuilding.rebuild(self.server, address, how, lambda text: self.say(text, "rebuild"))
+            say = lambda text: self.say(text, "rebuild")
+            self.is_coming_back = rebuilding.rebuild(self.server, address, how, say)
             self.rebuilt = time.monotonic()
 
     def resume(self) -> None:
@@ -249,4 +256,5 @@ def watch(server: Server) -> None:
             looks.say(str(why), "failed")
         except OSError as why:
             looks.say(f"cannot look: {why}", "failed")
-        time.sleep(max(0.2, started + SECONDS_BETWEEN_LOOKS - time.monotonic()))
+        pause = SECONDS_BETWEEN_HURRIED_LOOKS if looks.is_coming_back else SECONDS_BETWEEN_LOOKS
+        time.sleep(max(0.2, started + pause - time.monotonic()))
