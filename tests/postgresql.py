@@ -35,6 +35,8 @@ from serving import end_by_signals
 from shells import Wrong, need
 
 NOT_HERE = 77
+# what the package's own programs run by, which each user may run
+PYTHON = "/usr/bin/python3"
 KEPT = "/var/lib/booth-postgresql"
 LONG_AGO = 7200
 PASSWORDS = f"/etc/booth/postgresql/{NAME}.pgpass"
@@ -140,7 +142,7 @@ def a_pair_is_set_up(pair: Pair) -> None:
     need(os.path.exists(f"{two.data}.booth-old/PG_VERSION"), "what it had is gone")
     for site in pair.sites:
         path = f"/run/writer-{site.name}"
-        words = [sys.executable, f"{HERE}/machine_writer.py", site.name, f"{SOCKETS}/.s.PGSQL.{site.port}", path]
+        words = [PYTHON, f"{HERE}/machine_writer.py", site.name, f"{SOCKETS}/.s.PGSQL.{site.port}", path]
         site.must("install", "-o", OWNER, "/dev/null", path)
         as_owner = ["setpriv", "--reuid", OWNER, "--regid", OWNER, "--init-groups"]
         subprocess.Popen(site.entering(*as_owner, *words), stdin=subprocess.DEVNULL, env=site.environment())
@@ -235,12 +237,15 @@ def alone_it_is_not_promoted(pair: Pair) -> None:
     await_that("it is noted that it follows", lambda: not os.path.exists(f"{two.root}{KEPT}/{NAME}.former"))
     turn_off(two)
     write(one, 71, 80)
-    # (its lease got a later term while it ran; then another site's may have run)
-    one.hold(11)
-    await_that("the later term is noted", lambda: one.read(f"{KEPT}/{NAME}.former") == "11\n")
-    demote(one)
+    # (its lease gets later terms, while it runs and afterwards, and is never lost; then it is, and another may have run)
+    for term, seconds in ((11, 60.0), (14, 2.5)):
+        one.hold(term, seconds)
+        await_that("the later term is noted", lambda term=term: one.read(f"{KEPT}/{NAME}.former") == f"{term}\n", 5)
+        if one.is_primary():
+            demote(one)
     one.must("booth-postgresql", "may-promote", NAME)
-    one.hold(13)
+    time.sleep(3)
+    one.hold(17, 60)
     refused(one.word("start"), "it was a primary before, no peer answers")
     turn_off(one)
     turn_on(two)

@@ -110,7 +110,9 @@ class Site:
             os.makedirs(f"{self.folder}/{part}")
         self.write_program("systemctl", f'exec {sys.executable} {TOP}/tests/postgresql_units.py "$@"\n')
         script = ENTER.format(folder=self.folder, top=TOP, owner=OWNER, sockets=SOCKETS, python=sys.executable)
-        words = ["unshare", "--mount", "--pid", "--fork", "--kill-child", "--mount-proc", "sh", "-c", script]
+        # (whatever becomes of this process, that one ends with it)
+        words = ["setpriv", "--pdeathsig", "KILL", "unshare", "--mount", "--pid", "--fork", "--kill-child"]
+        words += ["--mount-proc", "sh", "-c", script]
         self.process = subprocess.Popen(words, stdin=subprocess.DEVNULL, stdout=subprocess.PIPE, env=self.environment())
         assert self.process.stdout is not None
         need(self.process.stdout.readline() == b"holds\n", f"the site {name} does not begin")
@@ -187,9 +189,10 @@ class Site:
         """Has the follower's state say this of the service."""
         self.write(f"/run/booth-follow/{TICKET}.state", f"service={service}\n")
 
-    def hold(self, term: int) -> None:
-        """Has the daemon's record say that this site holds a lease of this term."""
-        fields = (record_file.OPEN, 1, 2, term, record_file.HAS_LEASE, term, 1, *[0] * 7)
+    def hold(self, term: int, seconds: float) -> None:
+        """Has the daemon's record say that this site holds a lease of this term, which ends after so many seconds."""
+        until = int((time.time() + seconds) * 1000)
+        fields = (record_file.OPEN, 1, 2, term, record_file.HAS_LEASE, term, until, *[0] * 7)
         content = bytes(128) + struct.pack(">B7xQ" + record_file.SECOND_FORM.format[1:], *fields)
         path = f"{self.root}/var/lib/booth/booth/{TICKET.encode().hex()}.rec"
         os.makedirs(os.path.dirname(path), exist_ok=True)

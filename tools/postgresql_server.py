@@ -289,17 +289,21 @@ def follower_state(server: Server) -> Dict[str, str]:
         return {}
 
 
-def lease_term(server: Server) -> Optional[int]:
-    """Returns the term of the lease that this site holds by the daemon's record, or nothing."""
+def lease(server: Server) -> Optional[record_file.Lease]:
+    """Returns the lease that this site holds by the daemon's record, or nothing."""
     folder = f"{RECORDS_FOLDER}/{os.environ.get('BOOTH_CONF_NAME', 'booth')}"
     try:
         with open(f"{folder}/{server.ticket.encode().hex()}.rec", "rb") as file:
             slot = record_file.in_force(record_file.slots_in(file.read(record_file.FILE_BYTES)))
     except OSError:
         return None
-    if slot is None or slot.record is None or slot.record.lease is None:
-        return None
-    return slot.record.lease.term
+    return None if slot is None or slot.record is None else slot.record.lease
+
+
+def lease_term(server: Server) -> Optional[int]:
+    """Returns the term of that lease, or nothing."""
+    held = lease(server)
+    return None if held is None else held.term
 
 
 def wait_until(check: Callable[[], bool], seconds: float, pause: float = 0.3) -> bool:

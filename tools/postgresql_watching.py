@@ -10,6 +10,7 @@ from typing import Dict, Optional
 
 import postgresql_rebuilding as rebuilding
 import postgresql_server as pg
+import record_file
 from postgresql_rebuilding import COPY, PARTED, REWIND, WAIT
 from postgresql_server import Failed, Place, Server
 
@@ -26,6 +27,8 @@ SECONDS_BETWEEN_RESTARTS = 10
 SECONDS_BETWEEN_REBUILDS = 20
 SECONDS_BETWEEN_STARTS = 30
 SECONDS_OF_A_CHECKPOINT, SECONDS_OF_A_STOP = 3_600, 600
+# another site cannot have had the ticket and a primary within that time
+SECONDS_OF_A_LEASE_UNSEEN = 3
 # while the follower does one of these, the server is its
 BUSY = ("starting", "stopping", "killing")
 # it has started it, and looks now and then whether it runs
@@ -40,6 +43,8 @@ class Watch:
         self.without_stream = self.without_service = self.without_follower = self.in_step = 0
         self.restarted = self.rebuilt = self.started = -float("inf")
         self.is_coming_back = False
+        self.held: Optional[record_file.Lease] = None
+        self.seen = -float("inf")
         self.said: Dict[str, str] = {}
 
     def say(self, text: str, about: str = "") -> None:
@@ -56,12 +61,13 @@ class Watch:
             self.resume()
             return
         service = pg.follower_state(server).get("service", "")
-        term = pg.lease_term(server)
+        held = self.see_lease()
         recovers = pg.psql(server, pg.spot(server), "SELECT pg_is_in_recovery()")
         if recovers == "f":
             self.without_service = self.without_stream = 0
             self.see_timeline()
-            self.see_term(term)
+            if held is not None:
+                self.note_term(held.term)
             self.demote(service)
             return
         self.without_follower = 0
@@ -88,14 +94,24 @@ class Watch:
             if done.status != 0:
                 self.say(f"cannot start {self.server.unit}: {rebuilding.last_line(done.err)}", "start")
 
-    def see_term(self, term: Optional[int]) -> None:
-        """Notes the term of the lease under which a primary runs on: it may have risen since the promotion.
+    def note_term(self, term: int) -> None:
+        """Notes that no other site had a primary since this one's: until a lease of this term, which was seen.
 
-        The term was read before the primary answered, so no other site had a primary since that lease began.
+        A primary that answers after the lease was read shows that, and so does a lease that was never lost.
         """
         noted = pg.kept_value(self.server, "former")
-        if term is not None and noted is not None and (not noted.isdigit() or int(noted) < term):
+        if noted is not None and (not noted.isdigit() or int(noted) < term):
             pg.keep(self.server, "former", str(term))
+
+    def see_lease(self) -> Optional[record_file.Lease]:
+        """Returns the lease of this site, whose term may have risen since the last look although it was never lost."""
+        before, seen = self.held, self.seen
+        self.held, self.seen = pg.lease(self.server), time.monotonic()
+        if self.held is not None and before is not None and self.held.term > before.term:
+            is_unbroken = self.seen - seen < SECONDS_OF_A_LEASE_UNSEEN and time.time() * 1000 < before.until
+            if is_unbroken and pg.kept_value(self.server, "former") == str(before.term):
+                self.note_term(self.held.term)
+        return self.held
 
     def see_no_primary(self, service: str, is_certain: bool) -> None:
         """Has the follower look, if the server is no primary for certain, or none answered at some looks in a row."""
