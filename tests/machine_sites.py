@@ -138,11 +138,19 @@ class World:
         site.boot(wait)
 
     def repair(self) -> None:
-        """Boots what is off and puts each cable in again, after a scenario that ended before it did so."""
+        """Brings back what a scenario left that did not go as it must, so that the next one can begin."""
         for machine in self.machines.values():
             machine.cut(False)
             if not machine.is_up():
                 self.boot(machine)
+        for site in self.sites:
+            site.run("booth-service", "clear", TICKET)
+        # (a server that lacks data is refused at the first one)
+        for site in self.sites:
+            if all(self.leader(each) in ("", "none") for each in self.sites):
+                site.run("timeout", "10", "booth", "grant", "-w", "-s", site.address, TICKET)
+                with contextlib.suppress(Unlike):
+                    self.await_that("a primary", self.holder)
 
     def pid(self, site: Machine, unit: str) -> str:
         """Returns the first process of a unit of a machine."""
