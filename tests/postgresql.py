@@ -21,6 +21,7 @@ from postgresql_sites import (
     MANUAL,
     NAME,
     OWNER,
+    PYTHON,
     SOCKETS,
     TICKET,
     UNIT,
@@ -35,8 +36,6 @@ from serving import end_by_signals
 from shells import Wrong, need
 
 NOT_HERE = 77
-# what the package's own programs run by, which each user may run
-PYTHON = "/usr/bin/python3"
 KEPT = "/var/lib/booth-postgresql"
 LONG_AGO = 7200
 PASSWORDS = f"/etc/booth/postgresql/{NAME}.pgpass"
@@ -237,7 +236,7 @@ def alone_it_is_not_promoted(pair: Pair) -> None:
     await_that("it is noted that it follows", lambda: not os.path.exists(f"{two.root}{KEPT}/{NAME}.former"))
     turn_off(two)
     write(one, 71, 80)
-    # (its lease gets later terms, while it runs and afterwards, and is never lost; then it is, and another may have run)
+    # (its lease gets later terms, while it runs and afterwards, and is not lost; then it is, and another may have run)
     for term, seconds in ((11, 60.0), (14, 2.5)):
         one.hold(term, seconds)
         await_that("the later term is noted", lambda term=term: one.read(f"{KEPT}/{NAME}.former") == f"{term}\n", 5)

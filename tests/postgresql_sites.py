@@ -25,6 +25,8 @@ TICKET, MANUAL, NAME = "db8", "by-hand", "pg"
 UNIT, WATCH = f"postgresql-{NAME}.service", f"booth-postgresql@{NAME}.service"
 ADDRESSES = {"one": "127.0.0.2", "two": "127.0.0.3"}
 OWNER = "postgres"
+# what the package's own programs run by, which each user may run
+PYTHON = "/usr/bin/python3"
 NEEDED = ("unshare", "nsenter", "mount", "setpriv", "flock")
 SECONDS_OF_A_COMMAND, PATIENCE = 60, 40
 SOCKETS = "/run/postgresql"
@@ -82,6 +84,8 @@ def programs() -> Optional[str]:
 def missing() -> List[str]:
     """Returns what is missing to have two sites here."""
     lacks = [name for name in NEEDED if shutil.which(name) is None]
+    if not os.access(PYTHON, os.X_OK):
+        lacks.append(PYTHON)
     if programs() is None:
         lacks.append("PostgreSQL's programs below /usr/lib/postgresql")
     if os.geteuid() != 0:
