@@ -1,6 +1,6 @@
 //! The file of a directory that its clock is kept in, and the id of the boot.
 
-use crate::files::{make_named, open_named};
+use crate::files::{if_found, make_named, open_to_change};
 use crate::record_disk::fill;
 use crate::records::{path_in, sync_directory};
 use booth_base::PathText;
@@ -19,10 +19,15 @@ const NEXT: &str = "booth.clock.new";
 /// Where the kernel tells the id of the boot.
 const BOOT_ID: &str = "/proc/sys/kernel/random/boot_id";
 
+// Reads what this file begins with.
+fn read_first(rt: &HostRuntime, path: &str, into: &mut [u8]) -> io::Result<usize> {
+    fill(&File::open(rt, path)?, 0, into)
+}
+
 /// The id of this boot of the machine.
 pub(crate) fn boot_id(rt: &HostRuntime) -> io::Result<BootId> {
     let mut bytes = [0u8; 36];
-    let count = fill(&File::open(rt, BOOT_ID)?, 0, &mut bytes)?;
+    let count = read_first(rt, BOOT_ID, &mut bytes)?;
     if count == bytes.len() {
         Ok(BootId(bytes))
     } else {
@@ -30,29 +35,35 @@ pub(crate) fn boot_id(rt: &HostRuntime) -> io::Result<BootId> {
     }
 }
 
-/// The clock that this directory keeps, if it keeps one.
-pub(crate) fn read_clock(rt: &HostRuntime, directory: &PathText) -> io::Result<Option<KeptClock>> {
-    let path = path_in(directory, CLOCK)?;
-    let file = match open_named(rt, path.as_str(), File::options().read(true).write(true)) {
-        Ok(file) => file,
-        Err(error) if error.kind() == ErrorKind::NotFound => return Ok(None),
-        Err(error) => return Err(error),
-    };
+// The clock that this file keeps.
+fn clock_of(file: &File) -> io::Result<KeptClock> {
     let mut bytes = [0u8; 64];
-    let count = fill(&file, 0, &mut bytes)?;
+    let count = fill(file, 0, &mut bytes)?;
     match bytes.get(..count).and_then(KeptClock::decode) {
-        Some(kept) => Ok(Some(kept)),
+        Some(kept) => Ok(kept),
         None => Err(Error::new(ErrorKind::InvalidData, "booth.clock keeps no clock")),
     }
 }
 
-// Takes away what a write that was cut short left.
-fn remove_rest(rt: &HostRuntime, path: &str) -> io::Result<()> {
-    match fs::remove_file(rt, path) {
-        Ok(()) => Ok(()),
-        Err(error) if error.kind() == ErrorKind::NotFound => Ok(()),
-        Err(error) => Err(error),
+/// The clock that this directory keeps, if it keeps one.
+pub(crate) fn read_clock(rt: &HostRuntime, directory: &PathText) -> io::Result<Option<KeptClock>> {
+    let path = path_in(directory, CLOCK)?;
+    match if_found(open_to_change(rt, path.as_str()))? {
+        Some(file) => Ok(Some(clock_of(&file)?)),
+        None => Ok(None),
     }
+}
+
+// Puts a clock into an empty file: it is on the disk then.
+fn put(file: &File, clock: &KeptClock) -> io::Result<()> {
+    file.write_all_at(&clock.encode(), 0)?;
+    file.sync_all()
+}
+
+// Makes a file of this clock, in the place of what a write that was cut short left.
+fn make_next(rt: &HostRuntime, path: &str, clock: &KeptClock) -> io::Result<()> {
+    if_found(fs::remove_file(rt, path))?;
+    put(&make_named(rt, path)?, clock)
 }
 
 /// Keeps this clock in a directory: it is on the disk then, or the one before is.
@@ -62,10 +73,7 @@ pub(crate) fn write_clock(
     clock: &KeptClock,
 ) -> io::Result<()> {
     let next = path_in(directory, NEXT)?;
-    remove_rest(rt, next.as_str())?;
-    let file = make_named(rt, next.as_str())?;
-    file.write_all_at(&clock.encode(), 0)?;
-    file.sync_all()?;
+    make_next(rt, next.as_str(), clock)?;
     fs::rename(rt, next.as_str(), path_in(directory, CLOCK)?.as_str())?;
     sync_directory(rt, directory.as_str())
 }

@@ -78,8 +78,11 @@ pub(crate) fn since_boot() -> io::Result<u64> {
 fn read_both() -> io::Result<Option<Readings>> {
     let boot = since_boot()?;
     let wall = reading_of(CLOCK_REALTIME)?;
-    let is_one_moment = since_boot()? == boot;
-    Ok(is_one_moment.then(|| Readings { boot, wall }))
+    if since_boot()? == boot {
+        Ok(Some(Readings { boot, wall }))
+    } else {
+        Ok(None)
+    }
 }
 
 // Both clocks at one moment. They are read again where this process was held up between them.
@@ -95,38 +98,37 @@ fn readings() -> io::Result<Readings> {
     ))
 }
 
-// Why a clock does not begin.
-fn unbegun(fault: ClockFault) -> Error {
-    let words = match fault {
-        ClockFault::Behind => "the clock is behind a reading that was reached before",
-        ClockFault::Early => "the wall clock reads less than the time since the boot",
-    };
-    Error::new(ErrorKind::InvalidData, words)
-}
-
-// The clock of this boot, by what is kept and these readings.
-fn begun(boot: BootId, kept: Option<KeptClock>, readings: Readings) -> io::Result<OwnClock> {
-    match OwnClock::begin(boot, kept, readings) {
-        Ok(clock) => Ok(clock),
-        Err(fault) => Err(unbegun(fault)),
-    }
-}
-
-// Fails where what was told before a directory was opened is no reading of its clock.
-fn require_told(source: Source, clock: OwnClock) -> io::Result<()> {
-    let is_same = match source {
+// Whether what was told before a directory was opened are readings of its clock.
+fn was_told(source: Source, clock: OwnClock) -> bool {
+    match source {
         Source::Wall(None) | Source::Open(_) => true,
         Source::Wall(Some(told)) => clock.agrees_with(told),
         Source::Awaited(awaited, _) => awaited.kept().offset == clock.kept().offset,
         Source::Unread => false,
-    };
-    if is_same {
-        Ok(())
-    } else {
-        Err(Error::new(
-            ErrorKind::InvalidData,
-            "the wall clock was set since the boot",
-        ))
+    }
+}
+
+// Why a clock does not begin.
+fn unbegun(words: &str) -> Error {
+    Error::new(ErrorKind::InvalidData, words)
+}
+
+// The clock of this boot, by what is kept and these readings. What was told before is to be readings of it.
+fn begun(
+    source: Source,
+    boot: BootId,
+    kept: Option<KeptClock>,
+    readings: Readings,
+) -> io::Result<OwnClock> {
+    match OwnClock::begin(boot, kept, readings) {
+        Ok(clock) if was_told(source, clock) => Ok(clock),
+        Ok(_) => Err(unbegun("the wall clock was set since the boot")),
+        Err(ClockFault::Behind) => {
+            Err(unbegun("the clock is behind a reading that was reached before"))
+        }
+        Err(ClockFault::Early) => {
+            Err(unbegun("the wall clock reads less than the time since the boot"))
+        }
     }
 }
 
@@ -137,6 +139,18 @@ fn look_for_step(clock: &mut OwnClock) -> Option<Step> {
         Ok(Some(readings)) => clock.step(readings),
         Ok(None) | Err(_) => None,
     }
+}
+
+// Reads the clock of an open directory, and looks for a step where none was looked for shortly before.
+fn read_open(clock: &mut OwnClock, looked_at: &mut u64) -> io::Result<Told> {
+    let boot = since_boot()?;
+    let reading = clock.read(boot);
+    let mut step = None;
+    if boot >= looked_at.saturating_add(LOOK_EVERY_MS) {
+        *looked_at = boot;
+        step = look_for_step(clock);
+    }
+    Ok(Told { reading, step })
 }
 
 impl Clocks {
@@ -157,18 +171,7 @@ impl Clocks {
                 reading: clock.read(since_boot()?),
                 step: None,
             }),
-            Source::Open(clock) => {
-                let boot = since_boot()?;
-                let reading = clock.read(boot);
-                let is_time = boot >= self.looked_at.saturating_add(LOOK_EVERY_MS);
-                let step = if is_time {
-                    self.looked_at = boot;
-                    look_for_step(clock)
-                } else {
-                    None
-                };
-                Ok(Told { reading, step })
-            }
+            Source::Open(clock) => read_open(clock, &mut self.looked_at),
         }
     }
 
@@ -233,12 +236,16 @@ impl Clocks {
 
     /// Has `now` tell the clock that this directory keeps, before it is opened. Where that cannot be, none is opened.
     pub(crate) fn await_clock(&mut self, rt: &HostRuntime, directory: &PathText) -> io::Result<()> {
-        let begun = self.clock_in(rt, directory);
-        self.source = match &begun {
-            Ok((clock, readings)) => Source::Awaited(*clock, *readings),
-            Err(_) => Source::Unread,
-        };
-        begun.map(|_| ())
+        match self.clock_in(rt, directory) {
+            Ok((clock, readings)) => {
+                self.source = Source::Awaited(clock, readings);
+                Ok(())
+            }
+            Err(error) => {
+                self.source = Source::Unread;
+                Err(error)
+            }
+        }
     }
 
     /// Has `now` tell the clock that this directory keeps of this boot. It fails where none was kept since the boot.
@@ -257,8 +264,7 @@ impl Clocks {
     fn clock_in(&self, rt: &HostRuntime, directory: &PathText) -> io::Result<(OwnClock, Readings)> {
         let readings = self.begin_at()?;
         let kept = read_clock(rt, directory)?;
-        let clock = begun(boot_id(rt)?, kept, readings)?;
-        require_told(self.source, clock)?;
+        let clock = begun(self.source, boot_id(rt)?, kept, readings)?;
         Ok((clock, readings))
     }
 

@@ -14,15 +14,7 @@ pub(crate) type Value = ArrayString<VALUE_BYTES>;
 /// longer than 128 bytes, or if it is no UTF-8.
 pub(crate) fn variable(rt: &HostRuntime, name: &str) -> Option<Value> {
     let mut room = [0u8; VALUE_BYTES];
-    let Ok(count) = rt.var(name, &mut room) else {
-        return None;
-    };
-    let Ok(text) = str::from_utf8(&room[..count]) else {
-        return None;
-    };
-    let mut value = Value::new();
-    match value.try_push_str(text) {
-        Ok(()) => Some(value),
-        Err(_) => None,
-    }
+    let count = rt.var(name, &mut room).ok()?;
+    let text = str::from_utf8(&room[..count]).ok()?;
+    Value::from(text).ok()
 }

@@ -11,7 +11,7 @@ use std::{fs, io};
 const FILE_BYTES: usize = 1 << 30;
 
 /// Who may open a file that is made here: its owner, who may read and write it.
-const OWNERS_FILE: u32 = 0o600;
+pub(crate) const OWNERS_FILE: u32 = 0o600;
 
 /// Fails where this is no regular file.
 pub(crate) fn require_regular(metadata: &Metadata) -> io::Result<()> {
@@ -27,18 +27,36 @@ pub(crate) fn is_same(one: &Metadata, other: &Metadata) -> bool {
     one.dev() == other.dev() && one.ino() == other.ino()
 }
 
+// What is known of a file, which has to be a regular one.
+fn regular(answer: io::Result<Metadata>) -> io::Result<Metadata> {
+    let metadata = answer?;
+    require_regular(&metadata)?;
+    Ok(metadata)
+}
+
 /// Opens the regular file that has this name itself: a link to one is refused, and so is what is put in its place
 /// while it is opened. Nothing is opened that is no regular file, since to open a named pipe may wait for ever.
 pub(crate) fn open_named(rt: &HostRuntime, path: &str, how: &OpenOptions) -> io::Result<File> {
-    let named = fs::symlink_metadata(rt, path)?;
-    require_regular(&named)?;
+    let named = regular(fs::symlink_metadata(rt, path))?;
     let file = how.open(rt, path)?;
-    let opened = file.metadata()?;
-    require_regular(&opened)?;
-    if is_same(&named, &opened) {
+    if is_same(&named, &regular(file.metadata())?) {
         Ok(file)
     } else {
         Err(io::Error::new(ErrorKind::InvalidInput, "another file took its place"))
+    }
+}
+
+/// The same, to read and to write: so no named pipe that takes the file's place has this wait.
+pub(crate) fn open_to_change(rt: &HostRuntime, path: &str) -> io::Result<File> {
+    open_named(rt, path, File::options().read(true).write(true))
+}
+
+/// What was found, or none where the system says that there is nothing.
+pub(crate) fn if_found<T: Drop>(answer: io::Result<T>) -> io::Result<Option<T>> {
+    match answer {
+        Ok(value) => Ok(Some(value)),
+        Err(error) if error.kind() == ErrorKind::NotFound => Ok(None),
+        Err(error) => Err(error),
     }
 }
 
@@ -53,9 +71,8 @@ pub(crate) fn make_named(rt: &HostRuntime, path: &str) -> io::Result<File> {
 }
 
 // Fails where this is no regular file, or one that is too long.
-fn require_readable(metadata: &Metadata) -> io::Result<()> {
-    require_regular(metadata)?;
-    if metadata.len() <= FILE_BYTES as u64 {
+fn require_readable(answer: io::Result<Metadata>) -> io::Result<()> {
+    if regular(answer)?.len() <= FILE_BYTES as u64 {
         Ok(())
     } else {
         Err(io::Error::from(ErrorKind::InvalidInput))
@@ -65,9 +82,9 @@ fn require_readable(metadata: &Metadata) -> io::Result<()> {
 // Opens a regular file. It is looked at before it is opened, since to open a named pipe may wait for ever; and once
 // more, since another file may have taken its place.
 fn open_regular(rt: &HostRuntime, path: &str) -> io::Result<File> {
-    require_readable(&fs::metadata(rt, path)?)?;
+    require_readable(fs::metadata(rt, path))?;
     let file = File::open(rt, path)?;
-    require_readable(&file.metadata()?)?;
+    require_readable(file.metadata())?;
     Ok(file)
 }
 

@@ -2,6 +2,8 @@
 //!
 //! Nothing here waits for a program.
 
+ghost use Rattle.std.specs.Prelude.{◌≡◌, ◌<◌, IfSome, vec_len};
+
 use crate::clocks::Clocks;
 use crate::programs::{FileName, is_directory, is_run_for, next_in_directory, start};
 use crate::streams::ErrorStream;
@@ -89,31 +91,36 @@ impl Running {
     // Starts the first program.
     fn begin(&mut self, rt: &HostRuntime, clocks: &Clocks) -> io::Result<()> {
         if is_directory(rt, &self.job.handler)? {
-            self.start_next(rt, clocks)?;
+            self.start_next(rt, clocks)
         } else {
-            self.child = Some(self.run(rt, clocks, None)?);
+            self.run(rt, clocks)
         }
-        Ok(())
     }
 
     // Starts the next program of the handler's directory; none runs where none is left.
     fn start_next(&mut self, rt: &HostRuntime, clocks: &Clocks) -> io::Result<()> {
         self.child = None;
         let next = next_in_directory(rt, &self.job.handler, self.program.as_ref())?;
-        if next.is_some() {
-            self.child = Some(self.run(rt, clocks, next.as_ref())?);
-            self.program = next;
+        if next.is_none() {
+            return Ok(());
         }
+        self.program = next;
+        self.run(rt, clocks)
+    }
+
+    // Starts the program of the handler's directory, where it has one, or else the handler itself.
+    fn run(&mut self, rt: &HostRuntime, clocks: &Clocks) -> io::Result<()> {
+        self.child = Some(self.started(rt, clocks)?);
         Ok(())
     }
 
-    // Starts the handler itself, or the program of this name in its directory. It is told how long the lease runs yet.
-    fn run(&self, rt: &HostRuntime, clocks: &Clocks, name: Option<&FileName>) -> io::Result<Child> {
+    // The same, as a child that was started. It is told how long the lease runs yet.
+    fn started(&self, rt: &HostRuntime, clocks: &Clocks) -> io::Result<Child> {
         start(
             rt,
             &self.job,
             clocks.left_until(self.job.expires),
-            name,
+            self.program.as_ref(),
             self.conf_path.as_str(),
             self.error_stream,
         )
@@ -193,9 +200,20 @@ impl Jobs {
 
     // Whether a program of this ticket's lane was ended and is not over.
     fn is_ending(&self, ticket: &Name, lane: Lane) -> bool {
-        self.killed
-            .iter()
-            .any(|(name, of, _)| name == ticket && *of == lane)
+        for (name, of, _) in &self.killed {
+            if name == ticket && *of == lane {
+                return true;
+            }
+        }
+        false
+    }
+
+    // Forgets the job in a ticket's lane, and gives its program that runs, where there is one.
+    fn take(&mut self, ticket: &Name, lane: Lane) -> Option<Child>
+        ensures { self.new.killed ≡ self.old.killed }
+    {
+        let place = self.running.iter().position(|one| one.is_in(ticket, lane))?;
+        self.running.remove(place).child
     }
 
     // Ends the program of the job in a ticket's lane that runs on. The job is forgotten.
@@ -204,17 +222,15 @@ impl Jobs {
             return Err(io::Error::from(ErrorKind::ResourceBusy));
         }
         self.killed.reserve(1)?;
-        let Some(place) = self.running.iter().position(|one| one.is_in(ticket, lane)) else {
-            return Ok(());
-        };
-        let running = self.running.remove(place);
-        let Some(mut child) = running.child else {
-            return Ok(());
-        };
-        // One that became another user's, as by sudo, cannot be ended: it is kept in sight until it is over.
-        let ended = child.kill();
-        self.killed.push_reserved((ticket.copy(), lane, child));
-        ended
+        match self.take(ticket, lane) {
+            Some(mut child) => {
+                // One that became another user's, as by sudo, cannot be ended: it is kept in sight until it is over.
+                let ended = child.kill();
+                self.killed.push_reserved((ticket.copy(), lane, child));
+                ended
+            }
+            None => Ok(()),
+        }
     }
 
     /// Starts a job. A program in its lane of its ticket that runs on is ended before.
@@ -230,29 +246,35 @@ impl Jobs {
         self.end(&job.ticket, lane)?;
         self.running.reserve(1)?;
         let mut running = Running::new(job, lane, conf_path, self.error_stream);
-        running.begin(rt, clocks)?;
-        self.running.push_reserved(running);
-        Ok(())
+        let begun = running.begin(rt, clocks);
+        if begun.is_ok() {
+            self.running.push_reserved(running);
+        }
+        begun
+    }
+
+    // The first job that is over, by its place, and how it ended.
+    fn first_over(&mut self, rt: &HostRuntime, clocks: &Clocks) -> Option<(usize, io::Result<i32>)>
+        ensures { IfSome result (λ over. over.0 < vec_len self.new.running) }
+    {
+        for place in 0..self.running.len() {
+            let status = self.running[place].poll(rt, clocks).transpose();
+            if let Some(status) = status {
+                return Some((place, status));
+            }
+        }
+        None
     }
 
     /// Looks at each job once, up to the first that is over, which is forgotten.
     pub(crate) fn poll(&mut self, rt: &HostRuntime, clocks: &Clocks) -> Option<Ended> {
         self.reap();
-        for place in 0..self.running.len() {
-            let running = self.running.get_mut(place)?;
-            let job = running.job.number;
-            let status = match running.poll(rt, clocks) {
-                Ok(None) => continue,
-                Ok(Some(status)) => Ok(status),
-                Err(error) => Err(error),
-            };
-            let ticket = self.running.remove(place).job.ticket;
-            return Some(Ended {
-                job,
-                ticket,
-                status,
-            });
-        }
-        None
+        let (place, status) = self.first_over(rt, clocks)?;
+        let job = self.running.remove(place).job;
+        Some(Ended {
+            job: job.number,
+            ticket: job.ticket,
+            status,
+        })
     }
 }

@@ -1,23 +1,20 @@
 //! How the file of a journal is opened: it is made for its owner alone, one process has it at a time, and it ends with
 //! a whole line.
 
-use std::fs::{File, TryLockError};
+use crate::files::{OWNERS_FILE, require_regular};
+use crate::lock::require_lock;
+use crate::record_disk::fill;
+use crate::records::sync_parent;
+use std::fs::File;
 use std::io;
 use std::io::{Error, ErrorKind};
-use std::os::unix::fs::{FileExt, OpenOptionsExt};
-use std::path::Path;
-
-/// Who may open a file that is made here: its owner, who may read and write it.
-const OWNERS_FILE: u32 = 0o600;
+use std::os::unix::fs::OpenOptionsExt;
 
 /// What a journal begins with: the first call that it says reads the clock.
 const FIRST_LINE: &[u8] = b"now\n";
 
-/// How much of a file is looked at in one read.
-const PIECE_BYTES: usize = 4096;
-
-/// How many pieces at the end of a file are looked at for its last line's end: more bytes than a line has.
-const PIECES: u32 = 16;
+/// How much at the end of a file is looked at for its last line's end: more bytes than a line has.
+const LAST_BYTES: usize = 65_536;
 
 // Opens the file, and makes it where it is missing. To append to it, and to read: so no named pipe at this path has
 // this wait.
@@ -28,46 +25,6 @@ fn open_or_make(rt: &HostRuntime, path: &str) -> io::Result<File> {
         .create(true)
         .mode(OWNERS_FILE)
         .open(rt, path)
-}
-
-// Has the name of a file be on the disk.
-fn sync_name(rt: &HostRuntime, path: &str) -> io::Result<()> {
-    match Path::new(path).parent() {
-        Some(parent) if parent.as_os_str().is_empty() => File::open(rt, ".")?.sync_all(),
-        Some(parent) => File::open(rt, parent.as_os_str())?.sync_all(),
-        None => Ok(()),
-    }
-}
-
-// Fails where another process appends to this file.
-fn take_lock(file: &File) -> io::Result<()> {
-    match file.try_lock() {
-        Ok(()) => Ok(()),
-        Err(TryLockError::WouldBlock) => {
-            Err(Error::new(ErrorKind::WouldBlock, "another process writes it"))
-        }
-        Err(TryLockError::Error(error)) => Err(error),
-    }
-}
-
-// Reads until the bytes are full or the file ends.
-fn fill(file: &File, at: u64, into: &mut [u8]) -> io::Result<usize> {
-    let mut len = 0;
-    for _ in 0..u64::MAX {
-        if len >= into.len() {
-            break;
-        }
-        match file.read_at(&mut into[len..], at.saturating_add(len as u64)) {
-            Ok(0) => break,
-            Ok(count) => len += count,
-            Err(error) => {
-                if error.kind() != ErrorKind::Interrupted {
-                    return Err(error);
-                }
-            }
-        }
-    }
-    Ok(len)
 }
 
 // Fails where the file does not begin as a journal does: nothing is cut from another file.
@@ -82,23 +39,17 @@ fn require_journal(file: &File) -> io::Result<()> {
 
 // Where the last line of so many bytes of the file ends, if one of the last bytes ends a line.
 fn last_line_end(file: &File, len: u64) -> io::Result<Option<u64>> {
-    let mut piece = [0u8; PIECE_BYTES];
-    let mut end = len;
-    for _ in 0..PIECES {
-        let begin = end.saturating_sub(PIECE_BYTES as u64);
-        let count = fill(file, begin, &mut piece)?;
-        let Some(looked) = piece.get(..count.min((end - begin) as usize)) else {
-            return Ok(None);
-        };
-        if let Some(place) = looked.iter().rposition(|byte| *byte == b'\n') {
-            return Ok(Some(begin.saturating_add(place as u64).saturating_add(1)));
-        }
-        if begin == 0 {
-            return Ok(Some(0));
-        }
-        end = begin;
+    let mut last = [0u8; LAST_BYTES];
+    let begin = len.saturating_sub(LAST_BYTES as u64);
+    let count = fill(file, begin, &mut last)?;
+    let Some(looked) = last.get(..count) else {
+        return Ok(None);
+    };
+    match looked.iter().rposition(|byte| *byte == b'\n') {
+        Some(place) => Ok(Some(begin.saturating_add(place as u64).saturating_add(1))),
+        None if begin == 0 => Ok(Some(0)),
+        None => Ok(None),
     }
-    Ok(None)
 }
 
 // Cuts off what stands behind the last line: an append that was torn was none.
@@ -111,15 +62,18 @@ fn cut_torn(file: &File) -> io::Result<()> {
     }
 }
 
+// Has this process alone append to an open file, which ends with a whole line then.
+fn begin(file: &File) -> io::Result<()> {
+    require_regular(&file.metadata()?)?;
+    require_lock(file, "another process writes it")?;
+    require_journal(file)?;
+    cut_torn(file)
+}
+
 /// The file at this path, to append lines to.
 pub(crate) fn open(rt: &HostRuntime, path: &str) -> io::Result<File> {
     let file = open_or_make(rt, path)?;
-    if !file.metadata()?.is_file() {
-        return Err(Error::new(ErrorKind::InvalidInput, "it is no regular file"));
-    }
-    take_lock(&file)?;
-    require_journal(&file)?;
-    cut_torn(&file)?;
-    sync_name(rt, path)?;
+    begin(&file)?;
+    sync_parent(rt, path)?;
     Ok(file)
 }

@@ -42,11 +42,13 @@ impl Mail {
         ensures closed { IfOk result (λ mail. mail.socket ≡ None) }
         ensures nothing { IfOk result (λ mail. waiting mail.backlog ≡ []) }
     {
+        let buffer = vec![in alloc; 0; DATAGRAM_BYTES]?;
+        let backlog = Backlog::new(alloc)?;
         Ok(Mail {
             socket: None,
             wake: Wake::nothing(),
-            buffer: vec![in alloc; 0; DATAGRAM_BYTES]?,
-            backlog: Backlog::new(alloc)?,
+            buffer,
+            backlog,
             unreceived: None,
         })
     }

@@ -4,7 +4,8 @@ use crate::streams::ErrorStream;
 use arrayvec::ArrayString;
 use booth_base::PathText;
 use booth_host::Job;
-use std::alloc::Global;
+use std::fmt::Write;
+use std::fs::DirEntry;
 use std::io::{Error, ErrorKind};
 use std::process::{Child, Command, Stdio};
 use std::{fs, io, str};
@@ -14,6 +15,9 @@ pub(crate) type FileName = ArrayString<255>;
 
 /// The path of a program.
 type ProgramPath = ArrayString<520>;
+
+/// A number as text.
+type Digits = ArrayString<20>;
 
 // What is no handler, or no name that a program can have.
 fn unfit() -> Error {
@@ -31,7 +35,12 @@ fn path_of(handler: &PathText) -> io::Result<&str> {
 
 // Whether a word is a number.
 fn is_number(word: &str) -> bool {
-    word.as_bytes().iter().all(|byte| byte.is_ascii_digit())
+    for byte in word.as_bytes() {
+        if !byte.is_ascii_digit() {
+            return false;
+        }
+    }
+    true
 }
 
 /// Whether a handler's program is run for this word: whether its last word that is no number is this one.
@@ -50,11 +59,20 @@ pub(crate) fn is_directory(rt: &HostRuntime, handler: &PathText) -> io::Result<b
     Ok(fs::metadata(rt, path_of(handler)?)?.is_dir())
 }
 
-// Whether this name comes behind one and, where there is another, before that.
-fn is_between(behind: Option<&FileName>, name: &str, before: Option<&FileName>) -> bool {
-    let name = name.as_bytes();
-    behind.is_none_or(|behind| behind.as_bytes() < name)
-        && before.is_none_or(|before| name < before.as_bytes())
+// Whether this name comes behind that of a program, where there is one.
+fn is_behind(name: &str, program: Option<&FileName>) -> bool {
+    match program {
+        Some(program) => program.as_bytes() < name.as_bytes(),
+        None => true,
+    }
+}
+
+// Whether it comes before.
+fn is_before(name: &str, program: Option<&FileName>) -> bool {
+    match program {
+        Some(program) => name.as_bytes() < program.as_bytes(),
+        None => true,
+    }
 }
 
 // The file name of this text.
@@ -66,6 +84,19 @@ fn file_name(name: &str) -> io::Result<FileName> {
     }
 }
 
+// Takes the name of this entry, where it is that of a program behind the one and before the least so far.
+fn take_least(
+    least: &mut Option<FileName>,
+    entry: &DirEntry,
+    behind: Option<&FileName>,
+) -> io::Result<()> {
+    let name = entry.file_name().to_str().ok_or(unfit())?;
+    if !name.starts_with('.') && is_behind(name, behind) && is_before(name, least.as_ref()) {
+        *least = Some(file_name(name)?);
+    }
+    Ok(())
+}
+
 /// The first program of a handler's directory, or the next one behind a program, in byte order of their names. Names
 /// that begin with `.` are passed over.
 pub(crate) fn next_in_directory(
@@ -75,37 +106,35 @@ pub(crate) fn next_in_directory(
 ) -> io::Result<Option<FileName>> {
     let mut least: Option<FileName> = None;
     for entry in fs::read_dir(rt, path_of(handler)?)? {
-        let entry = entry?;
-        let name = entry.file_name().to_str().ok_or(unfit())?;
-        if !name.starts_with('.') && is_between(behind, name, least.as_ref()) {
-            least = Some(file_name(name)?);
-        }
+        take_least(&mut least, &entry?, behind)?;
     }
     Ok(least)
 }
 
-// Adds a text to a path, where it has room.
-fn add(path: &mut ProgramPath, text: &str) -> io::Result<()> {
-    match path.try_push_str(text) {
-        Ok(()) => Ok(()),
-        Err(_) => Err(unfit()),
+// Adds a text to a path, and says whether it had room.
+fn has_added(path: &mut ProgramPath, text: &str) -> bool {
+    path.try_push_str(text).is_ok()
+}
+
+// Adds the name of a file in the directory of this path, where there is one.
+fn has_added_name(path: &mut ProgramPath, name: Option<&FileName>) -> bool {
+    match name {
+        Some(name) => has_added(path, "/") && has_added(path, name.as_str()),
+        None => true,
     }
 }
 
 // The path of a handler's program: it itself, or the one of this name in its directory. A path is never looked for
 // among the directories of PATH.
 fn program_path(handler: &PathText, name: Option<&FileName>) -> io::Result<ProgramPath> {
-    let mut path = ProgramPath::new();
     let first = path_of(handler)?;
-    if !first.contains('/') {
-        add(&mut path, "./")?;
+    let mut path = ProgramPath::new();
+    let is_named = first.contains('/') || has_added(&mut path, "./");
+    if is_named && has_added(&mut path, first) && has_added_name(&mut path, name) {
+        Ok(path)
+    } else {
+        Err(unfit())
     }
-    add(&mut path, first)?;
-    if let Some(name) = name {
-        add(&mut path, "/")?;
-        add(&mut path, name.as_str())?;
-    }
-    Ok(path)
 }
 
 // The name of a configuration: the last part of its path, without `.conf`.
@@ -114,20 +143,50 @@ fn conf_name(conf_path: &str) -> &str {
     last.strip_suffix(".conf").unwrap_or(last)
 }
 
-// Sets a variable to a number.
-fn tell_number(command: &mut Command, alloc: Global, name: &str, number: u64) -> io::Result<()> {
-    command.env(name, format!(in alloc; "{number}")?.as_str())?;
-    Ok(())
+// The digits of a number.
+fn digits(number: u64) -> Digits {
+    let mut text = Digits::new();
+    let _ = write!(text, "{number}");
+    text
+}
+
+// Sets a variable, and says whether there was memory for it.
+fn has_set(command: &mut Command, name: &str, value: &str) -> bool {
+    command.env(name, value).is_ok()
 }
 
 // Says what a program is run for.
-fn tell(command: &mut Command, alloc: Global, job: &Job, conf_path: &str) -> io::Result<()> {
-    let ticket = str::from_utf8(job.ticket.bytes()).map_err(|_| unfit())?;
-    command.env("BOOTH_TICKET", ticket)?;
-    command.env("BOOTH_LOCAL", job.local.print().as_str())?;
-    command.env("BOOTH_CONF_PATH", conf_path)?;
-    command.env("BOOTH_CONF_NAME", conf_name(conf_path))?;
-    tell_number(command, alloc, "BOOTH_TICKET_EXPIRES", job.expires)
+fn tell(command: &mut Command, job: &Job, left_ms: u64, conf_path: &str) -> io::Result<()> {
+    let ticket = str::from_utf8(job.ticket.bytes()).ok().ok_or(unfit())?;
+    let is_told = has_set(command, "BOOTH_TICKET", ticket)
+        && has_set(command, "BOOTH_LOCAL", job.local.print().as_str())
+        && has_set(command, "BOOTH_CONF_PATH", conf_path)
+        && has_set(command, "BOOTH_CONF_NAME", conf_name(conf_path))
+        && has_set(
+            command,
+            "BOOTH_TICKET_EXPIRES",
+            digits(job.expires).as_str(),
+        )
+        && has_set(command, "BOOTH_TICKET_LEFT", digits(left_ms).as_str());
+    if is_told {
+        Ok(())
+    } else {
+        Err(Error::from(ErrorKind::OutOfMemory))
+    }
+}
+
+// Adds a handler's arguments.
+fn add_arguments(command: &mut Command, handler: &PathText) -> io::Result<()> {
+    for word in handler.as_str().split_ascii_whitespace().skip(1) {
+        command.arg(word)?;
+    }
+    Ok(())
+}
+
+// Gives a program its arguments and variables, and says what it is run for.
+fn prepare(command: &mut Command, job: &Job, left_ms: u64, conf_path: &str) -> io::Result<()> {
+    add_arguments(command, &job.handler)?;
+    tell(command, job, left_ms, conf_path)
 }
 
 // What a program prints to: this process's standard error. Where that was closed it prints to nothing, since a write to
@@ -151,14 +210,9 @@ pub(crate) fn start(
     conf_path: &str,
     error_stream: ErrorStream,
 ) -> io::Result<Child> {
-    let alloc = rt.alloc();
     let path = program_path(&job.handler, name)?;
-    let mut command = Command::new(alloc, path.as_str())?;
-    for word in job.handler.as_str().split_ascii_whitespace().skip(1) {
-        command.arg(word)?;
-    }
-    tell(&mut command, alloc, job, conf_path)?;
-    tell_number(&mut command, alloc, "BOOTH_TICKET_LEFT", left_ms)?;
+    let mut command = Command::new(rt.alloc(), path.as_str())?;
+    prepare(&mut command, job, left_ms, conf_path)?;
     command.stdin(Stdio::null());
     command.stdout(printed_to(rt, error_stream));
     command.stderr(printed_to(rt, error_stream));

@@ -60,11 +60,12 @@ impl RealHost {
         ensures unlocked { IfOk result (λ host. host.locked ≡ None) }
         ensures faultless { IfOk result (λ host. host.faults ≡ 0) }
     {
+        let mail = Mail::new(alloc)?;
         let standing = hold_streams(&rt);
         let jobs = Jobs::new(alloc, error_stream(&standing));
         Ok(RealHost {
             rt,
-            mail: Mail::new(alloc)?,
+            mail,
             records: None,
             clocks: Clocks::new(),
             telling: Telling::new(rt, alloc),

@@ -3,7 +3,7 @@
 //! A file is opened for a call alone, and holds four slots (`booth_rec`). A file that is missing keeps no record.
 ghost use Rattle.std.specs.Prelude.{◌≤◌, length};
 
-use crate::files::{make_named, open_named};
+use crate::files::{if_found, make_named, open_to_change};
 use crate::lock::lock_file;
 use crate::mail::unopened;
 use crate::record_disk::FileDisk;
@@ -63,17 +63,9 @@ pub(crate) fn path_in(directory: &PathText, name: &str) -> io::Result<FilePath> 
 
 // The name of a ticket's file: the ticket's in hexadecimal, and `.rec`.
 fn file_name(ticket: &Name) -> io::Result<ArrayString<130>> {
-    let mut digits = [0u8; 126];
-    let ticket = ticket.bytes();
-    let digits = &mut digits[..2 * ticket.len()];
-    if hex::encode_to_slice(ticket, digits).is_err() {
-        return Err(io::Error::from(ErrorKind::InvalidInput));
-    }
     let mut name = ArrayString::<130>::new();
-    for digit in digits.iter() {
-        if name.try_push(char::from(*digit)).is_err() {
-            return Err(io::Error::from(ErrorKind::InvalidInput));
-        }
+    for byte in ticket.bytes() {
+        let _ = write!(name, "{byte:02x}");
     }
     match name.try_push_str(".rec") {
         Ok(()) => Ok(name),
@@ -98,9 +90,9 @@ pub(crate) fn sync_directory(rt: &HostRuntime, directory: &str) -> io::Result<()
     File::open(rt, directory)?.sync_all()
 }
 
-// Has a directory's own name be on the disk.
-fn sync_parent(rt: &HostRuntime, directory: &str) -> io::Result<()> {
-    match Path::new(directory).parent() {
+/// Has the name of a file or a directory be on the disk.
+pub(crate) fn sync_parent(rt: &HostRuntime, path: &str) -> io::Result<()> {
+    match Path::new(path).parent() {
         Some(parent) if parent.as_os_str().is_empty() => sync_directory(rt, "."),
         Some(parent) => sync_directory(rt, parent.as_os_str()),
         None => Ok(()),
@@ -119,26 +111,14 @@ fn sync_parent_if_allowed(rt: &HostRuntime, directory: &str) -> io::Result<()> {
     }
 }
 
-// Opens a record file. To read and to write also where it is read alone: so no named pipe that takes its place has this
-// wait.
-fn open_file(rt: &HostRuntime, path: &str) -> io::Result<File> {
-    open_named(rt, path, File::options().read(true).write(true))
-}
-
-// Opens a record file, and makes it where it is missing; says whether it was.
-fn open_or_make(rt: &HostRuntime, path: &str) -> io::Result<(File, bool)> {
-    match open_file(rt, path) {
-        Ok(file) => Ok((file, false)),
-        Err(error) if error.kind() == ErrorKind::NotFound => Ok((make_named(rt, path)?, true)),
-        Err(error) => Err(error),
-    }
-}
-
-// The error with words that say what failed.
-fn within(words: &str, error: io::Error) -> io::Error {
+// The answer, where a failure has words that say what failed.
+fn within(words: &str, answer: io::Result<()>) -> io::Result<()> {
+    let Err(error) = answer else {
+        return Ok(());
+    };
     let mut text = ArrayString::<160>::new();
     let _ = write!(text, "{words}: {error}");
-    io::Error::new(error.kind(), text.as_str())
+    Err(io::Error::new(error.kind(), text.as_str()))
 }
 
 // The error of a file that takes no record, with these words.
@@ -151,17 +131,14 @@ impl Records {
     /// holds the lock.
     pub(crate) fn open(rt: &HostRuntime, directory: &PathText) -> io::Result<Records> {
         let own_name = make(rt, directory.as_str())?;
-        let path = path_in(directory, LOCK)?;
-        match lock_file(rt, path.as_str())? {
-            Some(lock) => Ok(Records {
-                directory: directory.copy(),
-                own_name,
-                has_names: false,
-                has_failed: false,
-                lock,
-            }),
-            None => Err(io::Error::from(ErrorKind::WouldBlock)),
-        }
+        let lock = lock_file(rt, path_in(directory, LOCK)?.as_str())?;
+        Ok(Records {
+            directory: directory.copy(),
+            own_name,
+            has_names: false,
+            has_failed: false,
+            lock,
+        })
     }
 
     pub(crate) fn directory(&self) -> &PathText {
@@ -187,7 +164,7 @@ impl Records {
             OwnName::Made => sync_parent(rt, self.directory.as_str()),
             OwnName::Found => sync_parent_if_allowed(rt, self.directory.as_str()),
         };
-        synced.map_err(|error| within("the directory above is not synced", error))?;
+        within("the directory above is not synced", synced)?;
         self.own_name = OwnName::Settled;
         Ok(())
     }
@@ -197,23 +174,49 @@ impl Records {
         if self.has_names {
             return Ok(());
         }
-        sync_directory(rt, self.directory.as_str()).map_err(|error| within(
-            "the directory is not synced",
-            error,
-        ))?;
+        let synced = sync_directory(rt, self.directory.as_str());
+        within("the directory is not synced", synced)?;
         self.keep_own_name(rt)?;
         self.has_names = true;
         Ok(())
     }
 
+    // The path of a ticket's file.
+    fn path_of(&self, ticket: &Name) -> io::Result<FilePath> {
+        path_in(&self.directory, file_name(ticket)?.as_str())
+    }
+
     /// The record that a ticket's file keeps, if it keeps one. Its bytes are doubted: of what failed before this
     /// process nothing is known.
     pub(crate) fn read(&mut self, rt: &HostRuntime, ticket: &Name) -> io::Result<Option<Record>> {
-        let path = path_in(&self.directory, file_name(ticket)?.as_str())?;
-        match open_file(rt, path.as_str()) {
-            Ok(file) => Ok(self.slots(file, true)?.record()),
-            Err(error) if error.kind() == ErrorKind::NotFound => Ok(None),
-            Err(error) => Err(error),
+        let path = self.path_of(ticket)?;
+        match if_found(open_to_change(rt, path.as_str()))? {
+            Some(file) => Ok(self.slots(file, true)?.record()),
+            None => Ok(None),
+        }
+    }
+
+    // Opens the file at this path, which is made where it is missing. The names are to be kept then.
+    fn open_or_make(&mut self, rt: &HostRuntime, path: &str) -> io::Result<File> {
+        match if_found(open_to_change(rt, path))? {
+            Some(file) => Ok(file),
+            None => {
+                self.has_names = false;
+                make_named(rt, path)
+            }
+        }
+    }
+
+    // Puts this record into an open file.
+    fn put(&mut self, file: File, record: &Record) -> io::Result<()> {
+        let mut slots = self.slots(file, self.has_failed)?;
+        match slots.put(record) {
+            Ok(()) => Ok(()),
+            Err(PutFault::Spent) => Err(damaged("the last number is used")),
+            Err(PutFault::Disk | PutFault::Again) => {
+                self.has_failed = true;
+                Err(slots.disk().error())
+            }
         }
     }
 
@@ -224,21 +227,10 @@ impl Records {
         ticket: &Name,
         record: &Record,
     ) -> io::Result<()> {
-        let path = path_in(&self.directory, file_name(ticket)?.as_str())?;
-        let (file, is_new) = open_or_make(rt, path.as_str())?;
-        if is_new {
-            self.has_names = false;
-        }
+        let path = self.path_of(ticket)?;
+        let file = self.open_or_make(rt, path.as_str())?;
         self.keep_names(rt)?;
-        let mut slots = self.slots(file, self.has_failed)?;
-        match slots.put(record) {
-            Ok(()) => Ok(()),
-            Err(PutFault::Spent) => Err(damaged("the last number is used")),
-            Err(PutFault::Disk | PutFault::Again) => {
-                self.has_failed = true;
-                Err(slots.disk().error())
-            }
-        }
+        self.put(file, record)
     }
 }
 

@@ -41,15 +41,14 @@ pub(crate) fn hold_streams(rt: &HostRuntime) -> Standing {
 
 /// Whether standard error was open, by what stands in the places of streams that were not.
 pub(crate) fn error_stream(standing: &Standing) -> ErrorStream {
-    let is_closed = standing.iter().any(|file| {
-        file.as_ref()
-            .is_some_and(|file| file.as_raw_fd() == STANDARD_ERROR)
-    });
-    if is_closed {
-        ErrorStream::Closed
-    } else {
-        ErrorStream::Open
+    for file in standing {
+        if let Some(file) = file {
+            if file.as_raw_fd() == STANDARD_ERROR {
+                return ErrorStream::Closed;
+            }
+        }
     }
+    ErrorStream::Open
 }
 
 /// Writes to a standard stream. Where it is closed, or a pipe that nobody reads, the write fails.

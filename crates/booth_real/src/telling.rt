@@ -76,7 +76,10 @@ impl Paced {
 
     // How many failures were passed over before this one, where a line is due.
     fn due(&mut self, now: u64) -> Option<u64> {
-        let is_due = self.next.is_some_and(|next| next <= now);
+        let is_due = match self.next {
+            Some(next) => next <= now,
+            None => false,
+        };
         if is_due || self.next.is_none() {
             self.next = Some(now.saturating_add(MINUTE_MS));
         }
