@@ -14,7 +14,11 @@ pub(crate) type Value = ArrayString<VALUE_BYTES>;
 /// longer than 128 bytes, or if it is no UTF-8.
 pub(crate) fn variable(rt: &HostRuntime, name: &str) -> Option<Value> {
     let mut room = [0u8; VALUE_BYTES];
-    let count = rt.var(name, &mut room).ok()?;
-    let text = str::from_utf8(&room[..count]).ok()?;
-    Value::from(text).ok()
+    let Ok(count) = rt.var(name, &mut room) else {
+        return None;
+    };
+    match str::from_utf8(&room[..count]) {
+        Ok(text) => Value::from(text).ok(),
+        Err(_) => None,
+    }
 }

@@ -87,9 +87,10 @@ fn file_name(name: &str) -> io::Result<FileName> {
 // Takes the name of this entry, where it is that of a program behind the one and before the least so far.
 fn take_least(
     least: &mut Option<FileName>,
-    entry: &DirEntry,
+    entry: io::Result<DirEntry>,
     behind: Option<&FileName>,
 ) -> io::Result<()> {
+    let entry = entry?;
     let name = entry.file_name().to_str().ok_or(unfit())?;
     if !name.starts_with('.') && is_behind(name, behind) && is_before(name, least.as_ref()) {
         *least = Some(file_name(name)?);
@@ -106,7 +107,7 @@ pub(crate) fn next_in_directory(
 ) -> io::Result<Option<FileName>> {
     let mut least: Option<FileName> = None;
     for entry in fs::read_dir(rt, path_of(handler)?)? {
-        take_least(&mut least, &entry?, behind)?;
+        take_least(&mut least, entry, behind)?;
     }
     Ok(least)
 }
@@ -198,6 +199,14 @@ fn printed_to(rt: &HostRuntime, error_stream: ErrorStream) -> Stdio {
     }
 }
 
+// Gives a program its streams, and starts it.
+fn launch(command: &mut Command, rt: &HostRuntime, error_stream: ErrorStream) -> io::Result<Child> {
+    command.stdin(Stdio::null());
+    command.stdout(printed_to(rt, error_stream));
+    command.stderr(printed_to(rt, error_stream));
+    command.spawn(rt)
+}
+
 /// Starts the handler itself, or the program of this name in its directory. It has the handler's arguments, this
 /// process's environment with six variables more, an empty standard input, and this process's standard error, or
 /// nothing where that was closed, for all that it prints; no other file of this process is open in it. The lease ends
@@ -213,8 +222,5 @@ pub(crate) fn start(
     let path = program_path(&job.handler, name)?;
     let mut command = Command::new(rt.alloc(), path.as_str())?;
     prepare(&mut command, job, left_ms, conf_path)?;
-    command.stdin(Stdio::null());
-    command.stdout(printed_to(rt, error_stream));
-    command.stderr(printed_to(rt, error_stream));
-    command.spawn(rt)
+    launch(&mut command, rt, error_stream)
 }
