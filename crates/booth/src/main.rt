@@ -26,8 +26,12 @@ fn words(rt: &HostRuntime, alloc: Global) -> Result<Vec<String>, AllocError> {
 fn run(rt: HostRuntime, alloc: Global) -> Result<Outcome, AllocError> {
     let words = words(&rt, alloc)?;
     let mut host = RealHost::new(rt, alloc)?;
+    host.speak_as("booth");
     Ok(match words.as_slice() {
-        [name, rest @ ..] if is_geostore(name.as_str()) => geostore(alloc, rest, &mut host),
+        [name, rest @ ..] if is_geostore(name.as_str()) => {
+            host.speak_as("geostore");
+            geostore(alloc, rest, &mut host)
+        }
         [_, rest @ ..] => booth(alloc, rest, &mut host),
         [] => booth(alloc, &[], &mut host),
     })

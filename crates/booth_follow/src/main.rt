@@ -14,7 +14,7 @@ use std::alloc::{AllocError, Global};
 use std::env::Env;
 use std::io::ErrorKind;
 use std::process::ExitCode;
-use std::{env, str};
+use std::{env, fs, str};
 
 /// The word with which a program runs beside the other ones of its ticket.
 const BESIDE: &str = "renew";
@@ -58,6 +58,10 @@ fn left_end(rt: &HostRuntime, alloc: Global, host: &mut RealHost) -> Option<u64>
     let Ok(path) = str::from_utf8(&room[..count]) else {
         return None;
     };
+    // (the host says of each file why it is not read, and it is no fault that there is none)
+    if fs::metadata(rt, path).is_err() {
+        return None;
+    }
     match host.read_file(alloc, path) {
         Ok(text) => end_in(text.bytes()),
         Err(_) => None,
