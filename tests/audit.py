@@ -154,9 +154,15 @@ def what_is_no_journal_is_said(good):
         with open(paths[name], "wb") as file:
             file.write(text)
     os.truncate(paths["large"], TOO_LARGE)
-    for path in (os.path.join(good.folder, "none"), good.folder, paths["large"]):
+    reasons = {
+        os.path.join(good.folder, "none"): "No such file or directory (os error 2)",
+        good.folder: "it is no regular file",
+        paths["large"]: "it has more than 2^30 bytes",
+    }
+    for path, why in reasons.items():
         found = good.found([good.paths[0], path])
-        require(found == (1, "", f"boothd: cannot read {path}\n"), f"{path}: {found}")
+        said = f"boothd: {path}: {why}\nboothd: cannot read {path}\n"
+        require(found == (1, "", said), f"{path}: {found}")
     os.remove(paths["large"])
     found = good.found([paths["empty"], paths["torn"]])
     require(found.passes() and not found.printed, f"texts without a line: {found}")

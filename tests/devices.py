@@ -63,6 +63,25 @@ int clock_gettime(clockid_t clock, struct timespec *time)
 }
 """
 
+# puts a pipe in the place of the lock, once the lock was looked at
+SWAP = """
+#define _GNU_SOURCE
+#include <stdio.h>
+#include <stdlib.h>
+#include <string.h>
+#include <sys/stat.h>
+#include <sys/syscall.h>
+#include <unistd.h>
+
+int statx(int folder, const char *restrict path, int flags, unsigned mask, struct statx *restrict found)
+{
+    int status = (int)syscall(SYS_statx, folder, path, flags, mask, found);
+    if (status == 0 && strcmp(path, getenv("BOOTH_LOCK")) == 0)
+        rename(getenv("BOOTH_PIPE"), path);
+    return status;
+}
+"""
+
 
 class Wrong(Exception):
     """The host did not what it has to."""
@@ -142,15 +161,38 @@ def a_boot_takes_the_wall_clock_anew(folder, keeps, **_):
     return "its own boot keeps it, and a file that is no clock is refused and stays"
 
 
+def built_library(folder, name, text):
+    """A library of this source, whose functions stand before the C library's where LD_PRELOAD names it."""
+    if shutil.which("cc") is None:
+        raise LeftOut("there is no cc")
+    source, library = (os.path.join(folder, f"{name}.{kind}") for kind in ("c", "so"))
+    with open(source, "w", encoding="ascii") as file:
+        file.write(text)
+    subprocess.run(["cc", "-shared", "-fPIC", "-O1", "-o", library, source], check=True)
+    return library
+
+
+def a_pipe_in_the_place_of_a_lock_holds_up_nobody(folder, boothd, **_):
+    """Where it takes the lock's place between a look at the lock and its opening. (As root a status hung for ever.)"""
+    if boothd is None:
+        raise LeftOut("boothd is not built")
+    lock, pipe = os.path.join(folder, "lock"), os.path.join(folder, "pipe")
+    with open(lock, "wb"):
+        os.mkfifo(pipe)
+    environ = {"LD_PRELOAD": built_library(folder, "swap", SWAP), "BOOTH_LOCK": lock, "BOOTH_PIPE": pipe}
+    how = {"stdin": subprocess.DEVNULL, "capture_output": True, "text": True, "timeout": SECONDS_OF_A_RUN}
+    done = subprocess.run([boothd, "status", "-l", lock], env={**os.environ, **environ}, **how)
+    require(not os.path.exists(pipe), "the pipe was not put in its place")
+    said = f"boothd: {lock}: it is no regular file\nboothd: cannot lock {lock}\n"
+    found = (done.returncode, done.stdout, done.stderr)
+    require(found == (1, "", said), f"status, printed, said: {found}")
+    return "the lock is refused"
+
+
 @contextlib.contextmanager
 def wall_clock(folder):
     """A function that steps the wall clock of all programs that are started in the block."""
-    if shutil.which("cc") is None:
-        raise LeftOut("there is no cc")
-    source, library, shift = (os.path.join(folder, name) for name in ("shift.c", "shift.so", "shift"))
-    with open(source, "w", encoding="ascii") as file:
-        file.write(SHIFT)
-    subprocess.run(["cc", "-shared", "-fPIC", "-O1", "-o", library, source], check=True)
+    library, shift = built_library(folder, "shift", SHIFT), os.path.join(folder, "shift")
 
     def step(seconds):
         with open(shift + ".new", "w", encoding="ascii") as file:
@@ -307,6 +349,7 @@ def run_within(boothd, folder):
 
 CHECKS = (
     what_is_no_regular_file_is_refused,
+    a_pipe_in_the_place_of_a_lock_holds_up_nobody,
     a_boot_takes_the_wall_clock_anew,
     steps_of_the_wall_clock_do_not_touch_a_lease,
     silent_neighbours_cost_a_live_one_nothing,

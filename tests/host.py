@@ -166,6 +166,16 @@ def a_directory_of_records_has_one_host(folder: str) -> None:
             require(second.open(records="records"), "the first one is gone")
 
 
+def a_directory_without_its_lock_file_has_one_host(folder: str) -> None:
+    """The file may be taken away, and another one made in its place, while a host has the directory."""
+    with Host(folder) as second:
+        with opened(folder, "records"):
+            os.remove(f"{folder}/records/booth.lock")
+            require(not second.open(records="records"), "the file is gone")
+            require(not second.open(records="records"), "another file is there")
+        require(second.open(records="records"), "the first one is gone")
+
+
 def a_directory_that_cannot_be_is_not_opened(folder: str) -> None:
     """A file in its place, and one in a directory that is missing."""
     open(f"{folder}/file", "wb").close()
@@ -283,6 +293,7 @@ CHECKS = (
     a_directory_that_was_there_is_kept_in,
     a_record_that_has_no_place_is_a_failure,
     a_directory_of_records_has_one_host,
+    a_directory_without_its_lock_file_has_one_host,
     a_directory_that_cannot_be_is_not_opened,
     a_lock_is_held_by_one_host,
     a_lock_that_cannot_be_is_a_failure,

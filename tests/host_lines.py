@@ -12,6 +12,8 @@ from real_host import Host, require
 # what systemd puts into a service's environment
 OF_SYSTEMD = ("JOURNAL_STREAM", "NOTIFY_SOCKET", "WATCHDOG_USEC")
 NO_FILE = "No such file or directory (os error 2)"
+NO_DIRECTORY = "Not a directory (os error 20)"
+NO_REGULAR_FILE = "it is no regular file"
 TEXTS = ("boothd: bad site\n", "error: one\n\nusage: two\n", "boothd: ends without a line feed")
 UNRUN = f"cannot run the handler of ticket ticket-db8: {NO_FILE}\n"
 
@@ -160,6 +162,35 @@ def a_program_has_no_socket_of_the_host(folder: str) -> None:
     require(content(f"{folder}/seen") == "4\n", "it has other files")
 
 
+def a_refusal_has_the_systems_words(folder: str) -> None:
+    """Of files, locks, directories of records and sockets that cannot be had. (192.0.2.1 is kept for documents.)"""
+    path = f"{folder}/said"
+    os.mkfifo(f"{folder}/pipe")
+    with open(path, "wb") as errors, Host(folder, surroundings(), errors) as host, Host(folder) as other:
+        require(other.open(records="taken"), "it is not opened")
+        for name in ("missing", "pipe"):
+            require(host.read(name) is None, f"{name} is read")
+            require(host.lock(f"{name}/lock") == "failed", f"{name}/lock is locked")
+        require(host.lock("pipe") == "failed", "the pipe is locked")
+        for records in ("missing/below", "pipe", "taken"):
+            require(not host.open(records=records), f"{records} is opened")
+        require(not host.open("192.0.2.1", 9929), "an address of another machine is opened")
+    said = (
+        ("missing", NO_FILE),
+        ("missing/lock", NO_FILE),
+        ("pipe", NO_REGULAR_FILE),
+        ("pipe/lock", NO_DIRECTORY),
+        ("pipe", NO_REGULAR_FILE),
+        ("missing/below", NO_FILE),
+        ("pipe", NO_DIRECTORY),
+        ("taken", "its lock is held"),
+        ("socket at 192.0.2.1, port 9929", "Cannot assign requested address (os error 99)"),
+    )
+    wanted = "".join(f"boothd: {what}: {why}\n" for what, why in said)
+    got = content(path)
+    require(got == wanted, repr(got))
+
+
 CHECKS: Tuple[Callable[[str], None], ...] = (
     a_line_begins_with_the_programs_name,
     a_line_for_the_journal_begins_with_its_priority,
@@ -169,4 +200,5 @@ CHECKS: Tuple[Callable[[str], None], ...] = (
     turns_are_told_once_a_second,
     a_service_manager_that_cannot_be_told_is_said_once,
     a_program_has_no_socket_of_the_host,
+    a_refusal_has_the_systems_words,
 )

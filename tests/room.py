@@ -7,6 +7,7 @@ import contextlib
 import copy
 import itertools
 import os
+import re
 import socket
 import subprocess
 import time
@@ -22,6 +23,8 @@ SECONDS_TO_ANSWER, SECONDS_TO_END = 20, 30
 MOST_UDP_BYTES = 65_507
 
 KEY = b"secret-key"
+# what a refusal begins with that has a line of the host before it, which says why
+NOT_HAD = (b"cannot open", b"cannot lock ", b"cannot read ")
 # what tells of an owner without asking for anything
 TELL_STATE = ("Stat", "MIdx", "RJC!", "UpdE")
 # the result of each request for what is not there
@@ -284,9 +287,14 @@ class Room:
         return ran.returncode, ran.stdout, ran.stderr
 
     def refuses(self, words, said, what=None):
-        """A run with these words has status 1, and says this alone, on standard error."""
-        came, due = self.ended(words), (1, b"", b"boothd: " + said + b"\n")
-        require(came == due, f"{what or words} gave {came}, and not {due}")
+        """A run with these words has status 1, and says this on standard error, and nothing else. Of what cannot be
+        opened, locked or read a line before it says why."""
+        status, out, err = self.ended(words)
+        due = re.escape(b"boothd: " + said + b"\n")
+        if said.startswith(NOT_HAD):
+            due = rb"boothd: [^\n]+: [^\n]+\n" + due
+        is_refused = status == 1 and not out and re.fullmatch(due, err)
+        require(is_refused, f"{what or words} gave {status}, {out} and {err}, and not {due}")
 
 
 class Asker:

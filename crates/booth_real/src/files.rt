@@ -1,6 +1,5 @@
 //! The bytes of a regular file.
 
-use booth_host::ReadFault;
 use std::alloc::Global;
 use std::fs::{File, Metadata, OpenOptions};
 use std::io::{ErrorKind, Read};
@@ -70,12 +69,17 @@ pub(crate) fn make_named(rt: &HostRuntime, path: &str) -> io::Result<File> {
         .open(rt, path)
 }
 
+// What is said of a file that is too long.
+fn too_long() -> io::Error {
+    io::Error::new(ErrorKind::InvalidInput, "it has more than 2^30 bytes")
+}
+
 // Fails where this is no regular file, or one that is too long.
 fn require_readable(answer: io::Result<Metadata>) -> io::Result<()> {
     if regular(answer)?.len() <= FILE_BYTES as u64 {
         Ok(())
     } else {
-        Err(io::Error::from(ErrorKind::InvalidInput))
+        Err(too_long())
     }
 }
 
@@ -89,33 +93,41 @@ fn open_regular(rt: &HostRuntime, path: &str) -> io::Result<File> {
 }
 
 // Adds this piece, where the file is not too long: it may grow while it is read.
-fn add_piece(bytes: &mut Vec<u8>, piece: &[u8]) -> Result<(), ReadFault> {
+fn add_piece(bytes: &mut Vec<u8>, piece: &[u8]) -> io::Result<()> {
     if piece.len() > FILE_BYTES.saturating_sub(bytes.len()) {
-        return Err(ReadFault::Failed);
+        return Err(too_long());
     }
-    match bytes.extend_from_slice(piece) {
-        Ok(()) => Ok(()),
-        Err(_) => Err(ReadFault::NoMemory),
+    bytes.extend_from_slice(piece)?;
+    Ok(())
+}
+
+// Adds what is read next, and says whether there may be more.
+fn has_more(file: &mut File, bytes: &mut Vec<u8>) -> io::Result<bool> {
+    let mut piece = [0u8; 4096];
+    match file.read(&mut piece) {
+        Ok(count) => {
+            add_piece(bytes, &piece[..count])?;
+            Ok(count > 0)
+        }
+        Err(error) if error.kind() == ErrorKind::Interrupted => Ok(true),
+        Err(error) => Err(error),
     }
 }
 
-/// All bytes of the file at this path.
-pub(crate) fn contents(rt: &HostRuntime, alloc: Global, path: &str) -> Result<Vec<u8>, ReadFault> {
-    let Ok(mut file) = open_regular(rt, path) else {
-        return Err(ReadFault::Failed);
-    };
-    let mut bytes = Vec::new(alloc);
-    let mut piece = [0u8; 4096];
+// Adds all that is read of a file.
+fn add_all(file: &mut File, bytes: &mut Vec<u8>) -> io::Result<()> {
     for _ in 0..u64::MAX {
-        match file.read(&mut piece) {
-            Ok(0) => return Ok(bytes),
-            Ok(count) => add_piece(&mut bytes, &piece[..count])?,
-            Err(error) => {
-                if error.kind() != ErrorKind::Interrupted {
-                    return Err(ReadFault::Failed);
-                }
-            }
+        if !has_more(file, bytes)? {
+            return Ok(());
         }
     }
-    Err(ReadFault::Failed)
+    Err(too_long())
+}
+
+/// All bytes of the file at this path.
+pub(crate) fn contents(rt: &HostRuntime, alloc: Global, path: &str) -> io::Result<Vec<u8>> {
+    let mut file = open_regular(rt, path)?;
+    let mut bytes = Vec::new(alloc);
+    add_all(&mut file, &mut bytes)?;
+    Ok(bytes)
 }

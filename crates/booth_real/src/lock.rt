@@ -1,17 +1,37 @@
 //! The lock of a file, which is the kernel's, and lasts while the file is open.
 
-use crate::files::{is_same, make_named, open_named};
+use crate::files::{is_same, make_named, open_named, open_to_change};
 use std::fs::{File, TryLockError};
 use std::io;
 use std::io::{Error, ErrorKind};
 
-// The file, which is made where it is missing, for its owner alone, since whoever can open it can hold its lock. It is
-// open for reading alone: where a standard stream was closed, the file may get its number, and what is then said goes
-// nowhere.
+/// What a directory is refused with whose lock another holds.
+const TAKEN: &str = "its lock is held";
+
+// Whether an error says that a file is there, and may only be read.
+fn is_for_reading(kind: ErrorKind) -> bool {
+    matches!(
+        kind,
+        ErrorKind::PermissionDenied | ErrorKind::ReadOnlyFilesystem
+    )
+}
+
+// Opens the file. To read and to write where this user may: so no named pipe that takes its place has this wait
+// (fifo(7)). Nothing is written into it.
+fn open_lock(rt: &HostRuntime, path: &str) -> io::Result<File> {
+    match open_to_change(rt, path) {
+        Err(error) if is_for_reading(error.kind()) => {
+            open_named(rt, path, File::options().read(true))
+        }
+        answer => answer,
+    }
+}
+
+// The file, which is made where it is missing, for its owner alone, since whoever can open it can hold its lock.
 fn open_or_make(rt: &HostRuntime, path: &str) -> io::Result<File> {
     match make_named(rt, path) {
         Err(error) if error.kind() != ErrorKind::AlreadyExists => Err(error),
-        Ok(_) | Err(_) => open_named(rt, path, File::options().read(true)),
+        Ok(_) | Err(_) => open_lock(rt, path),
     }
 }
 
@@ -36,8 +56,16 @@ pub(crate) fn require_lock(file: &File, words: &str) -> io::Result<()> {
 /// The file at this path with its lock, which lasts while the file is open. It fails where another holds it.
 pub(crate) fn lock_file(rt: &HostRuntime, path: &str) -> io::Result<File> {
     let file = open_or_make(rt, path)?;
-    require_lock(&file, "another process has it")?;
+    require_lock(&file, TAKEN)?;
     Ok(file)
+}
+
+/// The directory at this path, which ends in `/.`, with its own lock, which lasts while it is open. It fails where
+/// another holds it.
+pub(crate) fn lock_directory(rt: &HostRuntime, path: &str) -> io::Result<File> {
+    let directory = File::open(rt, path)?;
+    require_lock(&directory, TAKEN)?;
+    Ok(directory)
 }
 
 // Fails where these are two files.

@@ -16,13 +16,14 @@ use crate::mail::{Mail, unopened};
 use crate::records::{Records, read_from, write_into};
 use crate::socket::Socket;
 use crate::streams::{Standing, error_stream, hold_streams, write_to};
-use crate::telling::Telling;
+use crate::telling::{Telling, socket_text};
 use booth_base::{ByteText, Name, PathText, Peer};
 use booth_host::{Arrival, Datagram, Failed, Host, Job, Place, ReadFault};
 use booth_rec::Record;
 use std::alloc::{AllocError, Global};
 use std::cell::Cell;
 use std::fs::File;
+use std::io::ErrorKind;
 use std::os::fd::RawFd;
 use std::rc::Rc;
 use std::time::Duration;
@@ -50,6 +51,14 @@ pub struct RealHost {
     /// What stands in the places of standard streams that were closed.
     standing: Standing,
     faults: u64,
+}
+
+// Which fault of a reading an error is.
+fn read_fault(error: &io::Error) -> ReadFault {
+    match error.kind() {
+        ErrorKind::OutOfMemory => ReadFault::NoMemory,
+        _ => ReadFault::Failed,
+    }
 }
 
 impl RealHost {
@@ -168,7 +177,8 @@ impl RealHost {
         self.records = None;
         self.conf_path = None;
         self.clocks.leave();
-        let socket = Socket::open(&self.rt, place)?;
+        let opened = Socket::open(&self.rt, place);
+        let socket = self.telling.told(&socket_text(place), opened)?;
         self.open_records(&place.records)?;
         self.mail.begin(socket);
         self.conf_path = Some(place.conf_path.copy());
@@ -183,7 +193,9 @@ impl RealHost {
         if directory.as_str().is_empty() {
             return Ok(());
         }
-        self.records = Some(Records::open(&self.rt, directory)?);
+        let opened = Records::open(&self.rt, directory);
+        let records = self.telling.told(directory.as_str().as_bytes(), opened)?;
+        self.records = Some(records);
         self.begin_clock(directory)
     }
 
@@ -439,11 +451,12 @@ impl Host for RealHost {
         ensures cause { HasReadCause self.old.faults self.new.faults result }
         ensures mail { self.new.mail ≡ self.old.mail }
     {
-        match contents(&self.rt, alloc, path) {
+        let read = contents(&self.rt, alloc, path);
+        match self.telling.told(path.as_bytes(), read) {
             Ok(bytes) => Ok(ByteText::from_vec(bytes)),
-            Err(fault) => {
+            Err(error) => {
                 self.fail();
-                Err(fault)
+                Err(read_fault(&error))
             }
         }
     }
@@ -456,7 +469,8 @@ impl Host for RealHost {
         ensures cause { HasCause self.old.faults self.new.faults result }
         ensures mail { self.new.mail ≡ self.old.mail }
     {
-        let answer = take_lock(&self.rt, &mut self.locked, path);
+        let taken = take_lock(&self.rt, &mut self.locked, path);
+        let answer = self.telling.told(path.as_bytes(), taken);
         self.checked(answer)
     }
 

@@ -4,7 +4,7 @@
 ghost use Rattle.std.specs.Prelude.{◌≤◌, length};
 
 use crate::files::{if_found, make_named, open_to_change};
-use crate::lock::lock_file;
+use crate::lock::{lock_directory, lock_file};
 use crate::mail::unopened;
 use crate::record_disk::FileDisk;
 use arrayvec::ArrayString;
@@ -19,6 +19,9 @@ use std::path::Path;
 
 /// The file whose lock the directory's one host holds.
 const LOCK: &str = "booth.lock";
+
+/// The directory by a path below it, at which no named pipe can stand.
+const ITSELF: &str = ".";
 
 /// A path below a directory.
 pub(crate) type FilePath = ArrayString<400>;
@@ -48,6 +51,8 @@ pub(crate) struct Records {
     has_failed: bool,
     /// The file of the lock, which lasts while it is open.
     lock: File,
+    /// The directory, whose own lock lasts while it is open: a file can be taken away or replaced.
+    own_lock: File,
 }
 
 /// The path of a file in a directory.
@@ -127,17 +132,19 @@ fn damaged(words: &str) -> io::Error {
 }
 
 impl Records {
-    /// The directory at this path, made where it is missing in the one above, with its lock. It fails where another
-    /// holds the lock.
+    /// The directory at this path, made where it is missing in the one above, with its locks. It fails where another
+    /// holds one of them.
     pub(crate) fn open(rt: &HostRuntime, directory: &PathText) -> io::Result<Records> {
         let own_name = make(rt, directory.as_str())?;
         let lock = lock_file(rt, path_in(directory, LOCK)?.as_str())?;
+        let own_lock = lock_directory(rt, path_in(directory, ITSELF)?.as_str())?;
         Ok(Records {
             directory: directory.copy(),
             own_name,
             has_names: false,
             has_failed: false,
             lock,
+            own_lock,
         })
     }
 

@@ -2,14 +2,17 @@
 //!
 //! What failed for good is a failure, what goes on to fail a warning, and that something goes well again a notice.
 
+ghost use Rattle.std.specs.Prelude.{◌≡◌};
+
 use crate::clocks::since_boot;
 use crate::lines::{Line, line_of, put_number};
 use crate::speaker::{Priority, Speaker};
 use booth_base::{Name, Peer};
 use booth_clock::Step;
+use booth_host::Place;
 use std::alloc::Global;
 use std::io;
-use std::io::Write;
+use std::io::{ErrorKind, Write};
 
 /// How long a minute is.
 const MINUTE_MS: u64 = 60_000;
@@ -113,6 +116,19 @@ fn step_line(amount: u64, way: &[u8]) -> Line {
     line
 }
 
+/// What a socket at this place is called in a line.
+pub(crate) fn socket_text(place: &Place) -> Line {
+    match &place.local {
+        Some(address) => {
+            let address = address.print();
+            let mut line = line_of(&[b"socket at ", address.as_bytes(), b", port "]);
+            put_number(&mut line, u64::from(place.port));
+            line
+        }
+        None => line_of(&[b"socket"]),
+    }
+}
+
 impl Telling {
     pub(crate) fn new(rt: HostRuntime, alloc: Global) -> Telling {
         Telling {
@@ -191,6 +207,19 @@ impl Telling {
             Err(_) | Ok(()) => {}
         }
         self.is_clock_unkept = answer.is_err();
+    }
+
+    /// Says why this could not be opened, read or locked, where it could not. (What there is no memory for, the program
+    /// says itself.)
+    pub(crate) fn told<T: Drop>(&mut self, what: &[u8], answer: io::Result<T>) -> io::Result<T>
+        ensures { result ≡ answer }
+    {
+        if let Err(error) = &answer {
+            if error.kind() != ErrorKind::OutOfMemory {
+                self.failed(&[what], error);
+            }
+        }
+        answer
     }
 
     /// Says that no clock of records can be had.
