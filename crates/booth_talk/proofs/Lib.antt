@@ -4,6 +4,7 @@ mod ReplyLemmas
 mod CivilLemmas
 mod FieldLemmas
 mod LineLemmas
+mod OwnerLemmas
 mod ReportLemmas
 mod PartLemmas
 mod ListLemmas

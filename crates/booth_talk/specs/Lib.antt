@@ -5,6 +5,7 @@ pub mod Talk
 pub mod Civil
 pub mod Fields
 pub mod Forms
+pub mod Owner
 pub mod Report
 pub mod Parts
 pub mod Listing

@@ -9,6 +9,7 @@ mod list_wait;
 mod listing;
 mod numbers;
 mod order;
+mod owner;
 mod parts;
 mod reply;
 mod reports;

@@ -1,18 +1,20 @@
 //! A list that is asked for: the request, the wait for its parts, and what is printed of it.
-ghost use Rattle.std.specs.Prelude.{◌≡◌, true, IfOk};
+ghost use Rattle.std.specs.Prelude.{◌≡◌, true, IfOk, MatchBool};
 ghost use Rattle.booth_host.specs.Past.{GrewSome};
 ghost use Rattle.booth_host.specs.Causes.{HasCause};
 ghost use Rattle.booth_talk.specs.Asking.{is_list};
 ghost use Rattle.booth_talk.specs.Listing.{IsListTalk};
+ghost use Rattle.booth_talk.specs.Owner.{ShowsOwner};
 ghost use Rattle.booth_talk.specs.Parts.{AreNone, text_of};
 ghost use Rattle.booth_talk.specs.Report.{IsListReport};
 
 use crate::Asking;
 use crate::list_wait::{Listed, wait_list};
+use crate::owner::shows_owner;
 use crate::parts::Parts;
 use crate::reports::list_report;
 use crate::request::put_request;
-use booth_base::{ByteText, Peer};
+use booth_base::{Address, ByteText, Name, Peer};
 use booth_host::{Datagram, Failed, Host};
 use booth_wire::Frame;
 use std::alloc::{AllocError, Global};
@@ -48,6 +50,20 @@ impl ListRoom {
     {
         let text = self.parts.text(alloc)?;
         list_report(alloc, &text)
+    }
+
+    /// Returns whether the list whose parts have come names the member at this address as the owner of the ticket.
+    pub fn shows_owner(
+        &self,
+        alloc: Global,
+        ticket: &Name,
+        owner: &Address,
+    ) -> Result<bool, AllocError>
+        ensures { IfOk result (λ shows. MatchBool shows (ShowsOwner ticket.now owner.now (text_of self.now.parts))
+            (ShowsOwner ticket.now owner.now (text_of self.now.parts) → ⊥)) }
+    {
+        let text = self.parts.text(alloc)?;
+        Ok(shows_owner(ticket, owner, &text))
     }
 }
 

@@ -6,7 +6,12 @@ use Rattle.booth_conf.specs.Config.{ConfigSays}
 use Rattle.booth_conf.specs.Says.{Says}
 use Rattle.booth_host.specs.declared.host.Failed.{Failed}
 use Rattle.booth_host.specs.declared.entry.Entry.{Entry}
-use Rattle.booth_host.specs.declared.entry.Entry.TheVariants.{Open, Now, ReadFile, Out}
+use Rattle.booth_host.specs.declared.entry.Entry.TheVariants.{Now, ReadFile, Send, Out}
+use Rattle.booth_talk.specs.declared.order.Asking.{Asking}
+use Rattle.booth_talk.specs.declared.list_wait.Listed.{Listed}
+use Rattle.booth_talk.specs.declared.list_wait.Listed.TheVariants as lists
+use Rattle.booth_talk.specs.Asking.{request_bytes as asking_bytes}
+use Rattle.booth_talk.specs.Listing.{IsListTalk}
 use Rattle.booth_talk.specs.Waiting.{calls_of}
 use Rattle.booth_move.specs.declared.carrying.Moving.{Moving as Move_}
 use Rattle.booth_move.specs.declared.deeds.MoveEnd.{MoveEnd}
@@ -26,8 +31,9 @@ use Rattle.booth_outcomes.proofs.CallLemmas.{AreAmong, among, first_of, left_amo
 use Rattle.booth_outcomes.proofs.UsageLemmas.{for_memory}
 use Rattle.booth_tools.specs.Client.{IsPlainEnd}
 use Rattle.booth_tools.specs.ClientRun.{FaultlessTalks, IsClientMade, IsTalked, IsUnhindered, Moved, Talked, Unasked}
-use Rattle.booth_tools.specs.MoveRun.{FollowsKey, FollowsSite, IsMoveLog, IsMoveTold, IsShown, MoveEndsWith, begun_text, moved_text, site_at}
-use Rattle.booth_tools.specs.MoveRun.{Keyed, Keyless, Read, Socketless, Started, Unread}
+use Rattle.booth_tools.specs.MoveLook.{IsSettled, IsShown, LookEndsWith, held_text, listing}
+use Rattle.booth_tools.specs.MoveRun.{FollowsKey, FollowsSite, IsMoveLog, IsMoveTold, MoveEndsWith, begun_text, moved_text, opened, site_at}
+use Rattle.booth_tools.specs.MoveRun.{Keyed, Keyless, LookedUp, Read, Socketless, Started, Unread}
 use Rattle.booth_tools.proofs.ClientFaultless.{keyless, logged, socketless, unread}
 
 module _ (conf : List ℕ) (entries : List Entry) (free : IsUnhindered conf entries) where
@@ -67,12 +73,36 @@ module _ (conf : List ℕ) (entries : List Entry) (free : IsUnhindered conf entr
 
   -- ---- the stages before it
 
+  settled : (asked : MoveWords) (asking : Asking) (outcome : Outcome) (said : List ℕ) (part : List Entry) → AreAmong part entries →
+      IsSettled asked asking outcome said part → IsTalked verbs.Move outcome
+  settled asked asking outcome said part all s = go s.last s.talk s.end
+    where
+      early : AreAmong (Now s.start ∷ s.early) entries
+      early = left_among (Now s.start ∷ s.early) s.late entries part s.whole all
+
+      late : AreAmong s.late entries
+      late = right_among (Now s.start ∷ s.early) s.late entries part s.whole all
+
+      go : (last : Result Listed Failed) → IsListTalk asking s.to s.start last s.text s.early →
+          LookEndsWith asked last s.text outcome said s.late → IsTalked verbs.Move outcome
+      go (Ok lists.Whole) talk (inl held) = shown (held_text asked) outcome said s.late late held.1
+      go (Ok lists.Whole) talk (inr plain) = subst (IsTalked verbs.Move) (sym plain.is) tt
+      go (Ok (lists.Refused result)) talk end = subst (IsTalked verbs.Move) (sym end.is) tt
+      go (Ok lists.Over) talk end = subst (IsTalked verbs.Move) (sym end.is) tt
+      go (Err failed) talk end =
+          let behind : AreAmong s.early entries = right_among (Now s.start ∷ []) s.early entries (Now s.start ∷ s.early) refl early in
+          absurd (free.sent s.to (asking_bytes asking s.start) failed
+          (only entries (Send s.to (asking_bytes asking s.start) (Err failed)) s.early talk behind))
+
   follows_key : (asked : MoveWords) (config : ConfigSays) (ring : Option Ring) (target : ℕ) (outcome : Outcome) (said : List ℕ) (part : List Entry) →
       AreAmong part entries → FollowsKey asked config ring target outcome said part → IsTalked verbs.Move outcome
   follows_key asked config ring target outcome said part all (Socketless s) = socketless verbs.Move conf entries free outcome said part all s
-  follows_key asked config ring target outcome said part all (Started m) =
-      told asked _ m.start outcome said m.rest
-      (right_among (Open None 0 [] [] (Ok tt) ∷ Now m.start ∷ []) m.rest entries part m.whole all) m.told
+  follows_key asked config ring target outcome said part all (LookedUp u) =
+      settled asked (listing config ring) outcome said u.rest (right_among (opened ∷ []) u.rest entries part u.whole all) u.here
+  follows_key asked config ring target outcome said part all (Started s) =
+      let m = s.here in
+      let behind : AreAmong s.rest entries = right_among (opened ∷ s.look) s.rest entries part s.whole all in
+      told asked _ m.start outcome said m.rest (right_among (Now m.start ∷ []) m.rest entries s.rest m.whole behind) m.told
 
   follows_site : (asked : MoveWords) (text : List ℕ) (config : ConfigSays) (target : ℕ) (outcome : Outcome) (said : List ℕ) (part : List Entry) →
       Says text config → Contains entries (ReadFile conf (Ok text)) → AreAmong part entries → FollowsSite asked config target outcome said part → IsTalked verbs.Move outcome

@@ -1,6 +1,6 @@
 -- A move's calls from their parts.
-use Rattle.std.specs.Prelude.{Option, Some, None, Ok, Err, IsSomeAnd, IsTrue, MatchOption, codes, position, slice_get, ◌&&◌}
-use Rattle.std.proofs.Common.{◌≡◌, ◌++◌, ℕ, Bool, true, false, List, [], ◌∷◌, append-nil, get_or, refl, sym, ap, subst, inl, inr}
+use Rattle.std.specs.Prelude.{Option, Some, None, Result, Ok, Err, IsSomeAnd, IsTrue, MatchOption, codes, position, slice_get, ◌&&◌}
+use Rattle.std.proofs.Common.{◌≡◌, ◌∙◌, ◌++◌, ℕ, Bool, true, false, List, [], ◌∷◌, append-nil, get_or, refl, sym, ap, subst, inl, inr}
 use Rattle.std.proofs.lemmas.List.Quantifiers.{position-Some}
 use Rattle.std.proofs.lemmas.Option.{slice_get-get_or}
 use Rattle.booth_keys.specs.declared.ring.Ring.{Ring}
@@ -9,11 +9,15 @@ use Rattle.booth_base.specs.declared.address.Peer.{Peer}
 use Rattle.booth_conf.specs.Config.{ConfigSays}
 use Rattle.booth_conf.specs.Rules.{is_at}
 use Rattle.booth_conf.specs.declared.members.Member.{Member}
-use Rattle.booth_host.specs.declared.host.Failed.{Failed}
 use Rattle.booth_host.specs.declared.entry.Entry.{Entry}
-use Rattle.booth_host.specs.declared.entry.Entry.TheVariants.{Open, Now}
+use Rattle.booth_host.specs.declared.entry.Entry.TheVariants.{Now}
 use Rattle.booth_host.specs.Past.{GrewBy, GrewSome}
-use Rattle.booth_host.proofs.PastLemmas.{no_entry, one_more, some_joined, some_of, some_weaker, then_some}
+use Rattle.booth_host.proofs.PastLemmas.{no_entry, some_joined, some_of, some_weaker, then_some}
+use Rattle.booth_talk.specs.declared.order.Asking.{Asking}
+use Rattle.booth_talk.specs.declared.list_wait.Listed.{Listed}
+use Rattle.booth_talk.specs.declared.list_wait.Listed.TheVariants.{Whole, Refused, Over}
+use Rattle.booth_talk.specs.Listing.{IsListTalk}
+use Rattle.booth_host.specs.declared.host.Failed.{Failed}
 use Rattle.booth_move.specs.declared.carrying.Moving.{Moving as Move_}
 use Rattle.booth_move.specs.declared.deeds.MoveEnd.{MoveEnd}
 use Rattle.booth_move.specs.Carrying.{IsCarried}
@@ -33,8 +37,9 @@ use Rattle.booth_outcomes.specs.Texts.{not_site_text, out_of_memory_text}
 use Rattle.booth_tools.specs.declared.client.Cluster.{Cluster}
 use Rattle.booth_tools.specs.Client.{IsKeyed, IsPlainEnd, destination}
 use Rattle.booth_tools.specs.ClientRun.{FitsClientWords, IsAnswered, IsClientMade, IsMoveAnswered, Moved}
-use Rattle.booth_tools.specs.MoveRun.{FollowsConfig, FollowsKey, FollowsSite, IsMoveLog, IsMoveTold, MoveEndsWith, is_site_at, moving_of, site_at}
-use Rattle.booth_tools.specs.MoveRun.{Keyed, Keyless, Read, Socketless, Started, Unread}
+use Rattle.booth_tools.specs.MoveLook.{IsElsewhere, IsHeldIn, IsJudged, IsLook, IsSettled, IsShown, held_text, listing, target_peer}
+use Rattle.booth_tools.specs.MoveRun.{FollowsConfig, FollowsKey, FollowsSite, IsMoveLog, IsMoveTold, IsMoving, MoveEndsWith, is_site_at, moving_of, opened, site_at}
+use Rattle.booth_tools.specs.MoveRun.{Keyed, Keyless, LookedUp, Read, Socketless, Started, Unread}
 
 -- ---- outcomes
 
@@ -89,6 +94,14 @@ module _ (asked : MoveWords) (moving : Move_) (start : ℕ) where
         told = record { is = refl; told = is; none = refl };
       }) carried
 
+-- ---- one part after another
+
+abbrev Then : (P Q : List Entry → Type 0) → List Entry → Type 0
+Then P Q entries = (xs : List Entry) × (ys : List Entry) × (entries ≡ xs ++ ys) × P xs × Q ys
+
+both : (P Q : List Entry → Type 0) {a b c : Option (List Entry)} → GrewSome P a b → GrewSome Q b c → GrewSome (Then P Q) a c
+both P Q first second = some_joined P Q (Then P Q) (λ xs ys h k. (xs, ys, refl, h, k)) first second
+
 -- ---- the socket and the clock
 
 -- a move of the ticket with this name
@@ -102,16 +115,91 @@ module _ (asked : MoveWords) (config : ConfigSays) (ring : Option Ring) (target 
       some_of (FollowsKey asked config ring target ended.outcome ended.said) no_entry
       (subst (λ outcome. FollowsKey asked config ring target outcome ended.said []) (sym out) (Socketless (is, refl)))
 
-  pub moved_on : (to : Peer) (start : ℕ) (ticket : List ℕ) (outcome : Outcome) (said : List ℕ) {a b c d : Option (List Entry)} →
-      destination asked.site config ≡ Some to → ticket ≡ asked.ticket →
-      GrewBy a b (Open None 0 [] [] (Ok tt) ∷ []) → GrewBy b c (Now start ∷ []) →
-      GrewSome (IsMoveTold asked (named_so asked config ring target to ticket) start outcome said) c d → GrewSome (FollowsKey asked config ring target outcome said) a d
-  moved_on to start ticket outcome said {a} {b} {c} {d} named same socket clock rest =
+  -- what follows the look, of a move whose ticket has the name that was copied
+  pub move_begun : (to : Peer) (start : ℕ) (ticket : List ℕ) (outcome : Outcome) (said : List ℕ) {b c d : Option (List Entry)} →
+      destination asked.site config ≡ Some to → ticket ≡ asked.ticket → GrewBy b c (Now start ∷ []) →
+      GrewSome (IsMoveTold asked (named_so asked config ring target to ticket) start outcome said) c d → GrewSome (IsMoving asked config ring target outcome said) b d
+  move_begun to start ticket outcome said {b} {c} {d} named same clock rest =
       let so : GrewSome (IsMoveTold asked (moving_of asked config ring target to) start outcome said) c d =
       subst (λ (t : List ℕ). GrewSome (IsMoveTold asked (named_so asked config ring target to t) start outcome said) c d) same rest in
-      then_some (IsMoveTold asked (moving_of asked config ring target to) start outcome said) (FollowsKey asked config ring target outcome said)
-      (one_more socket clock)
-      (λ ys h. Started (record { to = to; named = named; start = start; rest = ys; whole = refl; told = h })) so
+      then_some (IsMoveTold asked (moving_of asked config ring target to) start outcome said) (IsMoving asked config ring target outcome said) clock
+      (λ ys h. record { to = to; named = named; start = start; rest = ys; whole = refl; told = h }) so
+
+  pub looked_up : (outcome : Outcome) (said : List ℕ) {a b c : Option (List Entry)} → GrewBy a b (opened ∷ []) →
+      GrewSome (IsSettled asked (listing config ring) outcome said) b c → GrewSome (FollowsKey asked config ring target outcome said) a c
+  looked_up outcome said socket settled =
+      then_some (IsSettled asked (listing config ring) outcome said) (FollowsKey asked config ring target outcome said) socket
+      (λ ys h. LookedUp (record { rest = ys; whole = refl; here = h })) settled
+
+  pub moved_on : (outcome : Outcome) (said : List ℕ) {a b c d : Option (List Entry)} → GrewBy a b (opened ∷ []) →
+      GrewSome (IsElsewhere asked (listing config ring)) b c → GrewSome (IsMoving asked config ring target outcome said) c d →
+      GrewSome (FollowsKey asked config ring target outcome said) a d
+  moved_on outcome said socket elsewhere moving =
+      then_some (Then (IsElsewhere asked (listing config ring)) (IsMoving asked config ring target outcome said)) (FollowsKey asked config ring target outcome said) socket
+      (λ ys h. Started (record { look = h.0; rest = h.1; whole = ap (λ zs. opened ∷ zs) h.2; elsewhere = h.3; here = h.4 }))
+      (both (IsElsewhere asked (listing config ring)) (IsMoving asked config ring target outcome said) elsewhere moving)
+
+-- ---- the look
+
+module _ (asked : MoveWords) (asking : Asking) (to : Peer) (named : to ≡ target_peer asked asking.config) (start : ℕ) where
+  abbrev Comes : Result Listed Failed → List ℕ → List Entry → Type 0
+  Comes last text entries = IsListTalk asking to start last text entries
+
+  look_of : (how : Option Ended) (listed : Listed) (text : List ℕ) (zs early late : List Entry) → zs ≡ early ++ late →
+      Comes (Ok listed) text early → IsJudged asked listed text how late → IsLook asked asking how (Now start ∷ zs)
+  look_of (Some ended) listed text zs early late same talk end =
+      record { to = to; named = named; start = start; last = Ok listed; text = text; early = early; late = late; whole = ap (λ ys. Now start ∷ ys) same; talk = talk; end = end }
+  look_of None Whole text zs early late same talk end =
+      record {
+        to = to;
+        named = named;
+        start = start;
+        text = text;
+        early = early;
+        whole = ap (λ ys. Now start ∷ ys) (same ∙ ap (λ ys. early ++ ys) end.1 ∙ append-nil early);
+        talk = talk;
+        free = end.0;
+      }
+  look_of None (Refused result) text zs early late same talk end = absurd end
+  look_of None Over text zs early late same talk end = absurd end
+
+  pub look_settled : (listed : Listed) (text : List ℕ) (how : Option Ended) {a b c d : Option (List Entry)} → GrewBy a b (Now start ∷ []) →
+      GrewSome (Comes (Ok listed) text) b c → GrewSome (IsJudged asked listed text how) c d → GrewSome (IsLook asked asking how) a d
+  look_settled listed text how clock talk end =
+      then_some (Then (Comes (Ok listed) text) (IsJudged asked listed text how)) (IsLook asked asking how) clock
+      (λ zs h. look_of how listed text zs h.0 h.1 h.2 h.3 h.4) (both (Comes (Ok listed) text) (IsJudged asked listed text how) talk end)
+
+  pub not_looked : (failed : Failed) (text said : List ℕ) {a b c : Option (List Entry)} → said ≡ codes "cannot send" → GrewBy a b (Now start ∷ []) →
+      GrewSome (Comes (Err failed) text) b c → GrewSome (IsSettled asked asking outs.SendFault said) a c
+  not_looked failed text said is clock talk =
+      then_some (Comes (Err failed) text) (IsSettled asked asking outs.SendFault said) clock
+      (λ xs h. record {
+        to = to;
+        named = named;
+        start = start;
+        last = Err failed;
+        text = text;
+        early = xs;
+        late = [];
+        whole = ap (λ ys. Now start ∷ ys) (sym (append-nil xs));
+        talk = h;
+        end = record { is = refl; told = is; none = refl };
+      }) talk
+
+-- the target has the ticket, which is printed
+pub held_shown : (asked : MoveWords) (text : List ℕ) (ended : Ended) {a b : Option (List Entry)} → IsHeldIn asked text →
+    GrewSome (IsShown (held_text asked) ended.outcome ended.said) a b → GrewSome (IsJudged asked Whole text (Some ended)) a b
+held_shown asked text ended held shown =
+    some_weaker (IsShown (held_text asked) ended.outcome ended.said) (IsJudged asked Whole text (Some ended)) (λ es h. inl (held, h)) shown
+
+-- there is no memory for the text of the list
+pub unread_list : (asked : MoveWords) (text : List ℕ) (ended : Ended) {a : Option (List Entry)} → ended.outcome ≡ outs.OutOfMemory → ended.said ≡ out_of_memory_text →
+    GrewSome (IsJudged asked Whole text (Some ended)) a a
+unread_list asked text ended out is = some_of (IsJudged asked Whole text (Some ended)) no_entry (inr (record { is = out; told = is; none = refl }))
+
+-- the target does not have the ticket, and nothing was printed
+pub not_held : (asked : MoveWords) (text : List ℕ) {a : Option (List Entry)} → (IsHeldIn asked text → ⊥) → GrewSome (IsJudged asked Whole text None) a a
+not_held asked text free = some_of (IsJudged asked Whole text None) no_entry (free, refl)
 
 -- ---- the key
 

@@ -1,4 +1,5 @@
 pub mod Client
+pub mod MoveLook
 pub mod MoveRun
 pub mod ClientRun
 pub use Rattle.booth_host.specs.Past

@@ -11,7 +11,7 @@ use Rattle.booth_conf.specs.Rules.{is_at}
 use Rattle.booth_conf.specs.declared.members.Member.{Member}
 use Rattle.booth_host.specs.declared.host.Failed.{Failed}
 use Rattle.booth_host.specs.declared.entry.Entry.{Entry}
-use Rattle.booth_host.specs.declared.entry.Entry.TheVariants.{Open, Now, ReadFile, Out}
+use Rattle.booth_host.specs.declared.entry.Entry.TheVariants.{Open, Now, ReadFile}
 use Rattle.booth_move.specs.declared.carrying.Moving.{Moving}
 use Rattle.booth_move.specs.declared.deeds.MoveEnd.{MoveEnd}
 use Rattle.booth_move.specs.declared.deeds.MoveEnd.TheVariants as ends
@@ -21,8 +21,9 @@ use Rattle.booth_outcomes.specs.declared.outcome.Outcome.{Outcome}
 use Rattle.booth_outcomes.specs.declared.outcome.Outcome.TheVariants as outs
 use Rattle.booth_outcomes.specs.Configuration.{IsUnread}
 use Rattle.booth_outcomes.specs.Keys.{HasRing, IsKeyless, KeyTexts, key_calls}
-use Rattle.booth_outcomes.specs.Texts.{not_site_text, unprinted_text}
+use Rattle.booth_outcomes.specs.Texts.{not_site_text}
 use Rattle.booth_tools.specs.Client.{IsPlainEnd, IsSocketless, destination, refused_text}
+use Rattle.booth_tools.specs.MoveLook.{IsElsewhere, IsSettled, IsShown, listing}
 
 -- ---- the site that is to have the ticket
 
@@ -50,13 +51,6 @@ stranded_text ticket result =
     codes "ticket " ++ ticket ++ codes " is revoked, and its grant was refused: " ++ refused_text result
 
 -- ---- how a move ends
-
--- the one print of this text
-abbrev pub IsShown : List ℕ → Outcome → List ℕ → List Entry → Type 0
-IsShown text outs.Report said entries = (said ≡ []) × (entries ≡ Out text (Ok tt) ∷ [])
-IsShown text outs.PrintFault said entries = (said ≡ unprinted_text)
-    × (failed : Failed) × (entries ≡ Out text (Err failed) ∷ [])
-IsShown text outcome said entries = ⊥
 
 -- How it ends: with its report, with the result of the revoke or of the grant, without a reply, or without a send.
 abbrev pub MoveEndsWith : MoveWords → Result MoveEnd Failed → Outcome → List ℕ → List Entry → Type 0
@@ -94,21 +88,43 @@ moving_of asked config ring target to = record {
   to = to;
 }
 
--- the socket was opened at any address and port, and the clock read; then the move was carried out
+-- the clock was read, and then the move was carried out
 pub record IsMoving (asked : MoveWords) (config : ConfigSays) (ring : Option Ring) (target : ℕ) (outcome : Outcome)
     (said : List ℕ) (entries : List Entry) : Type 0 where
   pub to : Peer
   pub named : destination asked.site config ≡ Some to
   pub start : ℕ
   pub rest : List Entry
-  pub whole : entries ≡ Open None 0 [] [] (Ok tt) ∷ Now start ∷ rest
+  pub whole : entries ≡ Now start ∷ rest
   pub told : IsMoveTold asked (moving_of asked config ring target to) start outcome said rest
+
+-- the socket was opened at any address and port
+abbrev pub opened : Entry
+opened = Open None 0 [] [] (Ok tt)
+
+-- the socket was opened, and the look at the target ended the move
+pub record IsLookedUp (asked : MoveWords) (config : ConfigSays) (ring : Option Ring) (outcome : Outcome)
+    (said : List ℕ) (entries : List Entry) : Type 0 where
+  pub rest : List Entry
+  pub whole : entries ≡ opened ∷ rest
+  pub here : IsSettled asked (listing config ring) outcome said rest
+
+-- the socket was opened, and the target does not have the ticket; then the ticket was moved
+pub record IsStarted (asked : MoveWords) (config : ConfigSays) (ring : Option Ring) (target : ℕ) (outcome : Outcome)
+    (said : List ℕ) (entries : List Entry) : Type 0 where
+  pub look : List Entry
+  pub rest : List Entry
+  pub whole : entries ≡ opened ∷ look ++ rest
+  pub elsewhere : IsElsewhere asked (listing config ring) look
+  pub here : IsMoving asked config ring target outcome said rest
 
 -- what follows the key
 pub data FollowsKey (asked : MoveWords) (config : ConfigSays) (ring : Option Ring) (target : ℕ) (outcome : Outcome)
     (said : List ℕ) (entries : List Entry) : Type 0 where
   Socketless : IsSocketless outcome said entries → FollowsKey asked config ring target outcome said entries
-  Started : IsMoving asked config ring target outcome said entries →
+  LookedUp : IsLookedUp asked config ring outcome said entries →
+      FollowsKey asked config ring target outcome said entries
+  Started : IsStarted asked config ring target outcome said entries →
       FollowsKey asked config ring target outcome said entries
 
 -- the key was read, where one is set, and then these calls were made

@@ -6,6 +6,7 @@ mod client_run;
 pub mod laws;
 mod lists;
 mod memory;
+mod move_look;
 mod move_replies;
 mod move_run;
 mod refusals;

@@ -3,7 +3,8 @@ ghost use Rattle.std.specs.Prelude.{◌≡◌, ◌≤◌, Ok, IsSomeAnd, IsTrue,
 ghost use Rattle.booth_host.specs.Past.{GrewSome};
 ghost use Rattle.booth_outcomes.specs.Outcomes.{HasBlame};
 ghost use Rattle.booth_tools.specs.ClientRun.{IsMoveAnswered};
-ghost use Rattle.booth_tools.specs.MoveRun.{IsMoveTold, IsShown, MoveEndsWith, begun_text, moved_text};
+ghost use Rattle.booth_tools.specs.MoveLook.{IsShown};
+ghost use Rattle.booth_tools.specs.MoveRun.{IsMoveTold, MoveEndsWith, begun_text, moved_text};
 
 use crate::refusals::{refused_text, stranded_text};
 use arrayvec::ArrayVec;
@@ -15,10 +16,13 @@ use booth_outcomes::{Ended, ErrorLine, Outcome, texts};
 /// The most bytes of a report of a move.
 const REPORT_BYTES: usize = 160;
 
-fn moved_text(asked: &MoveWords) -> ArrayVec<u8, REPORT_BYTES>
+/// What is printed of a move.
+pub(crate) type Report = ArrayVec<u8, REPORT_BYTES>;
+
+fn moved_text(asked: &MoveWords) -> Report
     ensures { result.items ≡ moved_text asked.now }
 {
-    let mut text = ArrayVec::new();
+    let mut text = Report::new();
     text.try_extend_from_slice(b"ticket ").unwrap();
     text.try_extend_from_slice(asked.ticket.bytes()).unwrap();
     text.try_extend_from_slice(b" moved to ").unwrap();
@@ -28,18 +32,18 @@ fn moved_text(asked: &MoveWords) -> ArrayVec<u8, REPORT_BYTES>
     text
 }
 
-fn begun_text(asked: &MoveWords) -> ArrayVec<u8, REPORT_BYTES>
+fn begun_text(asked: &MoveWords) -> Report
     ensures { result.items ≡ begun_text asked.now }
 {
-    let mut text = ArrayVec::new();
+    let mut text = Report::new();
     text.try_extend_from_slice(b"move of ").unwrap();
     text.try_extend_from_slice(asked.ticket.bytes()).unwrap();
     text.try_extend_from_slice(b" requested\n").unwrap();
     text
 }
 
-// Prints this text.
-fn show<H: Host>(text: &[u8], host: &mut H) -> Ended
+/// Prints this text.
+pub(crate) fn show<H: Host>(text: &[u8], host: &mut H) -> Ended
     ensures past { GrewSome (IsShown text.now result.outcome result.said) (H.past host.old) (H.past host.new) }
     ensures served { IsMoveAnswered result.outcome }
     ensures blame { HasBlame result.outcome (H.faults host.old) (H.faults host.new) }

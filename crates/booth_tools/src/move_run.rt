@@ -1,12 +1,14 @@
 //! A move that was asked for: its configuration, its target and key, its socket, and what it asks.
-ghost use Rattle.std.specs.Prelude.{◌≡◌, ◌≤◌, None, IsSomeAnd, IsTrue, slice_get};
+ghost use Rattle.std.specs.Prelude.{◌≡◌, ◌≤◌, None, IfOk, IsSomeAnd, IsTrue, slice_get};
 ghost use Rattle.booth_conf.specs.Config.{file_fault};
 ghost use Rattle.booth_host.specs.Past.{GrewSome};
+ghost use Rattle.booth_talk.specs.Parts.{AreNone};
 ghost use Rattle.booth_outcomes.specs.Outcomes.{HasBlame};
 ghost use Rattle.booth_tools.specs.ClientRun.{IsMoveAnswered};
-ghost use Rattle.booth_tools.specs.MoveRun.{FollowsConfig, FollowsKey, FollowsSite, IsMoveLog, is_site_at, site_at};
+ghost use Rattle.booth_tools.specs.MoveRun.{FollowsConfig, FollowsKey, FollowsSite, IsMoveLog, IsMoving, is_site_at, site_at};
 
 use crate::client::{Cluster, destination, open_socket, with_key};
+use crate::move_look::look;
 use crate::move_replies::carry_and_tell;
 use booth_base::Address;
 use booth_cli::MoveWords;
@@ -14,7 +16,8 @@ use booth_conf::{Config, Member};
 use booth_host::{Failed, Host};
 use booth_move::{MoveRoom, Moving};
 use booth_outcomes::{Ended, Outcome, read_config, texts};
-use std::alloc::Global;
+use booth_talk::{Asking, ListRoom, Order};
+use std::alloc::{AllocError, Global};
 
 fn is_site_at(address: &Address, member: &Member) -> bool
     ensures { result ≡ is_site_at address.now member.now }
@@ -32,7 +35,55 @@ fn site_at(address: &Address, config: &Config) -> Option<usize>
         .position(|member| is_site_at(address, member))
 }
 
-// What follows the key: the socket, the clock, and the move. The memory of a move is taken before them.
+// What follows the look: the clock, and the move of the ticket to the member at this place.
+fn start_move<H: Host>(
+    asked: &MoveWords,
+    asking: Asking,
+    target: usize,
+    room: &mut MoveRoom,
+    host: &mut H,
+) -> Ended
+    requires whole { file_fault asking.config.members asking.config.tickets ≡ None }
+    requires site { IsSomeAnd (slice_get asking.config.members target) (λ m. IsTrue m.site) }
+    ensures past { GrewSome (IsMoving asked.now asking.config asking.ring target result.outcome result.said)
+        (H.past host.old) (H.past host.new) }
+    ensures served { IsMoveAnswered result.outcome }
+    ensures blame { HasBlame result.outcome (H.faults host.old) (H.faults host.new) }
+    ensures later { H.faults host.old ≤ H.faults host.new }
+{
+    let to = destination(asked.site, &asking.config);
+    let start = host.now();
+    let moving = Moving {
+        config: asking.config,
+        ring: asking.ring,
+        ticket: asked.ticket.copy(),
+        target,
+        wait: asked.wait,
+        to,
+    };
+    carry_and_tell(asked, &moving, start, room, host)
+}
+
+/// The memory of a move, and of the look before it.
+#[derive(Drop)]
+struct MoveMemory {
+    list: ListRoom,
+    room: MoveRoom,
+}
+
+impl MoveMemory {
+    fn new(alloc: Global) -> Result<MoveMemory, AllocError>
+        ensures { IfOk result (λ memory. AreNone memory.list.parts) }
+    {
+        Ok(MoveMemory {
+            list: ListRoom::new(alloc)?,
+            room: MoveRoom::new(alloc)?,
+        })
+    }
+}
+
+// What follows the key: the socket, the look at the target, and the move. All memory but that of the list's text is
+// taken before them.
 fn set_out<H: Host>(
     alloc: Global,
     asked: MoveWords,
@@ -48,10 +99,9 @@ fn set_out<H: Host>(
     ensures blame { HasBlame result.outcome (H.faults host.old) (H.faults host.new) }
     ensures later { H.faults host.old ≤ H.faults host.new }
 {
-    let Ok(mut room) = MoveRoom::new(alloc) else {
+    let Ok(mut memory) = MoveMemory::new(alloc) else {
         return Ended::out_of_memory();
     };
-    let to = destination(asked.site, &cluster.config);
     match open_socket(host) {
         Ok(()) => {}
         Err(Failed) => {
@@ -61,16 +111,15 @@ fn set_out<H: Host>(
             };
         }
     }
-    let start = host.now();
-    let moving = Moving {
+    let asking = Asking {
+        order: Order::List,
         config: cluster.config,
         ring: cluster.ring,
-        ticket: asked.ticket.copy(),
-        target,
-        wait: asked.wait,
-        to,
     };
-    carry_and_tell(&asked, &moving, start, &mut room, host)
+    match look(alloc, &asked, &asking, &mut memory.list, host) {
+        Some(ended) => ended,
+        None => start_move(&asked, asking, target, &mut memory.room, host),
+    }
 }
 
 // What follows where the target is a site: the key, and all behind it.

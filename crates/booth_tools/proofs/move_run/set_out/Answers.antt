@@ -1,4 +1,4 @@
-use Rattle.booth_tools.proofs.MoveLemmas.{moved_on, no_move_room}
+use Rattle.booth_tools.proofs.MoveLemmas.{looked_up, moved_on, no_move_room}
 use Rattle.booth_tools.proofs.move_run.set_out.Goals as goal
 
 pub returns-in_default-clause-past : goal.returns-in_default-clause-past
@@ -6,8 +6,12 @@ returns-in_default-clause-past g c =
     no_move_room c.args.asked c.args.cluster.config c.args.cluster.ring c.args.target c.out_of_memory.result c.out_of_memory.ensures.outcome
     c.out_of_memory.ensures.said
 
-pub returns-clause-past : goal.returns-clause-past
-returns-clause-past g c =
-    moved_on c.args.asked c.args.cluster.config c.args.cluster.ring c.args.target c.destination-to.result c.now-start.result
-    c.copy.result c.carry_and_tell.result.outcome c.carry_and_tell.result.said c.destination-to.ensures c.copy.ensures
-    c.in-Ok-open_socket.ensures.past c.now-start.ensures.past c.carry_and_tell.ensures.past
+pub returns-in-Some-clause-past : goal.returns-in-Some-clause-past
+returns-in-Some-clause-past g c =
+    looked_up c.args.asked c.args.cluster.config c.args.cluster.ring c.args.target c.in-Some.ended.outcome c.in-Some.ended.said
+    c.in-Ok-open_socket.ensures.past c.in-Some.ensures.past
+
+pub returns-in-None-clause-past : goal.returns-in-None-clause-past
+returns-in-None-clause-past g c =
+    moved_on c.args.asked c.args.cluster.config c.args.cluster.ring c.args.target c.start_move.result.outcome c.start_move.result.said
+    c.in-Ok-open_socket.ensures.past c.in-None.ensures.past c.start_move.ensures.past

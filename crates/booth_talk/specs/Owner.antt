@@ -1,0 +1,20 @@
+-- Whom a list names as the owner of a ticket.
+use Rattle.std.specs.Prelude.{◌≡◌, ◌<◌, List, ℕ, [], length, get_or}
+use Rattle.booth_base.specs.declared.address.Address.{Address}
+use Rattle.booth_base.specs.Address.{printed}
+use Rattle.booth_talk.specs.Fields.{first, rest}
+use Rattle.booth_talk.specs.Forms.{lines_of}
+
+-- the line is that of the ticket, and names this owner
+pub record IsOwnerLine (ticket owner line : List ℕ) : Type 0 where
+  pub of_ticket : first line ≡ ticket
+  pub named : first (rest line) ≡ owner
+
+-- the text has such a line
+abbrev pub HasOwnerLine : List ℕ → List ℕ → List ℕ → Type 0
+HasOwnerLine ticket owner text =
+    (place : ℕ) × (place < length (lines_of text)) × IsOwnerLine ticket owner (get_or (lines_of text) place [])
+
+-- a line of the list names the member at this address as the owner of the ticket
+abbrev pub ShowsOwner : List ℕ → Address → List ℕ → Type 0
+ShowsOwner ticket owner text = HasOwnerLine ticket (printed owner) text
