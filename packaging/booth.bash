@@ -171,7 +171,8 @@ _booth_offer() {
     boothd:audit) options=$'-c\n--help\n--version' ;;
     geostore:*) options=$'-c\n-s\n-t\n--help\n--version' ;;
     booth:grant) options=$'-c\n-s\n-w\n-C\n-F\n--help\n--version' ;;
-    booth:revoke | booth:move) options=$'-c\n-s\n-w\n--help\n--version' ;;
+    booth:revoke) options=$'-c\n-s\n-w\n--help\n--version' ;;
+    booth:move) options=$'-c\n-s\n-w\n-f\n--force\n--help\n--version' ;;
     *) options=$'-c\n-s\n--help\n--version' ;;
   esac
   if ((cword == 1)); then

@@ -78,8 +78,8 @@ pub texts_are : (m : ArgMatches) (rows : List Row) (g : Given) → rows_of (foun
     option_map (λ (t : Bor (List ℕ)). t.now) g.margin ≡ first_value (found_of m) (codes "margin") →
     option_map (λ (t : Bor (List ℕ)). t.now) g.kill ≡ first_value (found_of m) (codes "kill") →
     g.wait ≡ is_set (first_value (found_of m) (codes "wait")) → g.commit ≡ is_set (first_value (found_of m) (codes "commit")) →
-    g.immediate ≡ is_set (first_value (found_of m) (codes "immediate")) → g.matches ≡ m → texts_of g ≡ texts_in rows
-texts_are m rows g same ticket name value site turns events number lock records conf target program margin kill wait commit immediate matches =
+    g.immediate ≡ is_set (first_value (found_of m) (codes "immediate")) → g.force ≡ is_set (first_value (found_of m) (codes "force")) → g.matches ≡ m → texts_of g ≡ texts_in rows
+texts_are m rows g same ticket name value site turns events number lock records conf target program margin kill wait commit immediate force matches =
     rw (
       ticket,
       name,
@@ -98,6 +98,7 @@ texts_are m rows g same ticket name value site turns events number lock records 
       wait,
       commit,
       immediate,
+      force,
       matches,
       values_are m rows (codes "journal") same,
       value_is m rows (codes "ticket") same,
@@ -117,6 +118,7 @@ texts_are m rows g same ticket name value site turns events number lock records 
       value_is m rows (codes "wait") same,
       value_is m rows (codes "commit") same,
       value_is m rows (codes "immediate") same,
+      value_is m rows (codes "force") same,
     ) refl
 
 module _ (cmd : Command) (m : ArgMatches) (parsed : IsParsedFrom cmd m) where

@@ -3,4 +3,3 @@ mod GivenLemmas
 mod ReadingLemmas
 pub mod AskingLemmas
 pub mod ValidLemmas
-mod CommandLemmas

@@ -123,6 +123,7 @@ pub record IsMoveOf (read : Read) (asked : MoveWords) : Type 0 where
   pub of_ticket : read.ticket ≡ Some asked.ticket
   pub target : read.target ≡ Some asked.target
   pub wait : asked.wait ≡ read.options.wait
+  pub force : asked.force ≡ read.force
   pub site : asked.site ≡ read.site
   pub conf : asked.conf ≡ read.conf
 

@@ -3,7 +3,7 @@ use Rattle.std.specs.Prelude.{ℕ, true, List, [], ◌∷◌, Option, Some, None
 use Rattle.std.specs.Str.{bytes_eq}
 use Rattle.clap.specs.Words.{App, Rule, new_app, new_rule, with_rule}
 use Rattle.clap.specs.declared.builder.action.ArgAction.TheVariants.{Set, SetTrue}
-use Rattle.booth_cli.specs.declared.command.TheConstants.{MOST_JOURNALS}
+use Rattle.booth_cli.specs.declared.argument.TheConstants.{MOST_JOURNALS}
 use Rattle.booth_cli.specs.declared.command.Verb.{Verb}
 use Rattle.booth_cli.specs.declared.command.Verb.TheVariants as verbs
 use Rattle.booth_cli.specs.declared.program.Program.{Program}
@@ -21,6 +21,10 @@ needed rule = record rule { required = true }
 abbrev pub flag : List ℕ → ℕ → Rule
 flag id letter = record (new_rule id) { short = Some letter; action = Some SetTrue }
 
+-- the flag that has a move go on beside a follower
+abbrev pub force : Rule
+force = record (flag (codes "force") 102) { long = Some (codes "force") }
+
 -- a word by its place, which has to be there
 abbrev pub word : List ℕ → Rule
 word id = needed (record (new_rule id) { action = Some Set; value_names = 1 })
@@ -35,51 +39,68 @@ journals = record (word (codes "journal")) {
 abbrev pub ticket_option : Rule
 ticket_option = needed (option (codes "ticket") 116)
 
--- a command that also takes `--version`
-abbrev pub command_app : List ℕ → App
-command_app name = record (new_app name) { top = record (new_app name).top { has_version = true } }
+abbrev pub conf : Rule
+conf = option (codes "conf") 99
 
-abbrev pub member_app : App
-member_app = with_rule (with_rule (command_app (codes "daemon")) (option (codes "conf") 99))
-    (needed (option (codes "site") 115))
+-- the daemon that a client asks
+abbrev pub asked_site : Rule
+asked_site = option (codes "site") 115
 
--- a command of a client, which has its configuration and the daemon that it asks
-abbrev pub client_app : List ℕ → App
-client_app name = with_rule (with_rule (command_app name) (option (codes "conf") 99)) (option (codes "site") 115)
+-- the member that a daemon is, or whose daemon a follower asks
+abbrev pub own_site : Rule
+own_site = needed asked_site
 
--- the program that has no commands, with its files and its member
-abbrev pub follow_app : App
-follow_app = with_rule (with_rule (with_rule (command_app (codes "booth-follow")) (option (codes "conf") 99))
-    (needed (option (codes "site") 115))) (option (codes "records") 100)
+abbrev pub wait : Rule
+wait = flag (codes "wait") 119
 
+abbrev pub name_for : Verb → List ℕ
+name_for verbs.Daemon = codes "daemon"
+name_for verbs.Status = codes "status"
+name_for verbs.Simulate = codes "sim"
+name_for verbs.Audit = codes "audit"
+name_for verbs.List = codes "list"
+name_for verbs.Peers = codes "peers"
+name_for verbs.Grant = codes "grant"
+name_for verbs.Revoke = codes "revoke"
+name_for verbs.Move = codes "move"
+name_for verbs.SetAttribute = codes "set"
+name_for verbs.GetAttribute = codes "get"
+name_for verbs.DeleteAttribute = codes "delete"
+name_for verbs.ListAttributes = codes "list"
+name_for verbs.Follow = codes "booth-follow"
+
+-- the options and words of a command, in their order
+abbrev pub rules_for : Verb → List Rule
+rules_for verbs.Daemon =
+    conf ∷ own_site ∷ option (codes "lock") 108 ∷ option (codes "records") 100 ∷ option (codes "turns") 110 ∷ []
+rules_for verbs.Status = option (codes "lock") 108 ∷ []
+rules_for verbs.Simulate = conf ∷ option (codes "events") 101 ∷ option (codes "number") 114 ∷ []
+rules_for verbs.Audit = conf ∷ journals ∷ []
+rules_for verbs.List = conf ∷ asked_site ∷ []
+rules_for verbs.Peers = conf ∷ asked_site ∷ []
+rules_for verbs.Grant =
+    conf ∷ asked_site ∷ word (codes "ticket") ∷ wait ∷ flag (codes "commit") 67 ∷ flag (codes "immediate") 70 ∷ []
+rules_for verbs.Revoke = conf ∷ asked_site ∷ word (codes "ticket") ∷ wait ∷ []
+rules_for verbs.Move = conf ∷ asked_site ∷ word (codes "ticket") ∷ word (codes "target") ∷ wait ∷ force ∷ []
+rules_for verbs.SetAttribute =
+    conf ∷ asked_site ∷ ticket_option ∷ word (codes "name") ∷ word (codes "value") ∷ []
+rules_for verbs.GetAttribute = conf ∷ asked_site ∷ ticket_option ∷ word (codes "name") ∷ []
+rules_for verbs.DeleteAttribute = conf ∷ asked_site ∷ ticket_option ∷ word (codes "name") ∷ []
+rules_for verbs.ListAttributes = conf ∷ asked_site ∷ ticket_option ∷ []
+rules_for verbs.Follow =
+    conf ∷ own_site ∷ option (codes "records") 100 ∷ option (codes "margin") 109 ∷ option (codes "kill") 107
+    ∷ word (codes "ticket") ∷ word (codes "program") ∷ []
+
+-- a command with these rules too, in their order
+abbrev pub with_rules : App → List Rule → App
+with_rules app [] = app
+with_rules app (rule ∷ rules) = with_rules (with_rule app rule) rules
+
+-- a command, which also takes `--version`
 abbrev pub app_for : Verb → App
-app_for verbs.Daemon = with_rule (with_rule (with_rule member_app (option (codes "lock") 108))
-    (option (codes "records") 100)) (option (codes "turns") 110)
-app_for verbs.Status = with_rule (command_app (codes "status")) (option (codes "lock") 108)
-app_for verbs.Simulate =
-    with_rule
-    (with_rule (with_rule (command_app (codes "sim")) (option (codes "conf") 99)) (option (codes "events") 101))
-    (option (codes "number") 114)
-app_for verbs.Audit = with_rule (with_rule (command_app (codes "audit")) (option (codes "conf") 99)) journals
-app_for verbs.List = client_app (codes "list")
-app_for verbs.Peers = client_app (codes "peers")
-app_for verbs.Grant =
-    with_rule (with_rule (with_rule (with_rule (client_app (codes "grant")) (word (codes "ticket")))
-    (flag (codes "wait") 119)) (flag (codes "commit") 67)) (flag (codes "immediate") 70)
-app_for verbs.Revoke =
-    with_rule (with_rule (client_app (codes "revoke")) (word (codes "ticket"))) (flag (codes "wait") 119)
-app_for verbs.Move =
-    with_rule (with_rule (with_rule (client_app (codes "move")) (word (codes "ticket"))) (word (codes "target")))
-    (flag (codes "wait") 119)
-app_for verbs.SetAttribute =
-    with_rule (with_rule (with_rule (client_app (codes "set")) ticket_option) (word (codes "name")))
-    (word (codes "value"))
-app_for verbs.GetAttribute = with_rule (with_rule (client_app (codes "get")) ticket_option) (word (codes "name"))
-app_for verbs.DeleteAttribute = with_rule (with_rule (client_app (codes "delete")) ticket_option) (word (codes "name"))
-app_for verbs.ListAttributes = with_rule (client_app (codes "list")) ticket_option
-app_for verbs.Follow =
-    with_rule (with_rule (with_rule (with_rule follow_app (option (codes "margin") 109)) (option (codes "kill") 107))
-    (word (codes "ticket"))) (word (codes "program"))
+app_for verb =
+    with_rules (record (new_app (name_for verb)) { top = record (new_app (name_for verb)).top { has_version = true } })
+    (rules_for verb)
 
 -- the version of the programs
 abbrev pub version : List ℕ

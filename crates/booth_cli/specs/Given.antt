@@ -28,6 +28,7 @@ pub record Texts : Type 0 where
   pub wait : Bool
   pub commit : Bool
   pub immediate : Bool
+  pub force : Bool
 
 -- the flag was given
 abbrev pub is_set : Option (List ℕ) → Bool
@@ -54,6 +55,7 @@ texts_in rows = record {
   wait = is_set (first_of (codes "wait") rows);
   commit = is_set (first_of (codes "commit") rows);
   immediate = is_set (first_of (codes "immediate") rows);
+  force = is_set (first_of (codes "force") rows);
 }
 
 -- the texts in words that begin with this command
@@ -80,6 +82,7 @@ texts_of g = record {
   wait = g.wait;
   commit = g.commit;
   immediate = g.immediate;
+  force = g.force;
 }
 
 -- the ticket of an attribute, and its name

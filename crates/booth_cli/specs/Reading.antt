@@ -213,6 +213,7 @@ pub record IsRead (t : Texts) (r : Read) : Type 0 where
   pub name : HasName t.name r.name
   pub value : HasName t.value r.value
   pub options : r.options ≡ options_in t
+  pub force : r.force ≡ t.force
   pub target : HasAddress t.target r.target
   pub site : HasAddress t.site r.site
   pub turns : HasNumber 1 MOST_TURNS t.turns r.turns

@@ -68,6 +68,8 @@ pub struct MoveWords {
     pub target: Address,
     /// Whether outcomes are waited for.
     pub wait: bool,
+    /// Whether it is made although a follower of the ticket runs on this machine.
+    pub force: bool,
     /// The daemon that is asked for the ticket, where it is named.
     pub site: Option<Address>,
     /// The file of the configuration.
@@ -193,6 +195,7 @@ fn move_of(read: Read) -> MoveWords
         ticket,
         target,
         wait: read.options.wait,
+        force: read.force,
         site: read.site,
         conf: read.conf,
     }

@@ -30,6 +30,7 @@ pub(crate) struct Given<'a> {
     pub wait: bool,
     pub commit: bool,
     pub immediate: bool,
+    pub force: bool,
     /// The rest of what `clap` found: the journals.
     pub matches: ArgMatches<'a>,
 }
@@ -82,6 +83,7 @@ pub(crate) fn given_words<'a>(
         wait: has_flag(&matches, "wait"),
         commit: has_flag(&matches, "commit"),
         immediate: has_flag(&matches, "immediate"),
+        force: has_flag(&matches, "force"),
         matches,
     })
 }

@@ -1,11 +1,11 @@
 //! What the words of a command line ask for, or why they ask for nothing.
 #![tactic(auto)]
 
+mod argument;
+mod arguments;
 mod asking;
-mod attribute_command;
-mod client_command;
 mod command;
-mod follow_command;
+mod command_texts;
 mod given;
 mod paths;
 mod program;

@@ -46,6 +46,7 @@ texts = record {
   wait = false;
   commit = false;
   immediate = false;
+  force = false;
 }
 
 found_is : found_in verbs.Daemon run_words ≡ texts
@@ -97,6 +98,7 @@ reads_it = (
     name = None;
     value = None;
     options = record { immediate = false; wait = false; commit = false };
+    force = false;
     target = None;
     site = Some asked_for.site;
     turns = Some 1;
@@ -125,6 +127,7 @@ reads_it = (
     name = refl;
     value = refl;
     options = refl;
+    force = refl;
     target = refl;
     site = site_spelled;
     turns = one_turn;
