@@ -218,6 +218,48 @@ def a_ticket_that_is_moved(cluster, services):
     passed(f"the service follows a move, and is stopped {now() - revoked:.2f} s after a revoke")
 
 
+@story
+def a_move_beside_a_follower(cluster, services):
+    """a move on a machine on which a follower of the ticket lives"""
+    one, two = begun(cluster, services)
+    with tempfile.TemporaryDirectory() as folder, followed_in(folder):
+        told = f"booth: a follower of ticket {NAME} runs here: booth-switchover {NAME} {two.address} "
+        before = one.record()
+        for words in ((NAME, two.address), ("-w", NAME, two.address)):
+            ran = one.booth("move", *words)
+            require(ran.status == 1 and ran.said.startswith(told), f"the move: {ran}")
+        require(one.record().term == before.term and services.is_up(one), "it changed something")
+        passed("it does nothing, and names booth-switchover")
+        services.kill(one)
+        require(services.run(one, "stop") == 0 and not services.is_up(one), "the service is not stopped")
+        ran = one.booth("move", "--force", "-w", NAME, two.address)
+        require((ran.status, ran.said) == (0, ""), f"the move: {ran}")
+        require(services.await_up(two, PAUSE + PATIENCE), "the service does not start where the ticket is moved to")
+        passed("it goes on where it is forced")
+        before = two.record()
+        with open(f"{folder}/{NAME}.paused", "w", encoding="ascii"):
+            ran = one.booth("move", NAME, two.address)
+        require((ran.status, ran.said) == (0, "") and two.record().term == before.term, f"the move: {ran}")
+        os.remove(f"{folder}/{NAME}.paused")
+        services.kill(two)
+        ran = one.booth("move", NAME, two.address)
+        require((ran.status, ran.said) == (0, "") and services.is_up(two), f"the move: {ran}")
+        passed("it goes on beside one that is paused or was ended, and changes nothing where the site has the ticket")
+    require(services.run(two, "stop") == 0, "the service is not stopped")
+
+
+@contextlib.contextmanager
+def followed_in(folder):
+    """The files of the followers stand in this folder, in which the ticket's service has one."""
+    with open(f"{folder}/{NAME}.state", "w", encoding="ascii") as file:
+        file.write("service=running\n")
+    os.environ["BOOTH_FOLLOW_RUN"] = folder
+    try:
+        yield
+    finally:
+        del os.environ["BOOTH_FOLLOW_RUN"]
+
+
 # ---- what is refused, and examples
 
 STAND_INS = {

@@ -2,12 +2,16 @@
 //! is named by.
 #![tactic(auto)]
 
+mod followers;
+
+use crate::followers::has_follower;
+use booth_cli::{Asked, MoveWords, Program, ask};
 use booth_real::RealHost;
-use booth_tools::{Outcome, booth, geostore};
+use booth_tools::{Outcome, booth, geostore, passed};
 use std::alloc::{AllocError, Global};
-use std::env;
 use std::io::{ErrorKind, Write};
 use std::process::ExitCode;
+use std::{env, str};
 
 // Whether a file is run by the name `geostore`, in whatever directory.
 fn is_geostore(name: &str) -> bool {
@@ -23,30 +27,63 @@ fn words(rt: &HostRuntime, alloc: Global) -> Result<Vec<String>, AllocError> {
     }
 }
 
-fn run(rt: HostRuntime, alloc: Global) -> Result<Outcome, AllocError> {
-    let words = words(&rt, alloc)?;
+// The move that words of `booth` ask for, unless it is forced.
+fn unforced_move(alloc: Global, words: &[String]) -> Option<MoveWords> {
+    let Ok(Asked::Move(asked)) = ask(alloc, Program::Booth, passed(words)) else {
+        return None;
+    };
+    if asked.force { None } else { Some(asked) }
+}
+
+// Says that a follower lives here, and which command moves its ticket with its service.
+fn warn(rt: HostRuntime, asked: &MoveWords) -> Result<(), AllocError> {
+    let ticket = str::from_utf8(asked.ticket.bytes()).unwrap_or("");
+    let target = asked.target.print();
+    let target = target.as_str();
+    let line = format!(in rt.alloc();
+        "booth: a follower of ticket {ticket} runs here: booth-switchover {ticket} {target} stops its service before \
+        the move, and booth move -f does not\n"
+    )?;
+    let _ = rt.stderr().write_all(line.as_bytes());
+    Ok(())
+}
+
+// Runs `booth`, unless that moves a ticket of which a follower lives here.
+fn run_booth(rt: HostRuntime, alloc: Global, words: &[String]) -> Result<u8, AllocError> {
+    if let Some(asked) = unforced_move(alloc, words) {
+        if has_follower(&rt, &asked)? {
+            warn(rt, &asked)?;
+            return Ok(1);
+        }
+    }
     let mut host = RealHost::new(rt, alloc)?;
     host.speak_as("booth");
-    Ok(match words.as_slice() {
+    Ok(booth(alloc, words, &mut host).status())
+}
+
+fn run(rt: HostRuntime, alloc: Global) -> Result<u8, AllocError> {
+    let words = words(&rt, alloc)?;
+    match words.as_slice() {
         [name, rest @ ..] if is_geostore(name.as_str()) => {
+            let mut host = RealHost::new(rt, alloc)?;
             host.speak_as("geostore");
-            geostore(alloc, rest, &mut host)
+            Ok(geostore(alloc, rest, &mut host).status())
         }
-        [_, rest @ ..] => booth(alloc, rest, &mut host),
-        [] => booth(alloc, &[], &mut host),
-    })
+        [_, rest @ ..] => run_booth(rt, alloc, rest),
+        [] => run_booth(rt, alloc, &[]),
+    }
 }
 
 fn main(rt: HostRuntime) -> ExitCode {
     let alloc = rt.alloc();
     let mut stderr = rt.stderr();
-    let outcome = match run(rt, alloc) {
-        Ok(outcome) => outcome,
+    let status = match run(rt, alloc) {
+        Ok(status) => status,
         Err(AllocError) => {
             // There is no host yet that would say it.
             let _ = stderr.write_all(b"booth: out of memory\n");
-            Outcome::OutOfMemory
+            Outcome::OutOfMemory.status()
         }
     };
-    ExitCode::from(outcome.status())
+    ExitCode::from(status)
 }

@@ -13,8 +13,8 @@ use booth_host::{Host, QuietHost};
 use booth_outcomes::{Ended, Outcome, tell, tell_error, texts};
 use std::alloc::Global;
 
-// The words, without a leading `client`.
-fn passed(words: &[String]) -> &[String]
+/// The words, without a leading `client`.
+pub fn passed(words: &[String]) -> &[String]
     ensures { map string_bytes result.now ≡ passed (map string_bytes words.now) }
 {
     let [first, rest @ ..] = words else {

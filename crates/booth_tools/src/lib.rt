@@ -14,4 +14,4 @@ mod replies;
 
 pub use booth_outcomes::{Outcome, Word};
 pub use booth_talk::report;
-pub use client_run::{booth, geostore, quiet_booth, quiet_geostore};
+pub use client_run::{booth, geostore, passed, quiet_booth, quiet_geostore};
