@@ -20,7 +20,7 @@ from typing import Dict, List, Optional, Tuple
 TOP = os.path.dirname(os.path.dirname(os.path.abspath(__file__)))
 sys.path.insert(0, f"{TOP}/tests")
 
-from row_driver import PROGRAM
+from row_driver import PROGRAM, run_line
 
 TABLE = f"{TOP}/tests/allocations.txt"
 NOTHING_CHECKED = 77
@@ -47,7 +47,7 @@ def script() -> bytes:
     lines = [f"file {path.encode().hex()} {content.hex()}" for path, content in files.items()]
     lines += ["room 0", "first 5000"]
     lines += [f"step {6000 + step} - quiet" for step in range(STEPS)]
-    lines.append("run boothd " + " ".join(word.encode().hex() for word in WORDS))
+    lines.append(run_line("boothd", [word.encode() for word in WORDS]))
     return "".join(f"{line}\n" for line in lines).encode()
 
 

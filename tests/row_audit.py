@@ -29,7 +29,7 @@ from typing import Dict, Iterator, List, NamedTuple, Optional, Tuple
 import row_node
 from call_lines import hexed, parted
 from record_file import FIRST_FORM, HAS_BOUND, HAS_LEASE, HAS_PROMISE, SECOND_FORM
-from row_driver import Driver, Trouble, Unplayed
+from row_driver import Driver, Trouble, Unplayed, run_line
 from stories_in import named_in, paragraphs, read_file, text_of, texts_in
 
 FAULT = {"line": "syntax", "differs": "differs", "kept": "record", "unsent": "unsent"}
@@ -53,7 +53,7 @@ class Audit(NamedTuple):
         """Returns the lines that the driver is given for it."""
         lines = [f"file {hexed(path.encode())} {hexed(data)}" for path, data in self.files()]
         words = ["audit", "-c", row_node.CONFIGURATION] + [path_of(place) for place in range(len(self.journals))]
-        return lines + [" ".join(["run boothd", *(hexed(word.encode()) for word in words)])]
+        return lines + [run_line("boothd", [word.encode() for word in words])]
 
     def answer(self, result: str) -> List[str]:
         """Returns the lines that the driver is to answer its run with, if this is its result."""

@@ -2,7 +2,8 @@
 
 A story begins with `# ` and what it shows. Each of its lines is a call, ` => ` and its answer. A boot is a letter, and
 times are in milliseconds. `begin BOOT KEPT SINCE WALL` starts the clock, KEPT being `nothing`, `kept` for what was kept
-last, or `BOOT OFFSET REACHED`; the other calls are those of `crates/trials/src/clock.rt`.
+last, `BOOT OFFSET REACHED`, or `bytes` and bytes in hexadecimal; the other calls are those of
+`crates/booth_step_rows/src/clock.rt`.
 
 It is imported by `rows.py`, and not run by itself.
 """
@@ -10,7 +11,7 @@ It is imported by `rows.py`, and not run by itself.
 import struct
 from typing import List, Tuple
 
-from row_driver import Driver, Trouble, Unplayed
+from row_driver import Driver, Trouble
 
 VERSION = 1
 
@@ -66,11 +67,7 @@ def play(story: str, driver: Driver) -> Tuple[int, List[str]]:
         if not arrow:
             raise Trouble(f"{head}: {row}")
         lines.append(line_of(call, kept))
-        try:
-            answer = driver.play("clock", lines)[-1][0]
-        except Unplayed as why:
-            lines.pop()
-            answer = str(why).rsplit(": ", 1)[1]
+        answer = driver.play("clock", lines)[-1][0]
         kept = answer if call == "kept" else kept
         if shown(call, answer) != wanted:
             wrong.append(f"{head}: {call} => {shown(call, answer)}, and not {wanted}")

@@ -23,6 +23,11 @@ class Trouble(Exception):
     """A file of rows that cannot be read, or an answer that cannot be shown."""
 
 
+def run_line(program: str, words: List[bytes]) -> str:
+    """Returns the line by which the player `runs` runs this program with these arguments."""
+    return " ".join(["run", program, str(len(words)), *(word.hex() or "-" for word in words)])
+
+
 class Driver:
     """The built driver."""
 

@@ -42,7 +42,7 @@ PLAIN, WHOLE = 124, 152
 NOW = 1_700_000_000_999
 LATER = 1_700_000_600_999
 KEY = b"secret-key"
-KEYED = f"ring sha1 {KEY.hex()}"
+KEYED = f"ring sha1 {KEY.hex()} -"
 UNKEYED = "ring -"
 
 
@@ -104,7 +104,10 @@ def edited(rows: List[Row], edits: str) -> bytes:
 def ring_line(words: str) -> str:
     """Returns the driver's line for the ring of `HASH KEY` and perhaps a second key, or for `-`."""
     hash_name, *keys = words.split(" ")
-    return " ".join(["ring", hash_name, *(key.encode().hex() for key in keys)])
+    if hash_name == "-":
+        return UNKEYED
+    given = [key.encode().hex() for key in keys]
+    return " ".join(["ring", hash_name, *given, *["-"] * (2 - len(given))])
 
 
 def judged(rows: List[Row], ring: str, frame: bytes, fault: str, me: str = "me", now: int = NOW) -> List[Play]:

@@ -35,9 +35,10 @@ from typing import Dict, List, NamedTuple, Tuple
 from row_driver import Driver, Trouble
 from row_runs import Line, lines_of
 from run_frames import bytes_of, text_of
-from run_hosts import hexadecimal, record
+from run_hosts import FAILS, hexadecimal, record
 from stream_data import stream_of
 
+KINDS = ["memory", "quiet", "logged", "journaled", "streamed"]
 MAKING = ["first", "file", "fails", "room", "record", "step"]
 CLIENT = "127.0.0.1"
 
@@ -67,23 +68,27 @@ def arriving(text: str) -> str:
     return with_data(text, 3) if text.startswith("datagram ") else text
 
 
-def made_of(line: str) -> str:
-    """Returns the driver's line for what a host is made of."""
+def made_of(line: str) -> List[str]:
+    """Returns the driver's lines for what a host is made of."""
     first, _, rest = line.partition(" ")
     if first not in MAKING:
         raise Trouble(f"no such line: {line}")
     if first == "file":
         path, _, text = rest.partition(" ")
-        return f"give file {texts(path)} {hexadecimal(bytes_of(text))}"
+        return [f"give file {texts(path)} {hexadecimal(bytes_of(text))}"]
     if first == "record":
         ticket, _, text = rest.partition(" ")
-        return f"give record {ticket} {record(text)}"
-    return f"give step {step(rest)}" if first == "step" else f"give {line}"
+        return [f"give record {ticket} {record(text)}"]
+    if first == "fails":
+        return [f"give fails {call}" for call in rest.split(" ")]
+    return [f"give step {step(rest)}" if first == "step" else f"give {line}"]
 
 
 def step(text: str) -> str:
     """Returns a step in the driver's words."""
     reading, fails, arrival = text.split(" ", 2)
+    if fails != "-" and not set(fails.split(",")) <= set(FAILS):
+        raise Trouble(f"no calls that fail: {text}")
     return f"{int(reading)} {fails} {arriving(arrival)}"
 
 
@@ -148,9 +153,9 @@ class Reader:
         self.told: List[str] = []
         self.count = 0
 
-    def play(self, text: str, wanted: List[str], player: str = "memory") -> None:
-        """Adds a line that is played."""
-        self.played.append(Played(self.place, player, text, wanted))
+    def play(self, text: str, wanted: List[str], player: str = "") -> None:
+        """Adds a line that is played by this player, or by that of the host's kind."""
+        self.played.append(Played(self.place, player or self.kind.partition(" ")[0], text, wanted))
 
     def row(self, text: str, wanted: List[str]) -> None:
         """Adds a line that is played as a row."""
@@ -166,8 +171,10 @@ class Reader:
 
     def make(self, kind: str, given: List[str]) -> None:
         """Makes a host."""
+        if kind.partition(" ")[0] not in KINDS:
+            raise Trouble(f"{self.place}: no such host")
         self.given, self.kind, self.calls, self.told = given, kind, [], []
-        for line in [*given, f"over {kind}"]:
+        for line in [*given, " ".join(["over", *kind.split(" ")[1:]])]:
             self.play(line, [])
 
     def ask(self, asked: str, answer: str, logged: List[str]) -> None:
@@ -233,11 +240,12 @@ class Reader:
         elif not self.sentence:
             raise Trouble(f"{self.place}: no sentence")
         elif first == "over":
-            self.make(rest, [made_of(one) for one in below])
+            self.make(rest, [line for one in below for line in made_of(one)])
         elif line.text == "told":
             self.tell(below)
         elif line.text == "faults":
-            self.row("faults", below)
+            self.count += 1
+            self.play("faults", below, "texts")
         elif first == "again" and found and not below:
             self.repeat(asked[len("again "):], int(answer))
         elif found:

@@ -25,7 +25,7 @@ import re
 from typing import Dict, Iterator, List, NamedTuple, Optional, Tuple
 
 from call_lines import MEMBERS, PEERS, call_of, frame_of, hexed, number_of, parted, peer_of, record_of, said
-from row_driver import Driver, Trouble, Unplayed
+from row_driver import Driver, Trouble, Unplayed, run_line
 from stories_in import named_in, paragraphs, text_of, texts_in
 
 PARTS = ["parts.txt", "frames.txt", "sealed_frames.txt"]
@@ -205,7 +205,7 @@ def script_of(story: Story, life: Life, room: int) -> List[str]:
     lines += [f"first {story.start}", f"room {room}"]
     lines += [f"step {turn.clock} {turn.fails} {turn.comes}" for turn in life.turns]
     words = ["daemon", "-c", CONFIGURATION, "-s", PEERS[life.member][0]]
-    return lines + [" ".join(["run boothd", *(hexed(word.encode()) for word in words)])]
+    return lines + [run_line("boothd", [word.encode() for word in words])]
 
 
 def start_of(story: Story, life: Life) -> List[str]:

@@ -68,7 +68,7 @@ def record_words(text: str) -> str:
     term, _, mark = text.partition(" ")
     if mark not in ("", "held", "first"):
         raise Malformed(f"no record: {text}")
-    return f"{1 if mark == 'first' else 2} {term}" + (f" {term} {UNTIL}" if mark == "held" else "")
+    return f"{1 if mark == 'first' else 2} {term} " + (f"{term} {UNTIL}" if mark == "held" else "-")
 
 
 def record_shown(text: str) -> str:
@@ -76,7 +76,7 @@ def record_shown(text: str) -> str:
     if text == "none":
         return "None"
     version, term, *lease = record_words(text).split(" ")
-    shown = f"Some(Lease {{ term: {lease[0]}, until: {lease[1]} }})" if lease else "None"
+    shown = f"Some(Lease {{ term: {lease[0]}, until: {lease[1]} }})" if lease != ["-"] else "None"
     fields = f"version: {version}, term: {term}, lease: {shown}, bound: None, promise: None, abstain: 0"
     return f"Some(Record {{ {fields} }})"
 

@@ -34,6 +34,9 @@ FAULTS = {
     **{"margin too long": "MarginTooLong", "kill too long": "KillTooLong", "kill too short": "KillTooShort"},
 }
 
+# whether a move waits for outcomes, as the driver is told
+WAITS = {"wait": "1", "once": "0"}
+
 
 class Row(NamedTuple):
     """A line that is played, and what is expected of it: nothing, or a text."""
@@ -108,7 +111,10 @@ class Reader:
     def begin(self, first: str, rest: str) -> None:
         """Begins a service or a move."""
         self.player = {"follow": "follows", "move": "moves"}[first]
-        start = f"new {rest}" if first == "follow" else f"new {self.configuration()} {TICKET} 1 {rest}"
+        start = f"new {rest}"
+        if first == "move":
+            wait, _, reading = rest.partition(" ")
+            start = f"new {self.configuration()} {TICKET} 1 {WAITS[wait]} {reading}"
         self.add(self.player, start, "")
 
     def take(self, line: str) -> None:

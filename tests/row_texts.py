@@ -24,22 +24,30 @@ from run_hosts import hexadecimal
 from stream_data import bytes_of_word, frame, stream_of
 
 
-class Line(NamedTuple):
-    """A line that is played, where it comes from, and the answer that is expected."""
+class Lines(NamedTuple):
+    """Lines that are played, where they come from, and the words that are expected of their answers."""
 
     place: str
-    text: str
+    lines: List[str]
     wanted: List[str]
 
 
-def journal(place: str, rest: str) -> Iterator[Line]:
+def pieces(data: bytes, sizes: List[int]) -> List[str]:
+    """Returns the lines that feed the first bytes of a stream in pieces of these sizes."""
+    ends = [sum(sizes[: place + 1]) for place in range(len(sizes))]
+    cuts = [data[end - size : end] for size, end in zip(sizes, ends)]
+    return [f"{'feed' if place else 'begin'} {hexadecimal(piece)}" for place, piece in enumerate(cuts)]
+
+
+def journal(place: str, rest: str) -> Iterator[Lines]:
     """Gives the line of a text of a journal."""
     text, _, line = rest.rpartition(" => ")
     whole = re.sub(r"\{(\d+) (\w+)\}", lambda found: found[2] * int(found[1]), text)
-    yield Line(place, f"journal {hexadecimal(bytes_of(whole))}", ["journal" if int(line) == 0 else str(int(line))])
+    wanted = "journal" if int(line) == 0 else str(int(line))
+    yield Lines(place, [f"journal {hexadecimal(bytes_of(whole))}"], [wanted])
 
 
-def cut(place: str, rest: str) -> Iterator[Line]:
+def cut(place: str, rest: str) -> Iterator[Lines]:
     """Gives the lines of a stream that is cut once."""
     asked, _, marks = rest.rpartition(" => ")
     stream, found, sizes = asked.partition(" | ")
@@ -47,12 +55,11 @@ def cut(place: str, rest: str) -> Iterator[Line]:
         raise Trouble(f"{place}: no sizes")
     data = stream_of(stream)
     frames = {word.partition(":")[2]: bytes_of_word(word).hex() for word in stream.split(" ")}
-    wanted = " ".join("broken" if mark == "!" else frames[mark] for mark in marks if marks != "-")
-    yield Line(place, f"stream {hexadecimal(data)}", [])
-    yield Line(place, f"cut {sizes}", [wanted])
+    wanted = ["broken" if mark == "!" else frames[mark] for mark in marks if marks != "-"]
+    yield Lines(place, pieces(data, [int(size) for size in sizes.split(" ")]), wanted)
 
 
-def each(place: str, rest: str) -> Iterator[Line]:
+def each(place: str, rest: str) -> Iterator[Lines]:
     """Gives the lines of streams of two frames that are cut everywhere."""
     least, most, places = (int(word) for word in rest.split(" "))
     if places not in (1, 2):
@@ -60,13 +67,13 @@ def each(place: str, rest: str) -> Iterator[Line]:
     for length in range(least, most + 1):
         first, second = frame(length, "a"), frame(48, "b")
         end = len(first + second)
-        yield Line(place, f"stream {(first + second).hex()}", [])
         for one in range(end):
             for two in range(one, end if places == 2 else one + 1):
-                yield Line(place, f"cut {one} {two - one} {end - two}", [f"{first.hex()} {second.hex()}"])
+                sizes = [one, two - one, end - two]
+                yield Lines(place, pieces(first + second, sizes), [first.hex(), second.hex()])
 
 
-def lines_of(text: str) -> Iterator[Line]:
+def lines_of(text: str) -> Iterator[Lines]:
     """Gives the lines that a file's rows are played by."""
     sentence = ""
     for number, line in enumerate(text.split("\n"), 1):
@@ -80,12 +87,21 @@ def lines_of(text: str) -> Iterator[Line]:
             yield from {"journal": journal, "cut": cut, "each": each}[first](place, rest)
 
 
+def words_of(answers: List[List[str]]) -> List[str]:
+    """Returns the words of the answers to the pieces of a stream, up to the one that says that it is broken."""
+    words = [word for answer in answers for line in answer for word in line.split()]
+    return words[: words.index("broken") + 1] if "broken" in words else words
+
+
 def check(text: str, driver: Driver) -> Tuple[int, List[str]]:
     """Plays the rows of a file. Returns how many there are, and what is wrong."""
-    lines = list(lines_of(text))
-    if not lines:
+    plays = list(lines_of(text))
+    if not plays:
         raise Trouble("no rows")
-    answers = driver.play("texts", [line.text for line in lines])
-    wrong = [f"{line.place}: {line.text[:80]}, and it was: {str(answer)[:400]}"
-             for line, answer in zip(lines, answers) if answer != line.wanted]
-    return len({line.place for line in lines}), wrong
+    answers = iter(driver.play("texts", [line for play in plays for line in play.lines]))
+    wrong = []
+    for play in plays:
+        found = words_of([next(answers) for _ in play.lines])
+        if found != play.wanted:
+            wrong.append(f"{play.place}: {str(play.lines)[:80]}, and it was: {str(found)[:400]}")
+    return len({play.place for play in plays}), wrong

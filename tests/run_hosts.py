@@ -5,6 +5,7 @@ It is imported by the programs in tests/, and not run by itself. tests/row_runs.
 
 from typing import Dict, List
 
+import row_driver
 from row_driver import Trouble
 from run_frames import CLIENT, MEMBERS, bytes_of, frame_of, number_of
 
@@ -97,7 +98,9 @@ def host_lines(lines: List[str]) -> List[str]:
             files[PATHS[first]] = bytes_of(rest)
         elif first == "more":
             files["/etc/booth.conf"] += bytes_of(rest)
-        elif first in ("first", "fails", "room"):
+        elif first == "fails":
+            made += [f"fails {call}" for call in rest.split(" ")]
+        elif first in ("first", "room"):
             made.append(line)
         elif first == "record":
             ticket, _, text = rest.partition(" ")
@@ -111,4 +114,4 @@ def host_lines(lines: List[str]) -> List[str]:
 
 def run_line(program: str, words: List[str]) -> str:
     """Returns the line that runs this program with these arguments."""
-    return " ".join(["run", program, *(hexadecimal(bytes_of(word)) for word in words)])
+    return row_driver.run_line(program, [bytes_of(word) for word in words])

@@ -3,114 +3,121 @@ use crate::told::{LONGEST_MS, shown, spelled};
 use booth_base::{PathText, promise_ms};
 use booth_conf::{Config, TicketConf};
 use booth_keys::Hash;
-use booth_rows::{Answer, Player, Unplayed, bytes};
-use std::alloc::Global;
+use booth_rows::{Answer, Player, Words};
+use std::alloc::{AllocError, Global};
 
 /// Plays texts of the configuration.
 #[derive(Drop)]
-pub struct Configuration {}
+pub(crate) struct Configuration {}
 
-fn path(
-    alloc: Global,
-    word: &str,
-    path: Option<&PathText>,
-    answer: &mut Answer,
-) -> Result<(), Unplayed> {
+fn path(answer: &mut Answer, word: &str, path: Option<&PathText>) {
     match path {
-        Some(path) => spelled(alloc, answer, word, path.as_str().as_bytes()),
-        None => answer.word(word).and_then(|()| answer.end()),
+        Some(path) => spelled(answer, word, path.as_str().as_bytes()),
+        None => {
+            answer.word(word);
+            answer.end();
+        }
     }
 }
 
-fn file_keys(alloc: Global, config: &Config, answer: &mut Answer) -> Result<(), Unplayed> {
-    answer.number(u64::from(config.port()))?;
-    answer.number(config.skew())?;
-    answer.word(match config.auth_hash() {
+fn hash_of(hash: Hash) -> &'static str {
+    match hash {
         Hash::Sha1 => "sha1",
         Hash::Sha256 => "sha256",
-    })?;
+    }
+}
+
+fn file_keys(answer: &mut Answer, config: &Config) {
+    answer.number(u64::from(config.port()));
+    answer.number(config.skew());
+    answer.word(hash_of(config.auth_hash()));
     for extra in config.extras() {
-        answer.number(u64::from(extra.0.0))?;
+        answer.number(u64::from(extra.0.0));
     }
-    answer.end()?;
-    path(alloc, "authfile", config.authfile(), answer)?;
-    path(alloc, "authfile-old", config.authfile_old(), answer)
+    answer.end();
+    path(answer, "authfile", config.authfile());
+    path(answer, "authfile-old", config.authfile_old());
 }
 
-// A member's place by its id, its role and its id.
-fn members(config: &Config, answer: &mut Answer) -> Result<(), Unplayed> {
+// Appends each member's role, its id, and its place by its id.
+fn members(answer: &mut Answer, config: &Config) {
     for member in config.members() {
-        answer.word(if member.site { "site" } else { "arbitrator" })?;
-        answer.number(u64::from(member.id.0))?;
+        answer.word(if member.site { "site" } else { "arbitrator" });
+        answer.small(member.id.0);
         if let Some(place) = config.member(member.id) {
-            answer.number(place as u64)?;
+            answer.number(place as u64);
         }
-        answer.end()?;
+        answer.end();
     }
-    Ok(())
 }
 
-fn ticket(alloc: Global, ticket: &TicketConf, answer: &mut Answer) -> Result<(), Unplayed> {
-    answer.word("ticket")?;
-    answer.bytes(alloc, ticket.name.bytes())?;
-    answer.word(if ticket.manual { "manual" } else { "auto" })?;
+fn ticket(answer: &mut Answer, ticket: &TicketConf) {
     let times = &ticket.times;
-    for time in [times.expire, times.after, times.timeout, times.renewal] {
-        answer.number(time)?;
+    answer.word("ticket");
+    answer.bytes(ticket.name.bytes());
+    answer.word(if ticket.manual { "manual" } else { "auto" });
+    answer.number(times.expire);
+    answer.number(times.after);
+    answer.number(times.timeout);
+    answer.number(times.renewal);
+    answer.small(times.retries);
+    if times.expire <= LONGEST_MS && times.after <= LONGEST_MS {
+        answer.number(promise_ms(times));
     }
-    answer.number(u64::from(times.retries))?;
-    if times.expire > LONGEST_MS || times.after > LONGEST_MS {
-        return Err(Unplayed::NotAllowed);
-    }
-    answer.number(promise_ms(times))
 }
 
-// The rank of a site, where there are such a ticket and such a site.
-fn rank(config: &Config, ticket: usize, member: usize) -> Option<u32> {
+// Returns the rank of a site, if there are such a ticket and such a site.
+fn rank(config: &Config, ticket: usize, member: usize) -> Option<u64> {
     let is_site = config.members().get(member)?.site;
     if is_site && ticket < config.tickets().len() {
-        return Some(config.rank(ticket, member));
+        return Some(u64::from(config.rank(ticket, member)));
     }
     None
 }
 
-// The rank of each member at a ticket, `-` where it has none.
-fn ranks(config: &Config, ticket: usize, answer: &mut Answer) -> Result<(), Unplayed> {
+// Appends the rank of each member at a ticket, `-` where it has none.
+fn ranks(answer: &mut Answer, config: &Config, ticket: usize) {
     for member in 0..config.members().len() {
-        match rank(config, ticket, member) {
-            Some(rank) => answer.number(u64::from(rank))?,
-            None => answer.word("-")?,
-        }
+        answer.number_or_none(rank(config, ticket, member));
     }
-    answer.end()
+    answer.end();
 }
 
-fn tickets(alloc: Global, config: &Config, answer: &mut Answer) -> Result<(), Unplayed> {
+fn tickets(answer: &mut Answer, config: &Config) {
     for (place, found) in config.tickets().iter().enumerate() {
-        ticket(alloc, found, answer)?;
+        ticket(answer, found);
         if let Some(named) = config.ticket(&found.name) {
-            answer.number(named as u64)?;
+            answer.number(named as u64);
         }
-        ranks(config, place, answer)?;
+        ranks(answer, config, place);
     }
-    Ok(())
 }
 
-// Each value, and the text that is printed of it and of a copy.
-fn tell(alloc: Global, config: &Config, answer: &mut Answer) -> Result<(), Unplayed> {
-    file_keys(alloc, config, answer)?;
-    members(config, answer)?;
-    tickets(alloc, config, answer)?;
-    spelled(alloc, answer, "printed", config.print(alloc)?.bytes())?;
-    let copied = config.copy(alloc)?;
-    spelled(alloc, answer, "copied", copied.print(alloc)?.bytes())
+// Appends the text that is printed of a configuration.
+fn printed(alloc: Global, answer: &mut Answer, word: &str, config: &Config) {
+    match config.print(alloc) {
+        Ok(text) => spelled(answer, word, text.bytes()),
+        Err(_) => answer.tear(),
+    }
+}
+
+// Appends each value, and the text that is printed of it and of a copy.
+fn tell(alloc: Global, answer: &mut Answer, config: &Config) {
+    file_keys(answer, config);
+    members(answer, config);
+    tickets(answer, config);
+    printed(alloc, answer, "printed", config);
+    match config.copy(alloc) {
+        Ok(copied) => printed(alloc, answer, "copied", &copied),
+        Err(AllocError) => answer.tear(),
+    }
 }
 
 impl Player for Configuration {
-    fn play(&mut self, alloc: Global, line: &str, answer: &mut Answer) -> Result<(), Unplayed> {
-        match Config::parse(alloc, &bytes(alloc, line)?) {
-            Ok(config) => tell(alloc, &config, answer),
-            Err(fault) => shown(alloc, answer, "fault", &fault),
+    fn play(&mut self, words: &mut Words<'_>, answer: &mut Answer) {
+        match Config::parse(words.alloc(), &words.bytes()) {
+            Ok(config) => tell(words.alloc(), answer, &config),
+            Err(fault) => shown(answer, "fault", &fault),
         }
     }
 }

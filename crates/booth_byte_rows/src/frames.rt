@@ -1,117 +1,106 @@
 //! Frames: what they are read as, and how that is spelled.
-use crate::told::{fault, shown, spelled, words};
-use booth_rows::{Answer, Unplayed, bytes, number};
+use crate::told::{fault, shown, spelled};
+use booth_rows::{Answer, Words};
 use booth_wire::{AttrPart, Body, Cmd, Direction, Frame, Head, Kind, TicketPart, decode, encode};
-use std::alloc::Global;
 
-/// Plays `command CODE`: its name, its code, its body, between whom it goes, and what answers it.
-pub fn command(alloc: Global, code: &str, answer: &mut Answer) -> Result<(), Unplayed> {
-    let Some(command) = Cmd::from_code(number(code)?) else {
-        return answer.word("none").and_then(|()| answer.end());
-    };
-    shown(alloc, answer, "command", &command)?;
-    answer.number(u64::from(command.code()))?;
-    answer.word(match command.kind() {
+fn kind_of(command: Cmd) -> &'static str {
+    match command.kind() {
         Kind::Bare => "bare",
         Kind::Ticket => "ticket",
         Kind::Attr => "attribute",
         Kind::Text => "text",
-    })?;
-    answer.word(match command.direction() {
+    }
+}
+
+fn direction_of(command: Cmd) -> &'static str {
+    match command.direction() {
         Direction::ToDaemon => "to-daemon",
         Direction::ToClient => "to-client",
         Direction::BetweenMembers => "between-members",
-    })?;
-    answer.end()?;
-    shown(alloc, answer, "answer", &command.answer())
-}
-
-fn head(alloc: Global, head: &Head, answer: &mut Answer) -> Result<(), Unplayed> {
-    let fields = [
-        u32::from(head.auth),
-        head.secs,
-        head.usecs,
-        head.from.0,
-        head.request,
-        head.options,
-        head.reason,
-        head.result,
-    ];
-    shown(alloc, answer, "command", &head.cmd)?;
-    for field in fields {
-        answer.number(u64::from(field))?;
     }
-    answer.end()
 }
 
-fn ticket(alloc: Global, part: &TicketPart, answer: &mut Answer) -> Result<(), Unplayed> {
-    answer.word("ticket")?;
-    answer.bytes(alloc, part.ticket.bytes())?;
-    for field in [part.leader.0, part.term, part.valid_for] {
-        answer.number(u64::from(field))?;
-    }
-    answer.end()
+/// Plays `command CODE`: its name, its code, its body, between whom it goes, and what answers it.
+pub(crate) fn command(words: &mut Words<'_>, answer: &mut Answer) {
+    let Some(command) = Cmd::from_code(words.number()) else {
+        answer.word("none");
+        return answer.end();
+    };
+    shown(answer, "command", &command);
+    answer.small(command.code());
+    answer.word(kind_of(command));
+    answer.word(direction_of(command));
+    answer.end();
+    shown(answer, "answer", &command.answer());
 }
 
-fn attribute(alloc: Global, part: &AttrPart, answer: &mut Answer) -> Result<(), Unplayed> {
-    answer.word("attribute")?;
-    answer.bytes(alloc, part.ticket.bytes())?;
+fn head(answer: &mut Answer, head: &Head) {
+    shown(answer, "command", &head.cmd);
+    answer.flag(head.auth);
+    answer.small(head.secs);
+    answer.small(head.usecs);
+    answer.small(head.from.0);
+    answer.small(head.request);
+    answer.small(head.options);
+    answer.small(head.reason);
+    answer.small(head.result);
+    answer.end();
+}
+
+fn ticket(answer: &mut Answer, part: &TicketPart) {
+    answer.word("ticket");
+    answer.bytes(part.ticket.bytes());
+    answer.small(part.leader.0);
+    answer.small(part.term);
+    answer.small(part.valid_for);
+    answer.end();
+}
+
+fn attribute(answer: &mut Answer, part: &AttrPart) {
+    answer.word("attribute");
+    answer.bytes(part.ticket.bytes());
     match &part.name {
-        Some(name) => answer.bytes(alloc, name.bytes())?,
-        None => answer.word("-")?,
+        Some(name) => answer.bytes(name.bytes()),
+        None => answer.word("-"),
     }
-    answer.bytes(alloc, part.value.bytes())?;
-    answer.end()
+    answer.bytes(part.value.bytes());
+    answer.end();
 }
 
-fn body(alloc: Global, body: &Body<'_>, answer: &mut Answer) -> Result<(), Unplayed> {
+fn body(answer: &mut Answer, body: &Body<'_>) {
     match body {
-        Body::Bare => spelled(alloc, answer, "bare", &[]),
-        Body::Ticket(part) => ticket(alloc, part, answer),
-        Body::Attr(part) => attribute(alloc, part, answer),
-        Body::Text(text) => spelled(alloc, answer, "text", text),
+        Body::Bare => spelled(answer, "bare", &[]),
+        Body::Ticket(part) => ticket(answer, part),
+        Body::Attr(part) => attribute(answer, part),
+        Body::Text(text) => spelled(answer, "text", text),
     }
 }
 
 /// Plays `frame BYTES`: the fields of its head, those of its body, and the spelling of both, or its fault.
-pub fn frame(
-    alloc: Global,
-    bytes: &[u8],
-    into: &mut Frame,
-    answer: &mut Answer,
-) -> Result<(), Unplayed> {
-    match decode(bytes) {
+pub(crate) fn frame(words: &mut Words<'_>, into: &mut Frame, answer: &mut Answer) {
+    match decode(&words.bytes()) {
         Ok(message) => {
             encode(&message, into);
-            head(alloc, &message.head, answer)?;
-            body(alloc, &message.body, answer)?;
-            spelled(alloc, answer, "spelled", into.bytes())
+            head(answer, &message.head);
+            body(answer, &message.body);
+            spelled(answer, "spelled", into.bytes());
         }
-        Err(found) => fault(alloc, answer, &found),
+        Err(found) => fault(answer, &found),
     }
 }
 
 /// Plays `signed ID HASH FRAME`: the spelling of what the frame says, with this authentication part.
-pub fn signed(
-    alloc: Global,
-    line: &str,
-    into: &mut Frame,
-    answer: &mut Answer,
-) -> Result<(), Unplayed> {
-    let words = words(alloc, line)?;
-    let [id, hash, frame] = words.as_slice() else {
-        return Err(Unplayed::Unread);
-    };
-    let (id, hash, frame) = (number(id)?, bytes(alloc, hash)?, bytes(alloc, frame)?);
-    let Ok(message) = decode(&frame) else {
-        return Err(Unplayed::NotAllowed);
-    };
-    if !message.head.auth || hash.len() != 24 {
-        return Err(Unplayed::NotAllowed);
+pub(crate) fn signed(words: &mut Words<'_>, into: &mut Frame, answer: &mut Answer) {
+    let id = words.number();
+    let (hash, frame) = (words.bytes(), words.bytes());
+    match decode(&frame) {
+        Ok(message) if message.head.auth && hash.len() == 24 => {
+            let mut part = [0; 24];
+            part.copy_from_slice(&hash);
+            encode(&message, into);
+            into.set_auth(id, &part);
+            spelled(answer, "spelled", into.bytes());
+        }
+        _ => words.refuse(),
     }
-    let mut part = [0; 24];
-    part.copy_from_slice(&hash);
-    encode(&message, into);
-    into.set_auth(id, &part);
-    spelled(alloc, answer, "spelled", into.bytes())
 }

@@ -1,132 +1,154 @@
 //! The gate and the seal, and the MACs under them.
-use crate::told::{fault, spelled, words};
+use crate::told::{fault, spelled};
 use booth_auth::{gate, seal};
 use booth_base::MemberId;
 use booth_conf::Config;
 use booth_keys::{Hash, Key, Ring, hmac, hmac256};
-use booth_rows::{Answer, Player, Unplayed, bytes, first, moment, number};
-use booth_wire::{Frame, decode};
+use booth_rows::{Answer, Player, Words};
+use booth_wire::{Frame, Message, decode};
 use sha1::Sha1;
-use std::alloc::Global;
 
 /// Plays lines at the gate of a member: with the configuration and the ring that came last.
 #[derive(Drop)]
-pub struct Gate {
+pub(crate) struct Gate {
     config: Option<Config>,
     ring: Option<Ring>,
 }
 
+// Reads a key from its file's bytes.
+fn key(words: &mut Words<'_>) -> Option<Key> {
+    match Key::read(&words.bytes()) {
+        Ok(key) => Some(key),
+        Err(_) => {
+            words.refuse();
+            None
+        }
+    }
+}
+
+// Reads a hash, which is the newer one if it is not `sha1`.
+fn hash(words: &mut Words<'_>) -> Hash {
+    match words.word() {
+        "sha1" => Hash::Sha1,
+        "sha256" => Hash::Sha256,
+        _ => {
+            words.refuse();
+            Hash::Sha256
+        }
+    }
+}
+
+// Reads `-`, or a hash, the first key, and the old key or `-`.
+fn ring(words: &mut Words<'_>) -> Option<Ring> {
+    if words.is_none() {
+        return None;
+    }
+    let hash = hash(words);
+    let first = key(words)?;
+    let old = if words.is_none() { None } else { key(words) };
+    Some(Ring { first, old, hash })
+}
+
+// Appends the spelling of a message as it is sealed.
+fn put_sealed(
+    words: &mut Words<'_>,
+    message: &Message<'_>,
+    ring: Option<&Ring>,
+    now: u64,
+    answer: &mut Answer,
+) {
+    match Frame::new(words.alloc()) {
+        Ok(mut into) => {
+            seal(message, ring, now, &mut into);
+            spelled(answer, "sealed", into.bytes());
+        }
+        Err(_) => answer.tear(),
+    }
+}
+
+// `mac KEYFILE MESSAGE`: both MACs, or why there is no key.
+fn mac(words: &mut Words<'_>, answer: &mut Answer) {
+    let (file, message) = (words.bytes(), words.bytes());
+    match Key::read(&file) {
+        Ok(key) => {
+            answer.bytes(&hmac(&key, &message));
+            answer.bytes(&hmac256(&key, &message));
+            answer.end();
+        }
+        Err(found) => fault(answer, &found),
+    }
+}
+
 impl Gate {
-    /// A gate without a configuration and without a key.
-    pub fn new() -> Gate {
+    /// Returns a gate without a configuration and without a key.
+    pub(crate) fn new() -> Gate {
         Gate {
             config: None,
             ring: None,
         }
     }
-}
 
-fn key(alloc: Global, word: &str) -> Result<Key, Unplayed> {
-    Key::read(&bytes(alloc, word)?).map_err(|_| Unplayed::NotAllowed)
-}
-
-// `ring -`, or `ring HASH FIRST` and perhaps the old key.
-fn ring(alloc: Global, line: &str) -> Result<Option<Ring>, Unplayed> {
-    let (hash, keys) = first(line);
-    let hash = match hash {
-        "-" => return Ok(None),
-        "sha1" => Hash::Sha1,
-        "sha256" => Hash::Sha256,
-        _ => return Err(Unplayed::Unread),
-    };
-    let (first, old) = first(keys);
-    let old = if old.is_empty() {
-        None
-    } else {
-        Some(key(alloc, old)?)
-    };
-    Ok(Some(Ring {
-        first: key(alloc, first)?,
-        old,
-        hash,
-    }))
-}
-
-// `gate ME NOW FRAME`: whether it is admitted.
-fn judge(
-    alloc: Global,
-    config: &Config,
-    ring: Option<&Ring>,
-    line: &str,
-    answer: &mut Answer,
-) -> Result<(), Unplayed> {
-    let words = words(alloc, line)?;
-    let [me, now, frame] = words.as_slice() else {
-        return Err(Unplayed::Unread);
-    };
-    let (me, now, frame) = (number(me)?, moment(now)?, bytes(alloc, frame)?);
-    match gate(config, ring, MemberId(me), now, &frame) {
-        Ok(_) => answer.word("admitted").and_then(|()| answer.end()),
-        Err(found) => fault(alloc, answer, &found),
-    }
-}
-
-// `seal NOW FRAME`: what the frame says, as it is sealed then.
-fn sealed(
-    alloc: Global,
-    ring: Option<&Ring>,
-    line: &str,
-    answer: &mut Answer,
-) -> Result<(), Unplayed> {
-    let (now, frame) = first(line);
-    let (now, frame) = (moment(now)?, bytes(alloc, frame)?);
-    let Ok(message) = decode(&frame) else {
-        return Err(Unplayed::NotAllowed);
-    };
-    let mut into = Frame::new(alloc)?;
-    seal(&message, ring, now, &mut into);
-    spelled(alloc, answer, "sealed", into.bytes())
-}
-
-// `mac KEYFILE MESSAGE`: both MACs, or why there is no key.
-fn mac(alloc: Global, line: &str, answer: &mut Answer) -> Result<(), Unplayed> {
-    let (file, message) = first(line);
-    let (file, message) = (bytes(alloc, file)?, bytes(alloc, message)?);
-    match Key::read(&file) {
-        Ok(key) => {
-            answer.bytes(alloc, &hmac(&key, &message))?;
-            answer.bytes(alloc, &hmac256(&key, &message))?;
-            answer.end()
+    fn configure(&mut self, words: &mut Words<'_>) {
+        match Config::parse(words.alloc(), &words.bytes()) {
+            Ok(config) => self.config = Some(config),
+            Err(_) => words.refuse(),
         }
-        Err(found) => fault(alloc, answer, &found),
+    }
+
+    // `seal NOW FRAME`: what the frame says, as it is sealed then with the ring and with a copy of it.
+    fn seal(&self, words: &mut Words<'_>, answer: &mut Answer) {
+        let now = words.long();
+        let frame = words.bytes();
+        match decode(&frame) {
+            Ok(message) => {
+                put_sealed(words, &message, self.ring.as_ref(), now, answer);
+                let copy = self.ring.as_ref().map(Ring::copy);
+                put_sealed(words, &message, copy.as_ref(), now, answer);
+            }
+            Err(_) => words.refuse(),
+        }
+    }
+
+    // Appends whether a frame is admitted with this ring.
+    fn put_verdict(
+        &self,
+        ring: Option<&Ring>,
+        (me, now): (MemberId, u64),
+        frame: &[u8],
+        answer: &mut Answer,
+    ) {
+        let Some(config) = &self.config else {
+            return answer.word("unconfigured");
+        };
+        match gate(config, ring, me, now, frame) {
+            Ok(_) => {
+                answer.word("admitted");
+                answer.end();
+            }
+            Err(found) => fault(answer, &found),
+        }
+    }
+
+    // `gate ME NOW FRAME`: whether it is admitted, with the ring and with a copy of it.
+    fn judge(&self, words: &mut Words<'_>, answer: &mut Answer) {
+        let when = (MemberId(words.number()), words.long());
+        let frame = words.bytes();
+        self.put_verdict(self.ring.as_ref(), when, &frame, answer);
+        let copy = self.ring.as_ref().map(Ring::copy);
+        self.put_verdict(copy.as_ref(), when, &frame, answer);
     }
 }
 
 impl Player for Gate {
-    fn play(&mut self, alloc: Global, line: &str, answer: &mut Answer) -> Result<(), Unplayed> {
-        let (what, rest) = first(line);
-        let copy = self.ring.as_ref().map(Ring::copy);
-        match what {
-            "conf" => {
-                let config = Config::parse(alloc, &bytes(alloc, rest)?);
-                self.config = Some(config.map_err(|_| Unplayed::NotAllowed)?);
-            }
-            "ring" => self.ring = ring(alloc, rest)?,
-            "digest" => spelled(alloc, answer, "digest", &Sha1::digest(&bytes(alloc, rest)?))?,
-            "mac" => mac(alloc, rest, answer)?,
-            "seal" => {
-                sealed(alloc, self.ring.as_ref(), rest, answer)?;
-                sealed(alloc, copy.as_ref(), rest, answer)?;
-            }
-            "gate" => {
-                let Some(config) = &self.config else {
-                    return Err(Unplayed::NotAllowed);
-                };
-                judge(alloc, config, self.ring.as_ref(), rest, answer)?;
-                judge(alloc, config, copy.as_ref(), rest, answer)?;
-            }
-            _ => return Err(Unplayed::Unread),
+    fn play(&mut self, words: &mut Words<'_>, answer: &mut Answer) {
+        match words.word() {
+            "conf" => self.configure(words),
+            "ring" => self.ring = ring(words),
+            "digest" => spelled(answer, "digest", &Sha1::digest(&words.bytes())),
+            "mac" => mac(words, answer),
+            "seal" => self.seal(words, answer),
+            "gate" => self.judge(words, answer),
+            _ => words.refuse(),
         }
-        Ok(())
     }
 }

@@ -11,8 +11,35 @@ mod gate;
 mod slots;
 mod told;
 
-pub use bytes::Bytes;
-pub use configuration::Configuration;
-pub use gate::Gate;
-pub use slots::RecordFile;
-pub use told::{spelled, words};
+use crate::bytes::Bytes;
+use crate::configuration::Configuration;
+use crate::gate::Gate;
+use crate::slots::RecordFile;
+use booth_rows::play_lines;
+
+// Each player is let go in a function of its own, which is cheaper to prove.
+fn play_bytes(rt: &(impl Input + Print + AllocGlobal)) -> bool {
+    match Bytes::new(rt.alloc()) {
+        Ok(mut bytes) => play_lines(rt, &mut bytes),
+        Err(_) => false,
+    }
+}
+
+fn play_gate(rt: &(impl Input + Print + AllocGlobal)) -> bool {
+    play_lines(rt, &mut Gate::new())
+}
+
+fn play_slots(rt: &(impl Input + Print + AllocGlobal)) -> bool {
+    play_lines(rt, &mut RecordFile::new())
+}
+
+/// Plays standard input with the player of this name. Returns whether there is one, and it played all lines.
+pub fn play(rt: &(impl Input + Print + AllocGlobal), name: &str) -> bool {
+    match name {
+        "bytes" => play_bytes(rt),
+        "conf" => play_lines(rt, &mut Configuration {}),
+        "gate" => play_gate(rt),
+        "slots" => play_slots(rt),
+        _ => false,
+    }
+}

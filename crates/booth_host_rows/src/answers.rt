@@ -3,55 +3,45 @@ use crate::peers::put_peer;
 use crate::records::put_record;
 use booth_host::{Arrival, Failed};
 use booth_rec::Record;
-use booth_rows::{Answer, Unplayed};
-use itoa::Buffer;
-use std::alloc::Global;
+use booth_rows::Answer;
 
 /// Appends whether a call failed.
-pub fn put_done(answer: &mut Answer, done: &Result<(), Failed>) -> Result<(), Unplayed> {
-    answer.word(if done.is_ok() { "ok" } else { "failed" })
+pub fn put_done(answer: &mut Answer, done: Result<(), Failed>) {
+    answer.word(if done.is_ok() { "ok" } else { "failed" });
 }
 
 /// Appends whether a lock was taken.
-pub fn put_locked(answer: &mut Answer, locked: &Result<bool, Failed>) -> Result<(), Unplayed> {
+pub fn put_locked(answer: &mut Answer, locked: Result<bool, Failed>) {
     answer.word(match locked {
         Ok(true) => "got",
         Ok(false) => "taken",
         Err(Failed) => "failed",
-    })
+    });
 }
 
 /// Appends what a wait brought, with the bytes of a datagram.
-pub fn put_arrival(
-    alloc: Global,
-    answer: &mut Answer,
-    arrival: &Result<Arrival, Failed>,
-    bytes: &[u8],
-) -> Result<(), Unplayed> {
+pub fn put_arrival(answer: &mut Answer, arrival: Result<Arrival, Failed>, bytes: &[u8]) {
     match arrival {
         Ok(Arrival::Quiet) => answer.word("quiet"),
         Ok(Arrival::Stop) => answer.word("stop"),
         Err(Failed) => answer.word("failed"),
         Ok(Arrival::Handler { job, status }) => {
-            answer.word("handler")?;
-            answer.number(*job)?;
-            answer.word(Buffer::new().format(*status))
+            answer.word("handler");
+            answer.number(job);
+            answer.display(&status);
         }
         Ok(Arrival::Datagram(peer)) => {
-            answer.word("datagram")?;
-            put_peer(answer, peer)?;
-            answer.bytes(alloc, bytes)
+            answer.word("datagram");
+            put_peer(answer, &peer);
+            answer.bytes(bytes);
         }
     }
 }
 
 /// Appends the record that was kept.
-pub fn put_kept(
-    answer: &mut Answer,
-    kept: &Result<Option<Record>, Failed>,
-) -> Result<(), Unplayed> {
+pub fn put_kept(answer: &mut Answer, kept: Result<Option<Record>, Failed>) {
     match kept {
-        Ok(Some(record)) => put_record(answer, record),
+        Ok(Some(record)) => put_record(answer, &record),
         Ok(None) => answer.word("none"),
         Err(Failed) => answer.word("failed"),
     }

@@ -1,125 +1,105 @@
 //! The calls of a host, and their answers.
 use crate::answers::{put_arrival, put_done, put_kept, put_locked};
-use crate::peers::{address, path, peer, port};
+use crate::peers::{address, path, peer};
 use crate::records::record_of;
-use booth_base::{Address, Name};
+use booth_base::Name;
 use booth_host::{Datagram, Host, Job, Place, ReadFault};
-use booth_rows::{Answer, Player, Unplayed, bytes, moment};
-use std::alloc::Global;
+use booth_rows::{Answer, Words};
 
-/// A host whose calls are played.
-#[derive(Drop)]
-pub struct HostCalls<H: Host + Drop> {
-    host: H,
-}
-
-impl<H: Host + Drop> HostCalls<H> {
-    /// Plays calls of this host.
-    pub fn over(host: H) -> HostCalls<H> {
-        HostCalls { host }
-    }
-
-    /// The host after the calls that were played.
-    pub fn host(&mut self) -> &mut H {
-        &mut self.host
+// Reads a ticket's name from its bytes.
+fn name(words: &mut Words<'_>) -> Name {
+    match Name::read(&words.bytes()) {
+        Ok(name) => name,
+        Err(_) => {
+            words.refuse();
+            Name::default()
+        }
     }
 }
 
-fn name(alloc: Global, word: &str) -> Result<Name, Unplayed> {
-    Name::read(&bytes(alloc, word)?).map_err(|_| Unplayed::Unread)
-}
-
-fn local(word: &str) -> Result<Option<Address>, Unplayed> {
-    match word {
-        "-" => Ok(None),
-        _ => Ok(Some(address(word)?)),
-    }
-}
-
-fn place(alloc: Global, words: &[&str]) -> Result<Place, Unplayed> {
-    let [at, listens, records, conf_path] = words else {
-        return Err(Unplayed::Unread);
+fn open<H: Host>(host: &mut H, words: &mut Words<'_>, answer: &mut Answer) {
+    let local = if words.is_none() {
+        None
+    } else {
+        Some(address(words))
     };
-    Ok(Place {
-        local: local(at)?,
-        port: port(listens)?,
-        records: path(alloc, records)?,
-        conf_path: path(alloc, conf_path)?,
-    })
-}
-
-fn job(alloc: Global, words: &[&str]) -> Result<Job, Unplayed> {
-    let [number, ticket, handler, local, expires] = words else {
-        return Err(Unplayed::Unread);
-    };
-    Ok(Job {
-        number: moment(number)?,
-        ticket: name(alloc, ticket)?,
-        handler: path(alloc, handler)?,
-        local: address(local)?,
-        expires: moment(expires)?,
-    })
-}
-
-impl<H: Host + Drop> HostCalls<H> {
-    fn next(&mut self, alloc: Global, wait: &str, answer: &mut Answer) -> Result<(), Unplayed> {
-        let mut datagram = Datagram::new(alloc)?;
-        let arrival = self.host.next(moment(wait)?, &mut datagram);
-        put_arrival(alloc, answer, &arrival, datagram.bytes())
-    }
-
-    fn send(&mut self, alloc: Global, words: &[&str], answer: &mut Answer) -> Result<(), Unplayed> {
-        let [at, listens, sent] = words else {
-            return Err(Unplayed::Unread);
+    let port = words.short();
+    if let (Some(records), Some(conf_path)) = (path(words), path(words)) {
+        let place = Place {
+            local,
+            port,
+            records,
+            conf_path,
         };
-        let sent = bytes(alloc, sent)?;
-        put_done(answer, &self.host.send(&peer(at, listens)?, &sent))
-    }
-
-    fn read(&mut self, alloc: Global, word: &str, answer: &mut Answer) -> Result<(), Unplayed> {
-        let path = path(alloc, word)?;
-        match self.host.read_file(alloc, path.as_str()) {
-            Ok(text) => answer.bytes(alloc, text.bytes()),
-            Err(ReadFault::Failed) => answer.word("failed"),
-            Err(ReadFault::NoMemory) => answer.word("no-memory"),
-        }
-    }
-
-    // A call of a record, a handler, a file or a lock.
-    fn keep(&mut self, alloc: Global, words: &[&str], answer: &mut Answer) -> Result<(), Unplayed> {
-        match words {
-            ["kept", ticket] => put_kept(answer, &self.host.kept(&name(alloc, ticket)?)),
-            ["keep", ticket, record @ ..] => {
-                let record = record_of(record)?;
-                put_done(answer, &self.host.keep(&name(alloc, ticket)?, &record))
-            }
-            ["start", given @ ..] => put_done(answer, &self.host.start(&job(alloc, given)?)),
-            ["read", path] => self.read(alloc, path, answer),
-            ["lock", word] => {
-                let path = path(alloc, word)?;
-                put_locked(answer, &self.host.lock(path.as_str()))
-            }
-            _ => Err(Unplayed::Unread),
-        }
-    }
-
-    fn call(&mut self, alloc: Global, words: &[&str], answer: &mut Answer) -> Result<(), Unplayed> {
-        match words {
-            ["open", given @ ..] => put_done(answer, &self.host.open(&place(alloc, given)?)),
-            ["next", wait] => self.next(alloc, wait, answer),
-            ["now"] => answer.number(self.host.now()),
-            ["send", given @ ..] => self.send(alloc, given, answer),
-            ["out", text] => put_done(answer, &self.host.out(&bytes(alloc, text)?)),
-            ["err", text] => put_done(answer, &self.host.err(&bytes(alloc, text)?)),
-            words => self.keep(alloc, words, answer),
-        }
+        put_done(answer, host.open(&place));
     }
 }
 
-impl<H: Host + Drop> Player for HostCalls<H> {
-    fn play(&mut self, alloc: Global, line: &str, answer: &mut Answer) -> Result<(), Unplayed> {
-        let words: Vec<&str> = line.split(' ').collect(alloc)?;
-        self.call(alloc, &words, answer)?;
-        answer.end()
+fn start<H: Host>(host: &mut H, words: &mut Words<'_>, answer: &mut Answer) {
+    let number = words.long();
+    let ticket = name(words);
+    if let Some(handler) = path(words) {
+        let job = Job {
+            number,
+            ticket,
+            handler,
+            local: address(words),
+            expires: words.long(),
+        };
+        put_done(answer, host.start(&job));
     }
+}
+
+fn next<H: Host>(host: &mut H, words: &mut Words<'_>, answer: &mut Answer) {
+    match Datagram::new(words.alloc()) {
+        Ok(mut datagram) => {
+            let arrival = host.next(words.long(), &mut datagram);
+            put_arrival(answer, arrival, datagram.bytes());
+        }
+        Err(_) => answer.tear(),
+    }
+}
+
+fn send<H: Host>(host: &mut H, words: &mut Words<'_>, answer: &mut Answer) {
+    let to = peer(words);
+    put_done(answer, host.send(&to, &words.bytes()));
+}
+
+fn keep<H: Host>(host: &mut H, words: &mut Words<'_>, answer: &mut Answer) {
+    let ticket = name(words);
+    put_done(answer, host.keep(&ticket, &record_of(words)));
+}
+
+fn read<H: Host>(host: &mut H, words: &mut Words<'_>, answer: &mut Answer) {
+    match host.read_file(words.alloc(), words.text().as_str()) {
+        Ok(text) => answer.bytes(text.bytes()),
+        Err(ReadFault::Failed) => answer.word("failed"),
+        Err(ReadFault::NoMemory) => answer.word("no-memory"),
+    }
+}
+
+// Plays a call about a record, a handler, a file or a lock.
+fn play_kept<H: Host>(host: &mut H, call: &str, words: &mut Words<'_>, answer: &mut Answer) {
+    match call {
+        "kept" => put_kept(answer, host.kept(&name(words))),
+        "keep" => keep(host, words, answer),
+        "start" => start(host, words, answer),
+        "read" => read(host, words, answer),
+        "lock" => put_locked(answer, host.lock(words.text().as_str())),
+        _ => words.refuse(),
+    }
+}
+
+/// Plays a call of a host, whose name was read.
+pub fn play_call<H: Host>(host: &mut H, call: &str, words: &mut Words<'_>, answer: &mut Answer) {
+    match call {
+        "open" => open(host, words, answer),
+        "next" => next(host, words, answer),
+        "now" => answer.number(host.now()),
+        "send" => send(host, words, answer),
+        "out" => put_done(answer, host.out(&words.bytes())),
+        "err" => put_done(answer, host.err(&words.bytes())),
+        _ => play_kept(host, call, words, answer),
+    }
+    answer.end();
 }

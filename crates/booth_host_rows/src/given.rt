@@ -4,8 +4,8 @@ use crate::records::record_of;
 use crate::steps::step_of;
 use booth_base::{ByteText, Name};
 use booth_host::{Files, MemoryHost, QuietHost, Records, Script};
-use booth_rows::{Unplayed, bytes, moment, number};
-use std::alloc::Global;
+use booth_rows::Words;
+use std::alloc::{AllocError, Global};
 
 /// How many calls are told if no line says another room.
 const ROOM: u32 = 300;
@@ -20,12 +20,18 @@ pub struct Given {
 }
 
 /// Reads the name of a ticket, which is not in hexadecimal here.
-pub fn name_of(word: &str) -> Result<Name, Unplayed> {
-    Name::read(word.as_bytes()).map_err(|_| Unplayed::Unread)
+pub fn name_of(words: &mut Words<'_>) -> Name {
+    match Name::read(words.word().as_bytes()) {
+        Ok(name) => name,
+        Err(_) => {
+            words.refuse();
+            Name::default()
+        }
+    }
 }
 
 impl Given {
-    /// Nothing: no file, no record, and nothing that comes or fails.
+    /// Returns nothing: no file, no record, and nothing that comes or fails.
     pub fn new(alloc: Global) -> Given {
         Given {
             script: Script {
@@ -46,73 +52,64 @@ impl Given {
     }
 
     // Adds a file.
-    fn add_file(&mut self, alloc: Global, word: &str, text: &str) -> Result<(), Unplayed> {
-        let text = ByteText::from_vec(bytes(alloc, text)?);
-        let path = path(alloc, word)?;
-        self.files
-            .push((path, text))
-            .map_err(|_| Unplayed::OutOfMemory)
+    fn add_file(&mut self, words: &mut Words<'_>) {
+        if let Some(path) = path(words) {
+            let text = ByteText::from_vec(words.bytes());
+            if self.files.push((path, text)).is_err() {
+                words.tear();
+            }
+        }
+    }
+
+    // Adds a record.
+    fn add_record(&mut self, words: &mut Words<'_>) {
+        let ticket = name_of(words);
+        if self.records.push((ticket, record_of(words))).is_err() {
+            words.tear();
+        }
+    }
+
+    // Adds a step.
+    fn add_step(&mut self, words: &mut Words<'_>) {
+        if self.script.steps.push(step_of(words)).is_err() {
+            words.tear();
+        }
     }
 
     // Sets what fails before the first step, or that others hold each lock.
-    fn fail(&mut self, words: &[&str]) -> Result<(), Unplayed> {
-        for word in words {
-            match *word {
-                "taken" => self.script.taken = true,
-                "open" => self.script.fail_open = true,
-                "lock" => self.script.fail_lock = true,
-                "kept" => self.script.fail_kept = true,
-                "err" => self.script.fail_err = true,
-                "send" => self.script.fail_send = true,
-                "out" => self.script.fail_out = true,
-                _ => return Err(Unplayed::Unread),
-            }
+    fn fail(&mut self, words: &mut Words<'_>) {
+        match words.word() {
+            "taken" => self.script.taken = true,
+            "open" => self.script.fail_open = true,
+            "lock" => self.script.fail_lock = true,
+            "kept" => self.script.fail_kept = true,
+            "err" => self.script.fail_err = true,
+            "send" => self.script.fail_send = true,
+            "out" => self.script.fail_out = true,
+            _ => words.refuse(),
         }
-        Ok(())
     }
 
-    /// Takes the words of one line.
-    pub fn take(&mut self, alloc: Global, words: &[&str]) -> Result<(), Unplayed> {
-        match words {
-            ["first", reading] => self.script.first = moment(reading)?,
-            ["file", path, text] => self.add_file(alloc, path, text)?,
-            ["fails", fails @ ..] => self.fail(fails)?,
-            ["room", room] => self.room = number(room)?,
-            ["record", ticket, record @ ..] => {
-                let kept = (name_of(ticket)?, record_of(record)?);
-                self.records.push(kept).map_err(|_| Unplayed::OutOfMemory)?;
-            }
-            ["step", step @ ..] => {
-                let step = step_of(alloc, step)?;
-                self.script
-                    .steps
-                    .push(step)
-                    .map_err(|_| Unplayed::OutOfMemory)?;
-            }
-            _ => return Err(Unplayed::Unread),
+    /// Takes a line, whose first word was read.
+    pub fn take(&mut self, what: &str, words: &mut Words<'_>) {
+        match what {
+            "first" => self.script.first = words.long(),
+            "file" => self.add_file(words),
+            "fails" => self.fail(words),
+            "room" => self.room = words.number(),
+            "record" => self.add_record(words),
+            "step" => self.add_step(words),
+            _ => words.refuse(),
         }
-        Ok(())
     }
 
-    /// The host that is made of it.
-    pub fn into_host(self, alloc: Global) -> Result<MemoryHost, Unplayed> {
-        let Given {
-            script,
-            files,
-            records,
-            room,
-        } = self;
-        Ok(MemoryHost::new(alloc, script, files, records, room)?)
+    /// Returns the host that is made of it.
+    pub fn into_host(self, alloc: Global) -> Result<MemoryHost, AllocError> {
+        MemoryHost::new(alloc, self.script, self.files, self.records, self.room)
     }
 
-    /// The host that is made of it without its failures.
-    pub fn into_quiet(self, alloc: Global) -> Result<QuietHost, Unplayed> {
-        let Given {
-            script,
-            files,
-            records,
-            room,
-        } = self;
-        Ok(QuietHost::new(alloc, script, files, records, room)?)
+    /// Returns the host that is made of it without its failures.
+    pub fn into_quiet(self, alloc: Global) -> Result<QuietHost, AllocError> {
+        QuietHost::new(alloc, self.script, self.files, self.records, self.room)
     }
 }

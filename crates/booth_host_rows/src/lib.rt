@@ -17,9 +17,9 @@ mod records;
 mod steps;
 
 pub use answers::{put_arrival, put_done, put_kept, put_locked};
-pub use calls::HostCalls;
+pub use calls::play_call;
 pub use given::{Given, name_of};
-pub use past::put_call;
+pub use past::{put_call, put_past};
 pub use peers::{address, path, peer, put_address, put_peer};
-pub use records::{put_record, record_of};
+pub use records::{put_member, put_promise, put_record, record_of};
 pub use steps::step_of;

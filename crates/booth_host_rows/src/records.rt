@@ -1,96 +1,92 @@
 //! A record as words, both ways: version, term, the lease's term and end, whom it voted for, whom it promised to with
-//! the term and the end, and until when it abstains. `-` stands where it has none.
+//! the term and the end, and until when it abstains. `-` stands for each word of what it has not.
 use booth_base::MemberId;
 use booth_rec::{Lease, Promise, Record};
-use booth_rows::{Answer, Unplayed, moment, number};
+use booth_rows::{Answer, Words};
 
-// A member, or none.
-fn member(word: &str) -> Result<Option<MemberId>, Unplayed> {
-    match word {
-        "-" => Ok(None),
-        _ => Ok(Some(MemberId(number(word)?))),
+// Reads a member, or none.
+fn member(words: &mut Words<'_>) -> Option<MemberId> {
+    if words.is_none() {
+        None
+    } else {
+        Some(MemberId(words.number()))
     }
 }
 
-// A lease, or none.
-fn lease(term: &str, until: &str) -> Result<Option<Lease>, Unplayed> {
-    match term {
-        "-" => Ok(None),
-        _ => Ok(Some(Lease {
-            term: number(term)?,
-            until: moment(until)?,
-        })),
+// Reads a lease, or none.
+fn lease(words: &mut Words<'_>) -> Option<Lease> {
+    if words.is_none() {
+        words.long_or_none();
+        return None;
     }
-}
-
-// A promise, or none.
-fn promise(to: &str, term: &str, until: &str) -> Result<Option<Promise>, Unplayed> {
-    match member(to)? {
-        None => Ok(None),
-        Some(to) => Ok(Some(Promise {
-            to,
-            term: number(term)?,
-            until: moment(until)?,
-        })),
-    }
-}
-
-/// Reads the words of a record.
-pub fn record_of(words: &[&str]) -> Result<Record, Unplayed> {
-    let [
-        version,
-        term,
-        lease_term,
-        lease_until,
-        bound,
-        to,
-        promised,
-        until,
-        abstain,
-    ] = words
-    else {
-        return Err(Unplayed::Unread);
-    };
-    Ok(Record {
-        version: number(version)?,
-        term: number(term)?,
-        lease: lease(lease_term, lease_until)?,
-        bound: member(bound)?,
-        promise: promise(to, promised, until)?,
-        abstain: moment(abstain)?,
+    Some(Lease {
+        term: words.number(),
+        until: words.long(),
     })
 }
 
-fn put_lease(answer: &mut Answer, record: &Record) -> Result<(), Unplayed> {
-    match record.lease {
+// Reads a promise, or none.
+fn promise(words: &mut Words<'_>) -> Option<Promise> {
+    if words.is_none() {
+        words.long_or_none();
+        words.long_or_none();
+        return None;
+    }
+    Some(Promise {
+        to: MemberId(words.number()),
+        term: words.number(),
+        until: words.long(),
+    })
+}
+
+/// Reads the words of a record.
+pub fn record_of(words: &mut Words<'_>) -> Record {
+    Record {
+        version: words.number(),
+        term: words.number(),
+        lease: lease(words),
+        bound: member(words),
+        promise: promise(words),
+        abstain: words.long(),
+    }
+}
+
+fn put_lease(answer: &mut Answer, lease: Option<Lease>) {
+    match lease {
         None => answer.word("- -"),
         Some(lease) => {
-            answer.number(u64::from(lease.term))?;
-            answer.number(lease.until)
+            answer.small(lease.term);
+            answer.number(lease.until);
         }
     }
 }
 
-fn put_pledge(answer: &mut Answer, record: &Record) -> Result<(), Unplayed> {
-    match record.bound {
-        None => answer.word("-")?,
-        Some(bound) => answer.number(u64::from(bound.0))?,
+/// Appends a member's id, or `-` for nobody.
+pub fn put_member(answer: &mut Answer, member: Option<MemberId>) {
+    match member {
+        None => answer.word("-"),
+        Some(member) => answer.small(member.0),
     }
-    match record.promise {
+}
+
+/// Appends a promise: to whom, its term and its end.
+pub fn put_promise(answer: &mut Answer, promise: Option<Promise>) {
+    match promise {
         None => answer.word("- - -"),
         Some(promise) => {
-            answer.number(u64::from(promise.to.0))?;
-            answer.number(u64::from(promise.term))?;
-            answer.number(promise.until)
+            answer.small(promise.to.0);
+            answer.small(promise.term);
+            answer.number(promise.until);
         }
     }
 }
 
 /// Appends the words of a record.
-pub fn put_record(answer: &mut Answer, record: &Record) -> Result<(), Unplayed> {
-    answer.number(u64::from(record.version))?;
-    answer.number(u64::from(record.term))?;
-    put_lease(answer, record)?;
-    put_pledge(answer, record)?;
-    answer.number(record.abstain)
+pub fn put_record(answer: &mut Answer, record: &Record) {
+    answer.small(record.version);
+    answer.small(record.term);
+    put_lease(answer, record.lease);
+    put_member(answer, record.bound);
+    put_promise(answer, record.promise);
+    answer.number(record.abstain);
 }

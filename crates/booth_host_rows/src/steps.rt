@@ -2,57 +2,37 @@
 use crate::peers::peer;
 use booth_base::ByteText;
 use booth_host::{Arrival, Failed, Step};
-use booth_rows::{Unplayed, bytes, moment};
-use std::alloc::Global;
+use booth_rows::Words;
 
-// The end of a job's handler.
-fn ended(job: &str, status: &str) -> Result<Arrival, Unplayed> {
-    let Ok(status) = status.parse::<i32>() else {
-        return Err(Unplayed::Unread);
-    };
-    Ok(Arrival::Handler {
-        job: moment(job)?,
-        status,
-    })
-}
-
-// What arrives, and the word of its bytes.
-fn arrival<'a>(words: &[&'a str]) -> Result<(Result<Arrival, Failed>, &'a str), Unplayed> {
-    match words {
-        ["quiet"] => Ok((Ok(Arrival::Quiet), "-")),
-        ["failure"] => Ok((Err(Failed), "-")),
-        ["handler", job, status] => Ok((Ok(ended(job, status)?), "-")),
-        ["datagram", address, port, bytes] => {
-            Ok((Ok(Arrival::Datagram(peer(address, port)?)), *bytes))
+// Reads what arrives, up to the bytes of a datagram.
+fn arrival(words: &mut Words<'_>) -> Result<Arrival, Failed> {
+    match words.word() {
+        "quiet" => Ok(Arrival::Quiet),
+        "failure" => Err(Failed),
+        "handler" => Ok(Arrival::Handler {
+            job: words.long(),
+            status: words.signed(),
+        }),
+        "datagram" => Ok(Arrival::Datagram(peer(words))),
+        _ => {
+            words.refuse();
+            Err(Failed)
         }
-        _ => Err(Unplayed::Unread),
     }
 }
 
-/// Reads a step from its words.
-pub fn step_of(alloc: Global, words: &[&str]) -> Result<Step, Unplayed> {
-    let [reading, fails, coming @ ..] = words else {
-        return Err(Unplayed::Unread);
-    };
-    let (arrival, data) = arrival(coming)?;
-    let mut step = Step {
+/// Reads a step.
+pub fn step_of(words: &mut Words<'_>) -> Step {
+    let reading = words.long();
+    let fails = words.word();
+    let arrival = arrival(words);
+    Step {
         arrival,
-        bytes: ByteText::from_vec(bytes(alloc, data)?),
-        reading: moment(reading)?,
-        fail_send: false,
-        fail_keep: false,
-        fail_start: false,
-        fail_out: false,
-    };
-    for word in fails.split(',') {
-        match word {
-            "send" => step.fail_send = true,
-            "keep" => step.fail_keep = true,
-            "start" => step.fail_start = true,
-            "out" => step.fail_out = true,
-            "-" => {}
-            _ => return Err(Unplayed::Unread),
-        }
+        bytes: ByteText::from_vec(words.bytes_or_none()),
+        reading,
+        fail_send: fails.contains("send"),
+        fail_keep: fails.contains("keep"),
+        fail_start: fails.contains("start"),
+        fail_out: fails.contains("out"),
     }
-    Ok(step)
 }

@@ -1,65 +1,66 @@
-//! The player of hosts in memory.
+//! The player of hosts of one kind.
+use crate::kinds::Kind;
 use crate::links::link_step;
-use crate::made::Made;
-use booth_host::{Failed, ReadFault};
-use booth_host_rows::Given;
-use booth_rows::{Answer, Player, Unplayed};
+use booth_host_rows::{Given, play_call};
+use booth_rows::{Answer, Player, Words};
 use booth_stream::LinkStep;
 use std::alloc::Global;
 use std::mem;
 
 /// Plays calls of the host that the lines before them make.
 #[derive(Drop)]
-pub struct MemoryHosts {
+pub(crate) struct HostPlayer<H: Kind> {
     given: Given,
     links: Vec<LinkStep>,
-    made: Made,
+    host: Option<H>,
 }
 
-// Appends the texts of the faults of a host.
-fn put_faults(alloc: Global, answer: &mut Answer) -> Result<(), Unplayed> {
-    let (failed, unread, memory) = (Failed, ReadFault::Failed, ReadFault::NoMemory);
-    answer.word(format!(in alloc; "{failed}\n{unread}\n{memory}")?.as_str())?;
-    answer.end()
-}
-
-impl MemoryHosts {
-    /// No host yet.
-    pub fn new(alloc: Global) -> MemoryHosts {
-        MemoryHosts {
+impl<H: Kind> HostPlayer<H> {
+    /// Returns a player without a host.
+    pub(crate) fn new(alloc: Global) -> HostPlayer<H> {
+        HostPlayer {
             given: Given::new(alloc),
             links: Vec::new(alloc),
-            made: Made::Nothing,
+            host: None,
         }
     }
 
-    // Makes the host of these words from what was given.
-    fn make(&mut self, alloc: Global, words: &[&str]) -> Result<(), Unplayed> {
+    // Makes the host of what was given.
+    fn make(&mut self, words: &mut Words<'_>) {
+        let alloc = words.alloc();
         let given = mem::replace(&mut self.given, Given::new(alloc));
         let links = mem::replace(&mut self.links, Vec::new(alloc));
-        self.made = Made::over(alloc, words, given, links)?;
-        Ok(())
+        match H::make(given, links, words) {
+            Ok(host) => self.host = Some(host),
+            Err(_) => words.tear(),
+        }
     }
 
     // Adds what comes to links.
-    fn link(&mut self, alloc: Global, words: &[&str]) -> Result<(), Unplayed> {
-        let step = link_step(alloc, words)?;
-        self.links.push(step).map_err(|_| Unplayed::OutOfMemory)
+    fn link(&mut self, words: &mut Words<'_>) {
+        if self.links.push(link_step(words)).is_err() {
+            words.tear();
+        }
+    }
+
+    // Plays a line about the host.
+    fn call(&mut self, call: &str, words: &mut Words<'_>, answer: &mut Answer) {
+        match &mut self.host {
+            Some(host) if call == "told" => host.tell(answer),
+            Some(host) if call == "add" || call == "forget" => host.change(call, words),
+            Some(host) => play_call(host, call, words, answer),
+            None => words.refuse(),
+        }
     }
 }
 
-impl Player for MemoryHosts {
-    fn play(&mut self, alloc: Global, line: &str, answer: &mut Answer) -> Result<(), Unplayed> {
-        let words: Vec<&str> = line.split(' ').collect(alloc)?;
-        match words.as_slice() {
-            ["give", given @ ..] => self.given.take(alloc, given),
-            ["link", step @ ..] => self.link(alloc, step),
-            ["over", kind @ ..] => self.make(alloc, kind),
-            ["add", step @ ..] => self.made.add(alloc, step),
-            ["forget"] => self.made.forget(),
-            ["told"] => self.made.tell(alloc, answer),
-            ["faults"] => put_faults(alloc, answer),
-            _ => self.made.call(alloc, line, answer),
+impl<H: Kind> Player for HostPlayer<H> {
+    fn play(&mut self, words: &mut Words<'_>, answer: &mut Answer) {
+        match words.word() {
+            "give" => self.given.take(words.word(), words),
+            "link" => self.link(words),
+            "over" => self.make(words),
+            call => self.call(call, words, answer),
         }
     }
 }

@@ -1,19 +1,57 @@
 //! Plays hosts in memory, and hosts over them that log, that write a journal or that serve links; and the texts of
 //! journals and streams.
 //!
-//! The player `memory` makes a host: `give WORD ..` says what a host in memory is made of, and `link TAKES EVENT` what
-//! comes to its links. `over memory`, `over quiet`, `over logged LINES`, `over journaled BYTES APPENDS` or
-//! `over streamed` makes it. Each other line is a call of it, or `told` for what it tells, `add STEP` and `forget` for
-//! its script, and `faults` for the texts of faults.
+//! Each of the players `memory`, `quiet`, `logged`, `journaled` and `streamed` makes hosts of its kind. `give WORD ..`
+//! says what a host in memory is made of, and `link TAKES EVENT` what comes to its links. `over` makes the host, of the
+//! player `logged` `over LINES`, and of the player `journaled` `over BYTES APPENDS`. Each other line is a call of it, or
+//! `told` for what it tells; and of the player `memory` `add STEP` and `forget` for its script.
 //!
-//! The player `texts` has `journal BYTES`, `stream BYTES`, and `cut SIZE ..` for the frames of that stream in pieces of
-//! these sizes.
+//! The player `texts` has `journal BYTES`; `begin BYTES` and `feed BYTES` for the pieces of a stream; and `faults` for
+//! the texts of a host's faults.
 #![tactic(auto)]
 
 mod hosts;
+mod kinds;
 mod links;
-mod made;
 mod texts;
 
-pub use hosts::MemoryHosts;
-pub use texts::Texts;
+use crate::hosts::HostPlayer;
+use crate::kinds::Kind;
+use crate::texts::Texts;
+use booth_host::{MemoryHost, QuietHost};
+use booth_journal::{JournalHost, MemorySink};
+use booth_log::{LogHost, MemoryLines};
+use booth_rows::play_lines;
+use booth_stream::{MemoryLinks, StreamHost};
+
+type Logged = LogHost<MemoryHost, MemoryLines>;
+
+type Journaled = JournalHost<MemoryHost, MemorySink>;
+
+type Streamed = StreamHost<MemoryHost, MemoryLinks>;
+
+// Plays hosts of a kind.
+fn play_hosts<H: Kind>(rt: &(impl Input + Print + AllocGlobal)) -> bool {
+    play_lines(rt, &mut HostPlayer::<H>::new(rt.alloc()))
+}
+
+// Plays texts.
+fn play_texts(rt: &(impl Input + Print + AllocGlobal)) -> bool {
+    match Texts::new(rt.alloc()) {
+        Ok(mut texts) => play_lines(rt, &mut texts),
+        Err(_) => false,
+    }
+}
+
+/// Plays standard input with the player of this name. Returns whether there is one, and it played all lines.
+pub fn play(rt: &(impl Input + Print + AllocGlobal), name: &str) -> bool {
+    match name {
+        "memory" => play_hosts::<MemoryHost>(rt),
+        "quiet" => play_hosts::<QuietHost>(rt),
+        "logged" => play_hosts::<Logged>(rt),
+        "journaled" => play_hosts::<Journaled>(rt),
+        "streamed" => play_hosts::<Streamed>(rt),
+        "texts" => play_texts(rt),
+        _ => false,
+    }
+}

@@ -2,34 +2,34 @@
 use booth_base::ByteText;
 use booth_host::Failed;
 use booth_host_rows::peer;
-use booth_rows::{Unplayed, bytes, number};
+use booth_rows::Words;
 use booth_stream::{LinkEvent, LinkStep};
-use std::alloc::Global;
 
-// What comes, and the word of its bytes.
-fn event<'a>(words: &[&'a str]) -> Result<(Result<LinkEvent, Failed>, &'a str), Unplayed> {
-    match words {
-        ["quiet"] => Ok((Ok(LinkEvent::Quiet), "-")),
-        ["failure"] => Ok((Err(Failed), "-")),
-        ["end", link] => Ok((Ok(LinkEvent::Ended(number(link)?)), "-")),
-        ["bytes", link, data] => Ok((Ok(LinkEvent::Bytes(number(link)?)), *data)),
-        ["open", link, address, port] => {
-            let (link, peer) = (number(link)?, peer(address, port)?);
-            Ok((Ok(LinkEvent::Opened { link, peer }), "-"))
+// Reads what comes, up to its bytes.
+fn event(words: &mut Words<'_>) -> Result<LinkEvent, Failed> {
+    match words.word() {
+        "quiet" => Ok(LinkEvent::Quiet),
+        "failure" => Err(Failed),
+        "end" => Ok(LinkEvent::Ended(words.number())),
+        "bytes" => Ok(LinkEvent::Bytes(words.number())),
+        "open" => Ok(LinkEvent::Opened {
+            link: words.number(),
+            peer: peer(words),
+        }),
+        _ => {
+            words.refuse();
+            Err(Failed)
         }
-        _ => Err(Unplayed::Unread),
     }
 }
 
-/// Reads a step from its words.
-pub(crate) fn link_step(alloc: Global, words: &[&str]) -> Result<LinkStep, Unplayed> {
-    let [takes, coming @ ..] = words else {
-        return Err(Unplayed::Unread);
-    };
-    let (event, data) = event(coming)?;
-    Ok(LinkStep {
+/// Reads a step.
+pub(crate) fn link_step(words: &mut Words<'_>) -> LinkStep {
+    let takes = words.number() as usize;
+    let event = event(words);
+    LinkStep {
         event,
-        bytes: ByteText::from_vec(bytes(alloc, data)?),
-        takes: number(takes)? as usize,
-    })
+        bytes: ByteText::from_vec(words.bytes_or_none()),
+        takes,
+    }
 }

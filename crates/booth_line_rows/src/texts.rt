@@ -1,86 +1,67 @@
 //! The player of the texts of journals and of streams.
-use booth_host::Datagram;
+use booth_host::{Datagram, Failed, ReadFault};
 use booth_journal::{TextFault, read_lines};
-use booth_rows::{Answer, Player, Unplayed, bytes, number};
+use booth_rows::{Answer, Player, Words};
 use booth_stream::{Cutter, Got};
-use std::alloc::Global;
+use std::alloc::{AllocError, Global};
 
-/// Plays `journal BYTES`, `stream BYTES`, and `cut SIZE ..` of the stream.
+/// Plays `journal BYTES`, `begin BYTES` and `feed BYTES` of a stream, and `faults`.
 #[derive(Drop)]
-pub struct Texts {
-    stream: Vec<u8>,
+pub(crate) struct Texts {
+    cutter: Cutter,
+    datagram: Datagram,
 }
 
 // Appends whether these bytes are a journal, or else the number of the line that is none of it.
-fn put_journal(alloc: Global, answer: &mut Answer, text: &[u8]) -> Result<(), Unplayed> {
-    match read_lines(alloc, text) {
-        Ok(()) => answer.word("journal")?,
-        Err(TextFault::Line(line)) => answer.number(line)?,
-        Err(TextFault::OutOfMemory) => return Err(Unplayed::OutOfMemory),
+fn put_journal(words: &mut Words<'_>, answer: &mut Answer) {
+    match read_lines(words.alloc(), &words.bytes()) {
+        Ok(()) => answer.word("journal"),
+        Err(TextFault::Line(line)) => answer.number(line),
+        Err(TextFault::OutOfMemory) => answer.tear(),
     }
-    answer.end()
-}
-
-// Feeds a piece, and appends its frames, or `broken`. Returns whether the stream goes on.
-fn feed(
-    alloc: Global,
-    cutter: &mut Cutter,
-    piece: &[u8],
-    datagram: &mut Datagram,
-    answer: &mut Answer,
-) -> Result<bool, Unplayed> {
-    let mut rest = piece;
-    for _ in 0..=piece.len() {
-        let fed = cutter.feed(rest, datagram);
-        match fed.got {
-            Got::Nothing => return Ok(true),
-            Got::Frame => answer.bytes(alloc, datagram.bytes())?,
-            Got::Broken => {
-                answer.word("broken")?;
-                return Ok(false);
-            }
-        }
-        let (_, untaken) = rest.split_at(rest.len().min(fed.taken));
-        rest = untaken;
-    }
-    Err(Unplayed::NotAllowed)
 }
 
 impl Texts {
-    /// An empty stream.
-    pub fn new(alloc: Global) -> Texts {
-        Texts {
-            stream: Vec::new(alloc),
-        }
+    /// Returns a player with an empty stream.
+    pub(crate) fn new(alloc: Global) -> Result<Texts, AllocError> {
+        let cutter = Cutter::new(alloc)?;
+        let datagram = Datagram::new(alloc)?;
+        Ok(Texts { cutter, datagram })
     }
 
-    // Appends the frames of the stream in pieces of these sizes.
-    fn cut(&self, alloc: Global, sizes: &[&str], answer: &mut Answer) -> Result<(), Unplayed> {
-        let mut cutter = Cutter::new(alloc)?;
-        let mut datagram = Datagram::new(alloc)?;
-        let mut left = self.stream.as_slice();
-        for size in sizes {
-            let (piece, later) = left.split_at(left.len().min(number(size)? as usize));
-            left = later;
-            if !feed(alloc, &mut cutter, piece, &mut datagram, answer)? {
-                break;
+    // Feeds a piece of the stream, and appends its frames, or `broken`.
+    fn feed(&mut self, piece: &[u8], answer: &mut Answer) {
+        let mut rest = piece;
+        for _ in 0..=piece.len() {
+            let fed = self.cutter.feed(rest, &mut self.datagram);
+            match fed.got {
+                Got::Nothing => return,
+                Got::Frame => answer.bytes(self.datagram.bytes()),
+                Got::Broken => return answer.word("broken"),
             }
+            rest = rest.split_at(rest.len().min(fed.taken)).1;
         }
-        answer.end()
     }
 }
 
 impl Player for Texts {
-    fn play(&mut self, alloc: Global, line: &str, answer: &mut Answer) -> Result<(), Unplayed> {
-        let words: Vec<&str> = line.split(' ').collect(alloc)?;
-        match words.as_slice() {
-            ["journal", text] => put_journal(alloc, answer, &bytes(alloc, text)?),
-            ["stream", text] => {
-                self.stream = bytes(alloc, text)?;
-                Ok(())
+    fn play(&mut self, words: &mut Words<'_>, answer: &mut Answer) {
+        match words.word() {
+            "journal" => put_journal(words, answer),
+            "begin" => {
+                self.cutter.restart();
+                self.feed(&words.bytes(), answer);
             }
-            ["cut", sizes @ ..] => self.cut(alloc, sizes, answer),
-            _ => Err(Unplayed::Unread),
+            "feed" => self.feed(&words.bytes(), answer),
+            "faults" => {
+                answer.display(&Failed);
+                answer.end();
+                answer.display(&ReadFault::Failed);
+                answer.end();
+                answer.display(&ReadFault::NoMemory);
+            }
+            _ => words.refuse(),
         }
+        answer.end();
     }
 }

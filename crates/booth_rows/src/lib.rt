@@ -1,7 +1,10 @@
-//! What drives parts of the product from scripts: words in, words out.
+//! Drives parts of the product from scripts: words in, words out.
 //!
-//! A script is lines of words with one blank between each two, and each line has an answer: its lines, and then `.`.
-//! Numbers are decimal, bytes are hexadecimal, and `-` is where nothing is.
+//! A script is lines of words with one blank between each two, and each line has an answer: its lines, and then `.`, or
+//! `!` and why the line was not played. Numbers are decimal, bytes are hexadecimal, and `-` stands for nothing.
+//!
+//! The words of a line are read one after another. A word that cannot be read counts as 0, as no bytes or as false, and
+//! the line is not played; so a player needs no case for it.
 #![tactic(auto)]
 
 mod answer;
@@ -9,5 +12,5 @@ mod player;
 mod words;
 
 pub use answer::Answer;
-pub use player::{Player, Unplayed};
-pub use words::{bytes, first, last, moment, number};
+pub use player::{Player, play_lines};
+pub use words::Words;

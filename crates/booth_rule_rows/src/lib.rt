@@ -1,9 +1,9 @@
 //! Players of the rules of tickets: the lease rules, the rules of manual tickets, and whole tickets.
 //!
 //! A record is nine words: its version, its term, its lease's term and end, to whom its member is bound, its promise's
-//! member, term and end, and until when its member abstains. A start is the moment, the member's id, its place, how
-//! many members there are, 1 for a site, its rank, and the record. A message is its twelve numbers, from `auth` to the
-//! seconds.
+//! member, term and end, and until when its member abstains; `-` stands for each word of what it has not. A start is the
+//! moment, the member's id, its place, how many members there are, 1 for a site, its rank, and the record, or one `-`
+//! for nothing. A message is its twelve numbers, from `auth` to the seconds.
 #![tactic(auto)]
 
 mod lease;
@@ -13,6 +13,17 @@ mod reading;
 mod ticket;
 mod view;
 
-pub use lease::CorePlayer;
-pub use manual::ManualPlayer;
-pub use ticket::TicketPlayer;
+use crate::lease::CorePlayer;
+use crate::manual::ManualPlayer;
+use crate::ticket::TicketPlayer;
+use booth_rows::play_lines;
+
+/// Plays standard input with the player of this name. Returns whether there is one, and it played all lines.
+pub fn play(rt: &(impl Input + Print + AllocGlobal), name: &str) -> bool {
+    match name {
+        "core" => play_lines(rt, &mut CorePlayer::new()),
+        "manual" => play_lines(rt, &mut ManualPlayer::new()),
+        "ticket" => play_lines(rt, &mut TicketPlayer::new()),
+        _ => false,
+    }
+}

@@ -3,128 +3,129 @@
 //! `start` and a start make a member. A call is `grant`, `again`, `revoke`, `kept` and 1 or 0, `hear` and a message,
 //! `hello`, or `look`, which does nothing. Each answer has the record that is to be kept or what is said, and what is
 //! known.
-ghost use Rattle.std.specs.Prelude.{◌≡◌, None, IsSome};
+ghost use Rattle.std.specs.Prelude.{◌≡◌, None};
 
-use crate::printed::{kept, member, numbers, record, say};
-use crate::reading::{Start, Words};
+use crate::printed::{kept, say};
+use crate::reading::{Start, head, part};
+use booth_host_rows::{put_member, put_record};
 use booth_manual::{Manual, ManualView};
-use booth_rec::Record;
-use booth_rows::{Answer, Player, Unplayed, first};
-use booth_wire::Say;
-use std::alloc::Global;
+use booth_rows::{Answer, Player, Words};
 
 /// Plays one member's calls.
 #[derive(Drop)]
-pub struct ManualPlayer {
+pub(crate) struct ManualPlayer {
     member: Option<Manual>,
 }
 
-/// What a call made.
-#[derive(Drop)]
-enum Made {
-    Keep(Record),
-    Say(Say),
-    /// No term is left to grant.
-    Spent,
+// The keep that waits is answered.
+fn answer_keep(member: &mut Manual, words: &mut Words<'_>, answer: &mut Answer) {
+    let ok = words.flag();
+    if member.view().waiting.is_some() {
+        say(answer, &member.kept(ok));
+    } else {
+        words.refuse();
+    }
 }
 
-// The owner keeps its record again, or gives the ticket back.
-fn of_owner(member: &mut Manual, again: bool) -> Result<Made, Unplayed>
-    requires { member.old.view.waiting ≡ None }
-{
-    if !member.view().owner {
-        return Err(Unplayed::NotAllowed);
-    }
-    if !again {
-        return Ok(Made::Keep(member.revoke()));
-    }
-    if member.view().sure {
-        return Err(Unplayed::NotAllowed);
-    }
-    Ok(Made::Keep(member.again()))
-}
-
-fn grant(member: &mut Manual) -> Made
+// The ticket is granted, if a term is left.
+fn grant(member: &mut Manual, answer: &mut Answer)
     requires { member.old.view.waiting ≡ None }
 {
     match member.grant() {
-        Ok(record) => Made::Keep(record),
-        Err(_) => Made::Spent,
+        Ok(record) => kept(answer, "keep", &record),
+        Err(_) => {
+            answer.word("spent");
+            answer.end();
+        }
     }
 }
 
-fn made_by(member: &mut Manual, call: &str, words: &mut Words<'_>) -> Result<Made, Unplayed> {
-    if (call == "kept") != member.view().waiting.is_some() {
-        return Err(Unplayed::NotAllowed);
+// The owner gives the ticket back.
+fn revoke(member: &mut Manual, words: &mut Words<'_>, answer: &mut Answer)
+    requires { member.old.view.waiting ≡ None }
+{
+    if member.view().owner {
+        kept(answer, "keep", &member.revoke());
+    } else {
+        words.refuse();
+    }
+}
+
+// The owner keeps its record again.
+fn keep_again(member: &mut Manual, words: &mut Words<'_>, answer: &mut Answer)
+    requires { member.old.view.waiting ≡ None }
+{
+    if member.view().owner && !member.view().sure {
+        kept(answer, "keep", &member.again());
+    } else {
+        words.refuse();
+    }
+}
+
+// A member's message is heard.
+fn hear(member: &mut Manual, words: &mut Words<'_>, answer: &mut Answer)
+    requires { member.old.view.waiting ≡ None }
+{
+    let (head, part) = (head(words), part(words));
+    say(answer, &member.hear(&head, &part));
+}
+
+// A call while no keep waits.
+fn idle_call(member: &mut Manual, call: &str, words: &mut Words<'_>, answer: &mut Answer) {
+    if member.view().waiting.is_some() {
+        return words.refuse();
     }
     match call {
-        "kept" => Ok(Made::Say(member.kept(words.truth()?))),
-        "grant" => Ok(grant(member)),
-        "again" => of_owner(member, true),
-        "revoke" => of_owner(member, false),
-        "hear" => {
-            let (head, part) = words.message()?;
-            Ok(Made::Say(member.hear(&head, &part)))
-        }
-        "hello" => Ok(Made::Say(member.hello())),
-        "look" => Ok(Made::Say(Say::Nothing)),
-        _ => Err(Unplayed::Unread),
+        "grant" => grant(member, answer),
+        "again" => keep_again(member, words, answer),
+        "revoke" => revoke(member, words, answer),
+        "hear" => hear(member, words, answer),
+        "hello" => say(answer, &member.hello()),
+        "look" => {}
+        _ => words.refuse(),
     }
 }
 
-fn append(alloc: Global, answer: &mut Answer, made: &Made) -> Result<(), Unplayed> {
-    match made {
-        Made::Keep(tried) => kept(answer, "keep", tried),
-        Made::Say(said) => say(alloc, answer, said),
-        Made::Spent => {
-            answer.word("spent")?;
-            answer.end()
-        }
-    }
-}
-
-// The record, whether the member is sure of it and owns the ticket, who is shown, and whether a keep waits.
-fn known(answer: &mut Answer, view: &ManualView) -> Result<(), Unplayed> {
-    answer.word("known")?;
-    answer.number(u64::from(view.term))?;
-    record(answer, &view.kept)?;
-    answer.word(if view.sure { "sure" } else { "unsure" })?;
-    answer.word(if view.owner { "owner" } else { "other" })?;
-    numbers(answer, &[member(view.shown)])?;
-    answer.word(if view.waiting.is_some() {
-        "waits"
-    } else {
-        "idle"
-    })?;
-    answer.end()
+// Appends the record, whether the member is sure of it and owns the ticket, who is shown, and whether a keep waits.
+fn known(answer: &mut Answer, view: &ManualView) {
+    answer.word("known");
+    answer.small(view.term);
+    put_record(answer, &view.kept);
+    answer.word(if view.sure { "sure" } else { "unsure" });
+    answer.word(if view.owner { "owner" } else { "other" });
+    put_member(answer, view.shown);
+    let waits = view.waiting.is_some();
+    answer.word(if waits { "waits" } else { "idle" });
+    answer.end();
 }
 
 impl ManualPlayer {
     /// Returns a player whose member has not started.
-    pub fn new() -> ManualPlayer {
+    pub(crate) fn new() -> ManualPlayer {
         ManualPlayer { member: None }
     }
 
-    fn start(&mut self, words: &mut Words<'_>) -> Result<(), Unplayed> {
-        let start = Start::read(words)?;
-        self.member = Some(Manual::start(&start.setup, start.kept.as_ref()));
-        Ok(())
+    fn start(&mut self, words: &mut Words<'_>) {
+        if let Some(start) = Start::read(words) {
+            self.member = Some(Manual::start(&start.setup, start.kept.as_ref()));
+        }
     }
 }
 
 impl Player for ManualPlayer {
-    fn play(&mut self, alloc: Global, line: &str, answer: &mut Answer) -> Result<(), Unplayed> {
-        let (call, rest) = first(line);
-        let mut words = Words::of(rest);
+    fn play(&mut self, words: &mut Words<'_>, answer: &mut Answer) {
+        let call = words.word();
         if call == "start" {
-            self.start(&mut words)?;
+            self.start(words);
         }
-        let member = self.member.as_mut().ok_or(Unplayed::NotAllowed)?;
-        if call != "start" {
-            let made = made_by(member, call, &mut words)?;
-            append(alloc, answer, &made)?;
+        let Some(member) = &mut self.member else {
+            return words.refuse();
+        };
+        match call {
+            "start" => {}
+            "kept" => answer_keep(member, words, answer),
+            _ => idle_call(member, call, words, answer),
         }
-        words.end()?;
-        known(answer, member.view())
+        known(answer, member.view());
     }
 }

@@ -8,10 +8,10 @@
 //! the deadline and the owner.
 ghost use Rattle.std.specs.Prelude.{◌≡◌, ◌<◌, ◌^◌, length};
 
-use crate::printed::{kept, message, numbers};
-use crate::reading::{Start, Words};
+use crate::printed::{kept, message};
+use crate::reading::{Start, head, part};
 use booth_base::{Address, Peer};
-use booth_rows::{Answer, Player, Unplayed, first};
+use booth_rows::{Answer, Player, Words};
 use booth_ticket::{FakeHands, Noted, Request, Service, Ticket, To, Waiters, Wish};
 use std::alloc::Global;
 
@@ -30,7 +30,7 @@ struct Stage {
 
 /// Plays one ticket's calls.
 #[derive(Drop)]
-pub struct TicketPlayer {
+pub(crate) struct TicketPlayer {
     stage: Option<Stage>,
 }
 
@@ -41,6 +41,24 @@ fn opened(start: &Start, manual: bool) -> Ticket {
     Ticket::open(&start.setup, start.kept.as_ref(), start.now)
 }
 
+// Returns the stage of a ticket for which nobody waits.
+fn stage_of(alloc: Global, ticket: Ticket, words: &mut Words<'_>) -> Option<Stage> {
+    match Waiters::new(alloc, 2) {
+        Ok(waiters) => Some(Stage {
+            ticket,
+            second: false,
+            waiters,
+            hands: FakeHands::new(alloc),
+            ready: true,
+            job: None,
+        }),
+        Err(_) => {
+            words.tear();
+            None
+        }
+    }
+}
+
 impl Stage {
     // The place of those that wait for the ticket.
     fn list(&self) -> u32
@@ -49,22 +67,18 @@ impl Stage {
         if self.second { 1 } else { 0 }
     }
 
-    fn ask(&mut self, now: u64, wish: Wish, words: &mut Words<'_>) -> Result<(), Unplayed>
+    fn ask(&mut self, now: u64, wish: Wish, words: &mut Words<'_>)
         requires { now < 2 ^ 62 }
     {
-        let [port, number, options] = words.numbers::<3>()?;
-        if port >= 65_536 {
-            return Err(Unplayed::Unread);
-        }
         let from = Peer {
             address: Address::V4([192, 168, 201, 9]),
-            port: port as u16,
+            port: words.short(),
         };
         let request = Request {
             wish,
             from,
-            number,
-            options,
+            number: words.number(),
+            options: words.number(),
         };
         let list = self.list();
         self.ticket.client(
@@ -76,17 +90,16 @@ impl Stage {
             &mut self.waiters,
             &mut self.hands,
         );
-        Ok(())
     }
 
-    fn hear(&mut self, now: u64, words: &mut Words<'_>) -> Result<(), Unplayed>
+    fn hear(&mut self, now: u64, words: &mut Words<'_>)
         requires { now < 2 ^ 62 }
     {
-        let from = words.number()?;
-        let (head, part) = words.message()?;
+        let from = words.number();
+        let (head, part) = (head(words), part(words));
         let setup = self.ticket.setup();
         if from >= setup.members || from == setup.place {
-            return Err(Unplayed::NotAllowed);
+            return words.refuse();
         }
         let list = self.list();
         self.ticket.hear(
@@ -98,32 +111,23 @@ impl Stage {
             &mut self.waiters,
             &mut self.hands,
         );
-        Ok(())
     }
 
-    fn end_job(&mut self, now: u64, words: &mut Words<'_>) -> Result<(), Unplayed>
+    fn end_job(&mut self, now: u64, words: &mut Words<'_>)
         requires { now < 2 ^ 62 }
     {
-        let job = words.long()?;
-        let status = words.status()?;
+        let job = words.long();
+        let service = Service::of_status(words.signed());
         let list = self.list();
-        self.ticket.handler_done(
-            now,
-            job,
-            Service::of_status(status),
-            list,
-            &mut self.waiters,
-            &mut self.hands,
-        );
-        Ok(())
+        self.ticket.handler_done(now, job, service, list, &mut self.waiters, &mut self.hands);
     }
 
-    fn tick(&mut self, now: u64) -> Result<(), Unplayed>
+    fn tick(&mut self, now: u64, words: &mut Words<'_>)
         requires { now < 2 ^ 62 }
     {
         match self.ticket.deadline() {
             Some(due) if due <= now => {}
-            _ => return Err(Unplayed::NotAllowed),
+            _ => return words.refuse(),
         }
         let list = self.list();
         self.ticket.tick(
@@ -134,49 +138,55 @@ impl Stage {
             &mut self.waiters,
             &mut self.hands,
         );
-        Ok(())
     }
 
-    fn call(&mut self, call: &str, words: &mut Words<'_>) -> Result<(), Unplayed> {
-        let now = words.moment()?;
+    // Sets what holds and fails in the next call. Returns its moment.
+    fn set(&mut self, words: &mut Words<'_>) -> u64
+        ensures { result < 2 ^ 62 }
+    {
+        let now = words.moment();
         self.hands.acts.clear();
-        self.ready = words.truth()?;
-        self.job = words.long_or_none()?;
-        self.hands.fails = words.truth()?;
-        self.hands.breaks = words.truth()?;
-        self.hands.fails_to_start = words.truth()?;
+        self.ready = words.flag();
+        self.job = words.long_or_none();
+        self.hands.fails = words.flag();
+        self.hands.breaks = words.flag();
+        self.hands.fails_to_start = words.flag();
+        now
+    }
+
+    fn call(&mut self, call: &str, words: &mut Words<'_>) {
+        let now = self.set(words);
         match call {
             "grant" => self.ask(now, Wish::Grant, words),
             "revoke" => self.ask(now, Wish::Revoke, words),
             "hear" => self.hear(now, words),
             "over" => self.end_job(now, words),
-            "due" => self.tick(now),
-            _ => Err(Unplayed::Unread),
+            "due" => self.tick(now, words),
+            _ => words.refuse(),
         }
     }
 
-    fn append(&self, alloc: Global, answer: &mut Answer) -> Result<(), Unplayed> {
+    fn append(&self, answer: &mut Answer) {
         if !self.hands.tells {
-            return Err(Unplayed::OutOfMemory);
+            answer.tear();
         }
         for act in self.hands.acts.iter() {
-            append_act(alloc, answer, act)?;
+            append_act(answer, act);
         }
-        Ok(())
     }
 
-    // The deadline, and who is shown and until which second.
-    fn look(&self, now: u64, answer: &mut Answer) -> Result<(), Unplayed> {
-        answer.word("look")?;
-        numbers(answer, &[self.ticket.deadline()])?;
+    // Appends the deadline, and who is shown and until which second.
+    fn look(&self, now: u64, answer: &mut Answer) {
+        answer.word("look");
+        answer.number_or_none(self.ticket.deadline());
         match self.ticket.owner(now) {
-            Some(owner) => numbers(
-                answer,
-                &[Some(u64::from(owner.site.0)), Some(owner.until_secs)],
-            )?,
-            None => answer.word("- -")?,
+            Some(owner) => {
+                answer.small(owner.site.0);
+                answer.number(owner.until_secs);
+            }
+            None => answer.word("- -"),
         }
-        answer.end()
+        answer.end();
     }
 }
 
@@ -184,97 +194,85 @@ fn ok_word(ok: bool) -> &'static str {
     if ok { "ok" } else { "failed" }
 }
 
-fn append_to(alloc: Global, answer: &mut Answer, to: &To) -> Result<(), Unplayed> {
+fn append_to(answer: &mut Answer, to: &To) {
     match to {
         To::Member(place) => {
-            answer.word("member")?;
-            answer.number(u64::from(*place))
+            answer.word("member");
+            answer.small(*place);
         }
         To::Client(peer) => {
-            answer.word("client")?;
+            answer.word("client");
             match &peer.address {
-                Address::V4(bytes) => answer.bytes(alloc, bytes)?,
-                Address::V6(bytes) => answer.bytes(alloc, bytes)?,
+                Address::V4(bytes) => answer.bytes(bytes),
+                Address::V6(bytes) => answer.bytes(bytes),
             }
-            answer.number(u64::from(peer.port))
+            answer.number(u64::from(peer.port));
         }
     }
 }
 
-fn append_act(alloc: Global, answer: &mut Answer, act: &Noted) -> Result<(), Unplayed> {
+fn append_act(answer: &mut Answer, act: &Noted) {
     match act {
         Noted::Kept { rec, ok } => {
-            answer.word("keep")?;
-            kept(answer, ok_word(*ok), rec)
+            answer.word("keep");
+            kept(answer, ok_word(*ok), rec);
         }
         Noted::Started { job, expires, ok } => {
-            answer.word("start")?;
-            answer.word(ok_word(*ok))?;
-            numbers(answer, &[Some(*job), Some(*expires)])?;
-            answer.end()
+            answer.word("start");
+            answer.word(ok_word(*ok));
+            answer.number(*job);
+            answer.number(*expires);
+            answer.end();
         }
         Noted::Said { to, head, part } => {
-            answer.word("send")?;
-            append_to(alloc, answer, to)?;
-            message(alloc, answer, head, part)
+            answer.word("send");
+            append_to(answer, to);
+            message(answer, head, part);
         }
     }
 }
 
 impl TicketPlayer {
     /// Returns a player without a ticket.
-    pub fn new() -> TicketPlayer {
+    pub(crate) fn new() -> TicketPlayer {
         TicketPlayer { stage: None }
     }
 
-    fn open(&mut self, alloc: Global, words: &mut Words<'_>) -> Result<(), Unplayed> {
-        let manual = words.truth()?;
-        let start = Start::read(words)?;
-        self.stage = Some(Stage {
-            ticket: opened(&start, manual),
-            second: false,
-            waiters: Waiters::new(alloc, 2)?,
-            hands: FakeHands::new(alloc),
-            ready: true,
-            job: None,
-        });
-        Ok(())
-    }
-}
-
-fn play_call(
-    alloc: Global,
-    stage: &mut Stage,
-    call: &str,
-    words: &mut Words<'_>,
-    answer: &mut Answer,
-) -> Result<(), Unplayed> {
-    match call {
-        "open" => Ok(()),
-        "second" => {
-            let manual = words.truth()?;
-            let start = Start::read(words)?;
-            stage.ticket = opened(&start, manual);
-            stage.second = true;
-            Ok(())
+    fn open(&mut self, words: &mut Words<'_>) {
+        let manual = words.flag();
+        if let Some(start) = Start::read(words) {
+            self.stage = stage_of(words.alloc(), opened(&start, manual), words);
         }
-        "look" => stage.look(words.long()?, answer),
-        _ => {
-            stage.call(call, words)?;
-            stage.append(alloc, answer)
+    }
+
+    // Opens another ticket in the place of the one before.
+    fn open_second(&mut self, words: &mut Words<'_>) {
+        let manual = words.flag();
+        match (&mut self.stage, Start::read(words)) {
+            (Some(stage), Some(start)) => {
+                stage.ticket = opened(&start, manual);
+                stage.second = true;
+            }
+            _ => words.refuse(),
         }
     }
 }
 
 impl Player for TicketPlayer {
-    fn play(&mut self, alloc: Global, line: &str, answer: &mut Answer) -> Result<(), Unplayed> {
-        let (call, rest) = first(line);
-        let mut words = Words::of(rest);
-        if call == "open" {
-            self.open(alloc, &mut words)?;
+    fn play(&mut self, words: &mut Words<'_>, answer: &mut Answer) {
+        let call = words.word();
+        match call {
+            "open" => return self.open(words),
+            "second" => return self.open_second(words),
+            _ => {}
         }
-        let stage = self.stage.as_mut().ok_or(Unplayed::NotAllowed)?;
-        play_call(alloc, stage, call, &mut words, answer)?;
-        words.end()
+        match &mut self.stage {
+            Some(stage) if call == "look" => stage.look(words.long(), answer),
+            Some(stage) => {
+                stage.call(call, words);
+                stage.append(answer);
+            }
+            None => words.refuse(),
+        }
     }
 }

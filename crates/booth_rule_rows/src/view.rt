@@ -1,8 +1,8 @@
 //! A core's view and deeds as lines of an answer.
-use crate::printed::{kept, member, numbers, promise, record, say};
+use crate::printed::{kept, say};
+use booth_host_rows::{put_member, put_promise, put_record};
 use booth_raft::{Deed, Role, Round, Shown, Told, View, Want};
-use booth_rows::{Answer, Unplayed};
-use std::alloc::Global;
+use booth_rows::Answer;
 
 fn want_of(want: Want) -> &'static str {
     match want {
@@ -36,75 +36,71 @@ fn role_of(role: Role) -> &'static str {
 }
 
 /// Appends a deed: its keep and what is said, if there are such, and then what is wanted and told.
-pub fn deed(alloc: Global, answer: &mut Answer, deed: &Deed) -> Result<(), Unplayed> {
+pub(crate) fn deed(answer: &mut Answer, deed: &Deed) {
     if let Some(tried) = deed.keep {
-        kept(answer, "keep", &tried)?;
+        kept(answer, "keep", &tried);
     }
-    say(alloc, answer, &deed.say)?;
-    answer.word("did")?;
-    answer.word(want_of(deed.want))?;
-    answer.word(told_of(deed.told))?;
-    answer.end()
+    say(answer, &deed.say);
+    answer.word("did");
+    answer.word(want_of(deed.want));
+    answer.word(told_of(deed.told));
+    answer.end();
 }
 
-fn truth(truth: bool) -> Option<u64> {
-    Some(if truth { 1 } else { 0 })
-}
-
-// Who is shown, and until when.
-fn shown(answer: &mut Answer, shown: Option<Shown>) -> Result<(), Unplayed> {
+// Appends who is shown, and until when.
+fn shown(answer: &mut Answer, shown: Option<Shown>) {
     match shown {
-        Some(shown) => numbers(answer, &[Some(u64::from(shown.owner.0)), Some(shown.until)]),
+        Some(shown) => {
+            answer.small(shown.owner.0);
+            answer.number(shown.until);
+        }
         None => answer.word("- -"),
     }
 }
 
-// A round's term, number and opening, whether it is won, and who answered; nothing if no round is open.
-fn round(answer: &mut Answer, round: Option<Round>) -> Result<(), Unplayed> {
-    let Some(round) = round else {
-        return Ok(());
-    };
-    let fields = [
-        Some(u64::from(round.term)),
-        Some(u64::from(round.number)),
-        Some(round.opened),
-        truth(round.won),
-    ];
-    numbers(answer, &fields)?;
+// Appends a round's term, number and opening, whether it is won, and who answered.
+fn round(answer: &mut Answer, round: &Round) {
+    answer.small(round.term);
+    answer.small(round.number);
+    answer.number(round.opened);
+    answer.flag(round.won);
     for answered in round.answers.iter() {
-        numbers(answer, &[truth(*answered)])?;
+        answer.flag(*answered);
     }
-    Ok(())
+}
+
+// Appends the numbers of a view.
+fn numbers(answer: &mut Answer, view: &View) {
+    answer.small(view.term);
+    answer.small(view.seen);
+    put_member(answer, view.bound);
+    answer.number(view.abstain);
+    answer.flag(view.sure);
+    answer.number(view.force);
+    answer.flag(view.managed);
+    answer.flag(view.hello);
+    answer.small(view.repeat);
+    answer.small(view.repeat_reason);
+    answer.small(view.repeat_term);
+    answer.number_or_none(view.job);
+    answer.small(view.reason);
+    answer.number_or_none(view.due);
+    answer.flag(view.waiting.is_some());
 }
 
 /// Appends a view: a line with its numbers, the promise, who is shown, the kept record and the role, and one with
-/// its round.
-pub fn view(answer: &mut Answer, view: &View) -> Result<(), Unplayed> {
-    let fields = [
-        Some(u64::from(view.term)),
-        Some(u64::from(view.seen)),
-        member(view.bound),
-        Some(view.abstain),
-        truth(view.sure),
-        Some(view.force),
-        truth(view.managed),
-        truth(view.hello),
-        Some(u64::from(view.repeat)),
-        Some(u64::from(view.repeat_reason)),
-        Some(u64::from(view.repeat_term)),
-        view.job,
-        Some(u64::from(view.reason)),
-        view.due,
-        truth(view.waiting.is_some()),
-    ];
-    answer.word("view")?;
-    numbers(answer, &fields)?;
-    promise(answer, view.promise)?;
-    shown(answer, view.shown)?;
-    record(answer, &view.kept)?;
-    answer.word(role_of(view.role))?;
-    answer.end()?;
-    answer.word("round")?;
-    round(answer, view.round)?;
-    answer.end()
+/// its round, if one is open.
+pub(crate) fn view(answer: &mut Answer, view: &View) {
+    answer.word("view");
+    numbers(answer, view);
+    put_promise(answer, view.promise);
+    shown(answer, view.shown);
+    put_record(answer, &view.kept);
+    answer.word(role_of(view.role));
+    answer.end();
+    answer.word("round");
+    if let Some(open) = &view.round {
+        round(answer, open);
+    }
+    answer.end();
 }

@@ -3,7 +3,7 @@ use booth_base::{ByteText, Name, PathText, Peer};
 use booth_host::{Arrival, Datagram, Failed, Host, Job, MemoryHost, Place, ReadFault};
 use booth_host_rows::{name_of, path, peer};
 use booth_rec::Record;
-use booth_rows::Unplayed;
+use booth_rows::Words;
 use std::alloc::Global;
 
 /// What a host fails at besides what its script says.
@@ -18,7 +18,7 @@ pub(crate) struct Hindrances {
 }
 
 impl Hindrances {
-    /// No further failure.
+    /// Returns no further failure.
     pub(crate) fn none() -> Hindrances {
         Hindrances {
             ticket: None,
@@ -28,14 +28,13 @@ impl Hindrances {
     }
 
     /// Sets what fails of one record, one peer or one file.
-    pub(crate) fn take(&mut self, alloc: Global, words: &[&str]) -> Result<(), Unplayed> {
-        match words {
-            ["ticket", name] => self.ticket = Some(name_of(name)?),
-            ["peer", address, port] => self.peer = Some(peer(address, port)?),
-            ["path", word] => self.path = Some(path(alloc, word)?),
-            _ => return Err(Unplayed::Unread),
+    pub(crate) fn take(&mut self, words: &mut Words<'_>) {
+        match words.word() {
+            "ticket" => self.ticket = Some(name_of(words)),
+            "peer" => self.peer = Some(peer(words)),
+            "path" => self.path = path(words),
+            _ => words.refuse(),
         }
-        Ok(())
     }
 }
 

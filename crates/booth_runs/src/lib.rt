@@ -6,4 +6,13 @@
 mod hindered;
 mod runs;
 
-pub use runs::Runs;
+use crate::runs::Runs;
+use booth_rows::play_lines;
+
+/// Plays standard input with the player of this name. Returns whether there is one, and it played all lines.
+pub fn play(rt: &(impl Input + Print + AllocGlobal), name: &str) -> bool {
+    match name {
+        "runs" => play_lines(rt, &mut Runs::new(rt.alloc())),
+        _ => false,
+    }
+}

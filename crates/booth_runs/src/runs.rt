@@ -3,108 +3,104 @@ use crate::hindered::{Hindered, Hindrances};
 use booth_daemon::{Outcome, boothd};
 use booth_followers::booth_follow;
 use booth_following::Setting;
-use booth_host_rows::{Given, put_call};
-use booth_rows::{Answer, Player, Unplayed, bytes};
+use booth_host_rows::{Given, put_past};
+use booth_rows::{Answer, Player, Words};
 use booth_tools::{booth, geostore};
-use std::alloc::Global;
+use std::alloc::{AllocError, Global};
 use std::mem;
 
-/// Plays `run PROGRAM WORD ..` over the host that the lines before it make.
+/// Plays `run PROGRAM COUNT WORD ..` over the host that the lines before it make. COUNT is that of the words.
 #[derive(Drop)]
-pub struct Runs {
+pub(crate) struct Runs {
     given: Given,
     hindrances: Hindrances,
 }
 
 // Reads the words of a command line.
-fn words_of(alloc: Global, words: &[&str]) -> Result<Vec<String>, Unplayed> {
-    let mut read = Vec::new(alloc);
-    for word in words {
-        let Ok(word) = String::from_utf8(bytes(alloc, word)?) else {
-            return Err(Unplayed::Unread);
-        };
-        read.push(word).map_err(|_| Unplayed::OutOfMemory)?;
+fn words_of(words: &mut Words<'_>) -> Vec<String> {
+    let mut read = Vec::new(words.alloc());
+    for _ in 0..words.number() {
+        if read.push(words.text()).is_err() {
+            words.tear();
+        }
     }
-    Ok(read)
+    read
 }
 
-// Runs the program of this name.
-fn run(
-    alloc: Global,
-    program: &str,
-    words: &[String],
-    host: &mut Hindered,
-) -> Result<Outcome, Unplayed> {
+// Runs the program of this name. Returns how it ended, if there is such a program.
+fn run(alloc: Global, program: &str, words: &[String], host: &mut Hindered) -> Option<Outcome> {
     match program {
-        "boothd" => Ok(boothd(alloc, words, host)),
-        "booth" => Ok(booth(alloc, words, host)),
-        "geostore" => Ok(geostore(alloc, words, host)),
-        "booth-follow" => Ok(booth_follow(alloc, words, &mut Setting::bare(), host)),
-        _ => Err(Unplayed::Unread),
+        "boothd" => Some(boothd(alloc, words, host)),
+        "booth" => Some(booth(alloc, words, host)),
+        "geostore" => Some(geostore(alloc, words, host)),
+        "booth-follow" => Some(booth_follow(alloc, words, &mut Setting::bare(), host)),
+        _ => None,
     }
 }
 
 // Appends the calls of a run, or how many turns it made and records it keeps if the host does not say its calls.
-fn put_calls(alloc: Global, answer: &mut Answer, host: &Hindered) -> Result<(), Unplayed> {
-    let Some(calls) = host.host.past() else {
-        answer.word("turns")?;
-        answer.number(host.turns)?;
-        answer.number(host.host.records().len() as u64)?;
-        answer.end()?;
-        answer.word("untold")?;
-        return answer.end();
-    };
-    for call in calls {
-        put_call(alloc, answer, call)?;
+fn put_calls(answer: &mut Answer, host: &Hindered) {
+    let past = host.host.past();
+    if past.is_none() {
+        answer.word("turns");
+        answer.number(host.turns);
+        answer.number(host.host.records().len() as u64);
+        answer.end();
     }
-    Ok(())
+    put_past(answer, past);
 }
 
 // Appends how a run ended.
-fn put_end(alloc: Global, answer: &mut Answer, outcome: Outcome) -> Result<(), Unplayed> {
-    answer.word("ends")?;
-    answer.number(u64::from(outcome.status()))?;
-    answer.word(format!(in alloc; "{outcome:?}")?.as_str())?;
-    answer.end()
+fn put_end(answer: &mut Answer, outcome: Outcome) {
+    answer.word("ends");
+    answer.number(u64::from(outcome.status()));
+    answer.debug(&outcome);
+    answer.end();
 }
 
 impl Runs {
-    /// A host that has nothing yet.
-    pub fn new(alloc: Global) -> Runs {
+    /// Returns a player whose host has nothing yet.
+    pub(crate) fn new(alloc: Global) -> Runs {
         Runs {
             given: Given::new(alloc),
             hindrances: Hindrances::none(),
         }
     }
 
-    // Runs a program over the host that was made.
-    fn run(
-        &mut self,
-        alloc: Global,
-        program: &str,
-        words: &[&str],
-        answer: &mut Answer,
-    ) -> Result<(), Unplayed> {
-        let words = words_of(alloc, words)?;
+    // Returns the host that was made.
+    fn host(&mut self, alloc: Global) -> Result<Hindered, AllocError> {
         let given = mem::replace(&mut self.given, Given::new(alloc));
-        let mut host = Hindered {
+        let hindrances = mem::replace(&mut self.hindrances, Hindrances::none());
+        Ok(Hindered {
             host: given.into_host(alloc)?,
-            hindrances: mem::replace(&mut self.hindrances, Hindrances::none()),
+            hindrances,
             turns: 0,
+        })
+    }
+
+    // Runs a program over the host that was made.
+    fn run(&mut self, words: &mut Words<'_>, answer: &mut Answer) {
+        let Ok(mut host) = self.host(words.alloc()) else {
+            return words.tear();
         };
-        let outcome = run(alloc, program, &words, &mut host)?;
-        put_calls(alloc, answer, &host)?;
-        put_end(alloc, answer, outcome)
+        let program = words.word();
+        let given = words_of(words);
+        match run(words.alloc(), program, &given, &mut host) {
+            Some(outcome) => {
+                put_calls(answer, &host);
+                put_end(answer, outcome);
+            }
+            None => words.refuse(),
+        }
     }
 }
 
 impl Player for Runs {
-    fn play(&mut self, alloc: Global, line: &str, answer: &mut Answer) -> Result<(), Unplayed> {
-        let words: Vec<&str> = line.split(' ').collect(alloc)?;
-        match words.as_slice() {
-            ["run", program, words @ ..] => self.run(alloc, program, words, answer),
-            ["hinder", hindrance @ ..] => self.hindrances.take(alloc, hindrance),
-            words => self.given.take(alloc, words),
+    fn play(&mut self, words: &mut Words<'_>, answer: &mut Answer) {
+        match words.word() {
+            "run" => self.run(words, answer),
+            "hinder" => self.hindrances.take(words),
+            what => self.given.take(what, words),
         }
     }
 }

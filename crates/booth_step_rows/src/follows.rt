@@ -1,159 +1,140 @@
 //! A service that follows its ticket.
-use booth_base::{Address, Name};
-use booth_conf::Config;
+use crate::reading::{configuration, name};
+use booth_base::Address;
 use booth_follow_rule::{FollowDeed, Follower, Margins, News, RunEnd, Shown, Word};
 use booth_following::margins_for;
-use booth_rows::{Answer, Player, Unplayed, bytes, moment};
-use std::alloc::Global;
+use booth_rows::{Answer, Player, Words};
+use std::fmt::Debug;
 
 /// Plays `new MARGIN KILL PAUSE LEFT`, `step READING NEWS`, `choose EXPIRE RENEWAL MARGIN KILL` and
 /// `margins CONFIGURATION TICKET ADDRESS MARGIN KILL`.
 #[derive(Drop)]
-pub struct Follows {
+pub(crate) struct Follows {
     follower: Follower,
 }
 
-// Reads a number that may be left out.
-fn given(word: &str) -> Result<Option<u64>, Unplayed> {
-    match word {
-        "-" => Ok(None),
-        _ => Ok(Some(moment(word)?)),
+// Reads what came before a reading.
+fn news_of(words: &mut Words<'_>) -> News {
+    match words.word() {
+        "nothing" => News::Nothing,
+        "stop" => News::Stop,
+        "elsewhere" => News::List(Shown::Elsewhere),
+        "here" => News::List(Shown::Here {
+            until: words.long(),
+        }),
+        "done" => News::End {
+            run: words.long(),
+            how: RunEnd::Done,
+        },
+        "failed" => News::End {
+            run: words.long(),
+            how: RunEnd::Failed,
+        },
+        _ => {
+            words.refuse();
+            News::Nothing
+        }
     }
 }
 
-// Reads what came before a reading.
-fn news_of(words: &[&str]) -> Result<News, Unplayed> {
-    match words {
-        ["nothing"] => Ok(News::Nothing),
-        ["stop"] => Ok(News::Stop),
-        ["elsewhere"] => Ok(News::List(Shown::Elsewhere)),
-        ["here", until] => Ok(News::List(Shown::Here {
-            until: moment(until)?,
-        })),
-        ["done", run] => Ok(News::End {
-            run: moment(run)?,
-            how: RunEnd::Done,
-        }),
-        ["failed", run] => Ok(News::End {
-            run: moment(run)?,
-            how: RunEnd::Failed,
-        }),
-        _ => Err(Unplayed::Unread),
+fn word_of(word: Word) -> &'static str {
+    match word {
+        Word::Check => "check",
+        Word::Renew => "renew",
+        Word::Start => "start",
+        Word::Stop => "stop",
+        Word::Kill => "kill",
     }
 }
 
 // Appends what is done.
-fn put_deed(answer: &mut Answer, deed: FollowDeed) -> Result<(), Unplayed> {
+fn put_deed(answer: &mut Answer, deed: FollowDeed) {
     match deed {
-        FollowDeed::Nothing => answer.word("nothing")?,
-        FollowDeed::Leave => answer.word("leave")?,
+        FollowDeed::Nothing => answer.word("nothing"),
+        FollowDeed::Leave => answer.word("leave"),
         FollowDeed::Run {
             word,
             number,
             until,
         } => {
-            answer.word(match word {
-                Word::Check => "check",
-                Word::Renew => "renew",
-                Word::Start => "start",
-                Word::Stop => "stop",
-                Word::Kill => "kill",
-            })?;
-            answer.number(number)?;
-            answer.number(until)?;
+            answer.word(word_of(word));
+            answer.number(number);
+            answer.number(until);
         }
     }
-    answer.end()
 }
 
-// Appends margins.
-fn put_margins(answer: &mut Answer, margins: Margins) -> Result<(), Unplayed> {
-    answer.word("margins")?;
-    answer.number(margins.margin)?;
-    answer.number(margins.kill)?;
-    answer.number(margins.pause)?;
-    answer.end()
-}
-
-// Appends the name of a fault.
-fn put_fault(answer: &mut Answer, fault: &str) -> Result<(), Unplayed> {
-    answer.word("fault")?;
-    answer.word(fault)?;
-    answer.end()
-}
-
-// Appends the margins that fit a ticket with these times.
-fn choose(alloc: Global, words: &[&str], answer: &mut Answer) -> Result<(), Unplayed> {
-    let [expire, renewal, margin, kill] = words else {
-        return Err(Unplayed::Unread);
-    };
-    match Margins::choose(
-        moment(expire)?,
-        moment(renewal)?,
-        given(margin)?,
-        given(kill)?,
-    ) {
-        Ok(margins) => put_margins(answer, margins),
-        Err(fault) => put_fault(answer, format!(in alloc; "{fault:?}")?.as_str()),
+// Appends margins, or the name of a fault.
+fn put_margins<F: Debug + Drop>(answer: &mut Answer, margins: Result<Margins, F>) {
+    match margins {
+        Ok(margins) => {
+            answer.word("margins");
+            answer.number(margins.margin);
+            answer.number(margins.kill);
+            answer.number(margins.pause);
+        }
+        Err(fault) => {
+            answer.word("fault");
+            answer.debug(&fault);
+        }
     }
 }
 
 // Appends the margins of a configuration's ticket at a site.
-fn choose_for(alloc: Global, words: &[&str], answer: &mut Answer) -> Result<(), Unplayed> {
-    let [text, ticket, address, margin, kill] = words else {
-        return Err(Unplayed::Unread);
-    };
-    let Ok(config) = Config::parse(alloc, &bytes(alloc, text)?) else {
-        return Err(Unplayed::Unread);
-    };
-    let Ok(ticket) = Name::read(ticket.as_bytes()) else {
-        return Err(Unplayed::Unread);
-    };
-    let Ok(site) = Address::read(address.as_bytes()) else {
-        return Err(Unplayed::Unread);
-    };
-    match margins_for(&config, &ticket, &site, given(margin)?, given(kill)?) {
-        Ok(margins) => put_margins(answer, margins),
-        Err(fault) => put_fault(answer, format!(in alloc; "{fault:?}")?.as_str()),
+fn choose_for(words: &mut Words<'_>, answer: &mut Answer) {
+    let config = configuration(words);
+    let ticket = name(words);
+    let site = Address::read(words.word().as_bytes());
+    let (margin, kill) = (words.long_or_none(), words.long_or_none());
+    if let (Some(config), Ok(site)) = (config, site) {
+        let margins = margins_for(&config, &ticket, &site, margin, kill);
+        return put_margins(answer, margins);
+    }
+    words.refuse();
+}
+
+// Reads margins.
+fn margins_of(words: &mut Words<'_>) -> Margins {
+    Margins {
+        margin: words.long(),
+        kill: words.long(),
+        pause: words.long(),
     }
 }
 
 impl Follows {
-    /// A follower without margins.
-    pub fn new() -> Follows {
+    /// Returns a follower without margins.
+    pub(crate) fn new() -> Follows {
+        let none = Margins {
+            margin: 0,
+            kill: 0,
+            pause: 0,
+        };
         Follows {
-            follower: Follower::new(
-                Margins {
-                    margin: 0,
-                    kill: 0,
-                    pause: 0,
-                },
-                None,
-            ),
+            follower: Follower::new(none, None),
         }
     }
 }
 
+// Appends the margins that fit a ticket with these times.
+fn choose(words: &mut Words<'_>, answer: &mut Answer) {
+    let (expire, renewal) = (words.long(), words.long());
+    let (margin, kill) = (words.long_or_none(), words.long_or_none());
+    put_margins(answer, Margins::choose(expire, renewal, margin, kill));
+}
+
 impl Player for Follows {
-    fn play(&mut self, alloc: Global, line: &str, answer: &mut Answer) -> Result<(), Unplayed> {
-        let words: Vec<&str> = line.split(' ').collect(alloc)?;
-        match words.as_slice() {
-            ["new", margin, kill, pause, left] => {
-                let margins = Margins {
-                    margin: moment(margin)?,
-                    kill: moment(kill)?,
-                    pause: moment(pause)?,
-                };
-                self.follower = Follower::new(margins, given(left)?);
-                Ok(())
+    fn play(&mut self, words: &mut Words<'_>, answer: &mut Answer) {
+        match words.word() {
+            "new" => {
+                self.follower = Follower::new(margins_of(words), words.long_or_none());
+                return;
             }
-            ["step", reading, news @ ..] => {
-                let deed = self.follower.step(moment(reading)?, news_of(news)?);
-                put_deed(answer, deed)
-            }
-            ["choose", words @ ..] => choose(alloc, words, answer),
-            ["margins", words @ ..] => choose_for(alloc, words, answer),
-            _ => Err(Unplayed::Unread),
+            "step" => put_deed(answer, self.follower.step(words.long(), news_of(words))),
+            "choose" => choose(words, answer),
+            "margins" => choose_for(words, answer),
+            _ => words.refuse(),
         }
+        answer.end();
     }
 }

@@ -1,109 +1,101 @@
 //! A planned move.
-use booth_base::Name;
+use crate::reading::{configuration, name};
 use booth_conf::Config;
 use booth_move::{MoveDeed, MoveEnd, Mover};
-use booth_rows::{Answer, Player, Unplayed, bytes, moment, number};
+use booth_rows::{Answer, Player, Words};
 use booth_wire::decode;
-use std::alloc::Global;
 
-/// Plays `new CONFIGURATION TICKET TARGET wait|once START`, in which the target is a place, and
+/// Plays `new CONFIGURATION TICKET TARGET WAIT START`, in which the target is a place and the wait 1 or 0, and
 /// `step READING FRAME`. A frame that is no answer to the last request is passed over.
 #[derive(Drop)]
-pub struct Moves {
+pub(crate) struct Moves {
     mover: Option<Mover>,
 }
 
-// Begins a move.
-fn started(alloc: Global, words: &[&str]) -> Result<Mover, Unplayed> {
-    let [text, ticket, target, wait, start] = words else {
-        return Err(Unplayed::Unread);
-    };
-    let Ok(config) = Config::parse(alloc, &bytes(alloc, text)?) else {
-        return Err(Unplayed::Unread);
-    };
-    let Ok(ticket) = Name::read(ticket.as_bytes()) else {
-        return Err(Unplayed::Unread);
-    };
-    let wait = match *wait {
-        "wait" => true,
-        "once" => false,
-        _ => return Err(Unplayed::Unread),
-    };
-    let start = moment(start)?;
-    let target = number(target)? as usize;
+// Begins a move, if its target is a site.
+fn started(config: &Config, words: &mut Words<'_>) -> Option<Mover> {
+    let ticket = name(words);
+    let target = words.number() as usize;
+    let (wait, start) = (words.flag(), words.long());
     match config.members().get(target) {
-        Some(member) if member.site => Ok(Mover::start(&config, ticket, target, wait, start)),
-        _ => Err(Unplayed::NotAllowed),
+        Some(member) if member.site => Some(Mover::start(config, ticket, target, wait, start)),
+        _ => None,
     }
 }
 
-// What is done after this reading and what came before it.
-fn step(alloc: Global, mover: &mut Mover, now: u64, frame: &str) -> Result<MoveDeed, Unplayed> {
-    if frame == "-" {
-        return Ok(mover.step(now, None));
+// Returns what is done after a reading and the frame before it.
+fn step(mover: &mut Mover, words: &mut Words<'_>) -> MoveDeed {
+    let now = words.long();
+    let frame = words.bytes();
+    match decode(&frame) {
+        Ok(reply) if mover.is_answer(&reply) => return mover.step(now, Some(&reply)),
+        Ok(_) => {}
+        Err(_) if frame.is_empty() => {}
+        Err(_) => words.refuse(),
     }
-    let bytes = bytes(alloc, frame)?;
-    let Ok(reply) = decode(&bytes) else {
-        return Err(Unplayed::Unread);
-    };
-    if mover.is_answer(&reply) {
-        Ok(mover.step(now, Some(&reply)))
-    } else {
-        Ok(mover.step(now, None))
-    }
+    mover.step(now, None)
 }
 
 // Appends a word and a number.
-fn put(answer: &mut Answer, word: &str, number: u32) -> Result<(), Unplayed> {
-    answer.word(word)?;
-    answer.number(u64::from(number))
+fn put(answer: &mut Answer, word: &str, number: u32) {
+    answer.word(word);
+    answer.small(number);
+}
+
+// Appends how a move ended.
+fn put_end(answer: &mut Answer, end: MoveEnd) {
+    match end {
+        MoveEnd::Moved => answer.word("moved"),
+        MoveEnd::Asked => answer.word("asked"),
+        MoveEnd::Refused(result) => put(answer, "refused", result),
+        MoveEnd::Stranded(result) => put(answer, "stranded", result),
+        MoveEnd::NoReply => answer.word("no reply"),
+    }
 }
 
 // Appends what is done.
-fn put_deed(answer: &mut Answer, deed: MoveDeed) -> Result<(), Unplayed> {
+fn put_deed(answer: &mut Answer, deed: MoveDeed) {
     match deed {
-        MoveDeed::Nothing => answer.word("nothing")?,
-        MoveDeed::Revoke { to: None, request } => put(answer, "revoke", request)?,
+        MoveDeed::Nothing => answer.word("nothing"),
+        MoveDeed::Revoke { to: None, request } => put(answer, "revoke", request),
         MoveDeed::Revoke {
             to: Some(place),
             request,
         } => {
-            put(answer, "forward", place)?;
-            answer.number(u64::from(request))?;
+            put(answer, "forward", place);
+            answer.small(request);
         }
-        MoveDeed::Grant { request } => put(answer, "grant", request)?,
-        MoveDeed::End(MoveEnd::Moved) => answer.word("moved")?,
-        MoveDeed::End(MoveEnd::Asked) => answer.word("asked")?,
-        MoveDeed::End(MoveEnd::Refused(result)) => put(answer, "refused", result)?,
-        MoveDeed::End(MoveEnd::Stranded(result)) => put(answer, "stranded", result)?,
-        MoveDeed::End(MoveEnd::NoReply) => answer.word("no reply")?,
+        MoveDeed::Grant { request } => put(answer, "grant", request),
+        MoveDeed::End(end) => put_end(answer, end),
     }
-    answer.end()
+    answer.end();
 }
 
 impl Moves {
-    /// No move yet.
-    pub fn new() -> Moves {
+    /// Returns a player without a move.
+    pub(crate) fn new() -> Moves {
         Moves { mover: None }
+    }
+
+    fn start(&mut self, words: &mut Words<'_>) {
+        if let Some(config) = configuration(words) {
+            self.mover = started(&config, words);
+            if self.mover.is_none() {
+                words.refuse();
+            }
+        }
     }
 }
 
 impl Player for Moves {
-    fn play(&mut self, alloc: Global, line: &str, answer: &mut Answer) -> Result<(), Unplayed> {
-        let words: Vec<&str> = line.split(' ').collect(alloc)?;
-        match words.as_slice() {
-            ["new", words @ ..] => {
-                self.mover = Some(started(alloc, words)?);
-                Ok(())
-            }
-            ["step", reading, frame] => {
-                let Some(mover) = &mut self.mover else {
-                    return Err(Unplayed::NotAllowed);
-                };
-                let deed = step(alloc, mover, moment(reading)?, frame)?;
-                put_deed(answer, deed)
-            }
-            _ => Err(Unplayed::Unread),
+    fn play(&mut self, words: &mut Words<'_>, answer: &mut Answer) {
+        let call = words.word();
+        if call == "new" {
+            return self.start(words);
+        }
+        match &mut self.mover {
+            Some(mover) if call == "step" => put_deed(answer, step(mover, words)),
+            _ => words.refuse(),
         }
     }
 }

@@ -15,7 +15,7 @@ fn say(alloc: Global, host: &mut RealHost, what: &str, term: u32) -> Result<(), 
     }
 }
 
-// The term of the kept record, or 0 where none is.
+// Returns the term of the kept record, or 0 if none is kept.
 fn kept_term(host: &mut RealHost, ticket: &Name) -> Result<u32, Failed> {
     match host.kept(ticket)? {
         Some(record) => Ok(record.term),
@@ -23,41 +23,53 @@ fn kept_term(host: &mut RealHost, ticket: &Name) -> Result<u32, Failed> {
     }
 }
 
-// Says what is kept, and keeps the terms that follow.
+// Keeps a record of this term, and prints the term.
+fn keep(alloc: Global, host: &mut RealHost, ticket: &Name, term: u32) -> Result<(), Failed> {
+    let until = u64::from(term);
+    host.keep(ticket, &Record::plain(term, Some(Lease { term, until })))?;
+    say(alloc, host, "kept", term)
+}
+
+// Prints what is kept, and keeps the terms that follow.
 fn keep_on(alloc: Global, host: &mut RealHost, ticket: &Name, count: u32) -> Result<(), Failed> {
     let first = kept_term(host, ticket)?;
     say(alloc, host, "read", first)?;
-    for further in 0..count {
-        let term = first.saturating_add(further).saturating_add(1);
-        let until = u64::from(term);
-        host.keep(ticket, &Record::plain(term, Some(Lease { term, until })))?;
-        say(alloc, host, "kept", term)?;
+    for further in 1..=count {
+        keep(alloc, host, ticket, first.saturating_add(further))?;
     }
     Ok(())
 }
 
-/// Prints the record of this directory, and then writes and prints `count` further ones.
-pub fn keep_each(
-    rt: HostRuntime,
-    alloc: Global,
-    directory: PathText,
-    count: u32,
-) -> Result<(), Failed> {
-    let Ok(ticket) = Name::read(b"ticket-db8") else {
-        return Err(Failed);
-    };
-    let Ok(conf_path) = PathText::read("") else {
-        return Err(Failed);
-    };
-    let place = Place {
-        local: None,
-        port: 0,
-        records: directory,
-        conf_path,
-    };
-    let Ok(mut host) = RealHost::new(rt, alloc) else {
-        return Err(Failed);
-    };
-    host.open(&place)?;
-    keep_on(alloc, &mut host, &ticket, count)
+// Opens the host, and keeps records.
+fn open_and_keep(alloc: Global, host: &mut RealHost, place: &Place, count: u32) -> bool {
+    match Name::read(b"ticket-db8") {
+        Ok(ticket) => { host.open(place).is_ok() && keep_on(alloc, host, &ticket, count).is_ok() }
+        Err(_) => false,
+    }
+}
+
+// Returns the place of this directory.
+fn place_in(directory: &str) -> Option<Place> {
+    match (PathText::read(directory), PathText::read("")) {
+        (Ok(records), Ok(conf_path)) => Some(Place {
+            local: None,
+            port: 0,
+            records,
+            conf_path,
+        }),
+        _ => None,
+    }
+}
+
+fn new_host(rt: &HostRuntime) -> Option<RealHost> {
+    RealHost::new(rt.clone().ok()?, rt.alloc()).ok()
+}
+
+/// Prints the record of this directory, and then writes and prints `count` further ones. Returns whether each was
+/// written.
+pub fn keep_each(rt: &HostRuntime, directory: &str, count: u32) -> bool {
+    match (new_host(rt), place_in(directory)) {
+        (Some(mut host), Some(place)) => open_and_keep(rt.alloc(), &mut host, &place, count),
+        _ => false,
+    }
 }

@@ -1,49 +1,40 @@
 //! Plays calls of the real host: those of any host, and `await DIRECTORY`, the wait for the clock of its records;
 //! `beside`, which has programs of the word `renew` run beside others. And those of what tells the service manager:
 //! `notify TEXT` and `beat`.
-use booth_host_rows::{HostCalls, path};
+use booth_host_rows::{path, play_call};
 use booth_real::{Notifier, RealHost};
-use booth_rows::{Answer, Player, Unplayed, first};
-use std::alloc::Global;
+use booth_rows::{Answer, Player, Words};
 
 /// The real host, and what tells the service manager.
 #[derive(Drop)]
 pub struct Real {
-    calls: HostCalls<RealHost>,
+    host: RealHost,
     notifier: Notifier,
 }
 
 impl Real {
-    /// Plays calls of this host and this notifier.
-    pub fn over(host: RealHost, notifier: Notifier) -> Real {
-        Real {
-            calls: HostCalls::over(host),
-            notifier,
+    /// Returns a player of a new host, or none for want of memory.
+    pub fn new(rt: &HostRuntime) -> Option<Real> {
+        let host = RealHost::new(rt.clone().ok()?, rt.alloc()).ok()?;
+        let notifier = Notifier::new(rt.clone().ok()?, "trials");
+        Some(Real { host, notifier })
+    }
+
+    fn await_clock(&mut self, words: &mut Words<'_>) {
+        if let Some(records) = path(words) {
+            self.host.await_clock(&records);
         }
-    }
-
-    fn await_clock(&mut self, alloc: Global, word: &str) -> Result<(), Unplayed> {
-        let records = path(alloc, word)?;
-        self.calls.host().await_clock(&records);
-        Ok(())
-    }
-
-    fn notify(&mut self, alloc: Global, word: &str) -> Result<(), Unplayed> {
-        let text = path(alloc, word)?;
-        self.notifier.send(text.as_str());
-        Ok(())
     }
 }
 
 impl Player for Real {
-    fn play(&mut self, alloc: Global, line: &str, answer: &mut Answer) -> Result<(), Unplayed> {
-        match first(line) {
-            ("await", word) => self.await_clock(alloc, word)?,
-            ("beside", _) => self.calls.host().run_beside("renew"),
-            ("notify", word) => self.notify(alloc, word)?,
-            ("beat", _) => self.notifier.beat(),
-            _ => self.calls.play(alloc, line, answer)?,
+    fn play(&mut self, words: &mut Words<'_>, answer: &mut Answer) {
+        match words.word() {
+            "await" => self.await_clock(words),
+            "beside" => self.host.run_beside("renew"),
+            "notify" => self.notifier.send(words.text().as_str()),
+            "beat" => self.notifier.beat(),
+            call => play_call(&mut self.host, call, words, answer),
         }
-        Ok(())
     }
 }

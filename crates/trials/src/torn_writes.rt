@@ -3,7 +3,6 @@
 //! at the first that is neither record.
 use booth_rec::{MemoryDisk, Record, Slots};
 use std::alloc::Global;
-use std::io::{Stdout, Write};
 
 const FILE_BYTES: usize = 336;
 
@@ -142,32 +141,39 @@ fn committing(alloc: Global, before: Before) -> Option<u32> {
     Some(count)
 }
 
-/// Prints how many files of each step were read, or the first step that left another record, and fails there.
-pub fn print_torn_writes(alloc: Global, stdout: &mut Stdout) -> Option<()> {
+// Prints how many files of a step were read, or that one left another record. Returns whether none did.
+fn print_step(rt: &impl Print, step: &str, count: Option<u32>) -> bool {
+    match count {
+        Some(count) => rt.println(format_args!("{step}: {count} files")).is_ok(),
+        None => {
+            let _ = rt.println(format_args!("{step}: another record"));
+            false
+        }
+    }
+}
+
+/// Prints how many files of each step were read, up to the first step that left another record. Returns whether none
+/// did.
+pub fn print_torn_writes(rt: &HostRuntime) -> bool {
+    let alloc = rt.alloc();
     let (first, second) = (Before::First, Before::Second);
-    for (step, count) in [
-        ("closing, after version 1", closing(alloc, first)),
-        ("closing, after version 2", closing(alloc, second)),
-        (
+    print_step(rt, "closing, after version 1", closing(alloc, first))
+        && print_step(rt, "closing, after version 2", closing(alloc, second))
+        && print_step(
+            rt,
             "filling, one byte, after version 1",
             filling_one(alloc, first),
-        ),
-        (
+        )
+        && print_step(
+            rt,
             "filling, one byte, after version 2",
             filling_one(alloc, second),
-        ),
-        (
+        )
+        && print_step(
+            rt,
             "filling, two bytes, after version 2",
             filling_two(alloc, second),
-        ),
-        ("committing, after version 1", committing(alloc, first)),
-        ("committing, after version 2", committing(alloc, second)),
-    ] {
-        let Some(count) = count else {
-            let _ = writeln!(stdout, "{step}: another record");
-            return None;
-        };
-        writeln!(stdout, "{step}: {count} files").ok()?;
-    }
-    Some(())
+        )
+        && print_step(rt, "committing, after version 1", committing(alloc, first))
+        && print_step(rt, "committing, after version 2", committing(alloc, second))
 }
