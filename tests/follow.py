@@ -25,6 +25,7 @@ HERE = os.path.dirname(os.path.abspath(__file__))
 TOP = os.path.dirname(HERE)
 sys.path[:0] = [HERE, f"{TOP}/tools"]
 
+import frames
 from following import Services
 from members import TICKET, Cluster, Times, now, wait_for
 from serving import built_program, end_by_signals, own_addresses
@@ -35,7 +36,7 @@ TIMES = Times(expire=10)
 MARGIN, KILL = 2.5, 1.25
 # how long a service that was stopped is left so
 PAUSE = 5
-KEY = b"a-key-of-the-cluster"
+KEY, NEW_KEY = b"a-key-of-the-cluster", b"the-next-key-of-the-cluster"
 NAME = TICKET.decode()
 
 stories = []
@@ -258,6 +259,26 @@ def followed_in(folder):
         yield
     finally:
         del os.environ["BOOTH_FOLLOW_RUN"]
+
+
+@story
+def a_key_that_is_changed(cluster, services):
+    """a key that is changed in its steps, each with the daemons of all members, while a service runs"""
+    one, _ = begun(cluster, services)
+    first = services.process(one)
+    for ring in (frames.Ring(KEY, NEW_KEY), frames.Ring(NEW_KEY, KEY), frames.Ring(NEW_KEY)):
+        cluster.file("booth.conf", ring)
+        for member in cluster.members:
+            member.kill()
+            member.key = ring
+            member.start(cluster.program, cluster.conf)
+            time.sleep(1)
+        time.sleep(TIMES.expire - TIMES.renewal)
+    require(services.process(one) == first, "the service was not left running")
+    require(services.words(one) == ["stop", "start"], f"it was run with {services.words(one)}")
+    said = services.said()
+    require("the keys are read again" in said, f"no line tells of the keys: {said}")
+    passed("a follower reads its keys again when its daemon has others, and its service runs on through the steps of a change")
 
 
 # ---- what is refused, and examples

@@ -28,6 +28,8 @@ pub(crate) struct Watcher {
     speaker: Speaker,
     notifier: Notifier,
     daemon: Option<Daemon>,
+    /// Whether a line said that the keys were read again, since the last list.
+    keys_told: bool,
     /// What the program was run for last, but for renewals.
     word: Option<Word>,
     /// How many runs for that word, and how many renewals, failed in a row.
@@ -74,6 +76,7 @@ impl Watcher {
             speaker,
             notifier,
             daemon: None,
+            keys_told: false,
             word: None,
             failed: 0,
             failed_renewals: 0,
@@ -102,6 +105,9 @@ impl Watcher {
     // A list, or that none comes.
     fn hear(&mut self, seen: &Seen) {
         let is_list = matches!(seen.heard, News::List(_));
+        if is_list {
+            self.keys_told = false;
+        }
         let next = match self.daemon {
             None => None,
             Some(Daemon::Silent { since }) => {
@@ -295,5 +301,26 @@ impl Watch for Watcher {
             self.notifier.send("READY=1");
         }
         self.notifier.beat();
+    }
+
+    fn see_keys(&mut self, is_read: bool) {
+        if self.keys_told {
+            return;
+        }
+        self.keys_told = true;
+        let mut text = Text::new();
+        if is_read {
+            put(
+                &mut text,
+                "this site's daemon tells no authentic list: the keys are read again",
+            );
+            self.say(Priority::Notice, &text);
+        } else {
+            put(
+                &mut text,
+                "this site's daemon tells no authentic list, and no other keys can be read",
+            );
+            self.say(Priority::Warning, &text);
+        }
     }
 }

@@ -1,3 +1,4 @@
 mod ServiceLemmas
+mod RoundLemmas
 mod RunLemmas
 mod FaultlessLemmas

@@ -6,10 +6,8 @@ use Rattle.booth_conf.specs.Config.{ConfigSays}
 use Rattle.booth_follow_rule.specs.declared.margins.Margins.{Margins}
 use Rattle.booth_following.specs.declared.choosing.FollowFault.{FollowFault}
 use Rattle.booth_following.specs.declared.following.Following.{Following}
-use Rattle.booth_following.specs.declared.turns.FollowEnd.{FollowEnd}
 use Rattle.booth_following.specs.Choosing.{HasFault, IsChosen}
 use Rattle.booth_following.specs.Following.{IsFollowing}
-use Rattle.booth_following.specs.Turns.{IsFollowed}
 use Rattle.booth_host.specs.declared.entry.Entry.{Entry}
 use Rattle.booth_host.specs.declared.entry.Entry.TheVariants.{Open}
 use Rattle.booth_host.specs.Past.{GrewBy, GrewSome}
@@ -21,7 +19,8 @@ use Rattle.booth_outcomes.specs.declared.outcome.Outcome.TheVariants as outs
 use Rattle.booth_outcomes.specs.Configuration.{IsConfigRead, IsUnreadOutcome}
 use Rattle.booth_outcomes.specs.Keys.{IsRingRead, IsKeylessOutcome}
 use Rattle.booth_outcomes.specs.Texts.{not_followed_text, out_of_memory_text}
-use Rattle.booth_followers.specs.Service.{EndsAs, FollowsConfig, FollowsKey, FollowsMargins, IsFollowAnswered, IsFollowLog, IsService, IsStarted, daemon_of}
+use Rattle.booth_followers.specs.Rounds.{IsService}
+use Rattle.booth_followers.specs.Service.{FollowsConfig, FollowsKey, FollowsMargins, IsFollowAnswered, IsFollowLog, IsStarted, daemon_of}
 use Rattle.booth_followers.specs.Service.{Fitted, Keyed, Keyless, Read, Roomless, Serving, SetOut, Unfollowed, Unread}
 
 -- ---- outcomes
@@ -40,15 +39,11 @@ keyless_answered outcome keyless = absurd keyless
 
 -- ---- the service and the socket
 
-pub served : (left : Option ℕ) (f : Following) (end : FollowEnd) (outcome : Outcome) (said : List ℕ) {a b : Option (List Entry)} → EndsAs end outcome said →
-    GrewSome (IsFollowed f left end) a b → GrewSome (IsService left f outcome said) a b
-served left f end outcome said ends followed =
-    some_weaker (IsFollowed f left end) (IsService left f outcome said) (λ es h. record { end = end; followed = h; ends = ends }) followed
-
 pub opened : (left : Option ℕ) (conf : List ℕ) (f : Following) (outcome : Outcome) (said : List ℕ) {a b c : Option (List Entry)} →
-    GrewBy a b (Open None 0 [] conf (Ok tt) ∷ []) → GrewSome (IsService left f outcome said) b c → GrewSome (IsStarted left conf f outcome said) a c
+    GrewBy a b (Open None 0 [] conf (Ok tt) ∷ []) → GrewSome (IsService left conf f outcome said) b c →
+    GrewSome (IsStarted left conf f outcome said) a c
 opened left conf f outcome said socket serves =
-    then_some (IsService left f outcome said) (IsStarted left conf f outcome said) socket
+    then_some (IsService left conf f outcome said) (IsStarted left conf f outcome said) socket
     (λ ys h. Serving (record { rest = ys; whole = refl; serves = h })) serves
 
 -- ---- the memory

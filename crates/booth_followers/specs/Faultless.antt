@@ -1,11 +1,12 @@
 -- What a run ends with where the outside does not fail.
-use Rattle.std.specs.Prelude.{Contains, ℕ, List, Option, Ok, Err, Bool, true, false, T}
+use Rattle.std.specs.Prelude.{◌≡◌, ◌++◌, Contains, ℕ, List, [], ◌∷◌, Option, Result, Ok, Err, Bool, true, false, T}
 use Rattle.booth_base.specs.declared.address.Address.{Address}
 use Rattle.booth_conf.specs.Config.{ConfigSays}
 use Rattle.booth_conf.specs.Says.{Says}
 use Rattle.booth_follow_rule.specs.declared.margins.Margins.{Margins}
 use Rattle.booth_following.specs.Choosing.{IsChosen}
 use Rattle.booth_host.specs.declared.host.Failed.{Failed}
+use Rattle.booth_host.specs.declared.host.ReadFault.{ReadFault}
 use Rattle.booth_host.specs.declared.host.ReadFault.TheVariants as reads
 use Rattle.booth_host.specs.declared.entry.Entry.{Entry}
 use Rattle.booth_host.specs.declared.entry.Entry.TheVariants.{Open, ReadFile}
@@ -19,17 +20,29 @@ use Rattle.booth_outcomes.specs.declared.outcome.Outcome.TheVariants as outs
 use Rattle.booth_outcomes.specs.Keys.{IsKeyFile, NamesKeyFile}
 use Rattle.booth_followers.specs.Run.{IsFollowRun}
 
--- No call up to the turns failed for another reason than want of memory, and what was read is valid: each text of the
--- configuration says one in which the ticket can be followed so, and each key file that it names holds a key.
+-- calls that read files
+unfoldable pub AreReads : List Entry → Type 0
+AreReads [] = Unit {0}
+AreReads (ReadFile file answer ∷ rest) = AreReads rest
+AreReads (entry ∷ rest) = ⊥
+
+-- A file was read with this answer before the turns: only files were read before it.
+pub record IsReadFirst (entries : List Entry) (file : List ℕ) (answer : Result (List ℕ) ReadFault) : Type 0 where
+  pub before : List Entry
+  pub after : List Entry
+  pub whole : entries ≡ before ++ ReadFile file answer ∷ after
+  pub reads : AreReads before
+
+-- No call up to the turns failed for another reason than want of memory, and what was read then is valid: each text of
+-- the configuration says one in which the ticket can be followed so, and each key file that it names holds a key.
 pub record IsUnhindered (asked : FollowWords) (entries : List Entry) : Type 0 where
-  pub read : (file : List ℕ) → Contains entries (ReadFile file (Err reads.Failed)) → ⊥
-  pub valid : (text : List ℕ) → Contains entries (ReadFile asked.conf (Ok text))
+  pub read : (file : List ℕ) → IsReadFirst entries file (Err reads.Failed) → ⊥
+  pub valid : (text : List ℕ) → IsReadFirst entries asked.conf (Ok text)
       → (config : ConfigSays) × Says text config
-  pub fits : (text : List ℕ) (config : ConfigSays) → Contains entries (ReadFile asked.conf (Ok text)) → Says text config
+  pub fits : (text : List ℕ) (config : ConfigSays) → IsReadFirst entries asked.conf (Ok text) → Says text config
       → (margins : Margins) × IsChosen config asked.ticket asked.site asked.margin asked.kill margins
-  pub keyed : (text file key_text : List ℕ) (config : ConfigSays) → Contains entries (ReadFile asked.conf (Ok text))
-      → Says text config → NamesKeyFile config file → Contains entries (ReadFile file (Ok key_text))
-      → IsKeyFile key_text
+  pub keyed : (text file key_text : List ℕ) (config : ConfigSays) → IsReadFirst entries asked.conf (Ok text)
+      → Says text config → NamesKeyFile config file → IsReadFirst entries file (Ok key_text) → IsKeyFile key_text
   pub opened : (local : Option Address) (port : ℕ) (records conf_path : List ℕ) (failed : Failed)
       → Contains entries (Open local port records conf_path (Err failed)) → ⊥
 

@@ -1,3 +1,4 @@
+pub mod Rounds
 pub mod Service
 pub mod Run
 pub mod Faultless

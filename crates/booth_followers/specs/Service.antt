@@ -1,16 +1,13 @@
 -- The calls of a service that was asked for, up to where its outcome is decided, and what is then said.
-use Rattle.std.specs.Prelude.{◌≡◌, ◌++◌, ℕ, List, [], ◌∷◌, Option, None, Ok, Err, codes, Bool, true, false, T}
+use Rattle.std.specs.Prelude.{◌≡◌, ◌++◌, ℕ, List, [], ◌∷◌, Option, None, Ok, Err, Bool, true, false, T}
 use Rattle.booth_keys.specs.declared.ring.Ring.{Ring}
 use Rattle.booth_base.specs.declared.address.Peer.{Peer}
 use Rattle.booth_conf.specs.Config.{ConfigSays}
 use Rattle.booth_conf.specs.Says.{Says}
 use Rattle.booth_follow_rule.specs.declared.margins.Margins.{Margins}
 use Rattle.booth_following.specs.declared.following.Following.{Following}
-use Rattle.booth_following.specs.declared.turns.FollowEnd.{FollowEnd}
-use Rattle.booth_following.specs.declared.turns.FollowEnd.TheVariants.{Left, Spent}
 use Rattle.booth_following.specs.Choosing.{HasFault, IsChosen}
 use Rattle.booth_following.specs.Following.{IsFollowing}
-use Rattle.booth_following.specs.Turns.{IsFollowed}
 use Rattle.booth_host.specs.declared.host.Failed.{Failed}
 use Rattle.booth_host.specs.declared.entry.Entry.{Entry}
 use Rattle.booth_host.specs.declared.entry.Entry.TheVariants.{Open, ReadFile}
@@ -20,21 +17,7 @@ use Rattle.booth_outcomes.specs.declared.outcome.Outcome.TheVariants as outs
 use Rattle.booth_outcomes.specs.Configuration.{IsUnread}
 use Rattle.booth_outcomes.specs.Keys.{HasRing, IsKeyless, KeyTexts, key_calls}
 use Rattle.booth_outcomes.specs.Texts.{not_followed_text, out_of_memory_text, unopened_text}
-
--- ---- how it ends
-
--- how a following ends is how the run does
-abbrev pub EndsAs : FollowEnd → Outcome → List ℕ → Type 0
-EndsAs Left outs.Done said = said ≡ []
-EndsAs Spent outs.TurnsSpent said = said ≡ codes "turns spent"
-EndsAs end outcome said = ⊥
-
--- the service follows its ticket up to an end
-pub record IsService (left : Option ℕ) (f : Following) (outcome : Outcome) (said : List ℕ)
-    (entries : List Entry) : Type 0 where
-  pub end : FollowEnd
-  pub followed : IsFollowed f left end entries
-  pub ends : EndsAs end outcome said
+use Rattle.booth_followers.specs.Rounds.{IsService}
 
 -- ---- the socket
 
@@ -45,14 +28,14 @@ IsSocketless conf outs.OpenFault said entries = (said ≡ unopened_text)
 IsSocketless conf outcome said entries = ⊥
 
 -- it was opened at any address and port, under this configuration, and then the service followed its ticket
-pub record IsServing (left : Option ℕ) (conf : List ℕ) (f : Following) (outcome : Outcome) (said : List ℕ)
-    (entries : List Entry) : Type 0 where
+pub record IsServing (left : Option ℕ) (conf : List ℕ) (f : Following) (outcome : Outcome)
+    (said : List ℕ) (entries : List Entry) : Type 0 where
   pub rest : List Entry
   pub whole : entries ≡ Open None 0 [] conf (Ok tt) ∷ rest
-  pub serves : IsService left f outcome said rest
+  pub serves : IsService left conf f outcome said rest
 
-pub data IsStarted (left : Option ℕ) (conf : List ℕ) (f : Following) (outcome : Outcome) (said : List ℕ)
-    (entries : List Entry) : Type 0 where
+pub data IsStarted (left : Option ℕ) (conf : List ℕ) (f : Following) (outcome : Outcome)
+    (said : List ℕ) (entries : List Entry) : Type 0 where
   Socketless : IsSocketless conf outcome said entries → IsStarted left conf f outcome said entries
   Serving : IsServing left conf f outcome said entries → IsStarted left conf f outcome said entries
 

@@ -1,8 +1,14 @@
 //! What follows from the contracts, for all runs.
 ghost use Rattle.booth_followers.specs.Faultless.{FaultlessServices};
+ghost use Rattle.booth_followers.specs.Rounds.{RoundsAreTurns};
 
 /// Valid words, a valid file and keys, a ticket that can be followed so, and an outside that does not fail before the
 /// turns have `booth-follow` give Done, TurnsSpent or OutOfMemory.
 pub fn faultless_services()
     ensures { FaultlessServices }
+{}
+
+/// The turns of all rounds are turns of one following, whatever keys were read between them.
+pub fn rounds_are_turns()
+    ensures { RoundsAreTurns }
 {}

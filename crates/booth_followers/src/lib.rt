@@ -2,6 +2,7 @@
 #![tactic(auto)]
 
 pub mod laws;
+mod rounds;
 mod run;
 mod service;
 

@@ -4,51 +4,18 @@ ghost use Rattle.booth_host.specs.Past.{GrewBy, GrewSome};
 ghost use Rattle.booth_host.specs.Causes.{HasCause};
 ghost use Rattle.booth_host.specs.declared.entry.Entry.{Entry};
 ghost use Rattle.booth_outcomes.specs.Outcomes.{HasBlame};
-ghost use Rattle.booth_followers.specs.Service.{EndsAs, FollowsConfig, FollowsKey, FollowsMargins, IsFollowAnswered};
-ghost use Rattle.booth_followers.specs.Service.{IsFollowLog, IsService, IsStarted};
+ghost use Rattle.booth_followers.specs.Service.{FollowsConfig, FollowsKey, FollowsMargins, IsFollowAnswered, IsFollowLog, IsStarted};
 
+use crate::rounds::{Service, serve};
 use booth_base::{PathText, Peer};
 use booth_cli::FollowWords;
 use booth_conf::Config;
 use booth_follow_rule::Margins;
-use booth_following::{FollowEnd, Following, Room, Setting, Watch, follow, margins_for};
+use booth_following::{Following, Room, Setting, Watch, margins_for};
 use booth_host::{Failed, Host, Place};
 use booth_keys::Ring;
-use booth_outcomes::{Ended, ErrorLine, Outcome, read_config, read_ring, texts};
+use booth_outcomes::{Ended, Outcome, read_config, read_ring, texts};
 use std::alloc::Global;
-
-fn ended_as(end: FollowEnd) -> Ended
-    ensures ends { EndsAs end result.outcome result.said }
-    ensures served { IsFollowAnswered result.outcome }
-{
-    match end {
-        FollowEnd::Left => Ended {
-            outcome: Outcome::Done,
-            said: ErrorLine::none(),
-        },
-        FollowEnd::Spent => Ended {
-            outcome: Outcome::TurnsSpent,
-            said: texts::line_of(b"turns spent"),
-        },
-    }
-}
-
-// The service follows its ticket, until the end is asked for.
-fn serve<H: Host, W: Watch>(
-    f: &Following,
-    setting: &mut Setting<W>,
-    room: &mut Room,
-    host: &mut H,
-) -> Ended
-    ensures past { GrewSome (IsService setting.old.left f.now result.outcome result.said)
-        (H.past host.old) (H.past host.new) }
-    ensures served { IsFollowAnswered result.outcome }
-    ensures blame { HasBlame result.outcome (H.faults host.old) (H.faults host.new) }
-    ensures later { H.faults host.old ≤ H.faults host.new }
-{
-    let end = follow(f, setting, room, host);
-    ended_as(end)
-}
 
 fn no_path() -> PathText
     ensures { result ≡ [] }
@@ -75,20 +42,20 @@ fn open_socket<H: Host>(conf: PathText, host: &mut H) -> Result<(), Failed>
 
 // What follows the memory: the socket, and the service.
 fn start<H: Host, W: Watch>(
-    conf: PathText,
-    f: &Following,
+    alloc: Global,
+    service: &mut Service,
     setting: &mut Setting<W>,
     room: &mut Room,
     host: &mut H,
 ) -> Ended
-    ensures past { GrewSome (IsStarted setting.old.left conf f.now result.outcome result.said)
+    ensures past { GrewSome (IsStarted setting.old.left service.old.conf service.old.following result.outcome result.said)
         (H.past host.old) (H.past host.new) }
     ensures served { IsFollowAnswered result.outcome }
     ensures blame { HasBlame result.outcome (H.faults host.old) (H.faults host.new) }
     ensures later { H.faults host.old ≤ H.faults host.new }
 {
-    match open_socket(conf, host) {
-        Ok(()) => serve(f, setting, room, host),
+    match open_socket(service.conf.copy(), host) {
+        Ok(()) => serve(alloc, service, setting, room, host),
         Err(Failed) => Ended {
             outcome: Outcome::OpenFault,
             said: texts::unopened_text(),
@@ -119,10 +86,14 @@ fn set_out<H: Host, W: Watch>(
     let Ok(mut room) = Room::new(alloc) else {
         return Ended::out_of_memory();
     };
-    let Ok(f) = Following::new(alloc, ring, asked.ticket, to, asked.program, margins) else {
+    let Ok(following) = Following::new(alloc, ring, asked.ticket, to, asked.program, margins) else {
         return Ended::out_of_memory();
     };
-    start(asked.conf, &f, setting, &mut room, host)
+    let mut service = Service {
+        conf: asked.conf,
+        following,
+    };
+    start(alloc, &mut service, setting, &mut room, host)
 }
 
 // What follows margins that fit: the key, and all behind it.

@@ -1,3 +1,4 @@
 pub mod LineLemmas
 pub mod TurnLemmas
 pub mod LawLemmas
+pub mod JoinedTurns

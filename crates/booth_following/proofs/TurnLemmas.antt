@@ -1,6 +1,7 @@
 -- A following over a host, turn by turn.
-use Rattle.std.specs.Prelude.{Option, Result}
-use Rattle.std.proofs.Common.{◌≡◌, ◌+◌, ℕ, Bool, List, [], ◌∷◌, ◌++◌, refl, sym, ap, subst, ◌∙◌, append_assoc, append-nil}
+use Rattle.std.specs.Prelude.{◌≢◌, Option, None, Result}
+use Rattle.booth_keys.specs.declared.ring.Ring.{Ring}
+use Rattle.std.proofs.Common.{◌≡◌, ◌+◌, ◌⊎◌, inl, inr, ℕ, Bool, true, false, List, [], ◌∷◌, ◌++◌, refl, sym, ap, subst, ◌∙◌, append_assoc, append-nil}
 use Rattle.std.proofs.lemmas.List.{length-append}
 use Rattle.booth_host.specs.declared.entry.Entry.{Entry}
 use Rattle.booth_host.specs.declared.entry.Entry.TheVariants.{Next, Now}
@@ -12,11 +13,14 @@ use Rattle.booth_follow_rule.specs.declared.follower.Follower.{Follower}
 use Rattle.booth_follow_rule.specs.declared.news.News.{News}
 use Rattle.booth_follow_rule.specs.declared.state.FollowDeed.{FollowDeed}
 use Rattle.booth_follow_rule.specs.declared.state.FollowDeed.TheVariants as deeds
+use Rattle.booth_follow_rule.specs.declared.state.Word.{Word}
 use Rattle.booth_follow_rule.specs.Rule.{state_after}
 use Rattle.booth_following.specs.declared.following.Following.{Following}
 use Rattle.booth_following.specs.declared.following.Seat.{Seat}
+use Rattle.booth_following.specs.declared.turns.Awaited.{Awaited}
+use Rattle.booth_following.specs.declared.turns.Made.{Made}
 use Rattle.booth_following.specs.Hearing.{IsNews, failed_left}
-use Rattle.booth_following.specs.Turns.{AreTurns, IsLeft, IsToldIn, IsTurn, IsUnderway, Turn, ask_calls, asked_after, asks, calls_from, deed_of, failed_after, first_seat, moment_of, run_calls, seat_after, seat_from, turn_calls}
+use Rattle.booth_following.specs.Turns.{AreHeard, AreTurns, AreUnder, IsEnded, IsSilent, IsToldIn, IsTurn, IsUnderway, Leaves, Turn, ask_calls, asked_after, asks, awaited_after, awaited_from, calls_from, deed_of, failed_after, is_unheard, made_by, moment_of, run_calls, seat_after, seat_from, turn_calls}
 
 -- ---- one turn
 
@@ -32,20 +36,22 @@ pub one_turn : (f : Following) (old : Seat) (follower : Follower) (deed : Follow
     (started sent : Result (Unit {0}) Failed) {answer : Result Arrival Failed} {bytes : List ℕ} {reading : ℕ} {a b c d e : Option (List Entry)} →
     GrewBy a b (Next 100 answer bytes ∷ []) → GrewBy b c (Now reading ∷ []) → GrewBy c d (run_calls f deed started) →
     GrewBy d e (ask_calls f asking reading sent) → IsNews f old.asked old.failed answer bytes heard →
-    (let t : Turn = record { answer = answer; bytes = bytes; reading = reading; heard = heard; started = started; sent = sent } in
+    (let t : Turn = record { ring = f.ring; answer = answer; bytes = bytes; reading = reading; heard = heard; started = started; sent = sent } in
     deed ≡ deed_of old t → follower.margins ≡ old.follower.margins →
     follower.state ≡ state_after old.follower.margins old.follower.state (moment_of t) →
     left ≡ failed_left old.failed answer → failed ≡ failed_after left deed started →
     asking ≡ asks deed old.asked reading → asked ≡ asked_after asking reading old.asked →
-    GrewSome (IsTurn f old (seat_of follower asked failed) deed) a e)
+    GrewSome (IsTurn f old (seat_of follower asked failed) (record { deed = deed; reading = reading; heard = heard })) a e)
 one_turn f old follower deed heard left asked failed asking started sent {answer} {bytes} {reading} next now run ask told deed_is margins state left_is failed_is asking_is asked_is =
-    let t : Turn = record { answer = answer; bytes = bytes; reading = reading; heard = heard; started = started; sent = sent } in
+    let t : Turn = record { ring = f.ring; answer = answer; bytes = bytes; reading = reading; heard = heard; started = started; sent = sent } in
     let asks_is : asking ≡ asks (deed_of old t) old.asked reading = asking_is ∙ ap (λ (d : FollowDeed). asks d old.asked reading) deed_is in
     let new : Seat = seat_after old t in
-    some_of (IsTurn f old (seat_of follower asked failed) deed) (one_more next (one_more now (joined run ask))) (record {
+    some_of (IsTurn f old (seat_of follower asked failed) (record { deed = deed; reading = reading; heard = heard }))
+    (one_more next (one_more now (joined run ask))) (record {
       t = t;
+      ring = refl;
       told = told;
-      deed_is = deed_is;
+      made_is = ap (λ (d : FollowDeed). record { deed = d; reading = reading; heard = heard }) deed_is;
       stands = same_seat follower new.follower asked new.asked failed new.failed margins state
           (asked_is ∙ ap (λ (b : Bool). asked_after b reading old.asked) asks_is)
           (failed_is ∙ ap (λ (o : Option ℕ). failed_after o deed started) left_is
@@ -75,41 +81,84 @@ unfolding AreTurns seat_from
 told_push f seat [] t told last = (last, tt)
 told_push f seat (q ∷ ts) t told last = (told.0, told_push f (seat_after seat q) ts t told.1 last)
 
-pub no_turn : (f : Following) (left : Option ℕ) {a : Option (List Entry)} → GrewSome (IsUnderway f left (first_seat f left) 0) a a
-unfolding seat_from calls_from AreTurns
-no_turn f left = some_of (IsUnderway f left (first_seat f left) 0) no_entry (record { turns = []; number = refl; told = tt; stands = refl; whole = refl })
+rings_push : (ring : Option Ring) (ts : List Turn) (t : Turn) → AreUnder ring ts → t.ring ≡ ring → AreUnder ring (ts ++ t ∷ [])
+unfolding AreUnder
+rings_push ring [] t are last = (last, tt)
+rings_push ring (q ∷ ts) t are last = (are.0, rings_push ring ts t are.1 last)
 
-underway_then : (f : Following) (left : Option ℕ) (old new : Seat) (count : ℕ) (deed : FollowDeed) (xs ys : List Entry) → IsUnderway f left old count xs → IsTurn f old new deed ys →
-    IsUnderway f left new (count + 1) (xs ++ ys)
-underway_then f left old new count deed xs ys so turn =
-    let at : Seat = seat_from (first_seat f left) so.turns in
+awaited_push : (awaited : Option Awaited) (ts : List Turn) (t : Turn) →
+    awaited_from awaited (ts ++ t ∷ []) ≡ awaited_after (awaited_from awaited ts) t.heard t.reading
+unfolding awaited_from
+awaited_push awaited [] t = refl
+awaited_push awaited (q ∷ ts) t = awaited_push (awaited_after awaited q.heard q.reading) ts t
+
+heard_push : (awaited : Option Awaited) (ts : List Turn) (t : Turn) → AreHeard awaited ts →
+    is_unheard (awaited_after (awaited_from awaited ts) t.heard t.reading) t.reading ≡ false → AreHeard awaited (ts ++ t ∷ [])
+unfolding AreHeard awaited_from
+heard_push awaited [] t are last = (last, tt)
+heard_push awaited (q ∷ ts) t are last = (are.0, heard_push (awaited_after awaited q.heard q.reading) ts t are.1 last)
+
+pub no_turn : (f : Following) (from : Seat) {a : Option (List Entry)} → GrewSome (IsUnderway f from from None 0) a a
+unfolding seat_from calls_from AreTurns AreUnder AreHeard awaited_from
+no_turn f from =
+    some_of (IsUnderway f from from None 0) no_entry
+    (record { turns = []; number = refl; rings = tt; told = tt; heard = tt; awaits = refl; stands = refl; whole = refl })
+
+-- since when a list is awaited after a turn
+abbrev pub awaits_then : Option Awaited → Made → Option Awaited
+awaits_then awaited made = awaited_after awaited made.heard made.reading
+
+underway_then : (f : Following) (from old new : Seat) (awaited : Option Awaited) (count : ℕ) (made : Made) (xs ys : List Entry) →
+    is_unheard (awaits_then awaited made) made.reading ≡ false → IsUnderway f from old awaited count xs → IsTurn f old new made ys →
+    IsUnderway f from new (awaits_then awaited made) (count + 1) (xs ++ ys)
+underway_then f from old new awaited count made xs ys on so turn =
+    let at : Seat = seat_from from so.turns in
+    let made_is : made ≡ made_by old turn.t = turn.made_is in
+    let last_is : awaited_after (awaited_from None so.turns) turn.t.heard turn.t.reading ≡ awaits_then awaited made =
+    ap (λ (o : Option Awaited). awaited_after o turn.t.heard turn.t.reading) so.awaits ∙ ap (λ (m : Made). awaits_then awaited m) (sym made_is) in
     record {
       turns = so.turns ++ turn.t ∷ [];
       number = length-append so.turns (turn.t ∷ []) ∙ ap (λ (n : ℕ). n + 1) so.number;
-      told = told_push f (first_seat f left) so.turns turn.t so.told (subst (λ (s : Seat). IsToldIn f s turn.t) (sym so.stands) turn.told);
-      stands = seat_push (first_seat f left) so.turns turn.t ∙ ap (λ (s : Seat). seat_after s turn.t) so.stands ∙ sym turn.stands;
-      whole = ap (λ (es : List Entry). es ++ ys) so.whole ∙ ap (λ (es : List Entry). calls_from f (first_seat f left) so.turns ++ es) turn.whole
-          ∙ ap (λ (s : Seat). calls_from f (first_seat f left) so.turns ++ turn_calls f s turn.t) (sym so.stands)
-          ∙ sym (calls_push f (first_seat f left) so.turns turn.t);
+      rings = rings_push f.ring so.turns turn.t so.rings turn.ring;
+      told = told_push f from so.turns turn.t so.told (subst (λ (s : Seat). IsToldIn f s turn.t) (sym so.stands) turn.told);
+      heard = heard_push None so.turns turn.t so.heard
+          (ap (λ (o : Option Awaited). is_unheard o turn.t.reading) last_is
+          ∙ ap (λ (m : Made). is_unheard (awaits_then awaited made) m.reading) (sym made_is) ∙ on);
+      awaits = awaited_push None so.turns turn.t ∙ last_is;
+      stands = seat_push from so.turns turn.t ∙ ap (λ (s : Seat). seat_after s turn.t) so.stands ∙ sym turn.stands;
+      whole = ap (λ (es : List Entry). es ++ ys) so.whole ∙ ap (λ (es : List Entry). calls_from f from so.turns ++ es) turn.whole
+          ∙ ap (λ (s : Seat). calls_from f from so.turns ++ turn_calls f s turn.t) (sym so.stands)
+          ∙ sym (calls_push f from so.turns turn.t);
     }
 
-pub one_more_turn : (f : Following) (left : Option ℕ) (old new : Seat) (count : ℕ) (deed : FollowDeed) {a b c : Option (List Entry)} → GrewSome (IsUnderway f left old count) a b →
-    GrewSome (IsTurn f old new deed) b c → GrewSome (IsUnderway f left new (count + 1)) a c
-one_more_turn f left old new count deed first second =
-    some_joined (IsUnderway f left old count) (IsTurn f old new deed) (IsUnderway f left new (count + 1)) (underway_then f left old new count deed) first second
+pub one_more_turn : (f : Following) (from old new : Seat) (awaited : Option Awaited) (count : ℕ) (made : Made) {a b c : Option (List Entry)} →
+    is_unheard (awaits_then awaited made) made.reading ≡ false → GrewSome (IsUnderway f from old awaited count) a b →
+    GrewSome (IsTurn f old new made) b c → GrewSome (IsUnderway f from new (awaits_then awaited made) (count + 1)) a c
+one_more_turn f from old new awaited count made on first second =
+    some_joined (IsUnderway f from old awaited count) (IsTurn f old new made) (IsUnderway f from new (awaits_then awaited made) (count + 1))
+    (λ xs ys so turn. underway_then f from old new awaited count made xs ys on so turn) first second
 
-left_then : (f : Following) (left : Option ℕ) (old new : Seat) (count : ℕ) (xs ys : List Entry) → IsUnderway f left old count xs → IsTurn f old new deeds.Leave ys → IsLeft f left (xs ++ ys)
-left_then f left old new count xs ys so turn = record {
-  turns = so.turns;
-  last = turn.t;
-  told = so.told;
-  told_last = subst (λ (s : Seat). IsToldIn f s turn.t) (sym so.stands) turn.told;
-  whole = ap (λ (es : List Entry). es ++ ys) so.whole ∙ ap (λ (es : List Entry). calls_from f (first_seat f left) so.turns ++ es) turn.whole
-      ∙ ap (λ (s : Seat). calls_from f (first_seat f left) so.turns ++ turn_calls f s turn.t) (sym so.stands);
-  leaves = ap (λ (s : Seat). deed_of s turn.t) so.stands ∙ sym turn.deed_is;
-}
+-- turns, and a last one that ends them so
+pub ended_by : (f : Following) (from old new : Seat) (awaited : Option Awaited) (count : ℕ) (made : Made) (ends : Option Awaited → Made → Type 0)
+    {a b c : Option (List Entry)} → ends awaited made → GrewSome (IsUnderway f from old awaited count) a b →
+    GrewSome (IsTurn f old new made) b c → GrewSome (IsEnded f from new ends) a c
+ended_by f from old new awaited count made ends so first second =
+    some_joined (IsUnderway f from old awaited count) (IsTurn f old new made) (IsEnded f from new ends)
+    (λ xs ys underway turn. record {
+      count = count;
+      seat = old;
+      awaited = awaited;
+      made = made;
+      before = xs;
+      last = ys;
+      underway = underway;
+      turn = turn;
+      ends_so = so;
+      whole = refl;
+    }) first second
 
-pub left_by : (f : Following) (left : Option ℕ) (old new : Seat) (count : ℕ) {a b c : Option (List Entry)} → GrewSome (IsUnderway f left old count) a b →
-    GrewSome (IsTurn f old new deeds.Leave) b c → GrewSome (IsLeft f left) a c
-left_by f left old new count first second =
-    some_joined (IsUnderway f left old count) (IsTurn f old new deeds.Leave) (IsLeft f left) (left_then f left old new count) first second
+-- what does nothing, and what runs something, does not leave
+pub stays : (deed : FollowDeed) → (deed ≡ deeds.Nothing) ⊎ ((word : Word) × (number : ℕ) × (until : ℕ) × (deed ≡ deeds.Run word number until)) →
+    deed ≢ deeds.Leave
+stays deed (inl e) same = let x : deeds.Nothing ≡ deeds.Leave = sym e ∙ same in absurd cc
+stays deed (inr r) same = let x : deeds.Run r.0 r.1 r.2 ≡ deeds.Leave = sym r.3 ∙ same in absurd cc

@@ -18,3 +18,15 @@ pub record IsFollowing (ring : Option Ring) (ticket : List ℕ) (to : Peer) (pro
   pub line_is : f.line ≡ line_start ticket to.address
   pub programs_are : f.programs ≡ programs
   pub margins_are : f.margins ≡ margins
+
+-- the same with these keys
+abbrev pub under : Following → Option Ring → Following
+under f ring = record {
+  ring = ring;
+  ticket = f.ticket;
+  to = f.to;
+  me = f.me;
+  line = f.line;
+  programs = f.programs;
+  margins = f.margins;
+}

@@ -15,7 +15,12 @@ use Rattle.booth_following.specs.declared.following.Following.{Following}
 use Rattle.booth_following.specs.Asking.{number_of}
 use Rattle.booth_following.specs.Hearing.{IsHeard, is_whole, part_in}
 use Rattle.booth_following.specs.Lists.{IsLine, IsShownIn, Part, TellsOf}
-use Rattle.booth_following.specs.Turns.{Turn, deeds_of, first_seat, moment_of}
+use Rattle.booth_following.specs.declared.following.Seat.{Seat}
+use Rattle.booth_following.specs.declared.turns.FollowEnd.TheVariants.{Unheard}
+use Rattle.booth_following.specs.Following.{under}
+use Rattle.booth_following.specs.Turns.{AreTurnsTo, IsFollowed, Turn, deeds_of, first_seat, moment_of}
+use Rattle.booth_keys.specs.declared.ring.Ring.{Ring}
+use Rattle.booth_host.specs.declared.entry.Entry.{Entry}
 
 -- ---- the rule
 
@@ -36,6 +41,15 @@ pub record TurnsFollowTheRule : Type 0 where
       2 * gap + quick ≤ f.margins.kill → f.margins.kill ≤ f.margins.margin →
       AllRows (IsPrompt gap quick) (known_first left) (rows_in f left turns)
       → AllRows (IsCovered gap) (known_first left) (rows_in f left turns)
+
+-- The turns up to silence are turns of the following; so are those that it makes with other keys, and turns behind others.
+pub record TurnsGoOn : Type 0 where
+  pub silent : (f : Following) (from to : Seat) (entries : List Entry) →
+      IsFollowed f from to Unheard entries → AreTurnsTo f from to entries
+  pub rekeyed : (f : Following) (ring : Option Ring) (from to : Seat) (entries : List Entry) →
+      AreTurnsTo (under f ring) from to entries → AreTurnsTo f from to entries
+  pub joined : (f : Following) (from at to : Seat) (first second : List Entry) →
+      AreTurnsTo f from at first → AreTurnsTo f at to second → AreTurnsTo f from to (first ++ second)
 
 -- ---- lists
 

@@ -1,10 +1,12 @@
--- A following over a host: the calls of a turn, and all of them.
-use Rattle.std.specs.Prelude.{◌≡◌, ◌+◌, ◌/◌, ◌++◌, ◌||◌, ℕ, Bool, true, false, nat_le, nat_lt, List, [], ◌∷◌, length, Option, Some, None, Result, Ok, Err}
+-- A following over a host: the calls of a turn, and those of turns up to an end.
+use Rattle.std.specs.Prelude.{◌≡◌, ◌≢◌, ◌+◌, ◌/◌, ◌++◌, ◌||◌, ℕ, Bool, true, false, nat_le, nat_lt, List, [], ◌∷◌, length, Option, Some, None, Result, Ok, Err}
+use Rattle.booth_keys.specs.declared.ring.Ring.{Ring}
 use Rattle.booth_host.specs.declared.host.Arrival.{Arrival}
 use Rattle.booth_host.specs.declared.host.Failed.{Failed}
 use Rattle.booth_host.specs.declared.entry.Entry.{Entry}
 use Rattle.booth_host.specs.declared.entry.Entry.TheVariants.{Next, Now, Send, Start}
 use Rattle.booth_follow_rule.specs.declared.news.News.{News}
+use Rattle.booth_follow_rule.specs.declared.news.News.TheVariants as news
 use Rattle.booth_follow_rule.specs.declared.state.FollowDeed.{FollowDeed}
 use Rattle.booth_follow_rule.specs.declared.state.FollowDeed.TheVariants as deeds
 use Rattle.booth_follow_rule.specs.Rule.{Moment, follow_step, opening, state_after}
@@ -12,7 +14,11 @@ use Rattle.booth_following.specs.declared.following.Following.{Following}
 use Rattle.booth_following.specs.declared.following.Seat.{Seat}
 use Rattle.booth_following.specs.declared.turns.TheConstants.{MOST_TURNS}
 use Rattle.booth_following.specs.declared.turns.FollowEnd.{FollowEnd}
-use Rattle.booth_following.specs.declared.turns.FollowEnd.TheVariants.{Left, Spent}
+use Rattle.booth_following.specs.declared.turns.FollowEnd.TheVariants.{Left, Spent, Unheard}
+use Rattle.booth_following.specs.declared.turns.Awaited.{Awaited}
+use Rattle.booth_following.specs.declared.turns.Awaited.TheVariants.{Begun, Told}
+use Rattle.booth_following.specs.declared.turns.Made.{Made}
+use Rattle.booth_following.specs.Following.{under}
 use Rattle.booth_following.specs.Asking.{request_bytes}
 use Rattle.booth_following.specs.Hearing.{IsNews, failed_left}
 use Rattle.booth_following.specs.Programs.{program_for}
@@ -22,8 +28,10 @@ abbrev pub first_seat : Following → Option ℕ → Seat
 first_seat f left =
     record { follower = record { margins = f.margins; state = opening left }; asked = None; failed = None }
 
--- An arrival and a reading, what the arrival tells, how the start of a run was answered, and how a request was.
+-- The keys of a turn, an arrival and a reading, what the arrival tells, how the start of a run was answered, and how a
+-- request was.
 pub record Turn : Type 0 where
+  pub ring : Option Ring
   pub answer : Result Arrival Failed
   pub bytes : List ℕ
   pub reading : ℕ
@@ -76,7 +84,7 @@ abbrev pub turn_calls : Following → Seat → Turn → List Entry
 turn_calls f seat t =
     Next 100 t.answer t.bytes ∷ Now t.reading
     ∷ (run_calls f (deed_of seat t) t.started
-    ++ ask_calls f (asks (deed_of seat t) seat.asked t.reading) t.reading t.sent)
+    ++ ask_calls (under f t.ring) (asks (deed_of seat t) seat.asked t.reading) t.reading t.sent)
 
 abbrev pub seat_after : Seat → Turn → Seat
 seat_after seat t = record {
@@ -88,17 +96,40 @@ seat_after seat t = record {
   failed = failed_after (failed_left seat.failed t.answer) (deed_of seat t) t.started;
 }
 
--- what its arrival tells
+-- what its arrival tells, by the keys of the turn
 abbrev pub IsToldIn : Following → Seat → Turn → Type 0
-IsToldIn f seat t = IsNews f seat.asked seat.failed t.answer t.bytes t.heard
+IsToldIn f seat t = IsNews (under f t.ring) seat.asked seat.failed t.answer t.bytes t.heard
 
--- the calls of one turn, with this deed
-pub record IsTurn (f : Following) (old new : Seat) (deed : FollowDeed) (entries : List Entry) : Type 0 where
+-- what became of a turn: its deed, its reading, and what it was told
+abbrev pub made_by : Seat → Turn → Made
+made_by seat t = record { deed = deed_of seat t; reading = t.reading; heard = t.heard }
+
+-- the calls of one turn by the following's own keys, and what became of it
+pub record IsTurn (f : Following) (old new : Seat) (made : Made) (entries : List Entry) : Type 0 where
   pub t : Turn
+  pub ring : t.ring ≡ f.ring
   pub told : IsToldIn f old t
-  pub deed_is : deed ≡ deed_of old t
+  pub made_is : made ≡ made_by old t
   pub stands : new ≡ seat_after old t
   pub whole : entries ≡ turn_calls f old t
+
+-- ---- silence
+
+-- since when a list is awaited: the reading of the turn that told one last, or that of the first turn
+abbrev pub awaited_after : Option Awaited → News → ℕ → Option Awaited
+awaited_after awaited (news.List shown) reading = Some (Told reading)
+awaited_after None heard reading = Some (Begun reading)
+awaited_after (Some since) heard reading = Some since
+
+-- a time is over since a reading, or the clock ran back
+abbrev pub is_over : ℕ → ℕ → ℕ → Bool
+is_over time since reading = nat_le (since + time) reading || nat_lt reading since
+
+-- a list is awaited for too long: for 1.5 s behind one, and for 10 s where none came
+abbrev pub is_unheard : Option Awaited → ℕ → Bool
+is_unheard None reading = false
+is_unheard (Some (Told since)) reading = is_over 1500 since reading
+is_unheard (Some (Begun since)) reading = is_over 10000 since reading
 
 -- ---- turn after turn
 
@@ -119,26 +150,67 @@ unfoldable pub deeds_of : Seat → List Turn → List FollowDeed
 deeds_of seat [] = []
 deeds_of seat (t ∷ ts) = deed_of seat t ∷ deeds_of (seat_after seat t) ts
 
--- so many turns, after which the following stands so
-pub record IsUnderway (f : Following) (left : Option ℕ) (seat : Seat) (count : ℕ) (entries : List Entry)
+-- all turns have these keys
+unfoldable pub AreUnder : Option Ring → List Turn → Type 0
+AreUnder ring [] = Unit {0}
+AreUnder ring (t ∷ ts) = (t.ring ≡ ring) × AreUnder ring ts
+
+unfoldable pub awaited_from : Option Awaited → List Turn → Option Awaited
+awaited_from awaited [] = awaited
+awaited_from awaited (t ∷ ts) = awaited_from (awaited_after awaited t.heard t.reading) ts
+
+-- after no turn a list is awaited for too long
+unfoldable pub AreHeard : Option Awaited → List Turn → Type 0
+AreHeard awaited [] = Unit {0}
+AreHeard awaited (t ∷ ts) =
+    (is_unheard (awaited_after awaited t.heard t.reading) t.reading ≡ false)
+    × AreHeard (awaited_after awaited t.heard t.reading) ts
+
+-- So many turns by the following's own keys, none of which ended in silence, after which it stands so; and since when a
+-- list is awaited then.
+pub record IsUnderway (f : Following) (from seat : Seat) (awaited : Option Awaited) (count : ℕ) (entries : List Entry)
     : Type 0 where
   pub turns : List Turn
   pub number : length turns ≡ count
-  pub told : AreTurns f (first_seat f left) turns
-  pub stands : seat_from (first_seat f left) turns ≡ seat
-  pub whole : entries ≡ calls_from f (first_seat f left) turns
+  pub rings : AreUnder f.ring turns
+  pub told : AreTurns f from turns
+  pub heard : AreHeard None turns
+  pub awaits : awaited_from None turns ≡ awaited
+  pub stands : seat_from from turns ≡ seat
+  pub whole : entries ≡ calls_from f from turns
 
--- turns, and a last one in which the follower leaves
-pub record IsLeft (f : Following) (left : Option ℕ) (entries : List Entry) : Type 0 where
+-- Turns, and a last one that ends them.
+pub record IsEnded (f : Following) (from to : Seat) (ends : Option Awaited → Made → Type 0) (entries : List Entry)
+    : Type 0 where
+  pub count : ℕ
+  pub seat : Seat
+  pub awaited : Option Awaited
+  pub made : Made
+  pub before : List Entry
+  pub last : List Entry
+  pub underway : IsUnderway f from seat awaited count before
+  pub turn : IsTurn f seat to made last
+  pub ends_so : ends awaited made
+  pub whole : entries ≡ before ++ last
+
+-- in it the follower leaves
+abbrev pub Leaves : Option Awaited → Made → Type 0
+Leaves awaited made = made.deed ≡ deeds.Leave
+
+-- in it the follower does not leave, and a list is awaited for too long
+abbrev pub IsSilent : Option Awaited → Made → Type 0
+IsSilent awaited made =
+    (made.deed ≢ deeds.Leave) × (is_unheard (awaited_after awaited made.heard made.reading) made.reading ≡ true)
+
+-- All calls of a following from one seat to another, by how it ended.
+abbrev pub IsFollowed : Following → Seat → Seat → FollowEnd → List Entry → Type 0
+IsFollowed f from to Left entries = IsEnded f from to Leaves entries
+IsFollowed f from to Unheard entries = IsEnded f from to IsSilent entries
+IsFollowed f from to Spent entries = (awaited : Option Awaited) × IsUnderway f from to awaited MOST_TURNS entries
+
+-- turns of a following from this seat to that one, by whatever keys, whose calls are these
+pub record AreTurnsTo (f : Following) (from to : Seat) (entries : List Entry) : Type 0 where
   pub turns : List Turn
-  pub last : Turn
-  pub told : AreTurns f (first_seat f left) turns
-  pub told_last : IsToldIn f (seat_from (first_seat f left) turns) last
-  pub whole : entries ≡ calls_from f (first_seat f left) turns
-      ++ turn_calls f (seat_from (first_seat f left) turns) last
-  pub leaves : deed_of (seat_from (first_seat f left) turns) last ≡ deeds.Leave
-
--- All calls of a following to which an earlier one left such an end, by how it ended.
-abbrev pub IsFollowed : Following → Option ℕ → FollowEnd → List Entry → Type 0
-IsFollowed f left Left entries = IsLeft f left entries
-IsFollowed f left Spent entries = (seat : Seat) × IsUnderway f left seat MOST_TURNS entries
+  pub told : AreTurns f from turns
+  pub stands : seat_from from turns ≡ to
+  pub calls : entries ≡ calls_from f from turns

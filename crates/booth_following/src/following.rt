@@ -3,7 +3,7 @@ ghost use Rattle.std.specs.Prelude.{◌≡◌, [], IfOk, None};
 ghost use Rattle.booth_base.specs.Address.{id_of};
 ghost use Rattle.booth_following.specs.Lists.{line_start};
 ghost use Rattle.booth_following.specs.Turns.{first_seat};
-ghost use Rattle.booth_following.specs.Following.{IsFollowing};
+ghost use Rattle.booth_following.specs.Following.{IsFollowing, under};
 
 use crate::lines::TicketLine;
 use crate::programs::Programs;
@@ -52,6 +52,13 @@ impl Following {
             margins,
         })
     }
+
+    /// What is asked and heard from now on has these keys.
+    pub fn set_ring(&mut self, ring: Option<Ring>)
+        ensures { self.new ≡ under self.old ring }
+    {
+        self.ring = ring;
+    }
 }
 
 /// The memory of a following: a frame to send, and a datagram that arrives.
@@ -74,21 +81,23 @@ impl Room {
 
 /// What is taken along from turn to turn.
 #[derive(Clone, Copy)]
-pub(crate) struct Seat {
-    pub follower: Follower,
+pub struct Seat {
+    pub(crate) follower: Follower,
     /// The reading at which the list was asked for last.
-    pub asked: Option<u64>,
+    pub(crate) asked: Option<u64>,
     /// The number of a run that could not be begun, until the follower is told.
-    pub failed: Option<u64>,
+    pub(crate) failed: Option<u64>,
 }
 
-/// Where a following begins to which an earlier one left such an end.
-pub(crate) fn first_seat(f: &Following, left: Option<u64>) -> Seat
-    ensures { result ≡ first_seat f.now left }
-{
-    Seat {
-        follower: Follower::new(f.margins, left),
-        asked: None,
-        failed: None,
+impl Seat {
+    /// Where a following begins to which an earlier one left such an end, in milliseconds.
+    pub fn first(f: &Following, left: Option<u64>) -> Seat
+        ensures { result ≡ first_seat f.now left }
+    {
+        Seat {
+            follower: Follower::new(f.margins, left),
+            asked: None,
+            failed: None,
+        }
     }
 }

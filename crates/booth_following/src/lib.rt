@@ -12,7 +12,7 @@ mod turns;
 mod watching;
 
 pub use choosing::{FollowFault, margins_for};
-pub use following::{Following, Room};
+pub use following::{Following, Room, Seat};
 pub use lines::TicketLine;
 pub use programs::{PATH_BYTES, PROGRAM_BYTES, Programs};
 pub use turns::{FollowEnd, follow};

@@ -2,17 +2,23 @@
 ghost use Rattle.std.specs.Prelude.{◌≡◌, ◌≤◌, ◌/◌};
 ghost use Rattle.booth_following.specs.Programs.{program_for};
 ghost use Rattle.booth_host.specs.Past.{GrewBy, GrewSome};
-ghost use Rattle.booth_following.specs.Turns.{IsFollowed, IsTurn, ask_calls, asked_after, asks, failed_after, is_due, run_calls};
+ghost use Rattle.booth_following.specs.Turns.{IsFollowed, IsTurn, ask_calls, asked_after, asks, awaited_after, failed_after, is_due, is_over, is_unheard, run_calls};
 
 use crate::asking::put_request;
-use crate::following::{Following, Room, Seat, first_seat};
+use crate::following::{Following, Room, Seat};
 use crate::hearing::{failed_left, news_of};
-use crate::watching::{Seen, Setting, Watch};
-use booth_follow_rule::{FollowDeed, Word};
+use crate::watching::{Seen, Watch};
+use booth_follow_rule::{FollowDeed, News, Word};
 use booth_host::{Arrival, Failed, Host, Job};
 
 /// How long a list is not asked for again, in milliseconds.
 const ASK_EVERY: u64 = 1_000;
+
+/// How long a list is awaited behind one before a following ends, in milliseconds: a request was not answered.
+const SILENT_FOR: u64 = 1_500;
+
+/// How long the first list is awaited before a following ends, in milliseconds.
+const UNHEARD_FOR: u64 = 10_000;
 
 /// How many turns a following makes at most.
 const MOST_TURNS: u64 = 1 << 62;
@@ -113,6 +119,16 @@ fn status_of(answer: &Result<Arrival, Failed>) -> Option<i32> {
     }
 }
 
+/// What became of a turn.
+#[derive(Clone, Copy)]
+pub(crate) struct Made {
+    pub deed: FollowDeed,
+    /// The reading of the turn, in milliseconds.
+    pub reading: u64,
+    /// What came before it.
+    pub heard: News,
+}
+
 /// One turn: what comes and a reading, the run of what is to be done, and the request for a list where one is due. A
 /// request that cannot be sent is passed over, and a run that cannot be begun is told at the next turn.
 pub(crate) fn turn<H: Host, W: Watch>(
@@ -121,7 +137,7 @@ pub(crate) fn turn<H: Host, W: Watch>(
     room: &mut Room,
     host: &mut H,
     watch: &mut W,
-) -> FollowDeed
+) -> Made
     ensures past { GrewSome (IsTurn f.now seat.old seat.new result) (H.past host.old) (H.past host.new) }
     ensures later { H.faults host.old ≤ H.faults host.new }
 {
@@ -146,7 +162,51 @@ pub(crate) fn turn<H: Host, W: Watch>(
         after: seat.follower.state(),
         is_begun: started.is_ok(),
     });
-    deed
+    Made {
+        deed,
+        reading,
+        heard,
+    }
+}
+
+/// Since which reading a list is awaited, in milliseconds.
+#[derive(Clone, Copy)]
+pub(crate) enum Awaited {
+    /// None was told since the first turn.
+    Begun(u64),
+    /// One was told then.
+    Told(u64),
+}
+
+fn awaited_after(awaited: Option<Awaited>, heard: News, reading: u64) -> Option<Awaited>
+    ensures { result ≡ awaited_after awaited heard reading }
+{
+    match heard {
+        News::List(_) => Some(Awaited::Told(reading)),
+        News::Nothing | News::End { .. } | News::Stop => match awaited {
+            None => Some(Awaited::Begun(reading)),
+            Some(since) => Some(since),
+        },
+    }
+}
+
+fn is_over(time: u64, since: u64, reading: u64) -> bool
+    ensures { result ≡ is_over time since reading }
+{
+    match since.checked_add(time) {
+        Some(end) => end <= reading || reading < since,
+        None => reading < since,
+    }
+}
+
+fn is_unheard(awaited: Option<Awaited>, reading: u64) -> bool
+    ensures { result ≡ is_unheard awaited reading }
+{
+    match awaited {
+        None => false,
+        Some(Awaited::Told(since)) => is_over(SILENT_FOR, since, reading),
+        Some(Awaited::Begun(since)) => is_over(UNHEARD_FOR, since, reading),
+    }
 }
 
 /// How a following ended.
@@ -154,25 +214,34 @@ pub(crate) fn turn<H: Host, W: Watch>(
 pub enum FollowEnd {
     /// The end was asked for, and the service is stopped.
     Left,
+    /// This site's daemon told no authentic list for too long: it may have another key by now.
+    Unheard,
     /// All its turns were made.
     Spent,
 }
 
-/// Has the service follow its ticket, until the end is asked for.
+/// Has the service follow its ticket from this seat, until the end is asked for, or no list is told for 1.5 s behind one
+/// or for 10 s from the first turn on.
 pub fn follow<H: Host, W: Watch>(
     f: &Following,
-    setting: &mut Setting<W>,
+    seat: &mut Seat,
     room: &mut Room,
     host: &mut H,
+    watch: &mut W,
 ) -> FollowEnd
-    ensures past { GrewSome (IsFollowed f.now setting.old.left result) (H.past host.old) (H.past host.new) }
+    ensures past { GrewSome (IsFollowed f.now seat.old seat.new result) (H.past host.old) (H.past host.new) }
     ensures later { H.faults host.old ≤ H.faults host.new }
 {
-    let mut seat = first_seat(f, setting.left);
+    let mut awaited = None;
     for _turn in 0..MOST_TURNS {
-        match turn(f, &mut seat, room, host, &mut setting.watch) {
+        let made = turn(f, seat, room, host, watch);
+        match made.deed {
             FollowDeed::Leave => return FollowEnd::Left,
             FollowDeed::Nothing | FollowDeed::Run { .. } => {}
+        }
+        awaited = awaited_after(awaited, made.heard, made.reading);
+        if is_unheard(awaited, made.reading) {
+            return FollowEnd::Unheard;
         }
     }
     FollowEnd::Spent

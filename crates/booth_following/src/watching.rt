@@ -23,7 +23,11 @@ pub struct Seen {
 
 /// Is told each turn of a follower. What it does changes nothing of what the follower does.
 pub trait Watch {
+    /// A turn was made.
     fn see(&mut self, seen: &Seen);
+
+    /// The keys were read again, since no list was told; or there were none to read, and those from before stay.
+    fn see_keys(&mut self, is_read: bool);
 }
 
 /// Nobody.
@@ -32,6 +36,8 @@ pub struct Unwatched;
 
 impl Watch for Unwatched {
     fn see(&mut self, _seen: &Seen) {}
+
+    fn see_keys(&mut self, _is_read: bool) {}
 }
 
 /// What a following begins with beside what it is asked for.

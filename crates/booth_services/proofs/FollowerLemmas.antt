@@ -19,6 +19,7 @@ use Rattle.booth_follow_rule.specs.Known.{Row, rows_from}
 use Rattle.booth_follow_rule.specs.Laws.{HasTold}
 use Rattle.booth_follow_rule.specs.Rule.{Moment, follow_step, state_after}
 use Rattle.booth_following.specs.declared.following.Following.{Following}
+use Rattle.booth_following.specs.Following.{under}
 use Rattle.booth_following.specs.Hearing.{IsHeard, IsNews}
 use Rattle.booth_following.specs.Lists.{IsLine, Part, lines_of}
 use Rattle.booth_following.specs.Turns.{AreTurns, IsToldIn, Turn, first_seat, moment_of, seat_from}
@@ -197,15 +198,19 @@ later_sent w m early late message on s = record {
 
 pub told_line : (w : World) (m : ℕ) (f : Following) (left : Option ℕ) (until time : ℕ) → HasHeard w m f left until time → ToldLine w m f.line until time
 told_line w m f left until time h =
-    by_asked (asked_after f left h.before) h.at.hears (is_heard f (asked_after f left h.before) (seat_from (first_seat f left) (turns_of h.before)).failed h.t.turn.answer h.t.turn.bytes h.t.turn.heard (Here until) h.told h.shown)
+    by_asked (asked_after f left h.before) h.at.hears (is_heard keyed (asked_after f left h.before) (seat_from (first_seat f left) (turns_of h.before)).failed h.t.turn.answer h.t.turn.bytes h.t.turn.heard (Here until) h.told h.shown)
   where
-    by_asked : (asked : Option ℕ) → HearsItsSite w m f asked h.t → IsHeard f asked h.t.turn.bytes (news.List (Here until))
+    -- by the keys of that turn
+    keyed : Following
+    keyed = under f h.t.turn.ring
+
+    by_asked : (asked : Option ℕ) → HearsItsSite w m f asked h.t → IsHeard keyed asked h.t.turn.bytes (news.List (Here until))
         → ToldLine w m f.line until time
     by_asked None hears is = let e : news.List (Here until) ≡ news.Nothing = is in absurd cc
     by_asked (Some asked) hears is =
-        let shows = lists.shows f asked h.t.turn.bytes (Here until) is in
+        let shows = lists.shows keyed asked h.t.turn.bytes (Here until) is in
         let part : Part = shows.0 in
-        let found = lists.only f asked h.t.turn.bytes part shows.1 in record {
+        let found = lists.only keyed asked h.t.turn.bytes part shows.1 in record {
           message = found.0;
           text = part.text;
           place = shows.3.0;

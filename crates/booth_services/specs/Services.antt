@@ -15,6 +15,7 @@ use Rattle.booth_follow_rule.specs.declared.news.Shown.TheVariants.{Here}
 use Rattle.booth_follow_rule.specs.Known.{AllRows, Started, known_first}
 use Rattle.booth_follow_rule.specs.Laws.{IsPrompt, known_from}
 use Rattle.booth_following.specs.declared.following.Following.{Following}
+use Rattle.booth_following.specs.Following.{under}
 use Rattle.booth_following.specs.Laws.{IsAuthentic, rows_in}
 use Rattle.booth_following.specs.Lists.{Part, line_start}
 use Rattle.booth_following.specs.Turns.{AreTurns, IsToldIn, Turn, first_seat, seat_from}
@@ -48,11 +49,12 @@ pub record WasSentBy (w : World) (m time : ℕ) (message : PlainMessage) : Type 
   pub sent : IsSend entry.what bytes
   pub same : decoded bytes ≡ Ok message
 
--- the answer that a turn takes for its site's, to the request that was sent at this reading, that site has sent
+-- the answer that a turn takes for its site's by its keys, to the request that was sent at this reading, that site has
+-- sent
 abbrev pub HearsItsSite : World → ℕ → Following → Option ℕ → TimedTurn → Type 0
 HearsItsSite w m f None t = Unit {0}
 HearsItsSite w m f (Some asked) t =
-    (message : PlainMessage) (part : Part) → IsAuthentic f asked t.turn.bytes message part
+    (message : PlainMessage) (part : Part) → IsAuthentic (under f t.turn.ring) asked t.turn.bytes message part
     → WasSentBy w m t.time message
 
 abbrev pub time_after : ℕ → List TimedTurn → ℕ

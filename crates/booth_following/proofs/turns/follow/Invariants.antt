@@ -5,6 +5,6 @@ use Rattle.booth_following.proofs.turns.follow.Given as goal
 
 abbrev pub invariant-loop-turn : goal.invariant-loop-turn
 invariant-loop-turn g l = record {
-  past : GrewSome (IsUnderway l.fn.f l.fn.setting.left l.seat l._turn) (g.H.Host.past l.fn.host) (g.H.Host.past l.host);
+  past : GrewSome (IsUnderway l.fn.f l.fn.seat l.seat l.awaited l._turn) (g.H.Host.past l.fn.host) (g.H.Host.past l.host);
   later : g.H.Host.faults l.fn.host ≤ g.H.Host.faults l.host;
 }
