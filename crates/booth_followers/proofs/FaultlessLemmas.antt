@@ -1,6 +1,6 @@
 -- Where the outside does not fail, a service follows its ticket up to its end.
 use Rattle.std.specs.Prelude.{Contains, Option, Some, None, Result, Ok, Err}
-use Rattle.std.proofs.Common.{◌≡◌, ◌∙◌, ℕ, List, [], ◌∷◌, ◌++◌, refl, sym, ap, subst, inl, inr, arith, append_assoc}
+use Rattle.std.proofs.Common.{◌≡◌, ◌∙◌, ℕ, List, [], ◌∷◌, ◌++◌, sym, ap, subst, inl, inr, arith, append_assoc}
 use Rattle.std.proofs.lemmas.List.Elements.{Contains-append_left, Contains-append_right}
 use Rattle.booth_keys.specs.declared.ring.Ring.{Ring}
 use Rattle.booth_conf.specs.Config.{ConfigSays}
@@ -14,7 +14,7 @@ use Rattle.booth_follow_rule.specs.Margins.{Fits, HasFault as HasMarginFault}
 use Rattle.booth_following.specs.declared.choosing.FollowFault.{FollowFault}
 use Rattle.booth_following.specs.declared.choosing.FollowFault.TheVariants as faults
 use Rattle.booth_following.specs.declared.turns.FollowEnd.{FollowEnd}
-use Rattle.booth_following.specs.declared.turns.FollowEnd.TheVariants.{Left, Spent}
+use Rattle.booth_following.specs.declared.turns.FollowEnd.TheVariants.{Left, Spent, Unheard}
 use Rattle.booth_following.specs.declared.following.Following.{Following}
 use Rattle.booth_following.specs.Choosing.{HasFault, IsChosen, IsUnfit, margins_in}
 use Rattle.booth_host.specs.declared.host.ReadFault.{ReadFault}
@@ -173,6 +173,7 @@ module _ (left : Option ℕ) (asked : FollowWords) (entries : List Entry) (free 
   ended Spent outs.TurnsSpent said is = tt
   ended Left outcome said is = absurd is
   ended Spent outcome said is = absurd is
+  ended Unheard outcome said is = absurd is
 
   finished : (f : Following) (outcome : Outcome) (said : List ℕ) (part : List Entry) → IsService left asked.conf f outcome said part
       → IsFollowedThrough outcome

@@ -1,6 +1,6 @@
 -- Rounds of a service, one after the other, and their turns.
-use Rattle.std.specs.Prelude.{Option, Some, None, Result, Ok, Err}
-use Rattle.std.proofs.Common.{◌≡◌, ◌∙◌, ◌+◌, ℕ, List, [], ◌∷◌, ◌++◌, length, refl, sym, ap, subst, append_assoc, append-nil}
+use Rattle.std.specs.Prelude.{Option, Some, None, Result, Ok}
+use Rattle.std.proofs.Common.{◌≡◌, ◌∙◌, ◌+◌, ℕ, List, [], ◌∷◌, ◌++◌, refl, sym, ap, subst, append_assoc, append-nil}
 use Rattle.std.proofs.lemmas.List.{length-append}
 use Rattle.booth_keys.specs.declared.ring.Ring.{Ring}
 use Rattle.booth_conf.specs.Config.{ConfigSays}
@@ -115,11 +115,17 @@ finished left conf f g at to count end outcome said ends made followed =
       whole = refl;
     })) made followed
 
-pub exhausted : (left : Option ℕ) (conf : List ℕ) (f g : Following) (at : Seat) (outcome : Outcome) (said : List ℕ) {a b : Option (List Entry)} →
-    EndsAs Spent outcome said → GrewSome (AreMade conf f g (first_seat f left) at MOST_ROUNDS) a b → GrewSome (IsService left conf f outcome said) a b
-exhausted left conf f g at outcome said ends made =
-    some_weaker (AreMade conf f g (first_seat f left) at MOST_ROUNDS) (IsService left conf f outcome said)
-    (λ es made. Exhausted (record { g = g; seat = at; made = made; ends = ends })) made
+pub exhausted : (left : Option ℕ) (conf : List ℕ) (f g : Following) (at : Seat) (count : ℕ) (outcome : Outcome) (said : List ℕ)
+    {a b : Option (List Entry)} → EndsAs Spent outcome said → count ≡ MOST_ROUNDS → GrewSome (AreMade conf f g (first_seat f left) at count) a b →
+    GrewSome (IsService left conf f outcome said) a b
+exhausted left conf f g at count outcome said ends all made =
+    some_weaker (AreMade conf f g (first_seat f left) at count) (IsService left conf f outcome said)
+    (λ es made. Exhausted (record {
+      g = g;
+      seat = at;
+      made = subst (λ (n : ℕ). AreMade conf f g (first_seat f left) at n es) all made;
+      ends = ends;
+    })) made
 
 -- ---- the turns of all rounds
 

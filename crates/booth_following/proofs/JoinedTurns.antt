@@ -1,6 +1,6 @@
 -- Turns one after the other, by whatever keys.
 use Rattle.std.specs.Prelude.{Option}
-use Rattle.std.proofs.Common.{◌≡◌, ◌∙◌, ℕ, List, [], ◌∷◌, ◌++◌, sym, ap, refl, subst, append_assoc, append-nil}
+use Rattle.std.proofs.Common.{◌≡◌, ◌∙◌, List, [], ◌∷◌, ◌++◌, sym, ap, refl, subst, append_assoc, append-nil}
 use Rattle.booth_keys.specs.declared.ring.Ring.{Ring}
 use Rattle.booth_host.specs.declared.entry.Entry.{Entry}
 use Rattle.booth_following.specs.declared.following.Following.{Following}

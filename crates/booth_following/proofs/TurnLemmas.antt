@@ -1,7 +1,7 @@
 -- A following over a host, turn by turn.
 use Rattle.std.specs.Prelude.{◌≢◌, Option, None, Result}
 use Rattle.booth_keys.specs.declared.ring.Ring.{Ring}
-use Rattle.std.proofs.Common.{◌≡◌, ◌+◌, ◌⊎◌, inl, inr, ℕ, Bool, true, false, List, [], ◌∷◌, ◌++◌, refl, sym, ap, subst, ◌∙◌, append_assoc, append-nil}
+use Rattle.std.proofs.Common.{◌≡◌, ◌+◌, ◌⊎◌, inl, inr, ℕ, Bool, false, List, [], ◌∷◌, ◌++◌, refl, sym, ap, subst, ◌∙◌, append_assoc, append-nil}
 use Rattle.std.proofs.lemmas.List.{length-append}
 use Rattle.booth_host.specs.declared.entry.Entry.{Entry}
 use Rattle.booth_host.specs.declared.entry.Entry.TheVariants.{Next, Now}
@@ -20,7 +20,7 @@ use Rattle.booth_following.specs.declared.following.Seat.{Seat}
 use Rattle.booth_following.specs.declared.turns.Awaited.{Awaited}
 use Rattle.booth_following.specs.declared.turns.Made.{Made}
 use Rattle.booth_following.specs.Hearing.{IsNews, failed_left}
-use Rattle.booth_following.specs.Turns.{AreHeard, AreTurns, AreUnder, IsEnded, IsSilent, IsToldIn, IsTurn, IsUnderway, Leaves, Turn, ask_calls, asked_after, asks, awaited_after, awaited_from, calls_from, deed_of, failed_after, is_unheard, made_by, moment_of, run_calls, seat_after, seat_from, turn_calls}
+use Rattle.booth_following.specs.Turns.{AreHeard, AreTurns, AreUnder, IsEnded, IsToldIn, IsTurn, IsUnderway, Turn, ask_calls, asked_after, asks, awaited_after, awaited_from, calls_from, deed_of, failed_after, is_unheard, made_by, moment_of, run_calls, seat_after, seat_from, turn_calls}
 
 -- ---- one turn
 

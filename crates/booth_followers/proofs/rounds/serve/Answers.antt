@@ -1,4 +1,4 @@
-use Rattle.std.proofs.Common.{◌≡◌, ◌∙◌, refl, sym, subst, arith}
+use Rattle.std.proofs.Common.{◌∙◌, ℕ, refl, sym, subst, arith}
 use Rattle.std.specs.Prelude.{List}
 use Rattle.booth_host.specs.Past.{GrewSome}
 use Rattle.booth_following.specs.declared.following.Seat.{Seat}
@@ -44,4 +44,5 @@ loop-round-preserved g c = record {
 pub returns-clause-past : goal.returns-clause-past
 returns-clause-past g c =
     exhausted c.args.setting.now.left c.args.service.now.conf c.args.service.now.following c.loop-round.service.following c.loop-round.seat
-    c.spent-2.result.outcome c.spent-2.result.said c.spent-2.ensures.ends ?
+    c.loop-round._round c.spent-2.result.outcome c.spent-2.result.said c.spent-2.ensures.ends
+    (let test = c.loop-round-test.false in let end = c.loop-round.auto._round-end in omega (arith, test, end)) c.loop-round.invariant.past
