@@ -32,7 +32,9 @@ from serving import built_program, end_by_signals, own_addresses
 from stories import PATIENCE, Wrong, grants, passed, require, slack
 
 TIMES = Times(expire=10)
-# the margin and the time of a kill that follow from these times
+# with room between the margin and a renewal for a key that is read again
+LONG_TIMES = Times(expire=20, renewal=8)
+# the margin and the time of a kill that follow from the first ones
 MARGIN, KILL = 2.5, 1.25
 # how long a service that was stopped is left so
 PAUSE = 5
@@ -45,6 +47,11 @@ stories = []
 def story(function):
     stories.append(function)
     return function
+
+
+def times_of(function):
+    """The times of the cluster of a story."""
+    return LONG_TIMES if function is a_key_that_is_changed else TIMES
 
 
 def begun(cluster, services):
@@ -273,11 +280,12 @@ def a_key_that_is_changed(cluster, services):
             member.key = ring
             member.start(cluster.program, cluster.conf)
             time.sleep(1)
-        time.sleep(TIMES.expire - TIMES.renewal)
-    require(services.process(one) == first, "the service was not left running")
-    require(services.words(one) == ["stop", "start"], f"it was run with {services.words(one)}")
+        time.sleep(2)
+    time.sleep(LONG_TIMES.expire)
     said = services.said()
-    require("the keys are read again" in said, f"no line tells of the keys: {said}")
+    require(services.process(one) == first, f"the service was not left running: {said}")
+    require(services.words(one) == ["stop", "start"], f"it was run with {services.words(one)}")
+    require(b"the keys are read again" in said, f"no line tells of the keys: {said}")
     passed("a follower reads its keys again when its daemon has others, and its service runs on through the steps of a change")
 
 
@@ -387,7 +395,7 @@ def outcome(place, programs):
     with contextlib.redirect_stdout(printed), tempfile.TemporaryDirectory(prefix="booth-follow-") as folder:
         try:
             key = KEY if "key" in function.__name__ else None
-            with Cluster(programs[0], folder, own_addresses(), times=TIMES, client=programs[1], key=key) as cluster:
+            with Cluster(programs[0], folder, own_addresses(), times=times_of(function), client=programs[1], key=key) as cluster:
                 with Services(programs[2], cluster) as services:
                     function(cluster, services)
                     require(not services.overlaps(), f"two services overlapped: {services.overlaps()}")

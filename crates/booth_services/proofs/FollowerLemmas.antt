@@ -22,7 +22,7 @@ use Rattle.booth_following.specs.declared.following.Following.{Following}
 use Rattle.booth_following.specs.Following.{under}
 use Rattle.booth_following.specs.Hearing.{IsHeard, IsNews}
 use Rattle.booth_following.specs.Lists.{IsLine, Part, lines_of}
-use Rattle.booth_following.specs.Turns.{AreTurns, IsToldIn, Turn, first_seat, moment_of, seat_from}
+use Rattle.booth_following.specs.Turns.{AreTurns, Turn, first_seat, moment_of, seat_from}
 use Rattle.booth_following.proofs.LawLemmas.{lists, told_at}
 use Rattle.booth_services.specs.Services.{HasHeard, HearsItsSite, IsTurnAt, TimedTurn, WasSentBy, asked_after, time_after, turns_of}
 use Rattle.booth_services.proofs.ListLemmas.{joins}

@@ -18,7 +18,6 @@ use Rattle.booth_world.proofs.WorldLaws.{worlds_are_apart}
 use Rattle.booth_follow_rule.specs.Known.{Row, Started, known_first, rows_of}
 use Rattle.booth_follow_rule.specs.Laws.{HasTold, IsEnd, known_from}
 use Rattle.booth_follow_rule.proofs.PlainLemmas.{serves}
-use Rattle.booth_following.specs.declared.following.Following.{Following}
 use Rattle.booth_following.specs.Lists.{lines_of}
 use Rattle.booth_following.specs.Turns.{first_seat}
 use Rattle.booth_services.specs.Services.{Follower, GaveBack, IsFollowerAt, IsLeftAt, MayServe, ServesUnderALease, ServicesAreApart, TimedTurn}
