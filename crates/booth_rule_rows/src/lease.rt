@@ -5,7 +5,7 @@
 //! the note `asked`, `started` with a job and a reason, `over`, `unasked`, `unhandled` or `unready`. `look` and a moment
 //! do nothing. Each answer has the deed, if there is one, and the view. `seconds` and two moments count the seconds until
 //! the first one from the second one, and `limits` gives the last term and the last number of a round.
-ghost use Rattle.std.specs.Prelude.{◌≡◌, ◌<◌, ◌^◌, None};
+ghost use Rattle.std.specs.Prelude.{◌≡◌, ◌≤◌, ◌<◌, ◌^◌, None, IsTrue, IsSomeAnd};
 
 use crate::printed::say;
 use crate::reading::{Start, head, part};
@@ -90,7 +90,9 @@ fn renew(core: &mut Core, now: u64, words: &mut Words<'_>, answer: &mut Answer)
 }
 
 // Whether the deadline has come.
-fn is_due(core: &Core, now: u64) -> bool {
+fn is_due(core: &Core, now: u64) -> bool
+    ensures { IsTrue result → IsSomeAnd core.now.view.due (λ due. due ≤ now) }
+{
     match core.view().due {
         Some(due) => due <= now,
         None => false,

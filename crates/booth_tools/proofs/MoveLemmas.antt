@@ -1,5 +1,5 @@
 -- A move's calls from their parts.
-use Rattle.std.specs.Prelude.{Option, Some, None, Result, Ok, Err, IsSomeAnd, IsTrue, MatchOption, codes, position, slice_get, ◌&&◌}
+use Rattle.std.specs.Prelude.{Option, Some, None, Result, Ok, Err, IsSomeAnd, IsTrue, MatchBool, MatchOption, codes, position, slice_get, ◌&&◌}
 use Rattle.std.proofs.Common.{◌≡◌, ◌∙◌, ◌++◌, ℕ, Bool, true, false, List, [], ◌∷◌, append-nil, get_or, refl, sym, ap, subst, inl, inr}
 use Rattle.std.proofs.lemmas.List.Quantifiers.{position-Some}
 use Rattle.std.proofs.lemmas.Option.{slice_get-get_or}
@@ -198,8 +198,10 @@ pub unread_list : (asked : MoveWords) (text : List ℕ) (ended : Ended) {a : Opt
 unread_list asked text ended out is = some_of (IsJudged asked Whole text (Some ended)) no_entry (inr (record { is = out; told = is; none = refl }))
 
 -- the target does not have the ticket, and nothing was printed
-pub not_held : (asked : MoveWords) (text : List ℕ) {a : Option (List Entry)} → (IsHeldIn asked text → ⊥) → GrewSome (IsJudged asked Whole text None) a a
-not_held asked text free = some_of (IsJudged asked Whole text None) no_entry (free, refl)
+pub not_held : (asked : MoveWords) (text : List ℕ) (shows : Bool) {a : Option (List Entry)} → shows ≡ false →
+    MatchBool shows (IsHeldIn asked text) (IsHeldIn asked text → ⊥) → GrewSome (IsJudged asked Whole text None) a a
+not_held asked text shows is found =
+    some_of (IsJudged asked Whole text None) no_entry (subst (λ (b : Bool). MatchBool b (IsHeldIn asked text) (IsHeldIn asked text → ⊥)) is found, refl)
 
 -- ---- the key
 

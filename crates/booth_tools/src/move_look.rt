@@ -42,7 +42,7 @@ fn target_peer(asked: &MoveWords, config: &Config) -> Peer
 }
 
 // Tells how a move ends by the target's list, where it does.
-#[tactic(auto, using(crate::proofs::MoveLemmas::held_shown, crate::proofs::MoveLemmas::unread_list, crate::proofs::MoveLemmas::not_held))]
+#[tactic(auto, using(crate::proofs::MoveLemmas::held_shown, crate::proofs::MoveLemmas::unread_list))]
 fn judged<H: Host>(
     alloc: Global,
     asked: &MoveWords,
