@@ -221,4 +221,13 @@ def several_files(folder):
     said = "".join(f"booth-record: {line}\n" for line in said)
     require_same((ran.status, ran.said, ran.printed.count("in force")), (2, said, 2))
     refuses("booth-record", [], "the following arguments are required: FILE", 2)
+    # names whose letters a terminal would act on, or are no text
+    for name, printed in ((b"64\x1b[31m\n.rec", r"64\x1b[31m\n.rec"), (b"65\xff.rec", r"65\udcff.rec")):
+        path = os.path.join(os.fsencode(folder), name)
+        ran = record(os.fsdecode(path))
+        said = f"booth-record: cannot read {folder}/{printed}: No such file or directory\n"
+        require_same((ran.status, ran.said, ran.printed), (2, said, ""))
+        os.link(good, path)
+        ran = record(os.fsdecode(path))
+        require(ran.status == 0 and ran.printed.startswith(f"{folder}/{printed}\n"), str(ran))
     refuses("booth-record", ["-c", none, good], f"cannot read {none}: No such file or directory", 2)

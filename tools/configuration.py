@@ -11,6 +11,7 @@ import stat
 from typing import List, NamedTuple, Optional, Tuple
 
 import frames
+import wording
 
 FOLDER = "/etc/booth"
 TEXT_BYTES = 16_777_216
@@ -47,6 +48,9 @@ OF_TICKET |= {"weights", "mode", "attr-prereq", "before-acquire-handler"}
 
 class Unreadable(Exception):
     """A file cannot be read, or is no configuration or no key; the text says which and why."""
+
+    def __str__(self):
+        return wording.plain(super().__str__())
 
 
 class Member(NamedTuple):

@@ -1,12 +1,17 @@
 """How moments, spans of time and columns are written.
 
-It is imported by booth-status and booth-record, and not run by itself.
+It is imported by the programs of the package and by modules of theirs, and not run by itself.
 """
 
 import time
 
 YEAR_10000 = 253_402_300_800
 UNITS = (("d", 86_400), ("h", 3600), ("min", 60), ("s", 1))
+
+
+def plain(text):
+    """The text with an escape in place of each character that a terminal would act on, as those of a file's name may be."""
+    return "".join(each if each.isprintable() else each.encode("unicode_escape").decode("ascii") for each in text)
 
 
 def date(seconds):
