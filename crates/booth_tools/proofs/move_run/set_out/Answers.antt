@@ -11,7 +11,7 @@ returns-in-Some-clause-past g c =
     looked_up c.args.asked c.args.cluster.config c.args.cluster.ring c.args.target c.in-Some.ended.outcome c.in-Some.ended.said
     c.in-Ok-open_socket.ensures.past c.in-Some.ensures.past
 
-pub returns-in-None-clause-past : goal.returns-in-None-clause-past
-returns-in-None-clause-past g c =
+pub returns-clause-past : goal.returns-clause-past
+returns-clause-past g c =
     moved_on c.args.asked c.args.cluster.config c.args.cluster.ring c.args.target c.start_move.result.outcome c.start_move.result.said
     c.in-Ok-open_socket.ensures.past c.in-None.ensures.past c.start_move.ensures.past
