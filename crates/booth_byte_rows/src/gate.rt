@@ -5,7 +5,7 @@ use booth_base::MemberId;
 use booth_conf::Config;
 use booth_keys::{Hash, Key, Ring, hmac, hmac256};
 use booth_rows::{Answer, Player, Words};
-use booth_wire::{Frame, Message, decode};
+use booth_wire::{Frame, decode};
 use sha1::Sha1;
 
 /// Plays lines at the gate of a member: with the configuration and the ring that came last.
@@ -49,17 +49,20 @@ fn ring(words: &mut Words<'_>) -> Option<Ring> {
     Some(Ring { first, old, hash })
 }
 
-// Appends the spelling of a message as it is sealed.
+// Appends the spelling of what a frame says, as it is sealed.
 fn put_sealed(
     words: &mut Words<'_>,
-    message: &Message<'_>,
+    frame: &[u8],
     ring: Option<&Ring>,
     now: u64,
     answer: &mut Answer,
 ) {
+    let Ok(message) = decode(frame) else {
+        return words.refuse();
+    };
     match Frame::new(words.alloc()) {
         Ok(mut into) => {
-            seal(message, ring, now, &mut into);
+            seal(&message, ring, now, &mut into);
             spelled(answer, "sealed", into.bytes());
         }
         Err(_) => answer.tear(),
@@ -99,14 +102,9 @@ impl Gate {
     fn seal(&self, words: &mut Words<'_>, answer: &mut Answer) {
         let now = words.long();
         let frame = words.bytes();
-        match decode(&frame) {
-            Ok(message) => {
-                put_sealed(words, &message, self.ring.as_ref(), now, answer);
-                let copy = self.ring.as_ref().map(Ring::copy);
-                put_sealed(words, &message, copy.as_ref(), now, answer);
-            }
-            Err(_) => words.refuse(),
-        }
+        put_sealed(words, &frame, self.ring.as_ref(), now, answer);
+        let copy = self.ring.as_ref().map(Ring::copy);
+        put_sealed(words, &frame, copy.as_ref(), now, answer);
     }
 
     // Appends whether a frame is admitted with this ring.
