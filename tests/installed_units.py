@@ -11,7 +11,7 @@ import subprocess
 from installed_parts import SERVICES, TOP, on_loopback
 from shells import need, read, run
 
-# how exposed each service may be at most, as `systemd-analyze security` counts it, in the order of OPERATING.md
+# how exposed each service may be at most, as `systemd-analyze security` counts it, in the order of HANDLERS.md
 MOST_EXPOSED = {"booth-follow@": 4.9, "booth@": 2.0}
 
 
@@ -31,15 +31,15 @@ def unit_in(room, name, more=""):
 
 
 def drop_ins():
-    """The drop-ins that OPERATING.md tells, and the one that is installed."""
-    text = read(f"{TOP}/docs/OPERATING.md")
+    """The drop-ins that HANDLERS.md tells, and the one that is installed."""
+    text = read(f"{TOP}/docs/HANDLERS.md")
     found = re.findall(r"^ {4,}\[Service\]\n(?: {4,}.*\n)+", text, re.M)
-    need(len(found) > 1, f"OPERATING.md has the drop-ins {found}")
+    need(len(found) > 1, f"HANDLERS.md has the drop-ins {found}")
     return [*(re.sub("^ +", "", each, flags=re.M) for each in found), read(f"{TOP}/packaging/journal.conf")]
 
 
 def unit_is_sound(room):
-    """the unit is one that systemd takes, alone, with each drop-in of OPERATING.md, and with that of the journal"""
+    """the unit is one that systemd takes, alone, with each drop-in of HANDLERS.md, and with that of the journal"""
     if not shutil.which("systemd-analyze"):
         return "systemd-analyze is not here"
     for number, more in enumerate(["", *drop_ins()]):
@@ -53,11 +53,11 @@ def unit_is_sound(room):
 
 
 def unit_is_confined(room):
-    """the daemon and the follower are as little exposed as OPERATING.md says"""
+    """the daemon and the follower are as little exposed as HANDLERS.md says"""
     if not shutil.which("systemd-analyze"):
         return "systemd-analyze is not here"
     unit = unit_in(room, "confined")
-    written = re.findall(r"exposure of \*\*([0-9.]+)\*\*", read(f"{TOP}/docs/OPERATING.md"))
+    written = re.findall(r"exposure of \*\*([0-9.]+)\*\*", read(f"{TOP}/docs/HANDLERS.md"))
     for number, (name, most) in enumerate(MOST_EXPOSED.items()):
         path = unit.replace("booth@", name)
         done = run("systemd-analyze", "security", "--offline=true", "--no-pager", path)
@@ -68,7 +68,7 @@ def unit_is_confined(room):
         need(float(found[1]) <= most, f"the exposure of {name} is {found[1]}")
         # (another version of systemd may count a little differently)
         is_told = number < len(written) and abs(float(written[number]) - float(found[1])) <= 0.3
-        need(is_told, f"{found[1]} of {name}, and not what OPERATING.md says")
+        need(is_told, f"{found[1]} of {name}, and not what HANDLERS.md says")
     return None
 
 

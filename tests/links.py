@@ -27,7 +27,7 @@ from tcp_links import SECONDS_TO_ANSWER, Busy, Closed, Link, links, open_files
 
 LINKS = 16
 SECONDS_OF_FLOOD = 15
-# as docs/OPERATING.md says: how long a link may be idle whose place another peer waits for
+# as docs/PROTOCOL.md says: how long a link may be idle whose place another peer waits for
 SECONDS_IDLE = 2
 # how late a thing may be on a machine that does much else
 SLACK = 10

@@ -1,6 +1,6 @@
 """Daemons that tell their log: what each says of a grant, a takeover, a refused handler and a keep that fails.
 
-It is imported by tests/cluster.py, and not run by itself. The lines are those of docs/OPERATING.md.
+It is imported by tests/cluster.py, and not run by itself. The lines are those of man/boothd.8, "LOG".
 """
 
 import os

@@ -170,17 +170,16 @@ def untaken_words(room):
 
 
 def told_in_page(first):
-    """The block of docs/OPERATING.md that begins with this line."""
-    with open(f"{TOP}/docs/OPERATING.md", "rb") as file:
+    """The block of man/boothd.8 that begins with this line, as the page shows it."""
+    with open(f"{TOP}/man/boothd.8", "rb") as file:
         lines = file.read().splitlines()
-    behind = lines[lines.index(b"    " + first) :]
-    block = itertools.takewhile(lambda line: line[:4] in (b"", b"    "), behind)
-    return b"\n".join(line[4:] for line in block).rstrip() + b"\n"
+    block = itertools.takewhile(lambda line: line != b".Ed", lines[lines.index(first) :])
+    return b"\n".join(block).replace(b"\\-", b"-") + b"\n"
 
 
 @check
 def help_and_version(room):
-    """help and version stand on standard output alone, with status 0, and docs/OPERATING.md has that help"""
+    """help and version stand on standard output alone, with status 0, and man/boothd.8 has that help"""
     lock = b"[default: /var/run/booth.lock]"
     for command, pieces in (
         ("daemon", (b"-c", b"[default: booth]", b"-s", b"-l", lock, b"-d",
@@ -194,7 +193,7 @@ def help_and_version(room):
         status, out, err = room.ended([command, "--version"])
         require((status, out, err) == (0, b"boothd 0.2.0\n", b""), f"the version is {out}")
     told = told_in_page(b"Runs the daemon of one member, in the foreground.")
-    require(room.ended(["daemon", "-h"])[1] == told, "docs/OPERATING.md tells other options")
+    require(room.ended(["daemon", "-h"])[1] == told, "man/boothd.8 tells other options")
 
 
 @check
