@@ -40,6 +40,8 @@ from shells import Wrong, need, read, run
 EXAMPLES = ("pacemaker",)
 # what units, followers and daemons run
 HELPERS = ("follow-service", "follow-unit", "follow-postgresql", "handler-follow", "clock-wait")
+# what an operator reads
+DOCUMENTS = ("OPERATING.md", "CHANGES.md", "SIZING.md", "MANUAL-TICKETS.md", "HANDLERS.md")
 # how long the walk through the first cluster may take
 SECONDS_OF_A_WALK = 120
 
@@ -52,7 +54,7 @@ def installs_and_uninstalls(room):
     named += [f"usr/share/man/man8/{name}.8" for name in (*PROGRAMS, *TOOLS, "booth-keygen")]
     named += ["usr/share/man/man5/booth.conf.5"]
     named += [f"usr/share/bash-completion/completions/{name}" for name in (*PROGRAMS, *TOOLS)]
-    named += [f"usr/share/doc/booth-proved/{name}" for name in ("OPERATING.md", "HANDLERS.md", "examples/manual.conf")]
+    named += [f"usr/share/doc/booth-proved/{name}" for name in (*DOCUMENTS, "examples/manual.conf")]
     named += [f"usr/lib/systemd/system/{name}" for name in SERVICES]
     named += ["usr/share/booth-proved/journal.conf", "usr/share/booth-proved/timeline.py"]
     named += [f"usr/share/doc/booth-proved/{name}" for name in ("AUDIT.md", "JOURNAL.md", "incident.svg")]
