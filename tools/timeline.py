@@ -5,7 +5,8 @@
 
 FILE has the lines that `boothd audit` prints, `ticket NAME, site ADDRESS, from FROM until UNTIL`, in milliseconds
 since 1970; without it they are read from standard input. A line that is none is refused by its number, with status 1.
-Lines of one site are joined where they touch; an overlap is where two sites have a line of one ticket at one moment.
+Lines of one site are joined where they touch. An overlap is where two sites have a line of one ticket at the same
+reading, each by its own clock: if their clocks differ, they may overlap by that although they never held it together.
 """
 
 import os
@@ -272,13 +273,13 @@ def heading(rows):
         both.setdefault(row.ticket, []).extend(row.both)
     spans = [span for each in both.values() for span in joined(each)]
     if not spans:
-        return "No ticket has a lease at two sites at one moment"
+        return "No ticket has a lease at two sites at the same reading of their clocks"
     endless = any(span.until >= NO_END for span in spans)
     known = sum(span.until - span.start for span in spans if span.until < NO_END)
     whole = "without an end" if endless else f"{length_of(known)} in all"
     count = sum(map(bool, both.values()))
     tickets = "1 ticket has" if count == 1 else f"{count} tickets have"
-    return f"In red: {tickets} a lease at two sites at one moment, {whole}"
+    return f"In red: {tickets} a lease at two sites at the same reading of their clocks, {whole}"
 
 
 def picture(holdings) -> str:
