@@ -21,6 +21,8 @@ NAMED_FILE = re.compile(r"`([\w.][\w./-]*\.(?:md|py|rt|antt|rows|svg|sh|edit)|ma
 # a name that stands for others, as `tests/row_NAME.py`
 PATTERN = re.compile(r"[A-Z]{4}[A-Z_]*\.(?!md)")
 BOLD, OPENING = re.compile(r"\*\*([^*]+)\*\*"), re.compile(r"^(\w+):", re.M)
+# how a manual page names a document
+DOCUMENT_IN_PAGE = re.compile(r"\b[A-Z][A-Z-]+\.md\b")
 LINK = re.compile(r"\]\(([^)\s]+)\)")
 # a file and a section behind it, and the same of a page: `boothd(8)`, "LOG"
 SECTION_OF_DOCUMENT = re.compile(r"`?\b([\w./-]+\.md)`?,\s+\\?[\"“]([^\"\\]+)\\?\"")
@@ -96,8 +98,8 @@ class Tree:
                 yield f"{path}: the link {target} leads nowhere"
 
     def name_faults(self, path: str) -> Iterator[str]:
-        """Yields the files that a document names and that are not there."""
-        for name in NAMED_FILE.findall(read(path)):
+        """Yields the files that a document or a manual page names and that are not there."""
+        for name in (NAMED_FILE if path.endswith(".md") else DOCUMENT_IN_PAGE).findall(read(path)):
             if name not in self.endings and not PATTERN.search(name):
                 yield f"{path}: there is no file {name}"
 
@@ -131,6 +133,8 @@ class Tree:
             yield from self.name_faults(path)
             yield from self.own_faults(path)
         for path in self.paths:
+            if path.startswith("man/"):
+                yield from self.name_faults(path)
             if path not in OLD_TEXTS:
                 yield from self.section_faults(path)
         lines = len(read("README.md").splitlines())
