@@ -13,8 +13,10 @@ from typing import Dict, Iterator, List, Set
 TOP = os.path.dirname(os.path.dirname(os.path.abspath(__file__)))
 MOST_LINES_OF_README = 100
 MOST_BYTES_OF_OPERATING = 20_000
-# folders of the build and of git, and the one text whose old entries name what was there then
-SKIPPED_FOLDERS = {".git", "out", "__pycache__"}
+# folders of the build, and the one text whose old entries name what was there then
+SKIPPED_FOLDERS = {"out", "__pycache__"}
+# the folders of the tree, beside which a checkout may have others
+FOLDERS = [".ci", "bench", "crates", "docs", "examples", "man", "packaging", "tests", "tools"]
 OLD_TEXTS = {"packaging/changelog"}
 OPERATING = "docs/OPERATING.md"
 NAMED_FILE = re.compile(r"`([\w.][\w./-]*\.(?:md|py|rt|antt|rows|svg|sh|edit)|man/[\w.-]+\.[58])`")
@@ -42,7 +44,7 @@ def files() -> List[str]:
     """Returns the path of each file of the tree, from its top."""
     found = []
     for folder, folders, names in os.walk(TOP):
-        folders[:] = sorted(set(folders) - SKIPPED_FOLDERS)
+        folders[:] = FOLDERS if folder == TOP else sorted(set(folders) - SKIPPED_FOLDERS)
         found += [os.path.relpath(f"{folder}/{name}", TOP) for name in sorted(names)]
     return found
 
