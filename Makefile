@@ -61,6 +61,9 @@ machines: $(PACKAGE)
 	@$(NEEDS_PYTHON)
 	@python3 tests/machines.py
 
+# documents for developers of Booth, which stay in the source tree
+DEVELOPER_DOCS := $(foreach name,README ARCHITECTURE DECISIONS DEFINITIONS,docs/$(name).md)
+
 # what is installed, as TARGET:SOURCE:MODE
 INSTALLED := $(foreach program,$(PROGRAMS),$(SBIN)/$(program):out/$(program):755) \
   $(foreach name,$(SCRIPTS) $(TOOLS),$(SBIN)/$(name):packaging/$(name):755) \
@@ -75,7 +78,7 @@ INSTALLED := $(foreach program,$(PROGRAMS),$(SBIN)/$(program):out/$(program):755
   $(DOCS)/README.md:README.md:644 \
   $(DOCS)/copyright:packaging/copyright:644 \
   $(DOCS)/changelog:packaging/changelog:644 \
-  $(foreach doc,$(wildcard docs/*.md docs/*.svg),$(DOCS)/$(notdir $(doc)):$(doc):644) \
+  $(foreach doc,$(filter-out $(DEVELOPER_DOCS),$(wildcard docs/*.md docs/*.svg)),$(DOCS)/$(notdir $(doc)):$(doc):644) \
   $(foreach file,$(wildcard examples/*.conf examples/*.py),$(DOCS)/examples/$(notdir $(file)):$(file):644) \
   $(foreach file,$(wildcard examples/follow-*),$(DOCS)/examples/$(notdir $(file)):$(file):755)
 

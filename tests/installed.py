@@ -42,6 +42,8 @@ EXAMPLES = ("pacemaker",)
 HELPERS = ("follow-service", "follow-unit", "follow-postgresql", "handler-follow", "clock-wait")
 # what an operator reads
 DOCUMENTS = ("OPERATING.md", "CHANGES.md", "SIZING.md", "MANUAL-TICKETS.md", "HANDLERS.md")
+# documents for developers of Booth, which stay in the source tree
+DEVELOPER_DOCS = ("ARCHITECTURE.md", "DECISIONS.md", "DEFINITIONS.md")
 # how long the walk through the first cluster may take
 SECONDS_OF_A_WALK = 120
 
@@ -62,6 +64,11 @@ def installs_and_uninstalls(room):
     named += [f"usr/share/doc/booth-proved/examples/follow-{name}" for name in EXAMPLES]
     for name in (*named, "usr/lib/sysusers.d/booth.conf"):
         need(name in there, f"{name} is missing")
+    for name in (*DEVELOPER_DOCS, "decisions"):
+        packed = [path for path in there if path.startswith(f"usr/share/doc/booth-proved/{name}")]
+        need(not packed, f"a document for developers is installed: {packed}")
+    installed = read(f"{room}/root/usr/share/doc/booth-proved/README.md")
+    need(installed == read(f"{TOP}/README.md"), "the installed README.md is not the one at the top")
     version = re.search(r"^VERSION := (\S+)$", read(f"{TOP}/Makefile"), re.M)[1]
     for program, commands in PROGRAMS.items():
         done = run(f"{room}/root/usr/sbin/{program}", *commands[:1], "--version")
