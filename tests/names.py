@@ -6,12 +6,16 @@ Run it as `python3 tests/names.py`. It reads the sources alone, in a second, and
 Where a clause of a public function says that its result is what one definition of its crate gives, or a field of
 that, the function bears that name: the same one, a word of it in any form (`print` and `printed`), or, of a value
 that is made of another, `of_status` and `service_of`. A name that has a reason to be another stands in OTHERS.
+
+What documents say of files and titles is held to the tree by document_names.py.
 """
 
 import glob
 import os
 import re
 import sys
+
+from document_names import counts, decisions
 
 TOP = os.path.dirname(os.path.dirname(os.path.abspath(__file__)))
 
@@ -88,6 +92,7 @@ def main():
                 wrong.append(f"{os.path.relpath(path, TOP)}: `{function}` is `{definition}` by its contract")
     for crate, function, definition in sorted(set(OTHERS) - met):
         wrong.append(f"OTHERS: {crate} has no `{function}` that is `{definition}`")
+    wrong += [*decisions(TOP), *counts(TOP)]
     for line in wrong:
         print(line)
     print(f"{seen} functions, {len(met)} of them with another name than their definition, {len(wrong)} wrong")

@@ -1,0 +1,59 @@
+"""What documents say of files and titles, held to the tree. It is imported by tests/names.py, and not run by itself.
+
+The index of decisions names each section of docs/decisions/ and no other. A table of docs/HEADLINE.md says how many
+lines a file has, and how many of them are definitions: those that are neither empty nor a comment nor an import.
+"""
+
+import glob
+import os
+import re
+
+INDEXED = re.compile(r"\[([^\]]+)\]\(decisions/(\w+)\.md#([a-z0-9-]+)\)")
+SECTION = re.compile(r"^## (.+)$", re.M)
+TITLE = re.compile(r"^### (.+)$", re.M)
+COUNTED = re.compile(r"^\| `(booth\w+/[\w/.]+)` \| (\d+) \|(?: (\d+) \|)?", re.M)
+# what no definition begins with
+NO_DEFINITION = ("--", "use ")
+
+
+def read(path: str) -> str:
+    """The text of a file."""
+    with open(path, encoding="utf-8") as file:
+        return file.read()
+
+
+def anchor(title: str) -> str:
+    """The anchor of a heading."""
+    return re.sub(r"[^a-z0-9 -]", "", title.lower()).replace(" ", "-")
+
+
+def decisions(top: str) -> list[str]:
+    """What is wrong with the index of decisions, and with their titles."""
+    wrong, there, titles = [], set(), set()
+    for path in sorted(glob.glob(f"{top}/docs/decisions/*.md")):
+        text, name = read(path), os.path.basename(path)[: -len(".md")]
+        there.update((section, name, anchor(section)) for section in SECTION.findall(text))
+        for title in TITLE.findall(text):
+            if title in titles:
+                wrong.append(f"docs/decisions/{name}.md: a second decision `{title}`")
+            titles.add(title)
+    indexed = set(INDEXED.findall(read(f"{top}/docs/DECISIONS.md")))
+    wrong += [f"docs/DECISIONS.md: no section {name}.md, `{section}`" for section, name, _ in sorted(indexed - there)]
+    wrong += [f"docs/DECISIONS.md lacks {name}.md, `{section}`" for section, name, _ in sorted(there - indexed)]
+    return wrong if there else [*wrong, "docs/decisions has no section"]
+
+
+def counts(top: str) -> list[str]:
+    """The files of which docs/HEADLINE.md has another number of lines or of definitions."""
+    wrong = []
+    rows = COUNTED.findall(read(f"{top}/docs/HEADLINE.md"))
+    for name, lines, definitions in rows:
+        path = f"{top}/crates/{name}"
+        if not os.path.exists(path):
+            wrong.append(f"docs/HEADLINE.md: no file {name}")
+            continue
+        found = [line.strip() for line in read(path).splitlines()]
+        defined = [line for line in found if line and not line.startswith(NO_DEFINITION)]
+        if int(lines) != len(found) or (definitions and int(definitions) != len(defined)):
+            wrong.append(f"docs/HEADLINE.md: {name} has {len(found)} lines, {len(defined)} of them definitions")
+    return wrong if rows else ["docs/HEADLINE.md has no table of files"]
