@@ -1,7 +1,8 @@
 """What documents say of files and titles, held to the tree. It is imported by tests/names.py, and not run by itself.
 
 The index of decisions names each section of docs/decisions/ and no other. A table of docs/HEADLINE.md says how many
-lines a file has, and how many of them are definitions: those that are neither empty nor a comment nor an import.
+lines a file has, and how many of them are definitions: those that are neither empty nor a comment nor an import. A row
+of docs/DEFINITIONS.md names files of its crate, in which each word in code stands.
 """
 
 import glob
@@ -12,6 +13,8 @@ INDEXED = re.compile(r"\[([^\]]+)\]\(decisions/(\w+)\.md#([a-z0-9-]+)\)")
 SECTION = re.compile(r"^## (.+)$", re.M)
 TITLE = re.compile(r"^### (.+)$", re.M)
 COUNTED = re.compile(r"^\| `(booth\w+/[\w/.]+)` \| (\d+) \|(?: (\d+) \|)?", re.M)
+DEFINED = re.compile(r"^\| (.+?) \| .+ \| (`.+`) \|$")
+IN_CODE = re.compile(r"`([^`]+)`")
 # what no definition begins with
 NO_DEFINITION = ("--", "use ")
 
@@ -57,3 +60,25 @@ def counts(top: str) -> list[str]:
         if int(lines) != len(found) or (definitions and int(definitions) != len(defined)):
             wrong.append(f"docs/HEADLINE.md: {name} has {len(found)} lines, {len(defined)} of them definitions")
     return wrong if rows else ["docs/HEADLINE.md has no table of files"]
+
+
+def definitions(top: str) -> list[str]:
+    """The words of docs/DEFINITIONS.md that do not stand in the files of their row."""
+    wrong, crate, rows = [], "", 0
+    for line in read(f"{top}/docs/DEFINITIONS.md").splitlines():
+        if line.startswith("## "):
+            crate = line[len("## ") :]
+        row = DEFINED.match(line) if crate.startswith("booth_") else None
+        if not row:
+            continue
+        rows += 1
+        there, missing = "", []
+        for name in IN_CODE.findall(row[2]):
+            path = f"{top}/crates/{crate}/{name}" + ("" if name.endswith(".rt") else ".antt")
+            if os.path.exists(path):
+                there += read(path)
+            else:
+                missing.append(name)
+        missing += [word for word in IN_CODE.findall(row[1]) if not re.search(rf"\b{word}\b", there)]
+        wrong += [f"docs/DEFINITIONS.md: {crate} has no `{name}` where its row says" for name in missing]
+    return wrong if rows else ["docs/DEFINITIONS.md has no row of a crate"]

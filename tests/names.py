@@ -15,7 +15,7 @@ import os
 import re
 import sys
 
-from document_names import counts, decisions
+from document_names import counts, decisions, definitions
 
 TOP = os.path.dirname(os.path.dirname(os.path.abspath(__file__)))
 
@@ -92,7 +92,7 @@ def main():
                 wrong.append(f"{os.path.relpath(path, TOP)}: `{function}` is `{definition}` by its contract")
     for crate, function, definition in sorted(set(OTHERS) - met):
         wrong.append(f"OTHERS: {crate} has no `{function}` that is `{definition}`")
-    wrong += [*decisions(TOP), *counts(TOP)]
+    wrong += [*decisions(TOP), *counts(TOP), *definitions(TOP)]
     for line in wrong:
         print(line)
     print(f"{seen} functions, {len(met)} of them with another name than their definition, {len(wrong)} wrong")
