@@ -27,7 +27,7 @@ BOLD, OPENING = re.compile(r"\*\*([^*]+)\*\*"), re.compile(r"^(\w+):", re.M)
 DOCUMENT_IN_PAGE = re.compile(r"\b[A-Z][A-Z-]+\.md\b")
 LINK = re.compile(r"\]\(([^)\s]+)\)")
 # a file and a section behind it, and the same of a page: `boothd(8)`, "LOG"
-SECTION_OF_DOCUMENT = re.compile(r"`?\b([\w./-]+\.md)`?,\s+\\?[\"“]([^\"\\]+)\\?\"")
+SECTION_OF_DOCUMENT = re.compile(r"`?((?:\.\./)*\b[\w./-]+\.md)`?,\s+\\?[\"“]([^\"\\]+)\\?\"")
 SECTION_IN_DOCUMENT = re.compile(r"\"([A-Z`][^\"]+)\"\s+in\s+`([\w./-]+\.md)`")
 SECTION_OF_PAGE = re.compile(r"`([\w.-]+)\((\d)\)`,\s+\"([A-Z ]+)\"")
 # a section of the same document: ("Section")
@@ -101,8 +101,10 @@ class Tree:
 
     def name_faults(self, path: str) -> Iterator[str]:
         """Yields the files that a document or a manual page names and that are not there."""
+        folder = os.path.dirname(path)
         for name in (NAMED_FILE if path.endswith(".md") else DOCUMENT_IN_PAGE).findall(read(path)):
-            if name not in self.endings and not PATTERN.search(name):
+            is_there = name in self.endings or os.path.normpath(os.path.join(folder, name)) in self.known
+            if not is_there and not PATTERN.search(name):
                 yield f"{path}: there is no file {name}"
 
     def section_faults(self, path: str) -> Iterator[str]:
