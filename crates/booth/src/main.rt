@@ -27,14 +27,6 @@ fn words(rt: &HostRuntime, alloc: Global) -> Result<Vec<String>, AllocError> {
     }
 }
 
-// The move that words of `booth` ask for, unless it is forced.
-fn unforced_move(alloc: Global, words: &[String]) -> Option<MoveWords> {
-    let Ok(Asked::Move(asked)) = ask(alloc, Program::Booth, passed(words)) else {
-        return None;
-    };
-    if asked.force { None } else { Some(asked) }
-}
-
 // Says that a follower lives here, and which command moves its ticket with its service.
 fn warn(rt: HostRuntime, asked: &MoveWords) -> Result<(), AllocError> {
     let ticket = str::from_utf8(asked.ticket.bytes()).unwrap_or("");
@@ -48,13 +40,28 @@ fn warn(rt: HostRuntime, asked: &MoveWords) -> Result<(), AllocError> {
     Ok(())
 }
 
+// Whether a follower of the ticket lives here that is to be moved without force, which is said.
+fn is_refused(rt: HostRuntime, asked: &MoveWords) -> Result<bool, AllocError> {
+    if asked.force || !has_follower(&rt, asked)? {
+        return Ok(false);
+    }
+    warn(rt, asked)?;
+    Ok(true)
+}
+
+// Whether the words of `booth` ask for such a move.
+fn moves_beside(rt: HostRuntime, alloc: Global, words: &[String]) -> Result<bool, AllocError> {
+    let mut refused = Ok(false);
+    if let Ok(Asked::Move(asked)) = &ask(alloc, Program::Booth, words) {
+        refused = is_refused(rt, asked);
+    }
+    refused
+}
+
 // Runs `booth`, unless that moves a ticket of which a follower lives here.
 fn run_booth(rt: HostRuntime, alloc: Global, words: &[String]) -> Result<u8, AllocError> {
-    if let Some(asked) = unforced_move(alloc, words) {
-        if has_follower(&rt, &asked)? {
-            warn(rt, &asked)?;
-            return Ok(1);
-        }
+    if moves_beside(rt, alloc, passed(words))? {
+        return Ok(1);
     }
     let mut host = RealHost::new(rt, alloc)?;
     host.speak_as("booth");
